@@ -1,0 +1,125 @@
+-- The faults that are found at the end of the text.
+use Rattle.std.proofs.Common.{◌≡◌, ◌∙◌, ℕ, List, [], ◌∷◌, ◌++◌, Bool, true, false, cond, not, Some, None, map, filter, refl, ap, sym, arith, nat_lt, ◌==◌, ◌&&◌, ◌≤◌, ◌<◌, Ok, slice_index_or, zero, suc, length, get_or}
+use Rattle.std.proofs.lemmas.Bool.{and_parts, eqb-true, ltb-true}
+use Rattle.arch_file.specs.declared.arch.Pin.{Pin}
+use Rattle.arch_file.specs.declared.draft.Draft.{Draft}
+use Rattle.std.specs.List.{find}
+use Rattle.line_text.specs.Lines.{JoinedLine}
+use Rattle.arch_file.specs.declared.fault.ArchFaultKind.TheVariants.{BadClass, Missing}
+use Rattle.arch_file.specs.declared.fault.Keyword.{Keyword}
+use Rattle.arch_file.specs.ArchFaults.{decimal_at, end_faults, has_its_pins, is_fractional, pins_of, stands}
+use Rattle.arch_file.specs.declared.fault.Keyword.TheVariants.{IoRat, SubblocksPerClb, SubblockLutSize, FcOutput, FcInput, FcPad}
+use Rattle.arch_file.specs.Arch.{IsWithin}
+use Rattle.arch_file.specs.Draft.{Ends, FollowsLines}
+use Rattle.arch_file.specs.FcTypes.{is_fractional_type}
+use Rattle.arch_file.specs.Pins.{clock_count, output_count}
+use Rattle.arch_file.specs.Values.{reach}
+use Rattle.arch_file.specs.FaultLists.{only_if}
+use Rattle.arch_file.specs.Readings.{least_kind, lesser}
+use Rattle.arch_file.specs.Words.{rank_of, required}
+
+-- the first missing keyword is the least fault of the end
+missing_first : (keyword : Keyword) (others : List Keyword) (b : Bool) → least_kind (Missing keyword ∷ (map (λ k. Missing k) others ++ only_if b BadClass)) ≡ Some (Missing keyword)
+missing_first keyword [] true = refl
+missing_first keyword [] false = refl
+missing_first keyword (other ∷ others) b = ap (λ kind. Some (lesser (Missing keyword) kind)) (missing_first other others b)
+
+first_of_filter : (q : Keyword → Bool) (xs : List Keyword) (keyword : Keyword) (b : Bool) → find q xs ≡ Some keyword → least_kind (map (λ k. Missing k) (filter q xs) ++ only_if b BadClass) ≡ Some (Missing keyword)
+first_of_filter q [] keyword b found = let never : None ≡ Some keyword = found in cc
+first_of_filter q (x ∷ xs) keyword b found = by_test (q x) (first_of_filter q xs keyword b) found
+  where
+    by_test : (t : Bool) → (find q xs ≡ Some keyword → least_kind (map (λ k. Missing k) (filter q xs) ++ only_if b BadClass) ≡ Some (Missing keyword)) → cond t (Some x) (find q xs) ≡ Some keyword → least_kind (map (λ k. Missing k) (cond t (x ∷ filter q xs) (filter q xs)) ++ only_if b BadClass) ≡ Some (Missing keyword)
+    by_test true rest here = let same : x ≡ keyword = cc in missing_first x (filter q xs) b ∙ ap (λ k. Some (Missing k)) same
+    by_test false rest later = rest later
+
+find_same : (p q : Keyword → Bool) (xs : List Keyword) → ((k : Keyword) → p k ≡ q k) → find p xs ≡ find q xs
+find_same p q [] same = refl
+find_same p q (x ∷ xs) same = rw (same x, find_same p q xs same) refl
+
+-- a keyword that must stand is missing
+pub end_faults-missing : (stood : Keyword → Bool) (lines : List JoinedLine) (keyword : Keyword) → ((k : Keyword) → stood k ≡ stands k lines) → find (λ k. not (stood k)) required ≡ Some keyword → least_kind (end_faults lines) ≡ Some (Missing keyword)
+end_faults-missing stood lines keyword same found =
+    first_of_filter (λ k. not (stands k lines)) required keyword (not (has_its_pins lines))
+    (sym (find_same (λ k. not (stood k)) (λ k. not (stands k lines)) required (λ k. ap not (same k))) ∙ found)
+
+none_here : (q : Keyword → Bool) (x : Keyword) (xs : List Keyword) → find q (x ∷ xs) ≡ None → (q x ≡ false) × (find q xs ≡ None)
+none_here q x xs none = by_test (q x) none
+  where
+    by_test : (t : Bool) → cond t (Some x) (find q xs) ≡ None → (t ≡ false) × (find q xs ≡ None)
+    by_test true never = let wrong : Some x ≡ None = never in cc
+    by_test false rest = (refl, rest)
+
+filter_none : (q : Keyword → Bool) (xs : List Keyword) → find q xs ≡ None → filter q xs ≡ []
+filter_none q [] none = refl
+filter_none q (x ∷ xs) none =
+    let here = none_here q x xs none in
+    rw here.0 (filter_none q xs here.1)
+
+-- nothing is missing
+end_faults-none : (stood : Keyword → Bool) (lines : List JoinedLine) → ((k : Keyword) → stood k ≡ stands k lines) → find (λ k. not (stood k)) required ≡ None → has_its_pins lines ≡ true → end_faults lines ≡ []
+end_faults-none stood lines same none pins =
+    let nothing = filter_none (λ k. not (stands k lines)) required (sym (find_same (λ k. not (stood k)) (λ k. not (stands k lines)) required (λ k. ap not (same k))) ∙ none) in
+    rw (nothing, pins) refl
+
+not_false : (b : Bool) → not b ≡ false → b ≡ true
+not_false true is = refl
+not_false false is = sym is
+
+-- the keywords of the limited numbers stand
+pub record HasNumbers (stood : Keyword → Bool) : Type 0 where
+  pub io_rat : stood IoRat ≡ true
+  pub cluster_size : stood SubblocksPerClb ≡ true
+  pub lut_size : stood SubblockLutSize ≡ true
+
+none_at : (q : Keyword → Bool) (xs : List Keyword) (n : ℕ) (d : Keyword) → find q xs ≡ None → n < length xs → q (get_or xs n d) ≡ false
+none_at q [] n d none inside = absurd (omega arith)
+none_at q (x ∷ xs) zero d none inside = (none_here q x xs none).0
+none_at q (x ∷ xs) (suc n) d none inside = none_at q xs n d (none_here q x xs none).1 (omega arith)
+
+HasNumbers-from_none : (stood : Keyword → Bool) → find (λ k. not (stood k)) required ≡ None → HasNumbers stood
+HasNumbers-from_none stood none =
+    record {
+      io_rat = not_false (stood IoRat) (none_at (λ k. not (stood k)) required 0 IoRat none (omega arith));
+      cluster_size = not_false (stood SubblocksPerClb) (none_at (λ k. not (stood k)) required 4 IoRat none (omega arith));
+      lut_size = not_false (stood SubblockLutSize) (none_at (λ k. not (stood k)) required 5 IoRat none (omega arith));
+    }
+
+one_clock : (count : ℕ) → nat_lt 0 count ≡ true → count ≤ 1 → count ≡ 1
+one_clock count some most = let above : 0 < count = ltb-true 0 count some in omega arith
+
+-- the architecture of a draft whose lines have all that they need
+pub draft_arch : (draft : Draft) (lines : List JoinedLine) (tracks : ℕ) (pins : List Pin) (output input pad : ℕ)
+    → FollowsLines draft lines → find (λ k. not (slice_index_or draft.stands (rank_of k) false)) required ≡ None
+    → (nat_lt 0 draft.inputs && ((output_count draft.pins.items == draft.cluster_size) && draft.has_clock)) ≡ true
+    → 1 ≤ tracks → tracks ≤ 64 → pins ≡ draft.pins.items
+    → output ≡ reach (is_fractional_type draft.fc_type) draft.fc_output tracks → IsWithin 1 output tracks
+    → input ≡ reach (is_fractional_type draft.fc_type) draft.fc_input tracks → IsWithin 1 input tracks
+    → pad ≡ reach (is_fractional_type draft.fc_type) draft.fc_pad tracks → IsWithin 1 pad tracks
+    → Ends lines tracks (Ok (record { io_rat = draft.io_rat; pins = pins; cluster_size = draft.cluster_size; lut_size = draft.lut_size; tracks = tracks; fc_output = output; fc_input = input; fc_pad = pad }))
+draft_arch draft lines tracks pins output input pad follows none test few many is_pins is_output output_fits is_input input_fits is_pad pad_fits =
+    let stood : Keyword → Bool = λ k. slice_index_or draft.stands (rank_of k) false in
+    let numbers = HasNumbers-from_none stood none in
+    let parts = and_parts (nat_lt 0 draft.inputs) ((output_count draft.pins.items == draft.cluster_size) && draft.has_clock) test in
+    let more = and_parts (output_count draft.pins.items == draft.cluster_size) draft.has_clock parts.1 in
+    let its_pins : has_its_pins lines ≡ true = rw (← follows.inputs, ← follows.clock, ← follows.pins, ← follows.cluster_size) test in
+    let all : pins ≡ pins_of lines = is_pins ∙ follows.pins in
+    let some : 0 < draft.inputs = ltb-true 0 draft.inputs parts.0 in
+    let outputs : output ≡ reach (is_fractional lines) (decimal_at FcOutput lines) tracks = rw (← follows.fc_type, ← follows.fc_output) is_output in
+    let inputs : input ≡ reach (is_fractional lines) (decimal_at FcInput lines) tracks = rw (← follows.fc_type, ← follows.fc_input) is_input in
+    let pads : pad ≡ reach (is_fractional lines) (decimal_at FcPad lines) tracks = rw (← follows.fc_type, ← follows.fc_pad) is_pad in (
+      end_faults-none stood lines follows.stands none its_pins,
+      rw (follows.io_rat, all, follows.cluster_size, follows.lut_size, outputs, inputs, pads) refl,
+      record {
+        io_rat = follows.io_rat_limit (sym (follows.stands IoRat) ∙ numbers.io_rat);
+        cluster_size = follows.cluster_limit (sym (follows.stands SubblocksPerClb) ∙ numbers.cluster_size);
+        lut_size = follows.lut_limit (sym (follows.stands SubblockLutSize) ∙ numbers.lut_size);
+        tracks = (few, many);
+        fc_output = output_fits;
+        fc_input = input_fits;
+        fc_pad = pad_fits;
+        inputs = rw all ((rw (← follows.inputs) (omega arith)), follows.inputs_limit);
+        outputs = rw is_pins (eqb-true (output_count draft.pins.items) draft.cluster_size more.0);
+        clocks = rw all (one_clock (clock_count (pins_of lines)) (sym follows.clock ∙ more.1) follows.clock_limit);
+        sides = rw all follows.sides;
+      },
+    )

@@ -1,0 +1,9 @@
+mod DraftLemmas
+mod EndLemmas
+mod Examples
+mod LineLemmas
+mod PinLemmas
+mod ReadLemmas
+mod ReaderLemmas
+mod SegmentLemmas
+mod SideLemmas

@@ -1,0 +1,71 @@
+-- What an architecture text says: the architecture, or the least fault.
+use Rattle.std.specs.Prelude.{ℕ, ◌≡◌, ◌≤◌, List, [], true, All, Result, Ok, Err, ⊤, Option, Some, None, length, nat_lt, if◌then◌else◌}
+use Rattle.line_text.specs.Lines.{JoinedLine, lines_of}
+use Rattle.line_text.specs.declared.fault.LineFault.{LineFault}
+use Rattle.arch_file.specs.declared.arch.Arch.{Arch}
+use Rattle.arch_file.specs.declared.fault.ArchFault.{ArchFault}
+use Rattle.arch_file.specs.declared.fault.ArchFaultKind.TheVariants.{OverLimit}
+use Rattle.arch_file.specs.declared.fault.ArchError.{ArchError}
+use Rattle.arch_file.specs.declared.fault.ArchError.TheVariants.{NoMemory, Fault}
+use Rattle.arch_file.specs.declared.fault.Keyword.TheVariants.{IoRat, SubblocksPerClb, SubblockLutSize, FcOutput, FcInput, FcPad}
+use Rattle.arch_file.specs.ArchFaults.{decimal_at, faults_behind, is_fractional, pins_of, whole_at}
+use Rattle.arch_file.specs.FaultLists.{least_fault}
+use Rattle.arch_file.specs.Faults.{fault_of_lines}
+use Rattle.arch_file.specs.Values.{reach}
+pub use Rattle.arch_file.specs.Pins.{is_input_class, is_output_class, is_clock_class, input_count, output_count, clock_count, has_side}
+
+-- the number is within a range
+abbrev pub IsWithin : ℕ → ℕ → ℕ → Type 0
+IsWithin low number high = (low ≤ number) × (number ≤ high)
+
+-- the architecture keeps the limits
+pub record IsArch (arch : Arch) : Type 0 where
+  pub io_rat : IsWithin 1 arch.io_rat 8
+  pub cluster_size : IsWithin 1 arch.cluster_size 16
+  pub lut_size : IsWithin 1 arch.lut_size 8
+  pub tracks : IsWithin 1 arch.tracks 64
+  pub fc_output : IsWithin 1 arch.fc_output arch.tracks
+  pub fc_input : IsWithin 1 arch.fc_input arch.tracks
+  pub fc_pad : IsWithin 1 arch.fc_pad arch.tracks
+  pub inputs : IsWithin 1 (input_count arch.pins) 128
+  pub outputs : output_count arch.pins ≡ arch.cluster_size
+  pub clocks : clock_count arch.pins ≡ 1
+  pub sides : All (λ pin. has_side pin.sides ≡ true) arch.pins
+
+-- what the lines say, where nothing is wrong with them
+abbrev pub arch_from : List JoinedLine → ℕ → Arch
+arch_from lines tracks = record {
+  io_rat = whole_at IoRat lines;
+  pins = pins_of lines;
+  cluster_size = whole_at SubblocksPerClb lines;
+  lut_size = whole_at SubblockLutSize lines;
+  tracks = tracks;
+  fc_output = reach (is_fractional lines) (decimal_at FcOutput lines) tracks;
+  fc_input = reach (is_fractional lines) (decimal_at FcInput lines) tracks;
+  fc_pad = reach (is_fractional lines) (decimal_at FcPad lines) tracks;
+}
+
+-- the architecture of the lines, unless there is a fault
+abbrev pub arch_unless : Option ArchFault → List JoinedLine → ℕ → Result Arch ArchFault
+arch_unless None lines tracks = Ok (arch_from lines tracks)
+arch_unless (Some fault) lines tracks = Err fault
+
+-- the architecture of the lines, or the least of all their faults
+abbrev pub arch_of_lines : Result (List JoinedLine) LineFault → ℕ → Result Arch ArchFault
+arch_of_lines (Err fault) tracks = Err (fault_of_lines fault)
+arch_of_lines (Ok lines) tracks = arch_unless (least_fault (faults_behind [] lines)) lines tracks
+
+-- a text has at most 1,048,576 bytes
+abbrev pub max_text : ℕ
+max_text = 1048576
+
+-- the architecture of a text for that many tracks, or its least fault
+unfoldable pub arch_of : List ℕ → ℕ → Result Arch ArchFault
+arch_of text tracks =
+    if nat_lt max_text (length text) then Err (record { line = 0; kind = OverLimit }) else arch_of_lines (lines_of text) tracks
+
+-- a reader of that text may answer this
+abbrev pub Gives : Result Arch ArchFault → Result Arch ArchError → Type 0
+Gives meant (Ok arch) = (meant ≡ Ok arch) × IsArch arch
+Gives meant (Err (Fault fault)) = meant ≡ Err fault
+Gives meant (Err NoMemory) = ⊤

@@ -1,0 +1,105 @@
+-- All faults of the lines of an architecture text.
+use Rattle.std.specs.Prelude.{ℕ, ◌==◌, nat_lt, Bool, false, ◌&&◌, not, List, [], ◌∷◌, ◌++◌, map, filter, length, Option, Some, None, is_some, if◌then◌else◌}
+use Rattle.std.specs.List.{filter_map}
+use Rattle.line_text.specs.Lines.{JoinedLine}
+use Rattle.arch_file.specs.declared.arch.Pin.{Pin}
+use Rattle.arch_file.specs.declared.fault.ArchFaultKind.{ArchFaultKind}
+use Rattle.arch_file.specs.declared.fault.ArchFaultKind.TheVariants.{BadClass, Missing, Repeated, Unknown}
+use Rattle.arch_file.specs.declared.fault.Keyword.{Keyword}
+use Rattle.arch_file.specs.declared.fault.Keyword.TheVariants.{FcType, Segment, SubblocksPerClb}
+use Rattle.arch_file.specs.FaultLists.{Found, only_if}
+use Rattle.arch_file.specs.Pins.{input_count, output_count, clock_count}
+use Rattle.arch_file.specs.PinLine.{pin_in, pin_line_faults}
+use Rattle.arch_file.specs.Segment.{segment_faults}
+use Rattle.arch_file.specs.Values.{decimal_from, is_fractional_from, value_faults, whole_from}
+use Rattle.arch_file.specs.Words.{is_pin_keyword, is_unread, keyword_of, required, same_keyword}
+
+-- it is that keyword
+abbrev pub is_keyword : Keyword → Option Keyword → Bool
+is_keyword keyword None = false
+is_keyword keyword (Some other) = same_keyword keyword other
+
+-- the line begins with the keyword
+abbrev pub begins_with : Keyword → List (List ℕ) → Bool
+begins_with keyword [] = false
+begins_with keyword (word ∷ words) = is_keyword keyword (keyword_of word)
+
+-- all words but the first
+abbrev pub behind : List (List ℕ) → List (List ℕ)
+behind [] = []
+behind (word ∷ words) = words
+
+-- the words behind the keyword, of the first line that begins with it
+abbrev pub words_at : Keyword → List JoinedLine → Option (List (List ℕ))
+words_at keyword [] = None
+words_at keyword (line ∷ lines) =
+    if begins_with keyword line.words then Some (behind line.words) else words_at keyword lines
+
+-- some line begins with the keyword
+abbrev pub stands : Keyword → List JoinedLine → Bool
+stands keyword lines = is_some (words_at keyword lines)
+
+-- the whole number behind the keyword
+abbrev pub whole_at : Keyword → List JoinedLine → ℕ
+whole_at keyword lines = whole_from (words_at keyword lines)
+
+-- the decimal behind the keyword, in millionths
+abbrev pub decimal_at : Keyword → List JoinedLine → ℕ
+decimal_at keyword lines = decimal_from (words_at keyword lines)
+
+-- the numbers of tracks are parts of all
+abbrev pub is_fractional : List JoinedLine → Bool
+is_fractional lines = is_fractional_from (words_at FcType lines)
+
+-- the pin of a line that begins with the keyword
+abbrev pub pin_behind : Option Keyword → List (List ℕ) → Option Pin
+pin_behind None words = None
+pin_behind (Some keyword) words = if is_pin_keyword keyword then pin_in words else None
+
+-- the pin of a line
+abbrev pub pin_of_words : List (List ℕ) → Option Pin
+pin_of_words [] = None
+pin_of_words (word ∷ words) = pin_behind (keyword_of word) words
+
+-- the pins in the order of their lines
+abbrev pub pins_of : List JoinedLine → List Pin
+pins_of lines = filter_map (λ line. pin_of_words line.words) lines
+
+-- the faults of a line that begins with the keyword, behind those lines
+abbrev pub keyword_faults : List JoinedLine → Keyword → List (List ℕ) → List ArchFaultKind
+keyword_faults before keyword words =
+    if is_pin_keyword keyword then pin_line_faults (pins_of before) keyword words
+    else (if same_keyword keyword Segment then segment_faults (stands keyword before) words
+    else only_if (stands keyword before) Repeated ++ value_faults keyword words)
+
+-- the faults of a line by its first word, behind those lines
+abbrev pub first_word_faults : List JoinedLine → List ℕ → Option Keyword → List (List ℕ) → List ArchFaultKind
+first_word_faults before word None words = only_if (not (is_unread word)) Unknown
+first_word_faults before word (Some keyword) words = keyword_faults before keyword words
+
+-- the faults of a line's words, behind those lines
+abbrev pub faults_of : List JoinedLine → List (List ℕ) → List ArchFaultKind
+faults_of before [] = []
+faults_of before (word ∷ words) = first_word_faults before word (keyword_of word) words
+
+-- there is an input, as many outputs as logic elements, and a clock
+abbrev pub has_its_pins : List JoinedLine → Bool
+has_its_pins lines =
+    nat_lt 0 (input_count (pins_of lines))
+    && ((output_count (pins_of lines) == whole_at SubblocksPerClb lines) && nat_lt 0 (clock_count (pins_of lines)))
+
+-- the faults of the whole text
+abbrev pub end_faults : List JoinedLine → List ArchFaultKind
+end_faults lines =
+    map (λ keyword. Missing keyword) (filter (λ keyword. not (stands keyword lines)) required)
+    ++ only_if (not (has_its_pins lines)) BadClass
+
+-- faults at the line of that place and number
+abbrev pub found_at : ℕ → ℕ → List ArchFaultKind → List Found
+found_at place number kinds = map (λ kind. record { place = place; fault = record { line = number; kind = kind } }) kinds
+
+-- all faults of the lines that stand behind those, and of the end, whose place is behind all lines
+abbrev pub faults_behind : List JoinedLine → List JoinedLine → List Found
+faults_behind before [] = found_at (length before) 0 (end_faults before)
+faults_behind before (line ∷ lines) =
+    found_at (length before) line.number (faults_of before line.words) ++ faults_behind (before ++ line ∷ []) lines

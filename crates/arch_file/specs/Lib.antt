@@ -1,0 +1,13 @@
+pub mod Arch
+pub mod ArchFaults
+pub mod Draft
+pub mod FaultLists
+pub mod Faults
+pub mod FcTypes
+pub mod PinLine
+pub mod Pins
+pub mod Readings
+pub mod Segment
+pub mod SideWords
+pub mod Values
+pub mod Words

@@ -1,0 +1,98 @@
+-- The values behind the keywords, and what can be wrong with them.
+use Rattle.std.specs.Prelude.{ℕ, ◌==◌, ◌*◌, ◌/◌, min, max, nat_lt, Bool, false, ◌||◌, List, [], ◌∷◌, codes, Option, Some, None, option_and_then, unwrap_or, if◌then◌else◌}
+use Rattle.std.specs.Str.{bytes_eq}
+use Rattle.line_text.specs.Decimal.{whole_of, millionths_of}
+use Rattle.arch_file.specs.declared.fault.ArchFaultKind.{ArchFaultKind}
+use Rattle.arch_file.specs.declared.fault.ArchFaultKind.TheVariants.{BadNumber, NotProfile, OverLimit}
+use Rattle.arch_file.specs.declared.fault.Keyword.{Keyword}
+use Rattle.arch_file.specs.declared.fault.Keyword.TheVariants.{IoRat, ChanWidthIo, ChanWidthX, ChanWidthY, Inpin, Outpin, SubblocksPerClb, SubblockLutSize, FcType, FcOutput, FcInput, FcPad, SwitchBlockType, Segment}
+use Rattle.arch_file.specs.Words.{lone}
+
+-- the words as one whole number
+abbrev pub whole_in : List (List ℕ) → Option ℕ
+whole_in words = option_and_then whole_of (lone words)
+
+-- the words as one decimal, in millionths
+abbrev pub decimal_in : List (List ℕ) → Option ℕ
+decimal_in words = option_and_then millionths_of (lone words)
+
+-- 1, in millionths
+abbrev pub one : ℕ
+one = 1000000
+
+-- a whole number from 1 to that limit
+abbrev pub whole_faults : ℕ → Option ℕ → List ArchFaultKind
+whole_faults limit None = BadNumber ∷ []
+whole_faults limit (Some number) =
+    if number == 0 then BadNumber ∷ [] else (if nat_lt limit number then OverLimit ∷ [] else [])
+
+-- any decimal
+abbrev pub decimal_faults : Option ℕ → List ArchFaultKind
+decimal_faults None = BadNumber ∷ []
+decimal_faults (Some value) = []
+
+-- a decimal that must be 1
+abbrev pub one_faults : Keyword → Option ℕ → List ArchFaultKind
+one_faults keyword None = BadNumber ∷ []
+one_faults keyword (Some value) = if value == one then [] else NotProfile keyword ∷ []
+
+-- the width of channels: uniform, and 1
+abbrev pub width_faults : Keyword → List (List ℕ) → List ArchFaultKind
+width_faults keyword [] = BadNumber ∷ []
+width_faults keyword (kind ∷ words) =
+    if bytes_eq kind (codes "uniform") then one_faults keyword (decimal_in words) else NotProfile keyword ∷ []
+
+-- a word that passes a test
+abbrev pub word_faults : Keyword → (List ℕ → Bool) → Option (List ℕ) → List ArchFaultKind
+word_faults keyword passes None = BadNumber ∷ []
+word_faults keyword passes (Some word) = if passes word then [] else NotProfile keyword ∷ []
+
+-- numbers of tracks are parts of all
+abbrev pub is_fractional_word : List ℕ → Bool
+is_fractional_word word = bytes_eq word (codes "fractional")
+
+-- the same of a word that may be missing
+abbrev pub is_fractional_choice : Option (List ℕ) → Bool
+is_fractional_choice None = false
+is_fractional_choice (Some word) = is_fractional_word word
+
+-- a way in which numbers of tracks are meant
+abbrev pub is_fc_type : List ℕ → Bool
+is_fc_type word = bytes_eq word (codes "absolute") || is_fractional_word word
+
+-- the one kind of switch blocks
+abbrev pub is_subset : List ℕ → Bool
+is_subset word = bytes_eq word (codes "subset")
+
+-- the whole number of words that may be missing, else 0
+abbrev pub whole_from : Option (List (List ℕ)) → ℕ
+whole_from words = unwrap_or (option_and_then whole_in words) 0
+
+-- the same of a decimal
+abbrev pub decimal_from : Option (List (List ℕ)) → ℕ
+decimal_from words = unwrap_or (option_and_then decimal_in words) 0
+
+-- the same of the way in which numbers of tracks are meant
+abbrev pub is_fractional_from : Option (List (List ℕ)) → Bool
+is_fractional_from words = is_fractional_choice (option_and_then lone words)
+
+-- what is wrong with the words behind a keyword that has a value
+unfoldable pub value_faults : Keyword → List (List ℕ) → List ArchFaultKind
+value_faults IoRat words = whole_faults 8 (whole_in words)
+value_faults ChanWidthIo words = one_faults ChanWidthIo (decimal_in words)
+value_faults ChanWidthX words = width_faults ChanWidthX words
+value_faults ChanWidthY words = width_faults ChanWidthY words
+value_faults Inpin words = []
+value_faults Outpin words = []
+value_faults SubblocksPerClb words = whole_faults 16 (whole_in words)
+value_faults SubblockLutSize words = whole_faults 8 (whole_in words)
+value_faults FcType words = word_faults FcType is_fc_type (lone words)
+value_faults FcOutput words = decimal_faults (decimal_in words)
+value_faults FcInput words = decimal_faults (decimal_in words)
+value_faults FcPad words = decimal_faults (decimal_in words)
+value_faults SwitchBlockType words = word_faults SwitchBlockType is_subset (lone words)
+value_faults Segment words = []
+
+-- how many tracks a pin reaches: that many, or that part of all, rounded down, at least 1 and at most all
+abbrev pub reach : Bool → ℕ → ℕ → ℕ
+reach is_fractional value tracks = min tracks (max 1 ((if is_fractional then value * tracks else value) / one))

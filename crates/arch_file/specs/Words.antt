@@ -1,0 +1,75 @@
+-- The words of the architecture file.
+use Rattle.std.specs.Prelude.{ℕ, ◌==◌, nat_eq, Bool, ◌||◌, List, [], ◌∷◌, map, codes, Option, Some, None}
+use Rattle.std.specs.List.{find, starts_with}
+use Rattle.std.specs.Str.{bytes_eq}
+use Rattle.std.specs.Borrow.{Bor}
+use Rattle.arch_file.specs.declared.fault.Keyword.{Keyword}
+use Rattle.arch_file.specs.declared.fault.Keyword.TheVariants.{IoRat, ChanWidthIo, ChanWidthX, ChanWidthY, Inpin, Outpin, SubblocksPerClb, SubblockLutSize, FcType, FcOutput, FcInput, FcPad, SwitchBlockType, Segment}
+
+-- the bytes of the words
+abbrev pub texts : List (Bor (List ℕ)) → List (List ℕ)
+texts words = map (λ word. word.now) words
+
+-- how a keyword is spelled
+abbrev pub text_of : Keyword → List ℕ
+text_of IoRat = codes "io_rat"
+text_of ChanWidthIo = codes "chan_width_io"
+text_of ChanWidthX = codes "chan_width_x"
+text_of ChanWidthY = codes "chan_width_y"
+text_of Inpin = codes "inpin"
+text_of Outpin = codes "outpin"
+text_of SubblocksPerClb = codes "subblocks_per_clb"
+text_of SubblockLutSize = codes "subblock_lut_size"
+text_of FcType = codes "Fc_type"
+text_of FcOutput = codes "Fc_output"
+text_of FcInput = codes "Fc_input"
+text_of FcPad = codes "Fc_pad"
+text_of SwitchBlockType = codes "switch_block_type"
+text_of Segment = codes "segment"
+
+-- the keywords that must stand, in the order in which a missing one is told
+abbrev pub required : List Keyword
+required =
+    IoRat ∷ ChanWidthIo ∷ ChanWidthX ∷ ChanWidthY ∷ SubblocksPerClb ∷ SubblockLutSize ∷ FcType ∷ FcOutput ∷ FcInput ∷ FcPad
+    ∷ SwitchBlockType ∷ Segment ∷ []
+
+-- the place of a keyword among all
+abbrev pub rank_of : Keyword → ℕ
+rank_of IoRat = 0
+rank_of ChanWidthIo = 1
+rank_of ChanWidthX = 2
+rank_of ChanWidthY = 3
+rank_of SubblocksPerClb = 4
+rank_of SubblockLutSize = 5
+rank_of FcType = 6
+rank_of FcOutput = 7
+rank_of FcInput = 8
+rank_of FcPad = 9
+rank_of SwitchBlockType = 10
+rank_of Segment = 11
+rank_of Inpin = 12
+rank_of Outpin = 13
+
+-- they are one keyword
+abbrev pub same_keyword : Keyword → Keyword → Bool
+same_keyword first second = rank_of first == rank_of second
+
+-- its lines are pins
+abbrev pub is_pin_keyword : Keyword → Bool
+is_pin_keyword keyword = same_keyword keyword Inpin || same_keyword keyword Outpin
+
+-- the keyword that a word is
+unfoldable pub keyword_of : List ℕ → Option Keyword
+keyword_of word = find (λ keyword. bytes_eq word (text_of keyword)) (Inpin ∷ Outpin ∷ required)
+
+-- words of resistances, capacitances and times, and of switches, whose lines aren't read
+unfoldable pub is_unread : List ℕ → Bool
+is_unread word =
+    bytes_eq word (codes "switch")
+    || (starts_with nat_eq word (codes "R_") || (starts_with nat_eq word (codes "C_") || starts_with nat_eq word (codes "T_")))
+
+-- the word that stands alone
+abbrev pub lone : List (List ℕ) → Option (List ℕ)
+lone [] = None
+lone (word ∷ []) = Some word
+lone (word ∷ second ∷ rest) = None

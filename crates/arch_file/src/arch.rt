@@ -1,0 +1,109 @@
+ghost use Rattle.std.specs.Prelude.{◌≡◌, ◌<◌, ◌≤◌, length, IfOk, slice_get, Some};
+
+use std::alloc::AllocError;
+use std::marker::Model;
+
+/// What a pin of a logic block is for.
+#[derive(Clone, Copy, Debug, PartialEq, Eq)]
+pub enum PinClass {
+    /// Class 0, an input of a table.
+    Input,
+    /// Class 1, the output of a logic element.
+    Output,
+    /// Class 2, the clock, which comes by the global network.
+    Clock,
+}
+
+/// The sides of a logic block on which a pin can be reached.
+#[derive(Clone, Copy, Debug, PartialEq, Eq)]
+pub struct Sides {
+    pub top: bool,
+    pub bottom: bool,
+    pub left: bool,
+    pub right: bool,
+}
+
+/// A pin of a logic block.
+#[derive(Clone, Copy, Debug, PartialEq, Eq)]
+pub struct Pin {
+    pub class: PinClass,
+    pub sides: Sides,
+}
+
+/// The pins of a logic block, numbered from 0 in the order of their lines. Its value is their list.
+#[derive(Debug, Drop)]
+pub struct Pins {
+    pins: Vec<Pin>,
+}
+
+impl Model for Pins {
+    ghost use Rattle.std.specs.Prelude.{List};
+    ghost use Rattle.arch_file.specs.declared.arch.Pin.{Pin};
+
+    ghost Value = { List Pin };
+
+    ghost view = { λ a. a.pins.items };
+}
+
+impl Pins {
+    /// These pins, in order. Takes no memory.
+    pub fn new(pins: Vec<Pin>) -> Self
+        ensures { result ≡ pins.items }
+    {
+        Pins { pins }
+    }
+
+    /// The pins in order.
+    pub fn as_slice(&self) -> &[Pin]
+        ensures { result.now ≡ self.now }
+    {
+        self.pins.as_slice()
+    }
+}
+
+impl Clone for Pins {
+    ghost is_clone = { λ pins copy. copy ≡ pins };
+
+    fn clone(&self) -> Result<Self, AllocError> {
+        Ok(Pins {
+            pins: Vec::from_slice(*self.pins.allocator(), self.pins.as_slice())?,
+        })
+    }
+}
+
+/// What a device is made of, but for its size.
+#[derive(Debug, Drop)]
+pub struct Arch {
+    /// Pads at each end of a column, 1 to 8.
+    pub io_rat: u32,
+    pub pins: Pins,
+    /// Logic elements of a block, 1 to 16.
+    pub cluster_size: u32,
+    /// Inputs of a table, 1 to 8.
+    pub lut_size: u32,
+    /// Tracks of each channel, 1 to 64.
+    pub tracks: u32,
+    /// How many tracks an output pin reaches, 1 to all.
+    pub fc_output: u32,
+    /// How many tracks an input pin reaches, 1 to all.
+    pub fc_input: u32,
+    /// How many tracks a pad reaches, 1 to all.
+    pub fc_pad: u32,
+}
+
+impl Clone for Arch {
+    ghost is_clone = { λ arch copy. copy ≡ arch };
+
+    fn clone(&self) -> Result<Self, AllocError> {
+        Ok(Arch {
+            io_rat: self.io_rat,
+            pins: self.pins.clone()?,
+            cluster_size: self.cluster_size,
+            lut_size: self.lut_size,
+            tracks: self.tracks,
+            fc_output: self.fc_output,
+            fc_input: self.fc_input,
+            fc_pad: self.fc_pad,
+        })
+    }
+}

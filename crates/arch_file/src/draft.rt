@@ -1,0 +1,301 @@
+ghost use Rattle.std.specs.Prelude.{ℕ, ◌≡◌, ◌<◌, List, [], OnOk, true, false, not, nat_lt, ◌≤◌, ◌&&◌, ◌==◌, slice_index_or, slice_set};
+ghost use Rattle.std.specs.List.{find};
+ghost use Rattle.line_text.specs.Lines.{JoinedLine};
+ghost use Rattle.arch_file.specs.Draft.{AddsPin, Ends, error_at, FollowsLines, Reads, ReadsKeyword, Sets};
+ghost use Rattle.arch_file.specs.Readings.{Finds};
+ghost use Rattle.arch_file.specs.Pins.{is_input_class, output_count};
+ghost use Rattle.arch_file.specs.Values.{value_faults};
+ghost use Rattle.arch_file.specs.Words.{is_pin_keyword, rank_of, required, same_keyword, texts};
+
+use crate::arch::{Arch, Pin, PinClass, Pins};
+use crate::fault::{ArchError, ArchFault, ArchFaultKind, Keyword};
+use crate::pin_line::pin_in;
+use crate::segment::check_segment;
+use crate::values::{self, FcType};
+use crate::words::{REQUIRED, is_unread, keyword_of};
+use std::alloc::{AllocError, Global};
+
+/// Logic elements of a block.
+const MAX_CLUSTER_SIZE: u32 = 16;
+/// Pads at each end of a column.
+const MAX_IO_RAT: u32 = 8;
+/// Inputs of a table.
+const MAX_LUT_SIZE: u32 = 8;
+
+/// Why a line isn't read.
+#[derive(Drop)]
+pub(crate) enum Refusal {
+    NoMemory,
+    Fault(ArchFaultKind),
+}
+
+impl Refusal {
+    /// The same at a line.
+    pub(crate) fn at(self, line: u32) -> ArchError
+        ensures { result ≡ error_at line self }
+    {
+        match self {
+            Refusal::NoMemory => ArchError::NoMemory,
+            Refusal::Fault(kind) => ArchError::Fault(ArchFault { line, kind }),
+        }
+    }
+}
+
+impl From<ArchFaultKind> for Refusal {
+    ghost use Rattle.std.specs.Prelude.{◌≡◌};
+    ghost use Rattle.arch_file.specs.declared.draft.Refusal.TheVariants.{Fault};
+
+    ghost from_gives = { λ kind refusal. refusal ≡ Fault kind };
+
+    fn from(kind: ArchFaultKind) -> Self {
+        Refusal::Fault(kind)
+    }
+}
+
+impl From<AllocError> for Refusal {
+    ghost use Rattle.std.specs.Prelude.{◌≡◌};
+    ghost use Rattle.arch_file.specs.declared.draft.Refusal.TheVariants.{NoMemory};
+
+    ghost from_gives = { λ _ refusal. refusal ≡ NoMemory };
+
+    fn from(_error: AllocError) -> Self {
+        Refusal::NoMemory
+    }
+}
+
+/// What the lines read so far say. A value whose keyword doesn't stand is 0, or absolute.
+#[derive(Drop)]
+pub(crate) struct Draft {
+    /// Which keywords stand, by rank.
+    stands: [bool; 14],
+    io_rat: u32,
+    cluster_size: u32,
+    lut_size: u32,
+    fc_type: FcType,
+    /// In millionths, as the next two.
+    fc_output: u64,
+    fc_input: u64,
+    fc_pad: u64,
+    pins: Vec<Pin>,
+    /// How many of the pins are inputs.
+    inputs: u32,
+    has_clock: bool,
+}
+
+impl Draft {
+    /// No line.
+    pub(crate) fn new(alloc: Global) -> Self
+        ensures { FollowsLines result [] }
+    {
+        Draft {
+            stands: [false; 14],
+            io_rat: 0,
+            cluster_size: 0,
+            lut_size: 0,
+            fc_type: FcType::Absolute,
+            fc_output: 0,
+            fc_input: 0,
+            fc_pad: 0,
+            pins: Vec::new(alloc),
+            inputs: 0,
+            has_clock: false,
+        }
+    }
+
+    /// The value behind a keyword.
+    #[tactic(auto, unfolding(crate::specs::Values::value_faults))]
+    fn set(&mut self, keyword: Keyword, words: &[&[u8]]) -> Result<(), ArchFaultKind>
+        ensures faults { Finds (value_faults keyword (texts words.now)) result }
+        ensures sets { OnOk result (Sets self.old keyword (texts words.now) self.new) }
+    {
+        match keyword {
+            Keyword::IoRat => {
+                self.io_rat = values::whole_up_to(words, MAX_IO_RAT)?;
+                Ok(())
+            }
+            Keyword::SubblocksPerClb => {
+                self.cluster_size = values::whole_up_to(words, MAX_CLUSTER_SIZE)?;
+                Ok(())
+            }
+            Keyword::SubblockLutSize => {
+                self.lut_size = values::whole_up_to(words, MAX_LUT_SIZE)?;
+                Ok(())
+            }
+            Keyword::ChanWidthIo => values::check_one(keyword, words),
+            Keyword::ChanWidthX | Keyword::ChanWidthY => values::check_width(keyword, words),
+            Keyword::FcType => {
+                self.fc_type = values::fc_type(words)?;
+                Ok(())
+            }
+            Keyword::FcOutput => {
+                self.fc_output = values::decimal(words)?;
+                Ok(())
+            }
+            Keyword::FcInput => {
+                self.fc_input = values::decimal(words)?;
+                Ok(())
+            }
+            Keyword::FcPad => {
+                self.fc_pad = values::decimal(words)?;
+                Ok(())
+            }
+            Keyword::SwitchBlockType => values::check_switch_block(words),
+            Keyword::Inpin | Keyword::Outpin | Keyword::Segment => Ok(()),
+        }
+    }
+
+    /// Whether the keyword stands.
+    fn has(&self, keyword: Keyword) -> bool
+        ensures { result ≡ slice_index_or self.now.stands (rank_of keyword) false }
+    {
+        self.stands[keyword.rank()]
+    }
+
+    /// The keyword stands now.
+    fn mark(&mut self, keyword: Keyword)
+        ensures { self.new ≡ record self.old { stands = slice_set self.old.stands (rank_of keyword) true } }
+    {
+        self.stands[keyword.rank()] = true;
+    }
+
+    /// One more pin.
+    fn add(&mut self, pin: Pin) -> Result<(), AllocError>
+        requires { is_input_class pin.class ≡ true → self.old.inputs < 128 }
+        ensures { OnOk result (AddsPin self.old pin self.new) }
+    {
+        self.pins.push(pin)?;
+        match pin.class {
+            PinClass::Input => {
+                self.inputs += 1;
+                Ok(())
+            }
+            PinClass::Output => Ok(()),
+            PinClass::Clock => {
+                self.has_clock = true;
+                Ok(())
+            }
+        }
+    }
+
+    /// The line of a pin, behind its keyword.
+    fn read_pin(&mut self, keyword: Keyword, words: &[&[u8]]) -> Result<(), Refusal>
+        requires { is_pin_keyword keyword ≡ true }
+        ensures { (before : List JoinedLine) → FollowsLines self.old before
+            → ReadsKeyword before keyword (texts words.now) result self.new }
+    {
+        let pin = pin_in(keyword, words, self.inputs, self.has_clock)?;
+        self.add(pin)?;
+        self.mark(keyword);
+        Ok(())
+    }
+
+    /// The line of a segment, behind its keyword.
+    fn read_segment(&mut self, keyword: Keyword, words: &[&[u8]]) -> Result<(), Refusal>
+        requires { same_keyword keyword Keyword.Segment ≡ true }
+        ensures { (before : List JoinedLine) → FollowsLines self.old before
+            → ReadsKeyword before keyword (texts words.now) result self.new }
+    {
+        check_segment(words, self.has(keyword))?;
+        self.mark(keyword);
+        Ok(())
+    }
+
+    /// The line of a value, behind its keyword.
+    fn read_value(&mut self, keyword: Keyword, words: &[&[u8]]) -> Result<(), Refusal>
+        requires pin { is_pin_keyword keyword ≡ false }
+        requires segment { same_keyword keyword Keyword.Segment ≡ false }
+        ensures { (before : List JoinedLine) → FollowsLines self.old before
+            → ReadsKeyword before keyword (texts words.now) result self.new }
+    {
+        if self.has(keyword) {
+            return Err(Refusal::Fault(ArchFaultKind::Repeated));
+        }
+        self.set(keyword, words)?;
+        self.mark(keyword);
+        Ok(())
+    }
+
+    /// A line, behind its keyword.
+    fn read_keyword(&mut self, keyword: Keyword, words: &[&[u8]]) -> Result<(), Refusal>
+        ensures { (before : List JoinedLine) → FollowsLines self.old before
+            → ReadsKeyword before keyword (texts words.now) result self.new }
+    {
+        if keyword.is_pin() {
+            return self.read_pin(keyword, words);
+        }
+        if keyword.is_segment() {
+            return self.read_segment(keyword, words);
+        }
+        self.read_value(keyword, words)
+    }
+
+    /// A line.
+    pub(crate) fn read(&mut self, words: &[&[u8]]) -> Result<(), Refusal>
+        ensures { (before : List JoinedLine) (number : ℕ) → FollowsLines self.old before
+            → Reads before (record { number = number; words = texts words.now }) result self.new }
+    {
+        match words {
+            [] => Ok(()),
+            [word, rest @ ..] => match keyword_of(word) {
+                Some(keyword) => self.read_keyword(keyword, rest),
+                None => {
+                    if is_unread(word) {
+                        Ok(())
+                    } else {
+                        Err(Refusal::Fault(ArchFaultKind::Unknown))
+                    }
+                }
+            },
+        }
+    }
+
+    /// The first keyword that must stand and doesn't.
+    fn first_missing(&self) -> Option<Keyword>
+        ensures { result
+            ≡ find (λ keyword. not (slice_index_or self.now.stands (rank_of keyword) false)) required }
+    {
+        REQUIRED.iter().copied().find(|keyword| !self.has(*keyword))
+    }
+
+    /// How many outputs there are.
+    fn outputs(&self) -> usize
+        ensures { result ≡ output_count self.now.pins.items }
+    {
+        self.pins
+            .iter()
+            .filter(|pin| matches!(pin.class, PinClass::Output))
+            .count()
+    }
+
+    /// Whether there is an input, as many outputs as logic elements, and a clock.
+    fn has_its_pins(&self) -> bool
+        ensures { result ≡ (nat_lt 0 self.now.inputs
+            && ((output_count self.now.pins.items == self.now.cluster_size) && self.now.has_clock)) }
+    {
+        0 < self.inputs && self.outputs() == self.cluster_size as usize && self.has_clock
+    }
+
+    /// The architecture of all lines, for that many tracks.
+    pub(crate) fn finish(self, tracks: u32) -> Result<Arch, ArchFaultKind>
+        requires few { 1 ≤ tracks }
+        requires many { tracks ≤ 64 }
+        ensures { (lines : List JoinedLine) → FollowsLines self lines → Ends lines tracks result }
+    {
+        if let Some(keyword) = self.first_missing() {
+            return Err(ArchFaultKind::Missing(keyword));
+        }
+        if !self.has_its_pins() {
+            return Err(ArchFaultKind::BadClass);
+        }
+        Ok(Arch {
+            io_rat: self.io_rat,
+            cluster_size: self.cluster_size,
+            lut_size: self.lut_size,
+            tracks,
+            fc_output: values::reach(self.fc_type, self.fc_output, tracks),
+            fc_input: values::reach(self.fc_type, self.fc_input, tracks),
+            fc_pad: values::reach(self.fc_type, self.fc_pad, tracks),
+            pins: Pins::new(self.pins),
+        })
+    }
+}

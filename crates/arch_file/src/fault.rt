@@ -1,0 +1,171 @@
+ghost use Rattle.std.specs.Prelude.{◌≡◌};
+ghost use Rattle.arch_file.specs.Faults.{name_of, number_of};
+
+use line_text::{LineError, LineFault};
+use std::error::Error;
+use std::fmt;
+
+/// A keyword of the architecture file, as `io_rat` or `chan_width_io`.
+#[derive(Clone, Copy, Debug, PartialEq, Eq)]
+pub enum Keyword {
+    IoRat,
+    ChanWidthIo,
+    ChanWidthX,
+    ChanWidthY,
+    Inpin,
+    Outpin,
+    SubblocksPerClb,
+    SubblockLutSize,
+    FcType,
+    FcOutput,
+    FcInput,
+    FcPad,
+    SwitchBlockType,
+    Segment,
+}
+
+/// What is wrong with an architecture text.
+#[derive(Clone, Copy, Debug, PartialEq, Eq)]
+pub enum ArchFaultKind {
+    /// The line's first word is no keyword, or a pin's line lacks its `class:`.
+    Unknown,
+    /// The keyword stands before.
+    Repeated,
+    /// The text has no line with the keyword.
+    Missing(Keyword),
+    /// A wrong count of words, or a word that isn't the number that is wanted.
+    BadNumber,
+    /// A value that VPR reads, and devices of this profile don't have.
+    NotProfile(Keyword),
+    /// A class that the pin can't have, a second clock, or in the end a wrong count of pins.
+    BadClass,
+    /// The words behind the class aren't distinct sides, at least one.
+    BadSide,
+    /// A number, a count of pins or the text is above its limit.
+    OverLimit,
+    /// A byte outside comments is neither blank nor a printing ASCII character.
+    NotAscii,
+    /// A joined line has more than 262,144 bytes.
+    LineTooLong,
+}
+
+impl ArchFaultKind {
+    /// The number by which replies tell it, 1 to 10.
+    pub fn number(self) -> u32
+        ensures { result ≡ number_of self }
+    {
+        match self {
+            ArchFaultKind::Unknown => 1,
+            ArchFaultKind::Repeated => 2,
+            ArchFaultKind::Missing(_) => 3,
+            ArchFaultKind::BadNumber => 4,
+            ArchFaultKind::NotProfile(_) => 5,
+            ArchFaultKind::BadClass => 6,
+            ArchFaultKind::BadSide => 7,
+            ArchFaultKind::OverLimit => 8,
+            ArchFaultKind::NotAscii => 9,
+            ArchFaultKind::LineTooLong => 10,
+        }
+    }
+
+    /// The name by which replies tell it.
+    pub fn name(self) -> &'static str
+        ensures { result.now ≡ name_of self }
+    {
+        match self {
+            ArchFaultKind::Unknown => "Unknown",
+            ArchFaultKind::Repeated => "Repeated",
+            ArchFaultKind::Missing(_) => "Missing",
+            ArchFaultKind::BadNumber => "BadNumber",
+            ArchFaultKind::NotProfile(_) => "NotProfile",
+            ArchFaultKind::BadClass => "BadClass",
+            ArchFaultKind::BadSide => "BadSide",
+            ArchFaultKind::OverLimit => "OverLimit",
+            ArchFaultKind::NotAscii => "NotAscii",
+            ArchFaultKind::LineTooLong => "LineTooLong",
+        }
+    }
+}
+
+/// A fault, with the number of its line from 1, or 0 where it is the text's.
+#[derive(Clone, Copy, Debug, PartialEq, Eq)]
+pub struct ArchFault {
+    pub line: u32,
+    pub kind: ArchFaultKind,
+}
+
+impl ArchFault {
+    /// The number by which replies tell what is wrong, 1 to 10.
+    pub fn number(self) -> u32
+        ensures { result ≡ number_of self.kind }
+    {
+        self.kind.number()
+    }
+
+    /// The name by which replies tell what is wrong.
+    pub fn name(self) -> &'static str
+        ensures { result.now ≡ name_of self.kind }
+    {
+        self.kind.name()
+    }
+}
+
+impl fmt::Display for ArchFault {
+    ghost use Rattle.std.specs.Prelude.{Some};
+    ghost use Rattle.arch_file.specs.Faults.{printed_fault};
+
+    ghost output = { λ fault. Some (printed_fault fault) };
+
+    fn fmt<W: fmt::Write>(&self, f: &mut fmt::Formatter<W>) -> fmt::Result {
+        let number = self.number();
+        let name = self.name();
+        let line = self.line;
+        write!(f, "{number} {name} {line}")
+    }
+}
+
+impl Error for ArchFault {}
+
+/// Why a text has no architecture.
+#[derive(Clone, Copy, Debug, PartialEq, Eq)]
+pub enum ArchError {
+    NoMemory,
+    Fault(ArchFault),
+}
+
+impl fmt::Display for ArchError {
+    ghost use Rattle.std.specs.Prelude.{Some};
+    ghost use Rattle.arch_file.specs.Faults.{printed_error};
+
+    ghost output = { λ error. Some (printed_error error) };
+
+    fn fmt<W: fmt::Write>(&self, f: &mut fmt::Formatter<W>) -> fmt::Result {
+        match self {
+            ArchError::NoMemory => write!(f, "memory"),
+            ArchError::Fault(fault) => write!(f, "{fault}"),
+        }
+    }
+}
+
+impl Error for ArchError {}
+
+impl From<LineError> for ArchError {
+    ghost use Rattle.std.specs.Prelude.{◌≡◌};
+    ghost use Rattle.arch_file.specs.Faults.{error_of_lines};
+
+    ghost from_gives = { λ lines error. error ≡ error_of_lines lines };
+
+    fn from(error: LineError) -> Self {
+        match error {
+            LineError::NoMemory => ArchError::NoMemory,
+            LineError::Fault(LineFault::NotAscii(line)) => ArchError::Fault(ArchFault {
+                line,
+                kind: ArchFaultKind::NotAscii,
+            }),
+            LineError::Fault(LineFault::LineTooLong(line)) => ArchError::Fault(ArchFault {
+                line,
+                kind: ArchFaultKind::LineTooLong,
+            }),
+        }
+    }
+}

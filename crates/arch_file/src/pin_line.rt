@@ -1,0 +1,188 @@
+ghost use Rattle.std.specs.Prelude.{ℕ, ◌≡◌, ◌<◌, ◌++◌, ◌∷◌, [], List, IfOk, Some, nat_lt, true, false};
+ghost use Rattle.arch_file.specs.Readings.{FindsLeast};
+ghost use Rattle.arch_file.specs.PinLine.{are_sides, class_faults, class_fits, class_of, pin_in, pin_line_faults, sides_of};
+ghost use Rattle.arch_file.specs.Pins.{clock_count, has_side, input_count, is_clock_class, is_input_class};
+ghost use Rattle.arch_file.specs.SideWords.{Shows};
+ghost use Rattle.arch_file.specs.Words.{texts};
+ghost use Rattle.arch_file.specs.declared.arch.Pin.{Pin};
+
+use crate::arch::{Pin, PinClass, Sides};
+use crate::fault::{ArchFaultKind, Keyword};
+use crate::words::is_word;
+
+/// How many inputs a logic block may have.
+const MAX_INPUTS: u32 = 128;
+
+/// What the words behind a pin's class say.
+#[derive(Clone, Copy)]
+struct SideWords {
+    sides: Sides,
+    is_global: bool,
+    /// Each is a word for a side or the global network, and none stands twice.
+    is_lawful: bool,
+}
+
+impl SideWords {
+    /// No word.
+    fn none() -> Self
+        ensures { Shows result [] }
+    {
+        SideWords {
+            sides: Sides {
+                top: false,
+                bottom: false,
+                left: false,
+                right: false,
+            },
+            is_global: false,
+            is_lawful: true,
+        }
+    }
+
+    /// One more word.
+    fn with(self, word: &[u8]) -> Self
+        ensures { (before : List (List ℕ)) → Shows self before → Shows result (before ++ word.now ∷ []) }
+    {
+        let mut more = self;
+        if is_word(word, "top") {
+            more.is_lawful &= !more.sides.top;
+            more.sides.top = true;
+            return more;
+        }
+        if is_word(word, "bottom") {
+            more.is_lawful &= !more.sides.bottom;
+            more.sides.bottom = true;
+            return more;
+        }
+        if is_word(word, "left") {
+            more.is_lawful &= !more.sides.left;
+            more.sides.left = true;
+            return more;
+        }
+        if is_word(word, "right") {
+            more.is_lawful &= !more.sides.right;
+            more.sides.right = true;
+            return more;
+        }
+        if is_word(word, "global") {
+            more.is_lawful &= !more.is_global;
+            more.is_global = true;
+            return more;
+        }
+        more.is_lawful = false;
+        more
+    }
+
+    /// All of these words.
+    fn of(words: &[&[u8]]) -> Self
+        ensures { Shows result (texts words.now) }
+    {
+        let mut read = SideWords::none();
+        for word in words {
+            read = read.with(word);
+        }
+        read
+    }
+}
+
+/// Whether a side can be reached.
+fn has_side(sides: Sides) -> bool
+    ensures { result ≡ has_side sides }
+{
+    sides.top || sides.bottom || sides.left || sides.right
+}
+
+/// The class that the word names.
+fn class_of(word: &[u8]) -> Option<PinClass>
+    ensures { result ≡ class_of word.now }
+{
+    if is_word(word, "0") {
+        return Some(PinClass::Input);
+    }
+    if is_word(word, "1") {
+        return Some(PinClass::Output);
+    }
+    if is_word(word, "2") {
+        return Some(PinClass::Clock);
+    }
+    None
+}
+
+/// Whether the keyword takes pins of that class: inputs and outputs that aren't global, and a clock that is.
+fn class_fits(keyword: Keyword, class: PinClass, is_global: bool) -> bool
+    ensures { result ≡ class_fits keyword (Some class) is_global }
+{
+    match (keyword, class) {
+        (Keyword::Inpin, PinClass::Input) => !is_global,
+        (Keyword::Inpin, PinClass::Clock) => is_global,
+        (Keyword::Outpin, PinClass::Output) => !is_global,
+        _ => false,
+    }
+}
+
+/// The pin of a class word and the words behind it, where so many inputs stand before, and perhaps a clock.
+fn pin_of(
+    keyword: Keyword,
+    class: &[u8],
+    words: &[&[u8]],
+    inputs: u32,
+    has_clock: bool,
+) -> Result<Pin, ArchFaultKind>
+    ensures faults { (pins : List Pin) → inputs ≡ input_count pins → has_clock ≡ nat_lt 0 (clock_count pins)
+        → FindsLeast (class_faults pins keyword (class_of class.now) (texts words.now)) result }
+    ensures class { IfOk result (λ pin. class_of class.now ≡ Some pin.class) }
+    ensures sides { IfOk result (λ pin. pin.sides ≡ sides_of (texts words.now)) }
+    ensures reached { IfOk result (λ pin. has_side pin.sides ≡ true) }
+    ensures clock { IfOk result (λ pin. is_clock_class pin.class ≡ true → has_clock ≡ false) }
+    ensures room { IfOk result (λ pin. is_input_class pin.class ≡ true → inputs < 128) }
+{
+    let read = SideWords::of(words);
+    let Some(class) = class_of(class) else {
+        return Err(ArchFaultKind::BadClass);
+    };
+    if !class_fits(keyword, class, read.is_global) {
+        return Err(ArchFaultKind::BadClass);
+    }
+    if class == PinClass::Clock && has_clock {
+        return Err(ArchFaultKind::BadClass);
+    }
+    if !read.is_lawful || !has_side(read.sides) {
+        return Err(ArchFaultKind::BadSide);
+    }
+    if class == PinClass::Input && inputs >= MAX_INPUTS {
+        return Err(ArchFaultKind::OverLimit);
+    }
+    Ok(Pin {
+        class,
+        sides: read.sides,
+    })
+}
+
+/// The pin of the words behind its keyword, where so many inputs stand before, and perhaps a clock.
+#[tactic(auto, unfolding(crate::specs::PinLine::pin_line_faults, crate::specs::PinLine::pin_in))]
+pub(crate) fn pin_in(
+    keyword: Keyword,
+    words: &[&[u8]],
+    inputs: u32,
+    has_clock: bool,
+) -> Result<Pin, ArchFaultKind>
+    ensures faults { (pins : List Pin) → inputs ≡ input_count pins → has_clock ≡ nat_lt 0 (clock_count pins)
+        → FindsLeast (pin_line_faults pins keyword (texts words.now)) result }
+    ensures value { IfOk result (λ pin. pin_in (texts words.now) ≡ Some pin) }
+    ensures reached { IfOk result (λ pin. has_side pin.sides ≡ true) }
+    ensures clock { IfOk result (λ pin. is_clock_class pin.class ≡ true → has_clock ≡ false) }
+    ensures room { IfOk result (λ pin. is_input_class pin.class ≡ true → inputs < 128) }
+{
+    match words {
+        [] => Err(ArchFaultKind::Unknown),
+        [word, rest @ ..] => {
+            if !is_word(word, "class:") {
+                return Err(ArchFaultKind::Unknown);
+            }
+            match rest {
+                [] => Err(ArchFaultKind::BadClass),
+                [class, sides @ ..] => pin_of(keyword, class, sides, inputs, has_clock),
+            }
+        }
+    }
+}

@@ -1,0 +1,150 @@
+ghost use Rattle.std.specs.Prelude.{◌≡◌, ◌<◌, ◌≤◌, IfOk, Some, option_map, option_and_then};
+ghost use Rattle.arch_file.specs.Readings.{Finds};
+ghost use Rattle.arch_file.specs.Values.{decimal_faults, decimal_in, is_fc_type, is_fractional_choice, is_subset, one_faults, reach, whole_faults, whole_in, width_faults, word_faults};
+ghost use Rattle.arch_file.specs.FcTypes.{is_fractional_type};
+ghost use Rattle.arch_file.specs.Words.{lone, texts};
+
+use crate::fault::{ArchFaultKind, Keyword};
+use crate::words::{is_word, lone};
+use line_text::{millionths, whole_number};
+
+/// 1, in millionths.
+pub(crate) const ONE: u64 = 1_000_000;
+
+/// How the numbers of tracks are meant.
+#[derive(Clone, Copy, Debug)]
+pub(crate) enum FcType {
+    /// So many tracks.
+    Absolute,
+    /// That part of all tracks.
+    Fractional,
+}
+
+/// The words as one whole number.
+fn whole_in(words: &[&[u8]]) -> Option<u32>
+    ensures { result ≡ whole_in (texts words.now) }
+{
+    whole_number(lone(words)?)
+}
+
+/// The words as one decimal, in millionths.
+fn decimal_in(words: &[&[u8]]) -> Option<u64>
+    ensures { result ≡ decimal_in (texts words.now) }
+{
+    millionths(lone(words)?)
+}
+
+/// A whole number from 1 to that limit.
+pub(crate) fn whole_up_to(words: &[&[u8]], limit: u32) -> Result<u32, ArchFaultKind>
+    ensures faults { Finds (whole_faults limit (whole_in (texts words.now))) result }
+    ensures value { IfOk result (λ number. whole_in (texts words.now) ≡ Some number) }
+    ensures low { IfOk result (λ number. 1 ≤ number) }
+    ensures high { IfOk result (λ number. number ≤ limit) }
+{
+    match whole_in(words) {
+        None => Err(ArchFaultKind::BadNumber),
+        Some(number) => {
+            if number == 0 {
+                return Err(ArchFaultKind::BadNumber);
+            }
+            if number > limit {
+                return Err(ArchFaultKind::OverLimit);
+            }
+            Ok(number)
+        }
+    }
+}
+
+/// A decimal, in millionths.
+pub(crate) fn decimal(words: &[&[u8]]) -> Result<u64, ArchFaultKind>
+    ensures faults { Finds (decimal_faults (decimal_in (texts words.now))) result }
+    ensures value { IfOk result (λ number. decimal_in (texts words.now) ≡ Some number) }
+{
+    match decimal_in(words) {
+        None => Err(ArchFaultKind::BadNumber),
+        Some(value) => Ok(value),
+    }
+}
+
+/// Whether the words are one decimal that is 1.
+pub(crate) fn check_one(keyword: Keyword, words: &[&[u8]]) -> Result<(), ArchFaultKind>
+    ensures { Finds (one_faults keyword (decimal_in (texts words.now))) result }
+{
+    match decimal_in(words) {
+        None => Err(ArchFaultKind::BadNumber),
+        Some(value) => {
+            if value == ONE {
+                Ok(())
+            } else {
+                Err(ArchFaultKind::NotProfile(keyword))
+            }
+        }
+    }
+}
+
+/// Whether the words say that all channels have the width 1.
+pub(crate) fn check_width(keyword: Keyword, words: &[&[u8]]) -> Result<(), ArchFaultKind>
+    ensures { Finds (width_faults keyword (texts words.now)) result }
+{
+    match words {
+        [] => Err(ArchFaultKind::BadNumber),
+        [kind, rest @ ..] => {
+            if is_word(kind, "uniform") {
+                check_one(keyword, rest)
+            } else {
+                Err(ArchFaultKind::NotProfile(keyword))
+            }
+        }
+    }
+}
+
+/// How the numbers of tracks are meant.
+pub(crate) fn fc_type(words: &[&[u8]]) -> Result<FcType, ArchFaultKind>
+    ensures faults { Finds (word_faults Keyword.FcType is_fc_type (lone (texts words.now))) result }
+    ensures value { IfOk result (λ meant. is_fractional_type meant ≡ is_fractional_choice (lone (texts words.now))) }
+{
+    match lone(words) {
+        None => Err(ArchFaultKind::BadNumber),
+        Some(word) => {
+            if is_word(word, "absolute") {
+                return Ok(FcType::Absolute);
+            }
+            if is_word(word, "fractional") {
+                return Ok(FcType::Fractional);
+            }
+            Err(ArchFaultKind::NotProfile(Keyword::FcType))
+        }
+    }
+}
+
+/// Whether the words are the one kind of switch blocks.
+pub(crate) fn check_switch_block(words: &[&[u8]]) -> Result<(), ArchFaultKind>
+    ensures { Finds (word_faults Keyword.SwitchBlockType is_subset (lone (texts words.now))) result }
+{
+    match lone(words) {
+        None => Err(ArchFaultKind::BadNumber),
+        Some(word) => {
+            if is_word(word, "subset") {
+                Ok(())
+            } else {
+                Err(ArchFaultKind::NotProfile(Keyword::SwitchBlockType))
+            }
+        }
+    }
+}
+
+/// How many of so many tracks a pin reaches.
+pub(crate) fn reach(meant: FcType, value: u64, tracks: u32) -> u32
+    requires few { 1 ≤ tracks }
+    requires many { tracks ≤ 64 }
+    ensures value { result ≡ reach (is_fractional_type meant) value tracks }
+    ensures low { 1 ≤ result }
+    ensures high { result ≤ tracks }
+{
+    let all = u64::from(tracks);
+    let wanted = match meant {
+        FcType::Absolute => value / ONE,
+        FcType::Fractional => value.min(ONE) * all / ONE,
+    };
+    wanted.max(1).min(all) as u32
+}

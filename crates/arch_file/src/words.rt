@@ -1,0 +1,139 @@
+ghost use Rattle.std.specs.Prelude.{◌≡◌, ◌<◌, option_map};
+ghost use Rattle.std.specs.Str.{bytes_eq};
+ghost use Rattle.arch_file.specs.Words.{is_pin_keyword, is_unread, keyword_of, lone, rank_of, same_keyword, text_of, texts};
+
+use crate::fault::Keyword;
+
+/// The keywords that must stand, in the order in which a missing one is told.
+pub(crate) const REQUIRED: [Keyword; 12] = [
+    Keyword::IoRat,
+    Keyword::ChanWidthIo,
+    Keyword::ChanWidthX,
+    Keyword::ChanWidthY,
+    Keyword::SubblocksPerClb,
+    Keyword::SubblockLutSize,
+    Keyword::FcType,
+    Keyword::FcOutput,
+    Keyword::FcInput,
+    Keyword::FcPad,
+    Keyword::SwitchBlockType,
+    Keyword::Segment,
+];
+
+/// All keywords.
+const KEYWORDS: [Keyword; 14] = [
+    Keyword::Inpin,
+    Keyword::Outpin,
+    Keyword::IoRat,
+    Keyword::ChanWidthIo,
+    Keyword::ChanWidthX,
+    Keyword::ChanWidthY,
+    Keyword::SubblocksPerClb,
+    Keyword::SubblockLutSize,
+    Keyword::FcType,
+    Keyword::FcOutput,
+    Keyword::FcInput,
+    Keyword::FcPad,
+    Keyword::SwitchBlockType,
+    Keyword::Segment,
+];
+
+impl Keyword {
+    /// How it is spelled.
+    fn text(self) -> &'static str
+        ensures { result.now ≡ text_of self }
+    {
+        match self {
+            Keyword::IoRat => "io_rat",
+            Keyword::ChanWidthIo => "chan_width_io",
+            Keyword::ChanWidthX => "chan_width_x",
+            Keyword::ChanWidthY => "chan_width_y",
+            Keyword::Inpin => "inpin",
+            Keyword::Outpin => "outpin",
+            Keyword::SubblocksPerClb => "subblocks_per_clb",
+            Keyword::SubblockLutSize => "subblock_lut_size",
+            Keyword::FcType => "Fc_type",
+            Keyword::FcOutput => "Fc_output",
+            Keyword::FcInput => "Fc_input",
+            Keyword::FcPad => "Fc_pad",
+            Keyword::SwitchBlockType => "switch_block_type",
+            Keyword::Segment => "segment",
+        }
+    }
+
+    /// Its place among all keywords.
+    pub(crate) fn rank(self) -> usize
+        ensures place { result ≡ rank_of self }
+        ensures below { result < 14 }
+    {
+        match self {
+            Keyword::IoRat => 0,
+            Keyword::ChanWidthIo => 1,
+            Keyword::ChanWidthX => 2,
+            Keyword::ChanWidthY => 3,
+            Keyword::SubblocksPerClb => 4,
+            Keyword::SubblockLutSize => 5,
+            Keyword::FcType => 6,
+            Keyword::FcOutput => 7,
+            Keyword::FcInput => 8,
+            Keyword::FcPad => 9,
+            Keyword::SwitchBlockType => 10,
+            Keyword::Segment => 11,
+            Keyword::Inpin => 12,
+            Keyword::Outpin => 13,
+        }
+    }
+
+    /// Whether its lines are pins.
+    pub(crate) fn is_pin(self) -> bool
+        ensures { result ≡ is_pin_keyword self }
+    {
+        matches!(self, Keyword::Inpin | Keyword::Outpin)
+    }
+
+    /// Whether it is `segment`.
+    pub(crate) fn is_segment(self) -> bool
+        ensures { result ≡ same_keyword self Keyword.Segment }
+    {
+        matches!(self, Keyword::Segment)
+    }
+}
+
+/// Whether the word is spelled so.
+pub(crate) fn is_word(word: &[u8], text: &str) -> bool
+    ensures { result ≡ bytes_eq word.now text.now }
+{
+    word == text.as_bytes()
+}
+
+/// The keyword that the word is.
+#[tactic(auto, unfolding(crate::specs::Words::keyword_of))]
+pub(crate) fn keyword_of(word: &[u8]) -> Option<Keyword>
+    ensures { result ≡ keyword_of word.now }
+{
+    KEYWORDS
+        .iter()
+        .copied()
+        .find(|keyword| is_word(word, keyword.text()))
+}
+
+/// Whether lines that begin with the word aren't read.
+#[tactic(auto, unfolding(crate::specs::Words::is_unread))]
+pub(crate) fn is_unread(word: &[u8]) -> bool
+    ensures { result ≡ is_unread word.now }
+{
+    is_word(word, "switch")
+        || word.starts_with(b"R_")
+        || word.starts_with(b"C_")
+        || word.starts_with(b"T_")
+}
+
+/// The word that stands alone.
+pub(crate) fn lone<'t>(words: &[&'t [u8]]) -> Option<&'t [u8]>
+    ensures { option_map (λ word. word.now) result ≡ lone (texts words.now) }
+{
+    match words {
+        [word] => Some(*word),
+        _ => None,
+    }
+}

@@ -1,0 +1,63 @@
+-- From the faults of the lines, and of the end, to the answer.
+use Rattle.std.proofs.Common.{◌≡◌, ℕ, ◌<◌, ◌≤◌, if◌then◌else◌, List, [], None, Result, Ok, Err, MatchResult, length, sym, ap, ◌∙◌}
+use Rattle.std.proofs.lemmas.Bool.Decides.{Decides-ltb}
+use Rattle.std.proofs.lemmas.Bool.{le-ltb}
+use Rattle.line_text.specs.Lines.{JoinedLine, lines_of, Gives as LinesGive}
+use Rattle.line_text.specs.declared.fault.LineError.{LineError}
+use Rattle.line_text.specs.declared.fault.LineError.TheVariants.{NoMemory as LineNoMemory, Fault as LineFaultError}
+use Rattle.line_text.specs.declared.fault.LineFault.{LineFault}
+use Rattle.blif.specs.declared.circuit.Circuit.{Circuit}
+use Rattle.blif.specs.declared.fault.BlifFaultKind.TheVariants.{OverLimit}
+use Rattle.blif.specs.declared.fault.BlifError.{BlifError}
+use Rattle.blif.specs.declared.fault.BlifError.TheVariants.{Fault, NoMemory}
+use Rattle.blif.specs.Faults.{error_of_lines}
+use Rattle.blif.specs.Names.{first}
+use Rattle.blif.specs.Sights.{Sights, sights_of}
+use Rattle.blif.specs.Circuits.{circuit_from}
+use Rattle.blif.specs.CircuitOf.{Fails, Gives, circuit_of, circuit_of_lines, circuit_of_read, declared_in, final_faults, line_faults, text_limit, unless_fault}
+use Rattle.blif.proofs.Places.{first_append, first_append_none}
+
+-- what a checker says is declared
+pub declared_is : (checked : Sights) (declared : List (List ℕ)) (lines : List JoinedLine) → checked ≡ sights_of declared lines → checked.declared ≡ declared
+unfolding sights_of
+declared_is checked declared lines sights = ap (λ s. let t : Sights = s in t.declared) sights
+
+-- a line's fault is the least
+pub gives_line_fault : (lut_size : ℕ) (lines : List JoinedLine) (declared : List (List ℕ)) (error : BlifError) → declared ≡ declared_in lines → Fails (first (line_faults lut_size declared [] lines)) error → Gives (circuit_of_lines lut_size lines) (Err error)
+unfolding circuit_of_lines
+gives_line_fault lut_size lines declared NoMemory is fails = tt
+gives_line_fault lut_size lines declared (Fault fault) is fails =
+    ap (λ found. unless_fault found (circuit_from (declared_in lines) lines))
+    (first_append (line_faults lut_size (declared_in lines) [] lines) (final_faults (declared_in lines) lines) fault
+    (ap (λ d. first (line_faults lut_size d [] lines)) (sym is) ∙ fails))
+
+-- without one the end decides
+pub gives_built : (lut_size : ℕ) (lines : List JoinedLine) (declared : List (List ℕ)) (result : Result Circuit BlifError) → declared ≡ declared_in lines → first (line_faults lut_size declared [] lines) ≡ None → MatchResult result (λ circuit. (first (final_faults declared lines) ≡ None) × (circuit ≡ circuit_from declared lines)) (Fails (first (final_faults declared lines))) → Gives (circuit_of_lines lut_size lines) result
+unfolding circuit_of_lines
+gives_built lut_size lines declared (Err NoMemory) is none built = tt
+gives_built lut_size lines declared (Err (Fault fault)) is none built =
+    ap (λ found. unless_fault found (circuit_from (declared_in lines) lines))
+    (first_append_none (line_faults lut_size (declared_in lines) [] lines) (final_faults (declared_in lines) lines) (ap (λ d. first (line_faults lut_size d [] lines)) (sym is) ∙ none)
+    ∙ ap (λ d. first (final_faults d lines)) (sym is) ∙ built)
+gives_built lut_size lines declared (Ok circuit) is none built =
+    ap (λ found. unless_fault found (circuit_from (declared_in lines) lines))
+    (first_append_none (line_faults lut_size (declared_in lines) [] lines) (final_faults (declared_in lines) lines) (ap (λ d. first (line_faults lut_size d [] lines)) (sym is) ∙ none)
+    ∙ ap (λ d. first (final_faults d lines)) (sym is) ∙ built.0)
+    ∙ ap Ok (ap (λ d. circuit_from d lines) (sym is) ∙ sym built.1)
+
+-- a text above the limit
+pub circuit_of-long : (text : List ℕ) (lut_size : ℕ) → text_limit < length text → circuit_of text lut_size ≡ Err (record { line = 0; kind = OverLimit })
+unfolding circuit_of
+circuit_of-long text lut_size long =
+    ap (λ b. if b then Err (record { line = 0; kind = OverLimit }) else circuit_of_read lut_size (lines_of text)) ((Decides-ltb text_limit (length text)).1 long)
+
+pub circuit_of-short : (text : List ℕ) (lut_size : ℕ) (read : Result (List JoinedLine) LineFault) → length text ≤ text_limit → lines_of text ≡ read → circuit_of text lut_size ≡ circuit_of_read lut_size read
+unfolding circuit_of
+circuit_of-short text lut_size read short is =
+    ap (λ b. if b then Err (record { line = 0; kind = OverLimit }) else circuit_of_read lut_size (lines_of text)) (le-ltb text_limit (length text) short)
+    ∙ ap (circuit_of_read lut_size) is
+
+-- a fault of lines is the least
+pub gives_error_of_lines : (text : List ℕ) (lut_size : ℕ) (error : LineError) → length text ≤ text_limit → LinesGive (lines_of text) (Err error) → Gives (circuit_of text lut_size) (Err (error_of_lines error))
+gives_error_of_lines text lut_size LineNoMemory short is = tt
+gives_error_of_lines text lut_size (LineFaultError fault) short is = circuit_of-short text lut_size (Err fault) short is

@@ -1,0 +1,105 @@
+-- The parts of a circuit that one more line brings, and what the line reads that is not driven.
+use Rattle.std.proofs.Common.{◌≡◌, ℕ, ◌+◌, ◌<◌, ◌≤◌, true, false, if◌then◌else◌, arith, List, [], ◌∷◌, ◌++◌, None, Some, length, take, drop, slice_get, map, refl, sym, ap, ◌∙◌}
+use Rattle.std.specs.List.{flat_map}
+use Rattle.std.proofs.lemmas.List.{map-append, drop_all}
+use Rattle.line_text.specs.Lines.{JoinedLine}
+use Rattle.blif.specs.declared.fault.BlifFaultKind.TheVariants.{Undriven}
+use Rattle.blif.specs.Names.{first, number_of, with_names}
+use Rattle.blif.specs.LineNets.{reads_in, inputs_in, outputs_in}
+use Rattle.blif.specs.Sights.{Sights, sights_of, kind_of, is_end, inputs_of}
+use Rattle.blif.specs.BlifFaults.{driven}
+use Rattle.blif.specs.Circuits.{Parts, circuit_from, circuit_with, parts_of, parts_after, tables_in, latches_in}
+use Rattle.blif.specs.CircuitOf.{final_faults, lines_to_end, undriven, undriven_faults}
+use Rattle.blif.proofs.Places.{flat_map_push, first_found, first_none, take_place, drop_place}
+use Rattle.blif.proofs.Sightings.{with_names-append}
+
+-- the parts with those of one more line
+pub parts_push : (nets : List (List ℕ)) (lines : List JoinedLine) (line : JoinedLine) → parts_of nets (lines ++ line ∷ []) ≡ parts_after nets line.number (kind_of line) line.words (parts_of nets lines)
+unfolding parts_of
+parts_push nets lines line =
+    let named_inputs : JoinedLine → List (List ℕ) = λ l. inputs_in (kind_of l) l.words in
+    let named_outputs : JoinedLine → List (List ℕ) = λ l. outputs_in (kind_of l) l.words in
+    let inputs = ap (map (number_of nets)) (flat_map_push named_inputs lines line) ∙ map-append (number_of nets) (flat_map named_inputs lines) (named_inputs line) in
+    let outputs = ap (map (number_of nets)) (flat_map_push named_outputs lines line) ∙ map-append (number_of nets) (flat_map named_outputs lines) (named_outputs line) in
+    let tables = flat_map_push (λ (l : JoinedLine). tables_in nets l.number (kind_of l) l.words) lines line in
+    let latches = flat_map_push (λ (l : JoinedLine). latches_in nets l.number (kind_of l) l.words) lines line in
+    λ i. record { inputs = inputs i; outputs = outputs i; tables = tables i; latches = latches i }
+
+-- the first of the faults of the lines, where the first line reads this net undriven
+found_first : (drivers : List (List ℕ)) (line : JoinedLine) (rest : List JoinedLine) (net : List ℕ) → Some net ≡ first (undriven drivers (reads_in (kind_of line) line.words)) → first (flat_map (undriven_faults drivers) (line ∷ rest)) ≡ Some (record { line = line.number; kind = Undriven net })
+unfolding undriven_faults
+found_first drivers line rest net h =
+    first_found _ (map Undriven (undriven drivers (reads_in (kind_of line) line.words))) _ (Undriven net) (of_kinds (undriven drivers (reads_in (kind_of line) line.words)) h)
+  where
+    of_kinds : (nets : List (List ℕ)) → Some net ≡ first nets → Some (Undriven net) ≡ first (map Undriven nets)
+    of_kinds [] h = absurd cc
+    of_kinds (n ∷ nets) h = cc
+
+-- and where it reads driven nets alone
+none_first : (drivers : List (List ℕ)) (line : JoinedLine) (rest : List JoinedLine) → None ≡ first (undriven drivers (reads_in (kind_of line) line.words)) → first (flat_map (undriven_faults drivers) (line ∷ rest)) ≡ first (flat_map (undriven_faults drivers) rest)
+unfolding undriven_faults
+none_first drivers line rest h =
+    first_none _ (map Undriven (undriven drivers (reads_in (kind_of line) line.words))) _ (of_kinds (undriven drivers (reads_in (kind_of line) line.words)) h)
+  where
+    of_kinds : (nets : List (List ℕ)) → None ≡ first nets → None ≡ first (map Undriven nets)
+    of_kinds [] h = refl
+    of_kinds (n ∷ nets) h = absurd cc
+
+module _ (nets drivers : List (List ℕ)) (lines : List JoinedLine) (place : ℕ) (line : JoinedLine)
+    (within : place < length lines) (at : slice_get lines place ≡ Some line) where
+  -- the line at that place adds its parts
+  pub parts_at : (old new : Parts) → old ≡ parts_of nets (take place lines) → new ≡ parts_after nets line.number (kind_of line) line.words old → new ≡ parts_of nets (take (place + 1) lines)
+  parts_at old new so_far after =
+      after ∙ ap (parts_after nets line.number (kind_of line) line.words) so_far
+      ∙ sym (parts_push nets (take place lines) line) ∙ ap (parts_of nets) (sym (take_place lines place line within at))
+
+  -- its undriven net is the first one
+  pub undriven_at : (net : List ℕ) → Some net ≡ first (undriven drivers (reads_in (kind_of line) line.words)) → first (flat_map (undriven_faults drivers) (drop place lines)) ≡ first (flat_map (undriven_faults drivers) lines) → first (flat_map (undriven_faults drivers) lines) ≡ Some (record { line = line.number; kind = Undriven net })
+  undriven_at net found left =
+      sym left ∙ ap (λ rest. first (flat_map (undriven_faults drivers) rest)) (drop_place lines place line within at)
+      ∙ found_first drivers line _ net found
+
+  -- without one the first is among those of the lines below
+  pub no_undriven_at : None ≡ first (undriven drivers (reads_in (kind_of line) line.words)) → first (flat_map (undriven_faults drivers) (drop place lines)) ≡ first (flat_map (undriven_faults drivers) lines) → first (flat_map (undriven_faults drivers) (drop (place + 1) lines)) ≡ first (flat_map (undriven_faults drivers) lines)
+  no_undriven_at none left =
+      sym (none_first drivers line _ none) ∙ ap (λ rest. first (flat_map (undriven_faults drivers) rest)) (sym (drop_place lines place line within at)) ∙ left
+
+-- the faults that are found at the end, where there is a line
+final_faults_lines : (declared : List (List ℕ)) (lines : List JoinedLine) → 0 < length lines → final_faults declared lines ≡ flat_map (undriven_faults (driven (sights_of declared lines))) lines
+unfolding final_faults
+final_faults_lines declared [] h = absurd (omega (arith, h))
+final_faults_lines declared (line ∷ lines) h = refl
+
+module _ (checked : Sights) (lines : List JoinedLine) (nets clocks drivers : List (List ℕ)) (sights : checked ≡ sights_of checked.declared lines)
+    (same_nets : nets ≡ checked.nets) (same_clocks : clocks ≡ checked.clocks) (same_drivers : drivers ≡ checked.drivers) where
+  pub final_faults_is : 0 < length lines → final_faults checked.declared lines ≡ flat_map (undriven_faults (clocks ++ drivers)) lines
+  final_faults_is some =
+      final_faults_lines checked.declared lines some
+      ∙ ap (λ s. flat_map (undriven_faults (driven s)) lines) (sym sights)
+      ∙ (λ i. flat_map (undriven_faults (sym same_clocks i ++ sym same_drivers i)) lines)
+
+  pub circuit_is : (parts : Parts) → parts ≡ parts_of nets lines → circuit_with nets clocks lines parts ≡ circuit_from checked.declared lines
+  unfolding circuit_from
+  circuit_is parts built =
+      ap (circuit_with nets clocks lines) built
+      ∙ (λ i. circuit_with (same_nets i) (same_clocks i) lines (parts_of (same_nets i) lines))
+      ∙ ap (λ s. let t : Sights = s in circuit_with t.nets t.clocks lines (parts_of t.nets lines)) sights
+
+-- the inputs that lines declare, one line further
+module _ (lines : List JoinedLine) (place : ℕ) (line : JoinedLine) (within : place < length lines) (at : slice_get lines place ≡ Some line) where
+  pub declared_at : is_end (kind_of line) ≡ false → (old new all : List (List ℕ)) → new ≡ with_names old (inputs_of line) → with_names old (flat_map inputs_of (lines_to_end (drop place lines))) ≡ all → with_names new (flat_map inputs_of (lines_to_end (drop (place + 1) lines))) ≡ all
+  declared_at goes old new all after left =
+      let rest : List JoinedLine = lines_to_end (drop (place + 1) lines) in
+      ap (λ names. with_names names (flat_map inputs_of rest)) after
+      ∙ sym (with_names-append old (inputs_of line) (flat_map inputs_of rest))
+      ∙ ap (λ ls. with_names old (flat_map inputs_of ls)) (sym (ap lines_to_end (drop_place lines place line within at) ∙ ap (λ b. if b then [] else line ∷ rest) goes))
+      ∙ left
+
+  pub declared_at_end : is_end (kind_of line) ≡ true → (old all : List (List ℕ)) → with_names old (flat_map inputs_of (lines_to_end (drop place lines))) ≡ all → old ≡ all
+  declared_at_end ends old all left =
+      ap (λ ls. with_names old (flat_map inputs_of ls)) (sym (ap lines_to_end (drop_place lines place line within at) ∙ ap (λ b. if b then [] else line ∷ lines_to_end (drop (place + 1) lines)) ends))
+      ∙ left
+
+pub declared_past : (lines : List JoinedLine) (place : ℕ) → length lines ≤ place → (old all : List (List ℕ)) → with_names old (flat_map inputs_of (lines_to_end (drop place lines))) ≡ all → old ≡ all
+declared_past lines place past old all left =
+    ap (λ ls. with_names old (flat_map inputs_of (lines_to_end ls))) (sym (drop_all place lines past)) ∙ left

@@ -1,0 +1,10 @@
+mod Answering
+mod Building
+mod Examples
+mod Growing
+mod Named
+mod NetNumbers
+mod Places
+mod Seen
+mod Sightings
+mod Words

@@ -1,0 +1,108 @@
+-- A name that is there: its number, its mark, and that it stays there.
+use Rattle.std.proofs.Common.{◌≡◌, ℕ, zero, suc, ◌+◌, ◌<◌, Bool, true, false, not, cond, ◌&&◌, ◌||◌, List, [], ◌∷◌, ◌++◌, Some, length, get_or, take, drop, map, slice_get, if◌then◌else◌, refl, sym, ap, ◌∙◌, arith}
+use Rattle.std.specs.Borrow.{Bor}
+use Rattle.std.specs.List.{flat_map, list_all}
+use Rattle.std.specs.Str.{bytes_eq}
+use Rattle.std.proofs.Math.Numerals.{one-add}
+use Rattle.std.proofs.lemmas.List.{map_push, take-append-drop}
+use Rattle.std.proofs.lemmas.List.Folds.{list_all-append, list_any-append}
+use Rattle.std.proofs.lemmas.List.Recursion.{and_at}
+use Rattle.std.proofs.lemmas.Slice.Eq.{bytes_eq-Decides}
+use Rattle.blif.proofs.Places.{take_place}
+use Rattle.blif.specs.Names.{texts, has_name, number_of, with_name, with_names}
+
+pub and_left : (a b : Bool) → (a && b) ≡ true → a ≡ true
+and_left true b h = refl
+and_left false b h = h
+
+pub and_right : (a b : Bool) → (a && b) ≡ true → b ≡ true
+and_right true b h = h
+and_right false b h = absurd cc
+
+or_true : (a : Bool) → (a || (true || false)) ≡ true
+or_true true = refl
+or_true false = refl
+
+-- the number of a name, by whether it is the first
+number_of-cons : (name first : List ℕ) (names : List (List ℕ)) (b : Bool) → bytes_eq name first ≡ b → number_of (first ∷ names) name ≡ cond (not b) (1 + number_of names name) 0
+number_of-cons name first names b e = ap (λ c. cond (not c) (1 + number_of names name) 0) e
+
+has_name-rest : (name first : List ℕ) (names : List (List ℕ)) → bytes_eq name first ≡ false → has_name (first ∷ names) name ≡ true → has_name names name ≡ true
+has_name-rest name first names e h = sym (ap (λ c. c || has_name names name) e) ∙ h
+
+-- a name that is there has a number below the count
+pub number_of-within : (names : List (List ℕ)) (name : List ℕ) → has_name names name ≡ true → number_of names name < length names
+number_of-within [] name h = absurd cc
+number_of-within (first ∷ names) name h = by (bytes_eq name first) refl (λ there. number_of-within names name there)
+  where
+    by : (b : Bool) → bytes_eq name first ≡ b → (has_name names name ≡ true → number_of names name < length names) → number_of (first ∷ names) name < length (first ∷ names)
+    by true e rest = omega (arith, number_of-cons name first names true e)
+    by false e rest = omega (arith, number_of-cons name first names false e, rest (has_name-rest name first names e h))
+
+-- and what a function of the names gives there is what it gives of the name
+pub mark_at : (f : List ℕ → Bool) (names : List (List ℕ)) (name : List ℕ) (d : Bool) → has_name names name ≡ true → get_or (map f names) (number_of names name) d ≡ f name
+mark_at f [] name d h = absurd cc
+mark_at f (first ∷ names) name d h = by (bytes_eq name first) refl (λ there. mark_at f names name d there)
+  where
+    by : (b : Bool) → bytes_eq name first ≡ b → (has_name names name ≡ true → get_or (map f names) (number_of names name) d ≡ f name) → get_or (map f (first ∷ names)) (number_of (first ∷ names) name) d ≡ f name
+    by true e rest =
+        ap (λ k. get_or (map f (first ∷ names)) k d) (number_of-cons name first names true e)
+        ∙ ap f (sym ((bytes_eq-Decides name first).0 e))
+    by false e rest =
+        ap (λ k. get_or (map f (first ∷ names)) k d) (number_of-cons name first names false e ∙ one-add (number_of names name))
+        ∙ rest (has_name-rest name first names e h)
+
+-- a name that is there stays when another is added
+has_name-with_name : (names : List (List ℕ)) (added name : List ℕ) → has_name names name ≡ true → has_name (with_name names added) name ≡ true
+has_name-with_name names added name h = by (has_name names added)
+  where
+    by : (b : Bool) → has_name (if b then names else names ++ added ∷ []) name ≡ true
+    by true = h
+    by false = list_any-append (bytes_eq name) names (added ∷ []) ∙ ap (λ c. c || (bytes_eq name added || false)) h
+
+has_name-with_names : (names others : List (List ℕ)) (name : List ℕ) → has_name names name ≡ true → has_name (with_names names others) name ≡ true
+has_name-with_names names [] name h = h
+has_name-with_names names (added ∷ others) name h = has_name-with_names (with_name names added) others name (has_name-with_name names added name h)
+
+-- the added one is there
+has_name-added : (names : List (List ℕ)) (name : List ℕ) → has_name (with_name names name) name ≡ true
+has_name-added names name = by (has_name names name) refl
+  where
+    by : (b : Bool) → has_name names name ≡ b → has_name (if b then names else names ++ name ∷ []) name ≡ true
+    by true e = e
+    by false e =
+        list_any-append (bytes_eq name) names (name ∷ [])
+        ∙ ap (λ c. has_name names name || (c || false)) ((bytes_eq-Decides name name).1 refl)
+        ∙ or_true (has_name names name)
+
+-- all that were added are there
+pub all_named : (names others : List (List ℕ)) → list_all (has_name (with_names names others)) others ≡ true
+all_named names [] = refl
+all_named names (added ∷ others) =
+    let head = has_name-with_names (with_name names added) others added (has_name-added names added) in
+    let tail = all_named (with_name names added) others in
+    λ i. head i && tail i
+
+-- what passes on all joined lists passes on each
+pub list_all-part : {X : Type 0} (p : List ℕ → Bool) (f : X → List (List ℕ)) (xs : List X) (i : ℕ) (x : X) → list_all p (flat_map f xs) ≡ true → slice_get xs i ≡ Some x → list_all p (f x) ≡ true
+list_all-part p f [] i x h at = absurd cc
+list_all-part p f (y ∷ xs) zero x h at =
+    let same : y ≡ x = cc in
+    ap (λ z. list_all p (f z)) (sym same) ∙ and_left _ _ (sym (list_all-append p (f y) (flat_map f xs)) ∙ h)
+list_all-part p f (y ∷ xs) (suc i) x h at = list_all-part p f xs i x (and_right _ _ (sym (list_all-append p (f y) (flat_map f xs)) ∙ h)) at
+
+-- and on a front of a list
+pub list_all-take : (p : List ℕ → Bool) (n : ℕ) (xs : List (List ℕ)) → list_all p xs ≡ true → list_all p (take n xs) ≡ true
+list_all-take p n xs h = and_left _ _ (sym (list_all-append p (take n xs) (drop n xs)) ∙ ap (list_all p) (take-append-drop n xs) ∙ h)
+
+-- and on each text
+pub named_at : (p : List ℕ → Bool) (slices : List (Bor (List ℕ))) (i : ℕ) (d : Bor (List ℕ)) → i < length slices → list_all p (texts slices) ≡ true → p (get_or slices i d).now ≡ true
+named_at p slices i d within h = and_at (λ xs. list_all p (texts xs)) (λ slice. p slice.now) refl (λ _ _. refl) slices i d within h
+
+-- the marks with that of one more name
+pub marks_more : (f : List ℕ → Bool) (marks : List Bool) (names : List (List ℕ)) (place : ℕ) (name : List ℕ) (mark : Bool) → place < length names → slice_get names place ≡ Some name → marks ≡ map f (take place names) → mark ≡ f name → marks ++ mark ∷ [] ≡ map f (take (place + 1) names)
+marks_more f marks names place name mark within at so_far is =
+    let before : List Bool = map f (take place names) in
+    let all : map f (take (place + 1) names) ≡ before ++ f name ∷ [] = ap (map f) (take_place names place name within at) ∙ map_push f (take place names) name in
+    let longer : marks ++ mark ∷ [] ≡ before ++ f name ∷ [] = cc in
+    longer ∙ sym all

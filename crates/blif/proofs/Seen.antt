@@ -1,0 +1,37 @@
+-- The names of a set are the texts behind its slices.
+use Rattle.std.proofs.Common.{◌≡◌, ◌≤◌, nat_lt, length, position, arith, ℕ, ◌+◌, Some, None, cond, not, Bool, true, false, List, [], ◌∷◌, ◌++◌, ◌||◌, if◌then◌else◌, refl, ap, ◌∙◌}
+use Rattle.std.specs.Borrow.{Bor}
+use Rattle.std.specs.List.{list_any, position_or_len}
+use Rattle.std.specs.Option.{unwrap_or}
+use Rattle.std.proofs.lemmas.Bool.Decides.{nat_tests}
+use Rattle.std.proofs.lemmas.List.Sums.{prefix_len-le-length}
+use Rattle.std.specs.Str.{bytes_eq}
+use Rattle.std.proofs.lemmas.List.{map_push}
+use Rattle.blif.specs.Names.{texts, has_name, number_of, with_name}
+
+pub has_name-texts : (slices : List (Bor (List ℕ))) (name : List ℕ) → list_any (λ slice. bytes_eq name slice.now) slices ≡ has_name (texts slices) name
+has_name-texts [] name = refl
+has_name-texts (slice ∷ slices) name = ap (λ b. bytes_eq name slice.now || b) (has_name-texts slices name)
+
+texts-if : (b : Bool) (slices : List (Bor (List ℕ))) (slice : Bor (List ℕ)) → texts (if b then slices else slices ++ slice ∷ []) ≡ (if b then texts slices else texts slices ++ slice.now ∷ [])
+texts-if true slices slice = refl
+texts-if false slices slice = map_push (λ name. name.now) slices slice
+
+pub with_name-texts : (slices : List (Bor (List ℕ))) (slice : Bor (List ℕ)) → texts (if list_any (λ s. bytes_eq slice.now s.now) slices then slices else slices ++ slice ∷ []) ≡ with_name (texts slices) slice.now
+with_name-texts slices slice =
+    texts-if (list_any (λ s. bytes_eq slice.now s.now) slices) slices slice
+    ∙ ap (λ b. if b then texts slices else texts slices ++ slice.now ∷ []) (has_name-texts slices slice.now)
+
+pub number_of-texts : (slices : List (Bor (List ℕ))) (name : List ℕ) → position_or_len (λ slice. bytes_eq name slice.now) slices ≡ number_of (texts slices) name
+number_of-texts [] name = refl
+number_of-texts (slice ∷ slices) name =
+    ap (λ n. cond (not (bytes_eq name slice.now)) (1 + n) 0) (number_of-texts slices name)
+
+place_or_count : (place count : ℕ) (b : Bool) → nat_lt place count ≡ b → place ≤ count → unwrap_or (cond b (Some place) None) count ≡ place
+place_or_count place count true test within = refl
+place_or_count place count false test within = grind (arith, nat_tests, test)
+
+pub number_of-found : (slices : List (Bor (List ℕ))) (name : List ℕ) → unwrap_or (position (λ slice. bytes_eq name slice.now) slices) (length slices) ≡ number_of (texts slices) name
+number_of-found slices name =
+    let place : ℕ = position_or_len (λ slice. bytes_eq name slice.now) slices in
+    place_or_count place (length slices) _ refl (prefix_len-le-length _ slices) ∙ number_of-texts slices name

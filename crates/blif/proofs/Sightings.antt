@@ -1,0 +1,73 @@
+-- What one more line brings, and its faults.
+use Rattle.std.proofs.Common.{◌≡◌, ℕ, ◌+◌, ◌<◌, Bool, true, false, ◌||◌, List, [], ◌∷◌, ◌++◌, None, Some, length, take, drop, slice_get, refl, sym, ap, ◌∙◌}
+use Rattle.std.specs.List.{flat_map, list_any}
+use Rattle.std.proofs.lemmas.List.{reverse-append}
+use Rattle.std.proofs.lemmas.List.Elements.{filter-append}
+use Rattle.std.proofs.lemmas.List.Folds.{list_any-append}
+use Rattle.line_text.specs.Lines.{JoinedLine}
+use Rattle.blif.specs.declared.fault.BlifFaultKind.{BlifFaultKind}
+use Rattle.blif.specs.Names.{first, with_name, with_names}
+use Rattle.blif.specs.Sights.{Sights, sights_of, sights_after, kind_of, is_end, names_of, drives_of, clocks_of, outputs_of, undeclared, has_lines, cover_below}
+use Rattle.blif.specs.BlifFaults.{faults_in}
+use Rattle.blif.specs.CircuitOf.{line_faults}
+use Rattle.blif.proofs.Places.{flat_map_push, first_found, first_none, take_place, drop_place}
+
+pub with_names-append : (names xs ys : List (List ℕ)) → with_names names (xs ++ ys) ≡ with_names (with_names names xs) ys
+with_names-append names [] ys = refl
+with_names-append names (x ∷ xs) ys = with_names-append (with_name names x) xs ys
+
+has_lines_push : (lines : List JoinedLine) (line : JoinedLine) → has_lines (lines ++ line ∷ []) ≡ true
+has_lines_push [] line = refl
+has_lines_push (first ∷ lines) line = refl
+
+or_false : (b c : Bool) → (b || (c || false)) ≡ (b || c)
+or_false true c = refl
+or_false false true = refl
+or_false false false = refl
+
+-- what the lines have brought with one more
+pub sights_push : (declared : List (List ℕ)) (lines : List JoinedLine) (line : JoinedLine) → sights_of declared (lines ++ line ∷ []) ≡ sights_after (kind_of line) line.words (sights_of declared lines)
+unfolding sights_of
+sights_push declared lines line =
+    let ends : JoinedLine → Bool = λ l. is_end (kind_of l) in
+    let begun = has_lines_push lines line in
+    let ended : list_any ends (lines ++ line ∷ []) ≡ (list_any ends lines || is_end (kind_of line)) = list_any-append ends lines (line ∷ []) ∙ or_false (list_any ends lines) (is_end (kind_of line)) in
+    let nets : with_names [] (flat_map names_of (lines ++ line ∷ [])) ≡ with_names (with_names [] (flat_map names_of lines)) (names_of line) = ap (with_names []) (flat_map_push names_of lines line) ∙ with_names-append [] (flat_map names_of lines) (names_of line) in
+    let drivers = flat_map_push drives_of lines line in
+    let clocks : with_names [] (undeclared declared (flat_map clocks_of (lines ++ line ∷ []))) ≡ with_names (with_names [] (undeclared declared (flat_map clocks_of lines))) (undeclared declared (clocks_of line)) = ap (λ names. with_names [] (undeclared declared names)) (flat_map_push clocks_of lines line) ∙ ap (with_names []) (filter-append _ (flat_map clocks_of lines) (clocks_of line)) ∙ with_names-append [] (undeclared declared (flat_map clocks_of lines)) (undeclared declared (clocks_of line)) in
+    let outputs = flat_map_push outputs_of lines line in
+    let cover = ap cover_below (reverse-append lines (line ∷ [])) in
+    λ i. record { declared = declared; begun = begun i; ended = ended i; nets = nets i; drivers = drivers i; clocks = clocks i; outputs = outputs i; cover = cover i }
+
+-- the fault of a line with one
+pub line_faults_found : (lut_size : ℕ) (declared : List (List ℕ)) (above : List JoinedLine) (line : JoinedLine) (rest : List JoinedLine) (kind : BlifFaultKind) → Some kind ≡ first (faults_in lut_size (sights_of declared above) (kind_of line) line.words) → first (line_faults lut_size declared above (line ∷ rest)) ≡ Some (record { line = line.number; kind = kind })
+unfolding line_faults
+line_faults_found lut_size declared above line rest kind h = first_found _ (faults_in lut_size (sights_of declared above) (kind_of line) line.words) _ kind h
+
+-- a line without one leaves the faults to those that follow
+pub line_faults_none : (lut_size : ℕ) (declared : List (List ℕ)) (above : List JoinedLine) (line : JoinedLine) (rest : List JoinedLine) → None ≡ first (faults_in lut_size (sights_of declared above) (kind_of line) line.words) → first (line_faults lut_size declared above (line ∷ rest)) ≡ first (line_faults lut_size declared (above ++ line ∷ []) rest)
+unfolding line_faults
+line_faults_none lut_size declared above line rest h = first_none _ (faults_in lut_size (sights_of declared above) (kind_of line) line.words) _ h
+
+module _ (lut_size : ℕ) (declared : List (List ℕ)) (lines : List JoinedLine) (place : ℕ) (line : JoinedLine) (checked : Sights)
+    (within : place < length lines) (at : slice_get lines place ≡ Some line) (sights : checked ≡ sights_of declared (take place lines)) where
+  -- the line at that place brings what it brings
+  pub sights_at : (new : Sights) → new ≡ sights_after (kind_of line) line.words checked → new ≡ sights_of declared (take (place + 1) lines)
+  sights_at new after =
+      after ∙ ap (sights_after (kind_of line) line.words) sights
+      ∙ sym (sights_push declared (take place lines) line) ∙ ap (sights_of declared) (sym (take_place lines place line within at))
+
+  -- its fault is the first one
+  pub fault_at : (kind : BlifFaultKind) → Some kind ≡ first (faults_in lut_size checked (kind_of line) line.words) → first (line_faults lut_size declared (take place lines) (drop place lines)) ≡ first (line_faults lut_size declared [] lines) → first (line_faults lut_size declared [] lines) ≡ Some (record { line = line.number; kind = kind })
+  fault_at kind found left =
+      sym left
+      ∙ ap (λ rest. first (line_faults lut_size declared (take place lines) rest)) (drop_place lines place line within at)
+      ∙ line_faults_found lut_size declared (take place lines) line _ kind (found ∙ ap (λ s. first (faults_in lut_size s (kind_of line) line.words)) sights)
+
+  -- without a fault the first one is among those of the lines below
+  pub no_fault_at : None ≡ first (faults_in lut_size checked (kind_of line) line.words) → first (line_faults lut_size declared (take place lines) (drop place lines)) ≡ first (line_faults lut_size declared [] lines) → first (line_faults lut_size declared (take (place + 1) lines) (drop (place + 1) lines)) ≡ first (line_faults lut_size declared [] lines)
+  no_fault_at none left =
+      ap (λ above. first (line_faults lut_size declared above (drop (place + 1) lines))) (take_place lines place line within at)
+      ∙ sym (line_faults_none lut_size declared (take place lines) line _ (none ∙ ap (λ s. first (faults_in lut_size s (kind_of line) line.words)) sights))
+      ∙ ap (λ rest. first (line_faults lut_size declared (take place lines) rest)) (sym (drop_place lines place line within at))
+      ∙ left

@@ -1,0 +1,9 @@
+use Rattle.std.proofs.Common.{◌∙◌, ap}
+use Rattle.blif.specs.Names.{has_name}
+use Rattle.blif.proofs.Seen.{has_name-texts}
+use Rattle.blif.proofs.names.NameSet.contains.Goals as goal
+
+pub returns-then-not-is_empty : goal.returns-then-not-is_empty
+returns-then-not-is_empty c =
+    c.contains.ensures ∙ has_name-texts c.self.inside.names.keys c.args.name.now
+    ∙ ap (λ ns. has_name ns c.args.name.now) c.self.view_is

@@ -1,0 +1,42 @@
+use Rattle.std.proofs.Common.{◌≡◌, ◌<◌, ◌∙◌, ap, length, arith}
+use Rattle.std.proofs.lemmas.List.{nil_from_length}
+use Rattle.std.proofs.lemmas.Result.{err_from_is_err_and}
+use Rattle.blif.specs.Names.{first}
+use Rattle.blif.specs.Sights.{Sights, sights_of}
+use Rattle.blif.specs.DrivenNets.{DrivenNets}
+use Rattle.blif.specs.CircuitOf.{final_faults}
+use Rattle.blif.proofs.Building.{final_faults_is, circuit_is}
+use Rattle.blif.proofs.reader.build.Goals as goal
+
+pub returns-then-len-eq0 : goal.returns-then-len-eq0
+unfolding final_faults
+returns-then-len-eq0 c =
+    let empty : length c.args.lines.now ≡ 0 = omega arith in
+    ap (λ lines. first (final_faults c.args.checker.declared lines)) (nil_from_length c.args.lines.now empty)
+
+pub parts_of-requires : goal.parts_of-requires
+unfolding sights_of
+parts_of-requires c =
+    ap (λ d. let driven : DrivenNets = d in driven.nets) c.in_ok-driven.ensures
+    ∙ ap (λ s. let sights : Sights = s in sights.nets) c.requires.sights
+
+pub returns-in_err-parts : goal.returns-in_err-parts
+returns-in_err-parts c =
+    let p = err_from_is_err_and c.from_residual-in_err-parts.result c.from_residual-in_err-parts.ensures.1 in
+    let driven : DrivenNets = c.in_ok-driven.driven in
+    let nets = ap (λ d. let t : DrivenNets = d in t.nets) c.in_ok-driven.ensures in
+    let clocks = ap (λ d. let t : DrivenNets = d in t.clocks) c.in_ok-driven.ensures in
+    let drivers = ap (λ d. let t : DrivenNets = d in t.drivers) c.in_ok-driven.ensures in
+    let some : 0 < length c.args.lines.now = omega arith in
+    rw (p.1, p.2, final_faults_is c.args.checker c.args.lines.now driven.nets driven.clocks driven.drivers c.requires.sights nets clocks drivers some) c.in_err-parts.ensures
+
+pub returns : goal.returns
+returns c =
+    let driven : DrivenNets = c.in_ok-driven.driven in
+    let nets = ap (λ d. let t : DrivenNets = d in t.nets) c.in_ok-driven.ensures in
+    let clocks = ap (λ d. let t : DrivenNets = d in t.clocks) c.in_ok-driven.ensures in
+    let drivers = ap (λ d. let t : DrivenNets = d in t.drivers) c.in_ok-driven.ensures in
+    let some : 0 < length c.args.lines.now = omega arith in (
+      ap first (final_faults_is c.args.checker c.args.lines.now driven.nets driven.clocks driven.drivers c.requires.sights nets clocks drivers some) ∙ c.in_ok-parts.ensures.0,
+      c.in_ok-assemble.ensures ∙ circuit_is c.args.checker c.args.lines.now driven.nets driven.clocks driven.drivers c.requires.sights nets clocks drivers c.in_ok-parts.parts c.in_ok-parts.ensures.1,
+    )

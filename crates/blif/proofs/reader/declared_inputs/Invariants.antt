@@ -1,0 +1,10 @@
+use Rattle.std.proofs.Common.{◌≡◌, [], drop}
+use Rattle.std.specs.List.{flat_map}
+use Rattle.blif.specs.Names.{with_names}
+use Rattle.blif.specs.Sights.{inputs_of}
+use Rattle.blif.specs.CircuitOf.{lines_to_end}
+use Rattle.blif.proofs.reader.declared_inputs.Given as goal
+
+-- what is left adds what all lines add
+abbrev pub invariant-loop-place : goal.invariant-loop-place
+invariant-loop-place l = with_names l.declared (flat_map inputs_of (lines_to_end (drop l.place l.lines))) ≡ with_names [] (flat_map inputs_of (lines_to_end l.lines))

@@ -1,0 +1,13 @@
+use Rattle.std.proofs.Common.{◌≡◌, ◌++◌, take, drop}
+use Rattle.std.specs.List.{flat_map}
+use Rattle.blif.specs.Names.{first}
+use Rattle.blif.specs.Circuits.{parts_of}
+use Rattle.blif.specs.CircuitOf.{undriven_faults}
+use Rattle.blif.proofs.reader.parts_of.Given as goal
+
+-- each net that is read so far is driven
+abbrev pub invariant-loop-place : goal.invariant-loop-place
+invariant-loop-place l = record {
+  parts : l.parts ≡ parts_of l.driven.nets (take l.place l.lines);
+  faults_left : first (flat_map (undriven_faults (l.driven.clocks ++ l.driven.drivers)) (drop l.place l.lines)) ≡ first (flat_map (undriven_faults (l.driven.clocks ++ l.driven.drivers)) l.lines);
+}

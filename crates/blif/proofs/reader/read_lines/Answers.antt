@@ -1,0 +1,22 @@
+use Rattle.std.proofs.Common.{◌∙◌, [], sym, ap}
+use Rattle.std.proofs.lemmas.Result.{err_from_is_err_and}
+use Rattle.blif.specs.Sights.{sights_of}
+use Rattle.blif.specs.Names.{first}
+use Rattle.blif.specs.CircuitOf.{line_faults}
+use Rattle.blif.proofs.Answering.{declared_is, gives_line_fault, gives_built}
+use Rattle.blif.proofs.reader.read_lines.Goals as goal
+
+pub returns-in_err-checker : goal.returns-in_err-checker
+returns-in_err-checker c =
+    let p = err_from_is_err_and c.from_residual-in_err-checker.result c.from_residual-in_err-checker.ensures.1 in
+    rw (p.1, p.2) (gives_line_fault c.args.lut_size c.args.lines.now c.in_ok-declared.declared c.in_err-checker.field-0.0 c.in_ok-declared.ensures c.in_err-checker.ensures)
+
+pub build-requires-clause-sights : goal.build-requires-clause-sights
+build-requires-clause-sights c =
+    let sights = c.in_ok-checker.ensures.1 in
+    sights ∙ ap (λ d. sights_of d c.args.lines.now) (sym (declared_is c.in_ok-checker.checker c.in_ok-declared.declared c.args.lines.now sights))
+
+pub returns : goal.returns
+returns c =
+    let same = declared_is c.in_ok-checker.checker c.in_ok-declared.declared c.args.lines.now c.in_ok-checker.ensures.1 in
+    gives_built c.args.lut_size c.args.lines.now c.in_ok-checker.checker.declared c.build.result (same ∙ c.in_ok-declared.ensures) (ap (λ d. first (line_faults c.args.lut_size d [] c.args.lines.now)) same ∙ c.in_ok-checker.ensures.0) c.build.ensures

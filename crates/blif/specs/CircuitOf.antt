@@ -1,0 +1,88 @@
+-- What a netlist text says: its circuit, or its least fault.
+use Rattle.std.specs.Prelude.{ℕ, ◌≡◌, not, List, [], ◌∷◌, ◌++◌, Option, None, Some, Result, Ok, Err, ⊤, filter, map, length, nat_lt, if◌then◌else◌}
+use Rattle.std.specs.List.{flat_map}
+use Rattle.line_text.specs.Lines.{JoinedLine, lines_of}
+use Rattle.line_text.specs.declared.fault.LineFault.{LineFault}
+use Rattle.blif.specs.declared.circuit.Circuit.{Circuit}
+use Rattle.blif.specs.declared.fault.BlifFault.{BlifFault}
+use Rattle.blif.specs.declared.fault.BlifFaultKind.{BlifFaultKind}
+use Rattle.blif.specs.declared.fault.BlifFaultKind.TheVariants.{Undriven, NoModel, OverLimit}
+use Rattle.blif.specs.declared.fault.BlifError.{BlifError}
+use Rattle.blif.specs.declared.fault.BlifError.TheVariants.{Fault, NoMemory}
+use Rattle.blif.specs.Names.{first, has_name, with_names}
+use Rattle.blif.specs.Faults.{fault_of_lines}
+use Rattle.blif.specs.LineNets.{reads_in}
+use Rattle.blif.specs.Sights.{sights_of, kind_of, is_end, inputs_of}
+use Rattle.blif.specs.BlifFaults.{driven, faults_in}
+use Rattle.blif.specs.Circuits.{circuit_from}
+
+-- the lines before the end
+abbrev pub lines_to_end : List JoinedLine → List JoinedLine
+lines_to_end [] = []
+lines_to_end (line ∷ lines) = if is_end (kind_of line) then [] else line ∷ lines_to_end lines
+
+-- the inputs that lines of inputs declare, each once
+unfoldable pub declared_in : List JoinedLine → List (List ℕ)
+declared_in lines = with_names [] (flat_map inputs_of (lines_to_end lines))
+
+-- these faults of one line
+abbrev pub at_line : ℕ → List BlifFaultKind → List BlifFault
+at_line number kinds = map (λ kind. record { line = number; kind = kind }) kinds
+
+-- the faults of the lines, below those that stand above them
+unfoldable pub line_faults : ℕ → List (List ℕ) → List JoinedLine → List JoinedLine → List BlifFault
+line_faults lut_size declared above [] = []
+line_faults lut_size declared above (line ∷ lines) =
+    at_line line.number (faults_in lut_size (sights_of declared above) (kind_of line) line.words)
+    ++ line_faults lut_size declared (above ++ line ∷ []) lines
+
+-- those of the names that are not driven
+abbrev pub undriven : List (List ℕ) → List (List ℕ) → List (List ℕ)
+undriven drivers names = filter (λ name. not (has_name drivers name)) names
+
+-- a fault for each net that the line reads and that is not driven
+unfoldable pub undriven_faults : List (List ℕ) → JoinedLine → List BlifFault
+undriven_faults drivers line = at_line line.number (map Undriven (undriven drivers (reads_in (kind_of line) line.words)))
+
+-- the faults that are found at the end
+unfoldable pub final_faults : List (List ℕ) → List JoinedLine → List BlifFault
+final_faults declared [] = record { line = 0; kind = NoModel } ∷ []
+final_faults declared (line ∷ lines) = flat_map (undriven_faults (driven (sights_of declared (line ∷ lines)))) (line ∷ lines)
+
+-- all faults of the lines, in the order of line, number and word, and last those that are found at the end
+abbrev pub all_faults : ℕ → List JoinedLine → List BlifFault
+all_faults lut_size lines = line_faults lut_size (declared_in lines) [] lines ++ final_faults (declared_in lines) lines
+
+-- the least fault, or this circuit where there is none
+abbrev pub unless_fault : Option BlifFault → Circuit → Result Circuit BlifFault
+unless_fault None circuit = Ok circuit
+unless_fault (Some fault) circuit = Err fault
+
+-- what the lines say
+unfoldable pub circuit_of_lines : ℕ → List JoinedLine → Result Circuit BlifFault
+circuit_of_lines lut_size lines = unless_fault (first (all_faults lut_size lines)) (circuit_from (declared_in lines) lines)
+
+-- what a text says that has these lines
+abbrev pub circuit_of_read : ℕ → Result (List JoinedLine) LineFault → Result Circuit BlifFault
+circuit_of_read lut_size (Ok lines) = circuit_of_lines lut_size lines
+circuit_of_read lut_size (Err fault) = Err (fault_of_lines fault)
+
+-- the most bytes of a text
+abbrev pub text_limit : ℕ
+text_limit = 1048576
+
+-- the circuit, or the least fault: first the text's size, then its lines
+unfoldable pub circuit_of : List ℕ → ℕ → Result Circuit BlifFault
+circuit_of text lut_size =
+    if nat_lt text_limit (length text) then Err (record { line = 0; kind = OverLimit }) else circuit_of_read lut_size (lines_of text)
+
+-- a reader that found this fault may answer this error
+abbrev pub Fails : Option BlifFault → BlifError → Type 0
+Fails found (Fault fault) = found ≡ Some fault
+Fails found NoMemory = ⊤
+
+-- a reader of that text may answer this
+abbrev pub Gives : Result Circuit BlifFault → Result Circuit BlifError → Type 0
+Gives meant (Ok circuit) = meant ≡ Ok circuit
+Gives meant (Err (Fault fault)) = meant ≡ Err fault
+Gives meant (Err NoMemory) = ⊤

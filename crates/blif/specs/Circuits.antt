@@ -1,0 +1,103 @@
+-- The circuit of lines without a fault, with nets by number.
+use Rattle.std.specs.Prelude.{ℕ, List, [], ◌∷◌, ◌++◌, map, codes, slice_index_or, if◌then◌else◌}
+use Rattle.std.specs.List.{flat_map}
+use Rattle.std.specs.Option.{option_map}
+use Rattle.line_text.specs.Lines.{JoinedLine}
+use Rattle.blif.specs.declared.circuit.Circuit.{Circuit}
+use Rattle.blif.specs.declared.keyword.Keyword.{Keyword}
+use Rattle.blif.specs.declared.keyword.Keyword.TheVariants.{Model, Inputs, Outputs, Clock, Names, Latch, End, Skipped, Other, Row}
+use Rattle.blif.specs.declared.latches.Latch.{Latch as StoredLatch}
+use Rattle.blif.specs.Names.{number_of}
+use Rattle.blif.specs.Keywords.{args_of, last_of}
+use Rattle.blif.specs.LatchLines.{is_latch, control_of}
+use Rattle.blif.specs.LineNets.{front_of, inputs_in, outputs_in}
+use Rattle.blif.specs.LookupTables.{LookupTable}
+use Rattle.blif.specs.Sights.{sights_of, kind_of}
+
+-- the table with these names on the line with this number
+abbrev pub table_with : List (List ℕ) → ℕ → List (List ℕ) → List LookupTable
+table_with nets number [] = []
+table_with nets number (name ∷ names) = record { line = number; inputs = map (number_of nets) (front_of (name ∷ names)); output = number_of nets (last_of (name ∷ names)) } ∷ []
+
+-- the tables that a line of this kind brings
+abbrev pub tables_in : List (List ℕ) → ℕ → Keyword → List (List ℕ) → List LookupTable
+tables_in nets number Names words = table_with nets number (args_of words)
+tables_in nets number Model words = []
+tables_in nets number Inputs words = []
+tables_in nets number Outputs words = []
+tables_in nets number Clock words = []
+tables_in nets number Latch words = []
+tables_in nets number End words = []
+tables_in nets number Skipped words = []
+tables_in nets number Other words = []
+tables_in nets number Row words = []
+
+-- the latch with these words on the line with this number
+abbrev pub latch_with : List (List ℕ) → ℕ → List (List ℕ) → List StoredLatch
+latch_with nets number args =
+    if is_latch args then record { line = number; input = number_of nets (slice_index_or args 0 []); output = number_of nets (slice_index_or args 1 []); control = option_map (number_of nets) (control_of args) } ∷ [] else []
+
+-- the latches that a line of this kind brings
+abbrev pub latches_in : List (List ℕ) → ℕ → Keyword → List (List ℕ) → List StoredLatch
+latches_in nets number Latch words = latch_with nets number (args_of words)
+latches_in nets number Model words = []
+latches_in nets number Inputs words = []
+latches_in nets number Outputs words = []
+latches_in nets number Clock words = []
+latches_in nets number Names words = []
+latches_in nets number End words = []
+latches_in nets number Skipped words = []
+latches_in nets number Other words = []
+latches_in nets number Row words = []
+
+-- the parts of a circuit that lines bring
+pub record Parts : Type 0 where
+  pub inputs : List ℕ
+  pub outputs : List ℕ
+  pub tables : List LookupTable
+  pub latches : List StoredLatch
+
+-- the parts that these lines bring
+unfoldable pub parts_of : List (List ℕ) → List JoinedLine → Parts
+parts_of nets lines = record {
+  inputs = map (number_of nets) (flat_map (λ line. inputs_in (kind_of line) line.words) lines);
+  outputs = map (number_of nets) (flat_map (λ line. outputs_in (kind_of line) line.words) lines);
+  tables = flat_map (λ line. tables_in nets line.number (kind_of line) line.words) lines;
+  latches = flat_map (λ line. latches_in nets line.number (kind_of line) line.words) lines;
+}
+
+-- the parts with those that one more line brings
+abbrev pub parts_after : List (List ℕ) → ℕ → Keyword → List (List ℕ) → Parts → Parts
+parts_after nets number keyword words old = record {
+  inputs = old.inputs ++ map (number_of nets) (inputs_in keyword words);
+  outputs = old.outputs ++ map (number_of nets) (outputs_in keyword words);
+  tables = old.tables ++ tables_in nets number keyword words;
+  latches = old.latches ++ latches_in nets number keyword words;
+}
+
+-- the model's name, which a line of the model may leave out
+abbrev pub named_model : List (List ℕ) → List ℕ
+named_model [] = codes "top"
+named_model (name ∷ words) = name
+
+-- the name of the model that the first line begins
+abbrev pub model_of : List JoinedLine → List ℕ
+model_of [] = codes "top"
+model_of (line ∷ lines) = named_model (args_of line.words)
+
+-- the circuit of these nets and parts, whose clocks come after the inputs that lines of inputs name
+abbrev pub circuit_with : List (List ℕ) → List (List ℕ) → List JoinedLine → Parts → Circuit
+circuit_with nets clocks lines parts = record {
+  model = model_of lines;
+  nets = nets;
+  inputs = parts.inputs ++ map (number_of nets) clocks;
+  outputs = parts.outputs;
+  tables = parts.tables;
+  latches = parts.latches;
+}
+
+-- the circuit of these lines
+unfoldable pub circuit_from : List (List ℕ) → List JoinedLine → Circuit
+circuit_from declared lines =
+    let sights = sights_of declared lines in
+    circuit_with sights.nets sights.clocks lines (parts_of sights.nets lines)

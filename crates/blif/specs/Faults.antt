@@ -1,0 +1,66 @@
+-- How replies tell a fault.
+use Rattle.std.specs.Prelude.{ℕ, List, Option, None, Some, codes}
+use Rattle.line_text.specs.declared.fault.LineFault.{LineFault}
+use Rattle.line_text.specs.declared.fault.LineFault.TheVariants.{NotAscii as LineNotAscii, LineTooLong as LineLineTooLong}
+use Rattle.line_text.specs.declared.fault.LineError.{LineError}
+use Rattle.line_text.specs.declared.fault.LineError.TheVariants.{NoMemory as LineNoMemory, Fault as LineFaultError}
+use Rattle.blif.specs.declared.fault.BlifFaultKind.{BlifFaultKind}
+use Rattle.blif.specs.declared.fault.BlifFaultKind.TheVariants.{Unknown, BadCover, MixedCover, TooWide, TwoDrivers, Undriven, RepeatedOutput, BadLatch, NoModel, OverLimit, NotAscii, LineTooLong}
+use Rattle.blif.specs.declared.fault.BlifFault.{BlifFault}
+use Rattle.blif.specs.declared.fault.BlifError.{BlifError}
+use Rattle.blif.specs.declared.fault.BlifError.TheVariants.{NoMemory, Fault}
+
+-- its number
+abbrev pub number_of : BlifFaultKind → ℕ
+number_of Unknown = 1
+number_of BadCover = 2
+number_of MixedCover = 3
+number_of TooWide = 4
+number_of (TwoDrivers net) = 5
+number_of (Undriven net) = 6
+number_of (RepeatedOutput net) = 7
+number_of BadLatch = 8
+number_of NoModel = 9
+number_of OverLimit = 10
+number_of NotAscii = 11
+number_of LineTooLong = 12
+
+-- its name
+abbrev pub name_of : BlifFaultKind → List ℕ
+name_of Unknown = codes "Unknown"
+name_of BadCover = codes "BadCover"
+name_of MixedCover = codes "MixedCover"
+name_of TooWide = codes "TooWide"
+name_of (TwoDrivers net) = codes "TwoDrivers"
+name_of (Undriven net) = codes "Undriven"
+name_of (RepeatedOutput net) = codes "RepeatedOutput"
+name_of BadLatch = codes "BadLatch"
+name_of NoModel = codes "NoModel"
+name_of OverLimit = codes "OverLimit"
+name_of NotAscii = codes "NotAscii"
+name_of LineTooLong = codes "LineTooLong"
+
+-- the net that it names, if it names one
+abbrev pub net_of : BlifFaultKind → Option (List ℕ)
+net_of Unknown = None
+net_of BadCover = None
+net_of MixedCover = None
+net_of TooWide = None
+net_of (TwoDrivers net) = Some net
+net_of (Undriven net) = Some net
+net_of (RepeatedOutput net) = Some net
+net_of BadLatch = None
+net_of NoModel = None
+net_of OverLimit = None
+net_of NotAscii = None
+net_of LineTooLong = None
+
+-- a fault of lines as a fault of the netlist
+abbrev pub fault_of_lines : LineFault → BlifFault
+fault_of_lines (LineNotAscii number) = record { line = number; kind = NotAscii }
+fault_of_lines (LineLineTooLong number) = record { line = number; kind = LineTooLong }
+
+-- an error of lines as an error of the netlist
+abbrev pub error_of_lines : LineError → BlifError
+error_of_lines LineNoMemory = NoMemory
+error_of_lines (LineFaultError fault) = Fault (fault_of_lines fault)

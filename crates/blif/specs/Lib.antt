@@ -1,0 +1,13 @@
+pub mod BlifFaults
+pub mod CircuitOf
+pub mod Circuits
+pub mod Covers
+pub mod DrivenNets
+pub mod Faults
+pub mod Keywords
+pub mod LatchLines
+pub mod LineNets
+pub mod LookupTables
+pub mod Names
+pub mod Sights
+pub mod Spans

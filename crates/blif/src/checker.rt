@@ -1,0 +1,275 @@
+//! The faults of the lines, one line after another.
+ghost use Rattle.std.specs.Prelude.{◌≡◌, ◌≤◌, ◌||◌, ◌++◌, [], ◌∷◌, map, length, None, true, false, IfOk, IfNone, IsTrue};
+ghost use Rattle.blif.specs.Names.{first, repeats, texts, with_names};
+ghost use Rattle.blif.specs.Keywords.{args_of, keyword_of};
+ghost use Rattle.blif.specs.LatchLines.{is_latch};
+ghost use Rattle.blif.specs.LineNets.{latch_nets, latch_output, names_in, output_of};
+ghost use Rattle.blif.specs.Sights.{sights_after, sights_of, undeclared};
+ghost use Rattle.blif.specs.BlifFaults.{clock_faults, driver_faults, faults_in, kind_faults, row_faults, table_faults, latch_faults};
+ghost use Rattle.blif.specs.declared.fault.BlifFaultKind.TheVariants.{RepeatedOutput};
+
+use crate::cover::{Cover, cover_after, is_mixed, is_row};
+use crate::driven::Driven;
+use crate::fault::BlifFaultKind;
+use crate::keyword::{Keyword, args_of, keyword_of, last_of};
+use crate::latch_line::{control_of, is_latch};
+use crate::names::NameSet;
+use line_text::Text;
+use std::alloc::{AllocError, Global};
+use std::marker::Model;
+
+/// The most nets of a circuit.
+pub const NET_LIMIT: usize = 8192;
+
+/// What the lines so far have brought. Its value is the record of it.
+#[derive(Drop)]
+pub struct Checker<'t> {
+    declared: NameSet<'t>,
+    begun: bool,
+    ended: bool,
+    nets: NameSet<'t>,
+    drivers: NameSet<'t>,
+    clocks: NameSet<'t>,
+    outputs: NameSet<'t>,
+    cover: Option<Cover>,
+}
+
+impl<'t> Model for Checker<'t> {
+    ghost use Rattle.blif.specs.Sights.{Sights};
+
+    ghost Value = { Sights };
+
+    ghost view = { λ c. record { declared = c.declared; begun = c.begun; ended = c.ended; nets = c.nets; drivers = c.drivers; clocks = c.clocks; outputs = c.outputs; cover = c.cover } };
+}
+
+impl<'t> Checker<'t> {
+    /// No line has come of a text that declares these inputs.
+    #[tactic(auto, unfolding(crate::specs::Sights::sights_of))]
+    pub fn new(alloc: Global, declared: NameSet<'t>) -> Self
+        ensures { result ≡ sights_of declared.entry [] }
+    {
+        Checker {
+            declared,
+            begun: false,
+            ended: false,
+            nets: NameSet::new(alloc),
+            drivers: NameSet::new(alloc),
+            clocks: NameSet::new(alloc),
+            outputs: NameSet::new(alloc),
+            cover: None,
+        }
+    }
+
+    /// The nets of the lines that have come, and which of them are driven.
+    pub fn into_driven(self, alloc: Global) -> Result<Driven<'t>, AllocError>
+        requires { length self.nets ≤ NET_LIMIT }
+        ensures { IfOk result (λ driven. driven ≡ record { nets = self.entry.nets; clocks = self.entry.clocks; drivers = self.entry.drivers }) }
+    {
+        Driven::new(alloc, self.nets, self.clocks, self.drivers)
+    }
+
+    /// The least fault of the line with these words; without one the line has come.
+    pub fn check(
+        &mut self,
+        alloc: Global,
+        words: &[&'t [u8]],
+        lut_size: u32,
+    ) -> Result<Option<BlifFaultKind>, AllocError>
+        ensures least { IfOk result (λ fault. fault ≡ first (faults_in lut_size self.old (keyword_of (texts words.now)) (texts words.now))) }
+        ensures sights { IfOk result (λ fault. IfNone fault (self.new ≡ sights_after (keyword_of (texts words.now)) (texts words.now) self.old)) }
+        ensures few { IfOk result (λ fault. IfNone fault (length self.new.nets ≤ NET_LIMIT)) }
+    {
+        if self.ended {
+            return Ok(Some(BlifFaultKind::Unknown));
+        }
+        let keyword = keyword_of(words);
+        let fault = self.kind_fault(alloc, keyword, words, lut_size)?;
+        if fault.is_some() {
+            return Ok(fault);
+        }
+        if !self.begun && keyword != Keyword::Model {
+            return Ok(Some(BlifFaultKind::NoModel));
+        }
+        self.begun = true;
+        if self.nets.len() > NET_LIMIT {
+            return Ok(Some(BlifFaultKind::OverLimit));
+        }
+        Ok(None)
+    }
+
+    /// The least fault that the line has by itself or with the lines above it; without one all but `begun` is as after it.
+    fn kind_fault(
+        &mut self,
+        alloc: Global,
+        keyword: Keyword,
+        words: &[&'t [u8]],
+        lut_size: u32,
+    ) -> Result<Option<BlifFaultKind>, AllocError>
+        requires { self.old.ended ≡ false }
+        ensures least { IfOk result (λ fault. fault ≡ first (kind_faults lut_size self.old keyword (texts words.now))) }
+        ensures sights { IfOk result (λ fault. IfNone fault (record self.new { begun = true } ≡ sights_after keyword (texts words.now) self.old)) }
+        ensures begun { IfOk result (λ fault. self.new.begun ≡ self.old.begun) }
+        ensures nets { IfOk result (λ fault. IfNone fault (self.new.nets ≡ with_names self.old.nets (names_in keyword (texts words.now)))) }
+    {
+        let args = args_of(words);
+        let fault = match keyword {
+            Keyword::Model => {
+                if self.begun {
+                    Some(BlifFaultKind::Unknown)
+                } else {
+                    None
+                }
+            }
+            Keyword::Inputs => {
+                self.nets.add_all(args)?;
+                drive(alloc, &self.clocks, &mut self.drivers, args)?
+            }
+            Keyword::Outputs => {
+                self.nets.add_all(args)?;
+                show(alloc, &mut self.outputs, args)?
+            }
+            Keyword::Clock => {
+                self.nets.add_all(args)?;
+                clock(alloc, &self.declared, &self.drivers, &mut self.clocks, args)?
+            }
+            Keyword::Names => {
+                self.nets.add_all(args)?;
+                table(alloc, lut_size, &self.clocks, &mut self.drivers, args)?
+            }
+            Keyword::Latch => latch(alloc, &mut self.nets, &self.clocks, &mut self.drivers, args)?,
+            Keyword::End => {
+                self.ended = true;
+                None
+            }
+            Keyword::Skipped => None,
+            Keyword::Other => Some(BlifFaultKind::Unknown),
+            Keyword::Row => row_fault(self.cover, words),
+        };
+        self.cover = cover_after(keyword, words, self.cover);
+        Ok(fault)
+    }
+}
+
+/// The first of the names that is driven already; without one they all are now.
+fn drive<'t>(
+    alloc: Global,
+    clocks: &NameSet<'t>,
+    drivers: &mut NameSet<'t>,
+    names: &[&'t [u8]],
+) -> Result<Option<BlifFaultKind>, AllocError>
+    ensures least { IfOk result (λ fault. fault ≡ first (driver_faults (clocks.now ++ drivers.old) (texts names.now))) }
+    ensures drivers { IfOk result (λ fault. IfNone fault (drivers.new ≡ drivers.old ++ texts names.now)) }
+{
+    for name in names {
+        if clocks.contains(name) || !drivers.add(name)? {
+            return Ok(Some(BlifFaultKind::TwoDrivers(Text::from_slice(alloc, name)?)));
+        }
+    }
+    Ok(None)
+}
+
+/// The first of the names that is an output already; without one they all are now.
+fn show<'t>(
+    alloc: Global,
+    outputs: &mut NameSet<'t>,
+    names: &[&'t [u8]],
+) -> Result<Option<BlifFaultKind>, AllocError>
+    ensures least { IfOk result (λ fault. fault ≡ first (map RepeatedOutput (repeats outputs.old (texts names.now)))) }
+    ensures outputs { IfOk result (λ fault. IfNone fault (outputs.new ≡ outputs.old ++ texts names.now)) }
+{
+    match outputs.add_different(names)? {
+        Some(name) => Ok(Some(BlifFaultKind::RepeatedOutput(Text::from_slice(alloc, name)?))),
+        None => Ok(None),
+    }
+}
+
+/// The first of the names that is no declared input and is driven already; without one the others are clocks now.
+fn clock<'t>(
+    alloc: Global,
+    declared: &NameSet<'t>,
+    drivers: &NameSet<'t>,
+    clocks: &mut NameSet<'t>,
+    names: &[&'t [u8]],
+) -> Result<Option<BlifFaultKind>, AllocError>
+    ensures least { IfOk result (λ fault. fault ≡ first (clock_faults declared.now drivers.now (texts names.now))) }
+    ensures clocks { IfOk result (λ fault. IfNone fault (clocks.new ≡ with_names clocks.old (undeclared declared.now (texts names.now)))) }
+{
+    for name in names {
+        if !declared.contains(name) {
+            if drivers.contains(name) {
+                return Ok(Some(BlifFaultKind::TwoDrivers(Text::from_slice(alloc, name)?)));
+            }
+            clocks.add(name)?;
+        }
+    }
+    Ok(None)
+}
+
+/// The least fault of a table with these names; without one its output is driven now.
+fn table<'t>(
+    alloc: Global,
+    lut_size: u32,
+    clocks: &NameSet<'t>,
+    drivers: &mut NameSet<'t>,
+    names: &[&'t [u8]],
+) -> Result<Option<BlifFaultKind>, AllocError>
+    ensures least { IfOk result (λ fault. fault ≡ first (table_faults lut_size (clocks.now ++ drivers.old) (texts names.now))) }
+    ensures drivers { IfOk result (λ fault. IfNone fault (drivers.new ≡ drivers.old ++ output_of (texts names.now))) }
+{
+    if names.is_empty() {
+        return Ok(Some(BlifFaultKind::BadCover));
+    }
+    if names.len() - 1 > lut_size as usize {
+        return Ok(Some(BlifFaultKind::TooWide));
+    }
+    drive(alloc, clocks, drivers, &[last_of(names)])
+}
+
+/// The least fault of a latch with these words; without one its nets are named and its output is driven now.
+fn latch<'t>(
+    alloc: Global,
+    nets: &mut NameSet<'t>,
+    clocks: &NameSet<'t>,
+    drivers: &mut NameSet<'t>,
+    args: &[&'t [u8]],
+) -> Result<Option<BlifFaultKind>, AllocError>
+    ensures least { IfOk result (λ fault. fault ≡ first (latch_faults (clocks.now ++ drivers.old) (texts args.now))) }
+    ensures nets { IfOk result (λ fault. nets.new ≡ with_names nets.old (latch_nets (texts args.now))) }
+    ensures drivers { IfOk result (λ fault. IfNone fault (drivers.new ≡ drivers.old ++ latch_output (texts args.now))) }
+{
+    if !is_latch(args) {
+        return Ok(Some(BlifFaultKind::BadLatch));
+    }
+    name_latch(nets, args)?;
+    drive(alloc, clocks, drivers, &args[1..2])
+}
+
+/// Adds the nets of a latch.
+fn name_latch<'t>(nets: &mut NameSet<'t>, args: &[&'t [u8]]) -> Result<(), AllocError>
+    requires { IsTrue (is_latch (texts args.now)) }
+    ensures { IfOk result (λ _. nets.new ≡ with_names nets.old (latch_nets (texts args.now))) }
+{
+    nets.add_all(&args[..2])?;
+    if let Some(control) = control_of(args) {
+        nets.add(control)?;
+    }
+    Ok(())
+}
+
+/// The least fault of a row with these words below this cover.
+fn row_fault(cover: Option<Cover>, words: &[&[u8]]) -> Option<BlifFaultKind>
+    ensures { result ≡ first (row_faults cover (texts words.now)) }
+{
+    match cover {
+        None => Some(BlifFaultKind::Unknown),
+        Some(cover) => {
+            if !is_row(cover.inputs, words) {
+                Some(BlifFaultKind::BadCover)
+            } else if is_mixed(cover.output, words) {
+                Some(BlifFaultKind::MixedCover)
+            } else {
+                None
+            }
+        }
+    }
+}

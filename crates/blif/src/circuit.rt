@@ -1,0 +1,23 @@
+//! What a netlist says.
+
+use crate::latches::Latches;
+use crate::net_names::NetNames;
+use crate::nets::Nets;
+use crate::tables::Tables;
+use line_text::Text;
+
+/// A circuit of lookup tables and latches (Berkeley Logic Interchange Format). Nets are numbered from 0 in the order of
+/// first sight; tables and latches stand in the order of their lines.
+#[derive(Debug, Drop)]
+pub struct Circuit {
+    /// The model's name.
+    pub model: Text,
+    /// The names of the nets, each once.
+    pub nets: NetNames,
+    /// The nets that come from outside.
+    pub inputs: Nets,
+    /// The nets that go outside.
+    pub outputs: Nets,
+    pub tables: Tables,
+    pub latches: Latches,
+}

@@ -1,0 +1,84 @@
+//! The cover of a table: the rows below its line, of which only the form is checked.
+ghost use Rattle.std.specs.Prelude.{◌≡◌, ◌<◌, length};
+ghost use Rattle.std.specs.List.{list_all};
+ghost use Rattle.blif.specs.Names.{texts};
+ghost use Rattle.blif.specs.Covers.{cover_after, gives_one, is_literal, is_output, is_mixed, is_row};
+
+use crate::keyword::{Keyword, is, last_of};
+
+/// A table whose rows may follow: how many inputs it has, and whether its first row gives 1, once there is one.
+#[derive(Clone, Copy)]
+pub struct Cover {
+    pub inputs: usize,
+    pub output: Option<bool>,
+}
+
+/// Whether these words are a row for so many inputs: a character `0`, `1` or `-` for each, and the output.
+pub fn is_row(inputs: usize, words: &[&[u8]]) -> bool
+    ensures { result ≡ is_row inputs (texts words.now) }
+{
+    match words {
+        [output] => inputs == 0 && is_output(output),
+        [pattern, output] => {
+            inputs != 0 && pattern.len() == inputs && is_pattern(pattern) && is_output(output)
+        }
+        _ => false,
+    }
+}
+
+fn is_pattern(word: &[u8]) -> bool
+    ensures { result ≡ list_all is_literal word.now }
+{
+    word.iter()
+        .all(|byte| *byte == b'0' || *byte == b'1' || *byte == b'-')
+}
+
+fn is_output(word: &[u8]) -> bool
+    ensures { result ≡ is_output word.now }
+{
+    match word {
+        [byte] => *byte == b'0' || *byte == b'1',
+        _ => false,
+    }
+}
+
+/// Whether the output of the row with these words is 1.
+fn gives_one(words: &[&[u8]]) -> bool
+    ensures { result ≡ gives_one (texts words.now) }
+{
+    is(last_of(words), "1")
+}
+
+/// Whether the output of the row with these words is another than that of the cover's first row.
+pub fn is_mixed(first: Option<bool>, words: &[&[u8]]) -> bool
+    ensures { result ≡ is_mixed first (texts words.now) }
+{
+    match first {
+        Some(true) => !gives_one(words),
+        Some(false) => gives_one(words),
+        None => false,
+    }
+}
+
+/// The cover that a line of this kind begins or goes on with, where `above` stands above the line.
+pub fn cover_after(keyword: Keyword, words: &[&[u8]], above: Option<Cover>) -> Option<Cover>
+    ensures { result ≡ cover_after keyword (texts words.now) above }
+{
+    match keyword {
+        Keyword::Names => Some(Cover {
+            inputs: words.len().saturating_sub(2),
+            output: None,
+        }),
+        Keyword::Row => match above {
+            Some(cover) => Some(Cover {
+                inputs: cover.inputs,
+                output: match cover.output {
+                    Some(one) => Some(one),
+                    None => Some(gives_one(words)),
+                },
+            }),
+            None => None,
+        },
+        _ => None,
+    }
+}

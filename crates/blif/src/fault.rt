@@ -1,0 +1,210 @@
+ghost use Rattle.std.specs.Prelude.{◌≡◌};
+ghost use Rattle.std.specs.Option.{option_copied};
+ghost use Rattle.blif.specs.Faults.{name_of, net_of, number_of};
+
+use line_text::{LineError, LineFault, Text};
+use std::alloc::AllocError;
+use std::error::Error;
+use std::fmt;
+
+/// What is wrong with a netlist. Three faults name their net.
+#[derive(Debug, Drop)]
+pub enum BlifFaultKind {
+    Unknown,
+    BadCover,
+    MixedCover,
+    TooWide,
+    TwoDrivers(Text),
+    Undriven(Text),
+    RepeatedOutput(Text),
+    BadLatch,
+    NoModel,
+    OverLimit,
+    NotAscii,
+    LineTooLong,
+}
+
+impl BlifFaultKind {
+    /// The number by which replies tell it, 1 to 12.
+    pub fn number(&self) -> u32
+        ensures { result ≡ number_of self.now }
+    {
+        match self {
+            BlifFaultKind::Unknown => 1,
+            BlifFaultKind::BadCover => 2,
+            BlifFaultKind::MixedCover => 3,
+            BlifFaultKind::TooWide => 4,
+            BlifFaultKind::TwoDrivers(_) => 5,
+            BlifFaultKind::Undriven(_) => 6,
+            BlifFaultKind::RepeatedOutput(_) => 7,
+            BlifFaultKind::BadLatch => 8,
+            BlifFaultKind::NoModel => 9,
+            BlifFaultKind::OverLimit => 10,
+            BlifFaultKind::NotAscii => 11,
+            BlifFaultKind::LineTooLong => 12,
+        }
+    }
+
+    /// The name by which replies tell it.
+    pub fn name(&self) -> &'static str
+        ensures { result.now ≡ name_of self.now }
+    {
+        match self {
+            BlifFaultKind::Unknown => "Unknown",
+            BlifFaultKind::BadCover => "BadCover",
+            BlifFaultKind::MixedCover => "MixedCover",
+            BlifFaultKind::TooWide => "TooWide",
+            BlifFaultKind::TwoDrivers(_) => "TwoDrivers",
+            BlifFaultKind::Undriven(_) => "Undriven",
+            BlifFaultKind::RepeatedOutput(_) => "RepeatedOutput",
+            BlifFaultKind::BadLatch => "BadLatch",
+            BlifFaultKind::NoModel => "NoModel",
+            BlifFaultKind::OverLimit => "OverLimit",
+            BlifFaultKind::NotAscii => "NotAscii",
+            BlifFaultKind::LineTooLong => "LineTooLong",
+        }
+    }
+
+    /// The net that it names, if it names one.
+    pub fn net(&self) -> Option<&Text>
+        ensures { option_copied result ≡ net_of self.now }
+    {
+        match self {
+            BlifFaultKind::TwoDrivers(net) => Some(net),
+            BlifFaultKind::Undriven(net) => Some(net),
+            BlifFaultKind::RepeatedOutput(net) => Some(net),
+            _ => None,
+        }
+    }
+}
+
+impl Clone for BlifFaultKind {
+    ghost is_clone = { λ kind copy. copy ≡ kind };
+
+    fn clone(&self) -> Result<Self, AllocError> {
+        match self {
+            BlifFaultKind::Unknown => Ok(BlifFaultKind::Unknown),
+            BlifFaultKind::BadCover => Ok(BlifFaultKind::BadCover),
+            BlifFaultKind::MixedCover => Ok(BlifFaultKind::MixedCover),
+            BlifFaultKind::TooWide => Ok(BlifFaultKind::TooWide),
+            BlifFaultKind::TwoDrivers(net) => Ok(BlifFaultKind::TwoDrivers(net.clone()?)),
+            BlifFaultKind::Undriven(net) => Ok(BlifFaultKind::Undriven(net.clone()?)),
+            BlifFaultKind::RepeatedOutput(net) => Ok(BlifFaultKind::RepeatedOutput(net.clone()?)),
+            BlifFaultKind::BadLatch => Ok(BlifFaultKind::BadLatch),
+            BlifFaultKind::NoModel => Ok(BlifFaultKind::NoModel),
+            BlifFaultKind::OverLimit => Ok(BlifFaultKind::OverLimit),
+            BlifFaultKind::NotAscii => Ok(BlifFaultKind::NotAscii),
+            BlifFaultKind::LineTooLong => Ok(BlifFaultKind::LineTooLong),
+        }
+    }
+}
+
+/// A fault, with the number of its line from 1, or 0 where it is the text's.
+#[derive(Debug, Drop)]
+pub struct BlifFault {
+    pub line: u32,
+    pub kind: BlifFaultKind,
+}
+
+impl BlifFault {
+    /// The number by which replies tell what is wrong, 1 to 12.
+    pub fn number(&self) -> u32
+        ensures { result ≡ number_of self.now.kind }
+    {
+        self.kind.number()
+    }
+
+    /// The name by which replies tell what is wrong.
+    pub fn name(&self) -> &'static str
+        ensures { result.now ≡ name_of self.now.kind }
+    {
+        self.kind.name()
+    }
+
+    /// The net that is wrong, if it is one.
+    pub fn net(&self) -> Option<&Text>
+        ensures { option_copied result ≡ net_of self.now.kind }
+    {
+        self.kind.net()
+    }
+}
+
+/// The number, the name, the line, and the net where the fault names one, parted by blanks.
+impl fmt::Display for BlifFault {
+    fn fmt<W: fmt::Write>(&self, f: &mut fmt::Formatter<W>) -> fmt::Result {
+        let number = self.number();
+        let name = self.name();
+        let line = self.line;
+        write!(f, "{number} {name} {line}")?;
+        if let Some(net) = self.net() {
+            f.write_char(' ')?;
+            for byte in net.as_bytes() {
+                f.write_char(char::from(*byte))?;
+            }
+        }
+        Ok(())
+    }
+}
+
+impl Error for BlifFault {}
+
+impl Clone for BlifFault {
+    ghost is_clone = { λ fault copy. copy ≡ fault };
+
+    fn clone(&self) -> Result<Self, AllocError> {
+        Ok(BlifFault {
+            line: self.line,
+            kind: self.kind.clone()?,
+        })
+    }
+}
+
+/// Why a text has no circuit.
+#[derive(Debug, Drop)]
+pub enum BlifError {
+    NoMemory,
+    Fault(BlifFault),
+}
+
+impl fmt::Display for BlifError {
+    fn fmt<W: fmt::Write>(&self, f: &mut fmt::Formatter<W>) -> fmt::Result {
+        match self {
+            BlifError::NoMemory => write!(f, "memory"),
+            BlifError::Fault(fault) => write!(f, "{fault}"),
+        }
+    }
+}
+
+impl Error for BlifError {}
+
+impl From<AllocError> for BlifError {
+    ghost use Rattle.std.specs.Prelude.{◌≡◌};
+    ghost use Rattle.blif.specs.declared.fault.BlifError.TheVariants.{NoMemory};
+
+    ghost from_gives = { λ _ error. error ≡ NoMemory };
+
+    fn from(_error: AllocError) -> Self {
+        BlifError::NoMemory
+    }
+}
+
+impl From<LineError> for BlifError {
+    ghost use Rattle.std.specs.Prelude.{◌≡◌};
+    ghost use Rattle.blif.specs.Faults.{error_of_lines};
+
+    ghost from_gives = { λ lines error. error ≡ error_of_lines lines };
+
+    fn from(error: LineError) -> Self {
+        match error {
+            LineError::NoMemory => BlifError::NoMemory,
+            LineError::Fault(LineFault::NotAscii(line)) => BlifError::Fault(BlifFault {
+                line,
+                kind: BlifFaultKind::NotAscii,
+            }),
+            LineError::Fault(LineFault::LineTooLong(line)) => BlifError::Fault(BlifFault {
+                line,
+                kind: BlifFaultKind::LineTooLong,
+            }),
+        }
+    }
+}

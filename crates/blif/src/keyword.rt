@@ -1,0 +1,135 @@
+//! What a line is, by its first word.
+ghost use Rattle.std.specs.Prelude.{◌≡◌};
+ghost use Rattle.std.specs.Str.{bytes_eq};
+ghost use Rattle.blif.specs.Names.{texts};
+ghost use Rattle.blif.specs.Keywords.{args_of, command_of, is_skipped, keyword_of, last_of};
+ghost use Rattle.blif.specs.LineNets.{front_of, inputs_in};
+ghost use Rattle.blif.specs.Sights.{is_end};
+
+/// The kinds of lines. A line whose first word has no point in front is a row of a cover.
+#[derive(Clone, Copy, Debug, PartialEq, Eq)]
+pub enum Keyword {
+    Model,
+    Inputs,
+    Outputs,
+    Clock,
+    Names,
+    Latch,
+    End,
+    /// Delays, areas and loads, which have no meaning here.
+    Skipped,
+    Other,
+    Row,
+}
+
+/// The kind of the line with these words.
+pub fn keyword_of(words: &[&[u8]]) -> Keyword
+    ensures { result ≡ keyword_of (texts words.now) }
+{
+    match words {
+        [] => Keyword::Row,
+        [word, ..] => match word {
+            [b'.', ..] => command_of(word),
+            _ => Keyword::Row,
+        },
+    }
+}
+
+fn command_of(word: &[u8]) -> Keyword
+    ensures { result ≡ command_of word.now }
+{
+    if is(word, ".names") {
+        Keyword::Names
+    } else if is(word, ".latch") {
+        Keyword::Latch
+    } else if is(word, ".inputs") {
+        Keyword::Inputs
+    } else if is(word, ".outputs") {
+        Keyword::Outputs
+    } else if is(word, ".clock") {
+        Keyword::Clock
+    } else if is(word, ".model") {
+        Keyword::Model
+    } else if is(word, ".end") {
+        Keyword::End
+    } else if is_skipped(word) {
+        Keyword::Skipped
+    } else {
+        Keyword::Other
+    }
+}
+
+fn is_skipped(word: &[u8]) -> bool
+    ensures { result ≡ is_skipped word.now }
+{
+    is(word, ".area")
+        || is(word, ".delay")
+        || is(word, ".wire_load_slope")
+        || is(word, ".wire")
+        || is(word, ".input_arrival")
+        || is(word, ".default_input_arrival")
+        || is(word, ".output_required")
+        || is(word, ".default_output_required")
+        || is(word, ".input_drive")
+        || is(word, ".default_input_drive")
+        || is(word, ".output_load")
+        || is(word, ".default_output_load")
+        || is(word, ".max_input_load")
+        || is(word, ".default_max_input_load")
+        || is(word, ".cycle")
+        || is(word, ".clock_event")
+}
+
+/// Whether the word is that text.
+pub fn is(word: &[u8], text: &str) -> bool
+    ensures { result ≡ bytes_eq word.now text.now }
+{
+    word == text.as_bytes()
+}
+
+/// The words after the first.
+pub fn args_of<'a, 't>(words: &'a [&'t [u8]]) -> &'a [&'t [u8]]
+    ensures { texts result.now ≡ args_of (texts words.now) }
+{
+    match words {
+        [] => words,
+        [_, args @ ..] => args,
+    }
+}
+
+/// The last of the words, or no bytes where there is none.
+pub fn last_of<'t>(words: &[&'t [u8]]) -> &'t [u8]
+    ensures { result.now ≡ last_of (texts words.now) }
+{
+    match words {
+        [] => b"",
+        [.., word] => word,
+    }
+}
+
+/// The words before the last.
+pub fn front_of<'a, 't>(words: &'a [&'t [u8]]) -> &'a [&'t [u8]]
+    ensures { texts result.now ≡ front_of (texts words.now) }
+{
+    match words {
+        [] => words,
+        [front @ .., _] => front,
+    }
+}
+
+/// Whether a line of this kind ends the model.
+pub fn is_end(keyword: Keyword) -> bool
+    ensures { result ≡ is_end keyword }
+{
+    matches!(keyword, Keyword::End)
+}
+
+/// The inputs that a line of this kind names.
+pub fn inputs_in<'a, 't>(keyword: Keyword, words: &'a [&'t [u8]]) -> &'a [&'t [u8]]
+    ensures { texts result.now ≡ inputs_in keyword (texts words.now) }
+{
+    match keyword {
+        Keyword::Inputs => args_of(words),
+        _ => &[],
+    }
+}

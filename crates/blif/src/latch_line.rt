@@ -1,0 +1,51 @@
+//! The words of a `.latch` line: `input output [type control] [init]`.
+ghost use Rattle.std.specs.Prelude.{◌≡◌};
+ghost use Rattle.std.specs.Option.{option_map};
+ghost use Rattle.blif.specs.Names.{texts};
+ghost use Rattle.blif.specs.LatchLines.{control_of, is_init, is_latch, is_type};
+
+use crate::keyword::is;
+
+/// Whether these words are a latch.
+pub fn is_latch(words: &[&[u8]]) -> bool
+    ensures { result ≡ is_latch (texts words.now) }
+{
+    match words {
+        [_, _] => true,
+        [_, _, init] => is_init(init),
+        [_, _, kind, _] => is_type(kind),
+        [_, _, kind, _, init] => is_type(kind) && is_init(init),
+        _ => false,
+    }
+}
+
+/// The net that controls the latch with these words, if one does.
+pub fn control_of<'t>(words: &[&'t [u8]]) -> Option<&'t [u8]>
+    ensures { option_map (λ net. net.now) result ≡ control_of (texts words.now) }
+{
+    match words {
+        [_, _, _, control, ..] => {
+            if is(control, "NIL") {
+                None
+            } else {
+                Some(*control)
+            }
+        }
+        _ => None,
+    }
+}
+
+fn is_type(word: &[u8]) -> bool
+    ensures { result ≡ is_type word.now }
+{
+    is(word, "fe") || is(word, "re") || is(word, "ah") || is(word, "al") || is(word, "as")
+}
+
+fn is_init(word: &[u8]) -> bool
+    ensures { result ≡ is_init word.now }
+{
+    match word {
+        [byte] => *byte == b'0' || *byte == b'1' || *byte == b'2' || *byte == b'3',
+        _ => false,
+    }
+}

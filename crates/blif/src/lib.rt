@@ -1,0 +1,41 @@
+//! Netlists in the Berkeley Logic Interchange Format (BLIF), read as circuits of lookup tables and latches.
+//!
+//! `read_blif` reads a text whose lines are `.model`, `.inputs`, `.outputs`, `.clock`, `.names` with the rows of its
+//! cover, `.latch` and `.end`. Lines of delays, areas and loads are skipped; of a cover only the form is checked. Nets are
+//! numbered from 0 in the order in which `.inputs`, `.outputs`, `.clock`, `.names` and `.latch` lines name them first.
+//!
+//! A text has its circuit or its least fault: first that it is too long, then a fault of its lines, then the fault of the
+//! least line, on a line that of the least number, and of one number that of the first word. What only the end shows comes
+//! last: no line at all, or the first word that reads a net which nothing drives.
+//!
+//! The circuit or the fault is `circuit_of` of `specs/CircuitOf.antt`, which speaks of the nets that all lines above name,
+//! drive and show, and lists every fault. The code goes over the lines twice: `checker` finds the first fault and numbers
+//! the nets, `parts` builds the circuit.
+#![tactic(auto)]
+
+mod checker;
+mod circuit;
+mod cover;
+mod driven;
+mod fault;
+mod keyword;
+mod latch_line;
+mod latches;
+mod names;
+mod net_names;
+mod nets;
+mod parts;
+mod reader;
+mod span;
+mod tables;
+
+pub use circuit::Circuit;
+pub use fault::{BlifError, BlifFault, BlifFaultKind};
+pub use latches::{Latch, Latches};
+pub use net_names::NetNames;
+pub use nets::Nets;
+pub use reader::read_blif;
+pub use tables::{Table, Tables};
+
+#[cfg(test)]
+mod tests;

@@ -1,0 +1,95 @@
+//! Names of nets, each once, in the order of first sight.
+ghost use Rattle.std.specs.Prelude.{◌≡◌, ◌<◌, ◌≤◌, ◌++◌, [], not, length, slice_get, Some, IfOk, IfNone, IsTrue, option_map};
+ghost use Rattle.blif.specs.Names.{first, has_name, number_of, repeats, texts, with_name, with_names};
+
+use indexmap::IndexSet;
+use std::alloc::{AllocError, Global};
+use std::marker::Model;
+
+/// Different names, numbered from 0 in the order in which they were added. Its value is the list of the names.
+#[derive(Drop)]
+pub struct NameSet<'t> {
+    names: IndexSet<&'t [u8]>,
+}
+
+impl<'t> Model for NameSet<'t> {
+    ghost use Rattle.std.specs.Prelude.{List, ℕ};
+    ghost use Rattle.blif.specs.Names.{texts};
+
+    ghost Value = { List (List ℕ) };
+
+    ghost view = { λ s. texts s.names.keys };
+}
+
+impl<'t> NameSet<'t> {
+    /// No names.
+    pub fn new(alloc: Global) -> Self
+        ensures { result ≡ [] }
+    {
+        NameSet {
+            names: IndexSet::new(alloc),
+        }
+    }
+
+    /// How many names there are.
+    pub fn len(&self) -> usize
+        ensures { result ≡ length self.now }
+    {
+        self.names.len()
+    }
+
+    /// The name of a number.
+    pub fn name(&self, number: usize) -> &'t [u8]
+        requires { number < length self.now }
+        ensures { slice_get self.now number ≡ Some result.now }
+    {
+        self.names.as_slice()[number]
+    }
+
+    /// Whether the name is there.
+    pub fn contains(&self, name: &[u8]) -> bool
+        ensures { result ≡ has_name self.now name.now }
+    {
+        !self.names.is_empty() && self.names.contains(&name)
+    }
+
+    /// The number of the name, or of the next name where it is not there.
+    pub fn number(&self, name: &[u8]) -> usize
+        ensures number { result ≡ number_of self.now name.now }
+        ensures within { result ≤ length self.now }
+        ensures named { IsTrue (has_name self.now name.now) → result < length self.now }
+    {
+        self.names.get_index_of(&name).unwrap_or(self.names.len())
+    }
+
+    /// Adds the name, and tells whether it is new.
+    pub fn add(&mut self, name: &'t [u8]) -> Result<bool, AllocError>
+        ensures new { IfOk result (λ new. new ≡ not (has_name self.old name.now)) }
+        ensures names { IfOk result (λ _. self.new ≡ with_name self.old name.now) }
+    {
+        Ok(self.names.insert(name)?)
+    }
+
+    /// Adds each of the names that is new.
+    pub fn add_all(&mut self, names: &[&'t [u8]]) -> Result<(), AllocError>
+        ensures { IfOk result (λ _. self.new ≡ with_names self.old (texts names.now)) }
+    {
+        for name in names {
+            self.add(name)?;
+        }
+        Ok(())
+    }
+
+    /// Adds the names up to the first that is there already, and gives that one.
+    pub fn add_different(&mut self, names: &[&'t [u8]]) -> Result<Option<&'t [u8]>, AllocError>
+        ensures repeated { IfOk result (λ r. option_map (λ name. name.now) r ≡ first (repeats self.old (texts names.now))) }
+        ensures names { IfOk result (λ r. IfNone r (self.new ≡ self.old ++ texts names.now)) }
+    {
+        for name in names {
+            if !self.add(name)? {
+                return Ok(Some(*name));
+            }
+        }
+        Ok(None)
+    }
+}

@@ -1,0 +1,166 @@
+//! From the text to the circuit.
+ghost use Rattle.std.specs.Prelude.{◌≡◌, ◌≤◌, ◌++◌, [], ◌∷◌, length, None, Some, IfOk, MatchResult, MatchOption};
+ghost use Rattle.std.specs.List.{flat_map};
+ghost use Rattle.blif.specs.Names.{first, with_names};
+ghost use Rattle.blif.specs.Sights.{names_of, sights_of};
+ghost use Rattle.blif.specs.Circuits.{circuit_from, circuit_with, model_of, parts_of};
+ghost use Rattle.blif.specs.CircuitOf.{Fails, Gives, circuit_of, circuit_of_lines, declared_in, final_faults, line_faults, undriven_faults};
+
+use crate::checker::{Checker, NET_LIMIT};
+use crate::circuit::Circuit;
+use crate::driven::Driven;
+use crate::fault::{BlifError, BlifFault, BlifFaultKind};
+use crate::keyword::{args_of, inputs_in, is_end, keyword_of};
+use crate::names::NameSet;
+use crate::net_names::NetNames;
+use crate::parts::CircuitParts;
+use line_text::{Lines, Text, logical_lines};
+use std::alloc::{AllocError, Global};
+
+/// The most bytes of a text.
+const TEXT_LIMIT: usize = 1_048_576;
+
+/// The circuit of a text whose tables have at most that many inputs, or its least fault.
+pub fn read_blif(alloc: Global, text: &[u8], lut_size: u32) -> Result<Circuit, BlifError>
+    ensures { Gives (circuit_of text.now lut_size) result }
+{
+    if text.len() > TEXT_LIMIT {
+        return Err(BlifError::Fault(BlifFault {
+            line: 0,
+            kind: BlifFaultKind::OverLimit,
+        }));
+    }
+    let lines = logical_lines(alloc, text)?;
+    read_lines(alloc, &lines, lut_size)
+}
+
+/// The circuit of these lines, or their least fault.
+fn read_lines(alloc: Global, lines: &Lines<'_>, lut_size: u32) -> Result<Circuit, BlifError>
+    ensures { Gives (circuit_of_lines lut_size lines.now) result }
+{
+    let declared = declared_inputs(alloc, lines)?;
+    let checker = check_lines(alloc, lines, lut_size, declared)?;
+    build(alloc, lines, checker)
+}
+
+/// The inputs that lines of inputs declare before the end.
+fn declared_inputs<'t>(alloc: Global, lines: &Lines<'t>) -> Result<NameSet<'t>, AllocError>
+    ensures { IfOk result (λ names. names ≡ declared_in lines.now) }
+{
+    let mut declared = NameSet::new(alloc);
+    for place in 0..lines.len() {
+        let words = lines.line(place).words;
+        let keyword = keyword_of(words);
+        if is_end(keyword) {
+            break;
+        }
+        declared.add_all(inputs_in(keyword, words))?;
+    }
+    Ok(declared)
+}
+
+/// What the lines bring, or the least of their own faults.
+fn check_lines<'t>(
+    alloc: Global,
+    lines: &Lines<'t>,
+    lut_size: u32,
+    declared: NameSet<'t>,
+) -> Result<Checker<'t>, BlifError>
+    ensures { MatchResult result
+        (λ checker. (first (line_faults lut_size declared.entry [] lines.now) ≡ None) × (checker ≡ sights_of declared.entry lines.now) × (length checker.nets ≤ NET_LIMIT))
+        (Fails (first (line_faults lut_size declared.entry [] lines.now))) }
+{
+    let mut checker = Checker::new(alloc, declared);
+    for place in 0..lines.len() {
+        let line = lines.line(place);
+        if let Some(kind) = checker.check(alloc, line.words, lut_size)? {
+            return Err(BlifError::Fault(BlifFault {
+                line: line.number,
+                kind,
+            }));
+        }
+    }
+    Ok(checker)
+}
+
+/// The circuit of lines without a fault of their own, or the first net that is read and not driven.
+fn build<'t>(alloc: Global, lines: &Lines<'t>, checker: Checker<'t>) -> Result<Circuit, BlifError>
+    requires sights { checker ≡ sights_of checker.declared lines.now }
+    requires few { length checker.nets ≤ NET_LIMIT }
+    ensures { MatchResult result
+        (λ circuit. (first (final_faults checker.entry.declared lines.now) ≡ None) × (circuit ≡ circuit_from checker.entry.declared lines.now))
+        (Fails (first (final_faults checker.entry.declared lines.now))) }
+{
+    if lines.len() == 0 {
+        return Err(BlifError::Fault(BlifFault {
+            line: 0,
+            kind: BlifFaultKind::NoModel,
+        }));
+    }
+    let driven = checker.into_driven(alloc)?;
+    let parts = parts_of(alloc, lines, &driven)?;
+    Ok(assemble(alloc, lines, &driven, parts)?)
+}
+
+/// The circuit of these parts, with the clocks as inputs.
+fn assemble<'t>(
+    alloc: Global,
+    lines: &Lines<'t>,
+    driven: &Driven<'t>,
+    mut parts: CircuitParts,
+) -> Result<Circuit, AllocError>
+    ensures { IfOk result (λ circuit. circuit ≡ circuit_with driven.now.nets driven.now.clocks lines.now parts) }
+{
+    parts.add_clocks(driven)?;
+    let model = model_of(alloc, lines)?;
+    let nets = net_names(alloc, driven.nets())?;
+    Ok(parts.into_circuit(model, nets))
+}
+
+/// The parts of the circuit, or the first net that is read and not driven.
+fn parts_of<'t>(
+    alloc: Global,
+    lines: &Lines<'t>,
+    driven: &Driven<'t>,
+) -> Result<CircuitParts, BlifError>
+    requires { driven.now.nets ≡ with_names [] (flat_map names_of lines.now) }
+    ensures { MatchResult result
+        (λ parts. (first (flat_map (undriven_faults (driven.now.clocks ++ driven.now.drivers)) lines.now) ≡ None) × (parts ≡ parts_of driven.now.nets lines.now))
+        (Fails (first (flat_map (undriven_faults (driven.now.clocks ++ driven.now.drivers)) lines.now))) }
+{
+    let mut parts = CircuitParts::new(alloc);
+    for place in 0..lines.len() {
+        let reader = lines.line(place);
+        if let Some(net) = parts.add_line(driven, reader.number, reader.words)? {
+            return Err(BlifError::Fault(BlifFault {
+                line: reader.number,
+                kind: BlifFaultKind::Undriven(Text::from_slice(alloc, net)?),
+            }));
+        }
+    }
+    Ok(parts)
+}
+
+/// The model's name.
+fn model_of(alloc: Global, lines: &Lines<'_>) -> Result<Text, AllocError>
+    ensures { IfOk result (λ model. model ≡ model_of lines.now) }
+{
+    if lines.len() == 0 {
+        return Text::from_slice(alloc, b"top");
+    }
+    match args_of(lines.line(0).words) {
+        [] => Text::from_slice(alloc, b"top"),
+        [name, ..] => Text::from_slice(alloc, name),
+    }
+}
+
+/// The names, as the circuit keeps them.
+fn net_names(alloc: Global, names: &NameSet<'_>) -> Result<NetNames, AllocError>
+    ensures { IfOk result (λ nets. nets ≡ names.now) }
+{
+    let mut nets = NetNames::new(alloc);
+    for net in 0..names.len() {
+        nets.push(names.name(net))?;
+    }
+    Ok(nets)
+}

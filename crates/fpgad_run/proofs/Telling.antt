@@ -1,0 +1,145 @@
+-- The items of a script that runs, told one after another.
+use Rattle.std.proofs.Common.{◌≡◌, ℕ, List, [], ◌∷◌, ◌++◌, length, Option, Some, None, Result, Ok, Err, refl, sym, ap, ◌∙◌, subst, append_assoc, append-nil}
+use Rattle.std.specs.Prelude.{map, reverse, IfOk, OnOk}
+use Rattle.std.specs.Borrow.{Bor}
+use Rattle.std.specs.List.{flat_map}
+use Rattle.std.proofs.lemmas.Grind.{flat_map-append}
+use Rattle.std.proofs.lemmas.List.{map_push, reverse-append}
+use Rattle.tenant_slot.specs.declared.command.Command.{Command as TenantCommand}
+use Rattle.service_core.specs.declared.not_served.NotServed.{NotServed}
+use Rattle.service_core.specs.declared.not_served.NotServed.TheVariants.{JournalFull, NoMemory, NoSuchTenancy}
+use Rattle.service_core.specs.History.{History}
+use Rattle.service_core.specs.Receipt.{Receipted}
+use Rattle.service_core.specs.Run.{Call, Run}
+use Rattle.service_core.specs.Run.Call.{Tenant as TenantCall}
+use Rattle.service_core.specs.Calls.{IsServed}
+use Rattle.service_core.specs.Service.{ServiceState, empty, live_of}
+use Rattle.fpgad_run.specs.declared.program.Running.{Running}
+use Rattle.fpgad_run.specs.declared.script.OperatorLine.TheVariants.{Admit, Evict, List as ListAll}
+use Rattle.fpgad_run.specs.declared.script.Item.{Item}
+use Rattle.fpgad_run.specs.declared.script.SessionLine.{SessionLine}
+use Rattle.fpgad_run.specs.declared.script.SessionLine.TheVariants.{Blank, Command, Refused}
+use Rattle.fpgad_run.specs.declared.script.Act.{Act}
+use Rattle.fpgad_run.specs.declared.script.Act.TheVariants.{Operator, Session}
+use Rattle.fpgad_run.specs.OperatorText.{last_id}
+use Rattle.fpgad_run.specs.Script.{named_act, named_item}
+use Rattle.fpgad_run.specs.SessionAnswer.{IsSessionAnswer}
+use Rattle.fpgad_run.specs.Run.{Stage, Section, Telling, Tells, IsAdmission, IsAnswered, calls_of, output_of, sections_after, told_operator, told_session}
+use Rattle.fpgad_run.proofs.OperatorLemmas.{length-modified}
+use Rattle.fpgad_run.specs.Told.{Begins, IsEven, Serves, sections_of, stage_of, told_so_far}
+use Rattle.fpgad_run.specs.declared.options.Options.{Options}
+use Rattle.arch_file.specs.declared.arch.Arch.{Arch}
+use Rattle.fpgad_run.specs.Program.{IsReplies, device_of}
+
+-- the operator's texts
+abbrev pub operator_texts : List Telling → List ℕ
+operator_texts tellings = flat_map (λ t. told_operator t.act t.text) tellings
+
+-- a service whose running told these acts
+pub record Progress (start : Stage) (running : Running) (acts : List (Act (List ℕ))) : Type 0 where
+  pub tellings : List Telling
+  pub all : map (λ t. t.act) tellings ≡ acts
+  pub told : Tells start tellings (stage_of running)
+  pub operator_text : running.operator_text.items ≡ operator_texts tellings
+  pub sections : sections_of running ≡ sections_after [] tellings
+  pub even : IsEven running
+
+pub Tells-push : (a : Stage) (ts : List Telling) (b c : Stage) (t : Telling) → Tells a ts b → IsAnswered b t.act t.calls t.text c → Tells a (ts ++ t ∷ []) c
+Tells-push a [] b c t done next = (c, (let P : Stage → Type 0 = λ s. IsAnswered s t.act t.calls t.text c in subst P done next), refl)
+Tells-push a (x ∷ xs) b c t done next = (done.0, done.1, Tells-push done.0 xs b c t done.2 next)
+
+pub sections_after-push : (sections : List Section) (ts : List Telling) (t : Telling) → sections_after sections (ts ++ t ∷ []) ≡ told_session (sections_after sections ts) t.act t.text
+sections_after-push sections [] t = refl
+sections_after-push sections (x ∷ xs) t = sections_after-push (told_session sections x.act x.text) xs t
+
+pub progress_none : (core : ServiceState) (running : Running) → Begins core running → Progress (record { names = []; service = core }) running []
+progress_none core running b = record { tellings = []; all = refl; told = b.stage; operator_text = b.operator_text; sections = b.sections; even = b.even }
+
+pub progress_more : (start : Stage) (old new : Running) (acts : List (Act (List ℕ))) (act : Act (List ℕ)) → Progress start old acts → Serves old act new → Progress start new (acts ++ act ∷ [])
+progress_more start old new acts act p s =
+    let t : Telling = record { act = act; calls = s.calls; text = s.text } in
+    record {
+      tellings = p.tellings ++ t ∷ [];
+      all = map_push (λ (t : Telling). t.act) p.tellings t ∙ ap (λ told. told ++ act ∷ []) p.all;
+      told = Tells-push start p.tellings (stage_of old) (stage_of new) t p.told s.answered;
+      operator_text = s.operator_text ∙ ap (λ o. o ++ told_operator act s.text) p.operator_text
+          ∙ sym (flat_map-append (λ (t : Telling). told_operator t.act t.text) p.tellings (t ∷ []) ∙ ap (λ o. operator_texts p.tellings ++ o) (append-nil (told_operator act s.text)));
+      sections = s.sections ∙ ap (λ ss. told_session ss act s.text) p.sections ∙ sym (sections_after-push [] p.tellings t);
+      even = s.even;
+    }
+
+-- the calls are a run of the core
+Run-one : (a b : ServiceState) (calls : List Call) (new : ServiceState) → calls ≡ [] → new ≡ a → Run a calls new
+Run-one a b calls new none same = rw none same
+
+pub Run-append : (a : ServiceState) (xs : List Call) (b : ServiceState) (ys : List Call) (c : ServiceState) → Run a xs b → Run b ys c → Run a (xs ++ ys) c
+Run-append a [] b ys c first next = let P : ServiceState → Type 0 = λ s. Run s ys c in subst P first next
+Run-append a (x ∷ xs) b ys c first next = (first.0, first.1, Run-append first.0 xs b ys c first.2 next)
+
+admission_runs : (live : Option History) (old : Stage) (name : List ℕ) (width : ℕ) (calls : List Call) (text : List ℕ) (new : Stage) → IsAdmission live old name width calls text new → Run old.service calls new.service
+admission_runs (Some h) old name width calls text new is = rw is.0 (ap (λ (s : Stage). s.service) is.2)
+admission_runs None old name width calls text new is = rw is.3 (new.service, is.1, refl)
+
+pub answered_runs : (old : Stage) (act : Act (List ℕ)) (calls : List Call) (text : List ℕ) (new : Stage) → IsAnswered old act calls text new → Run old.service calls new.service
+answered_runs old (Operator (Admit name width)) calls text new is = admission_runs (live_of old.service.histories (last_id old.names name)) old name width calls text new is
+answered_runs old (Operator (Evict name)) calls text new is = rw is.3 (new.service, is.1, refl)
+answered_runs old (Operator ListAll) calls text new is = rw is.0 (ap (λ (s : Stage). s.service) is.2)
+answered_runs old (Session name Blank) calls text new is = rw is.0 (ap (λ (s : Stage). s.service) is.2)
+answered_runs old (Session name (Refused refusal)) calls text new is = rw is.0 (ap (λ (s : Stage). s.service) is.2)
+answered_runs old (Session name (Command command)) calls text new is = rw is.3 (new.service, is.1, refl)
+
+pub told_runs : (old : Stage) (ts : List Telling) (new : Stage) → Tells old ts new → Run old.service (calls_of ts) new.service
+told_runs old [] new is = ap (λ (s : Stage). s.service) is
+told_runs old (t ∷ ts) new is = Run-append old.service t.calls (is.0).service (calls_of ts) new.service (answered_runs old t.act t.calls t.text is.0 is.1) (told_runs is.0 ts new is.2)
+
+-- a session's line is answered by the core
+pub session_answers : (names : List (List ℕ)) (old new : ServiceState) (name : List ℕ) (id : ℕ) (line : SessionLine) (reply : List ℕ) → id ≡ last_id names name → IsSessionAnswer old id line [] reply new →
+    (calls : List Call) × IsAnswered (record { names = names; service = old }) (Session name line) calls reply (record { names = names; service = new })
+session_answers names old new name id Blank reply at is = ([], (refl, is.0, ap (λ (s : ServiceState). record { names = names; service = s }) is.1))
+session_answers names old new name id (Refused refusal) reply at is = ([], (refl, is.0, ap (λ (s : ServiceState). record { names = names; service = s }) is.1))
+session_answers names old new name id (Command command) reply at is =
+    (TenantCall id command is.0 ∷ [], (is.0, (let P : ℕ → Type 0 = λ n. IsServed old n command is.0 new in subst P at is.1), refl, ap (λ n. TenantCall n command is.0 ∷ []) at, is.2))
+
+-- the next item is the last of those that are left
+pub next_item : (told : List (Act (List ℕ))) (left : List (Item (Bor (List ℕ)))) (rest : List (Item (Bor (List ℕ)))) (item : Item (Bor (List ℕ))) (all : List (Act (List ℕ))) → left ≡ rest ++ item ∷ [] →
+    told ++ map (λ (i : Item (List ℕ)). i.act) (map named_item (reverse left)) ≡ all → (told ++ named_act item.act ∷ []) ++ map (λ (i : Item (List ℕ)). i.act) (map named_item (reverse rest)) ≡ all
+next_item told left rest item all is so_far =
+    append_assoc told (named_act item.act ∷ []) _
+    ∙ ap (λ items. told ++ map (λ (i : Item (List ℕ)). i.act) (map named_item items)) (sym (reverse-append rest (item ∷ [])))
+    ∙ ap (λ items. told ++ map (λ (i : Item (List ℕ)). i.act) (map named_item (reverse items))) (sym is) ∙ so_far
+
+lengths-served : (old new : ServiceState) (id : ℕ) (command : TenantCommand) (answer : Result Receipted NotServed) → IsServed old id command answer new → length old.histories ≡ length new.histories
+lengths-served old new id command (Ok r) is = rw is.1 (sym (length-modified old.histories id _))
+lengths-served old new id command (Err (JournalFull note)) is = ap (λ (s : ServiceState). length s.histories) (sym is.2)
+lengths-served old new id command (Err (NoSuchTenancy note)) is = ap (λ (s : ServiceState). length s.histories) (sym is.2)
+lengths-served old new id command (Err NoMemory) is = ap (λ (s : ServiceState). length s.histories) (sym is.1)
+
+-- it admits and evicts no one
+pub lengths-answered : (old new : ServiceState) (id : ℕ) (line : SessionLine) (before reply : List ℕ) → IsSessionAnswer old id line before reply new → length old.histories ≡ length new.histories
+lengths-answered old new id Blank before reply is = ap (λ (s : ServiceState). length s.histories) (sym is.1)
+lengths-answered old new id (Refused refusal) before reply is = ap (λ (s : ServiceState). length s.histories) (sym is.1)
+lengths-answered old new id (Command command) before reply is = lengths-served old new id command is.0 is.1
+
+pub on_ok_both : {E P Q R : Type 0} (r : Result (Unit {0}) E) → (P → Q → R) → OnOk r P → OnOk r Q → OnOk r R
+on_ok_both (Ok u) f p q = f p q
+on_ok_both (Err e) f p q = tt
+
+pub on_ok_value : {E A : Type 0} {P Q : A → Type 0} (r : Result A E) → ((a : A) → P a → Q a) → IfOk r P → IfOk r Q
+on_ok_value (Ok a) f p = f a p
+on_ok_value (Err e) f p = tt
+
+-- all that was told is what is written
+pub replies_all : (options : Options) (arch : Arch) (items : List (Item (List ℕ))) (running : Running) (acts : List (Act (List ℕ))) (output : List ℕ) →
+    Progress (record { names = []; service = empty (device_of options arch) }) running acts → acts ≡ map (λ (i : Item (List ℕ)). i.act) items → output ≡ told_so_far running →
+    IsReplies options (Ok (arch, items)) output
+replies_all options arch items running acts output p all is = record {
+  arch = arch;
+  items = items;
+  begins = refl;
+  tellings = p.tellings;
+  last = stage_of running;
+  all = p.all ∙ all;
+  told = p.told;
+  runs = told_runs (record { names = []; service = empty (device_of options arch) }) p.tellings (stage_of running) p.told;
+  output_is = is ∙ ap (λ o. output_of o (sections_of running)) p.operator_text ∙ ap (λ ss. output_of (operator_texts p.tellings) ss) p.sections;
+}

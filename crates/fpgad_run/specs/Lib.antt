@@ -1,0 +1,15 @@
+pub mod Ids
+pub mod Limits
+pub mod Lines
+pub mod Names
+pub mod OperatorText
+pub mod Operators
+pub mod Outcomes
+pub mod Program
+pub mod Reading
+pub mod Run
+pub mod Script
+pub mod SessionAnswer
+pub mod SessionText
+pub mod Told
+pub mod Zipped

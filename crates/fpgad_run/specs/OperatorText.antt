@@ -1,0 +1,46 @@
+-- The texts that the operator is answered with, and the names that tenancies were admitted under.
+use Rattle.std.specs.Prelude.{ℕ, ◌+◌, List, [], ◌∷◌, ◌++◌, length, codes, decimal, Result, Ok, Err, Option, Some, None, unwrap_or, if◌then◌else◌}
+use Rattle.std.specs.Str.{bytes_eq}
+use Rattle.tenant_slot.specs.Names.{state_text}
+use Rattle.strips.specs.Plan.{offset_of}
+use Rattle.service_core.specs.declared.op_refusal.OpRefusal.{OpRefusal}
+use Rattle.service_core.specs.Names.{op_refusal_number, op_refusal_text}
+use Rattle.service_core.specs.History.{History, state_of}
+use Rattle.service_core.specs.Service.{ServiceState, live_of}
+use Rattle.fpgad_run.specs.SessionText.{blank_word, numbered_line}
+
+-- a refusal of the operator as a line
+abbrev pub refused_text : ℕ → List ℕ → List ℕ
+refused_text number name = numbered_line (codes "refused") number name []
+
+abbrev pub admitted_text : Result (ℕ × ℕ) OpRefusal → List ℕ
+admitted_text (Ok given) = codes "ok" ++ blank_word (decimal given.0) ++ blank_word (decimal given.1) ++ 10 ∷ []
+admitted_text (Err refusal) = refused_text (op_refusal_number refusal) (op_refusal_text refusal)
+
+abbrev pub evicted_text : Result (Unit {0}) OpRefusal → List ℕ
+evicted_text (Ok nothing) = codes "ok" ++ 10 ∷ []
+evicted_text (Err refusal) = refused_text (op_refusal_number refusal) (op_refusal_text refusal)
+
+-- the last id of a name, or 0. The names are those of all ids, the newest first; the oldest has id 1
+abbrev pub last_id : List (List ℕ) → List ℕ → ℕ
+last_id [] name = 0
+last_id (newest ∷ older) name = if bytes_eq newest name then length older + 1 else last_id older name
+
+-- the names once an admission was answered
+abbrev pub names_after : List (List ℕ) → List ℕ → Result (ℕ × ℕ) OpRefusal → List (List ℕ)
+names_after names name (Ok given) = name ∷ names
+names_after names name (Err refusal) = names
+
+-- the line of a tenancy in the operator's list, if it is live
+abbrev pub listed_text : Option History → Option ℕ → ℕ → List ℕ → List ℕ
+listed_text None offset id name = []
+listed_text (Some h) offset id name =
+    decimal id ++ blank_word name ++ blank_word (decimal (unwrap_or offset 0)) ++ blank_word (decimal h.strip.width) ++ blank_word (state_text (state_of h).name) ++ 10 ∷ []
+
+abbrev pub listed : ServiceState → ℕ → List ℕ → List ℕ
+listed service id name = listed_text (live_of service.histories id) (offset_of service.plan.strips id) id name
+
+-- the live tenancies by rising id, a line each
+abbrev pub list_text : ServiceState → List (List ℕ) → List ℕ
+list_text service [] = []
+list_text service (newest ∷ older) = list_text service older ++ listed service (length older + 1) newest

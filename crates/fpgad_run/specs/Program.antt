@@ -1,0 +1,87 @@
+-- What a script and an architecture come to before anything runs, and how a run ends.
+use Rattle.std.specs.Prelude.{ℕ, ◌≡◌, ◌+◌, List, [], ◌∷◌, ◌++◌, map, take, false, Result, Ok, Err, Option, Some, None, option_map, ⊤, IsOk, if◌then◌else◌}
+use Rattle.std.specs.declared.vec.Vec.{Vec}
+use Rattle.std.specs.declared.alloc.Global.{Global}
+use Rattle.std.specs.Io.KnownBytes.{Appends}
+use Rattle.arch_file.specs.declared.arch.Arch.{Arch}
+use Rattle.arch_file.specs.declared.fault.ArchFault.{ArchFault}
+use Rattle.arch_file.specs.Arch.{arch_of}
+use Rattle.service_core.specs.declared.device.Device.{Device}
+use Rattle.service_core.specs.Service.{empty}
+use Rattle.service_core.specs.Run.{Run}
+use Rattle.fpgad_run.specs.declared.options.Options.{Options}
+use Rattle.fpgad_run.specs.declared.outcome.Outcome.{Outcome}
+use Rattle.fpgad_run.specs.declared.outcome.Outcome.TheVariants.{Done, ArchUnreadable, ArchRefused, InputFailed, OutputFailed, ScriptFault, NoMemory}
+use Rattle.fpgad_run.specs.declared.program.Architecture.{Architecture}
+use Rattle.fpgad_run.specs.declared.program.Architecture.TheVariants.{InScript, Text, Unreadable}
+use Rattle.fpgad_run.specs.declared.script.Item.{Item}
+use Rattle.line_text.specs.Lines.{physical_lines}
+use Rattle.fpgad_run.specs.Lines.{ends_text}
+use Rattle.fpgad_run.specs.Script.{Items, items_from, script_of}
+use Rattle.fpgad_run.specs.Run.{Stage, Telling, Tells, calls_of, written}
+
+-- the architecture's text before the first line that is `.` alone, the number of the next line, and the lines from that one on
+abbrev pub head_of : ℕ → List (List ℕ) → Option (List ℕ × ℕ × List (List ℕ))
+head_of number [] = None
+head_of number (line ∷ lines) = if ends_text line then Some ([], number + 1, lines) else option_map (λ p. (line ++ 10 ∷ p.0, p.1, p.2)) (head_of (number + 1) lines)
+
+-- private: a text is split so
+abbrev pub IsSplit : Option (List ℕ × ℕ × List (List ℕ)) → List ℕ → List ℕ → ℕ → List ℕ → Type 0
+IsSplit None text head number rest = (head ≡ text) × (rest ≡ [])
+IsSplit (Some split) text head number rest = (head ≡ split.0) × (number ≡ split.1) × (physical_lines rest ≡ split.2)
+
+-- the architecture and the items, or the fault of the one before that of the other
+abbrev pub Start : Type 0
+Start = Result (Arch × List (Item (List ℕ))) Outcome
+
+abbrev pub checked : Result Arch ArchFault → Items → Start
+checked (Err fault) items = Err (ArchRefused fault)
+checked (Ok arch) (Err line) = Err (ScriptFault line)
+checked (Ok arch) (Ok items) = Ok (arch, items)
+
+-- with the architecture at the script's head; without a line that is `.` alone all of it is the architecture
+abbrev pub start_in : ℕ → List ℕ → Option (List ℕ × ℕ × List (List ℕ)) → Start
+start_in tracks input None = checked (arch_of input tracks) (Ok [])
+start_in tracks input (Some head) = checked (arch_of head.0 tracks) (items_from head.1 false head.2)
+
+abbrev pub start_of : ℕ → Architecture → List ℕ → Start
+start_of tracks InScript input = start_in tracks input (head_of 1 (physical_lines input))
+start_of tracks (Text text) input = checked (arch_of text.now tracks) (script_of 1 input)
+start_of tracks Unreadable input = Err ArchUnreadable
+
+abbrev pub device_of : Options → Arch → Device
+device_of options arch = record { arch = arch; columns = options.columns; rows = options.rows }
+
+-- the bytes are what a run of the items from the empty device writes
+pub record IsReplies (options : Options) (start : Start) (output : List ℕ) : Type 0 where
+  pub arch : Arch
+  pub items : List (Item (List ℕ))
+  pub begins : start ≡ Ok (arch, items)
+  pub tellings : List Telling
+  pub last : Stage
+  pub all : map (λ t. t.act) tellings ≡ map (λ item. item.act) items
+  pub told : Tells (record { names = []; service = empty (device_of options arch) }) tellings last
+  pub runs : Run (empty (device_of options arch)) (calls_of tellings) last.service
+  pub output_is : output ≡ written tellings
+
+-- a script may be answered so
+abbrev pub Replies : Options → Start → Result (Vec ℕ Global) Outcome → Type 0
+Replies options start (Ok output) = IsReplies options start output.items
+Replies options start (Err NoMemory) = ⊤
+Replies options start (Err outcome) = start ≡ Err outcome
+
+-- what the texts decide of how a run ends
+abbrev pub Decides : Start → Outcome → Type 0
+Decides start Done = IsOk start
+Decides start OutputFailed = IsOk start
+Decides start InputFailed = ⊤
+Decides start NoMemory = ⊤
+Decides start outcome = start ≡ Err outcome
+
+-- what is written: the replies, of which a failing device has taken the first; nothing where the run ends before
+abbrev pub Writes : Options → Architecture → Option (List ℕ) → Outcome → Option (List ℕ) → Option (List ℕ) → Type 0
+Writes options architecture (Some input) Done old new = (output : List ℕ) × IsReplies options (start_of options.tracks architecture input) output × Appends old new output
+Writes options architecture (Some input) OutputFailed old new = (output : List ℕ) × (n : ℕ) × IsReplies options (start_of options.tracks architecture input) output × Appends old new (take n output)
+Writes options architecture None Done old new = ⊤
+Writes options architecture None OutputFailed old new = ⊤
+Writes options architecture input outcome old new = new ≡ old

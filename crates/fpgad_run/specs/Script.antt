@@ -1,0 +1,142 @@
+-- What a script says, line by line.
+use Rattle.std.specs.Prelude.{ℕ, ◌≡◌, ◌+◌, List, [], ◌∷◌, length, drop, not, codes, Bool, true, false, ◌&&◌, ◌||◌, ◌==◌, nat_le, nat_lt, Option, Some, None, Result, Ok, Err, ⊤, if◌then◌else◌}
+use Rattle.std.specs.Borrow.{Bor}
+use Rattle.std.specs.Char.{is_ascii_alphanumeric}
+use Rattle.std.specs.List.{list_all, position_or_len, before_first, after_first}
+use Rattle.std.specs.Str.{bytes_eq}
+use Rattle.tenant_slot.specs.declared.command.Command.{Command as TenantCommand}
+use Rattle.tenant_slot.specs.declared.command.Command.TheVariants.{Upload as UploadText, Change as ChangeText, Status, Withdraw}
+use Rattle.fpgad_run.specs.declared.script.OperatorLine.{OperatorLine}
+use Rattle.fpgad_run.specs.declared.script.OperatorLine.TheVariants.{Admit, Evict, List as ListAll}
+use Rattle.fpgad_run.specs.declared.script.SessionRefusal.TheVariants.{UnknownCommand, UnfinishedUpload}
+use Rattle.fpgad_run.specs.declared.script.SessionLine.{SessionLine}
+use Rattle.fpgad_run.specs.declared.script.SessionLine.TheVariants.{Blank, Command, Refused}
+use Rattle.fpgad_run.specs.declared.script.Act.{Act}
+use Rattle.fpgad_run.specs.declared.script.Act.TheVariants.{Operator, Session}
+use Rattle.fpgad_run.specs.declared.script.Item.{Item}
+use Rattle.fpgad_run.specs.declared.script.TextKind.{TextKind}
+use Rattle.fpgad_run.specs.declared.script.TextKind.TheVariants.{Upload, Change}
+use Rattle.fpgad_run.specs.declared.script.Form.{Form}
+use Rattle.fpgad_run.specs.declared.script.Form.TheVariants.{Skipped, Faulty, Asks, Begins}
+use Rattle.fpgad_run.specs.declared.script.ScriptError.{ScriptError}
+use Rattle.fpgad_run.specs.declared.script.ScriptError.TheVariants.{NoMemory, Fault}
+use Rattle.line_text.specs.Lines.{physical_lines}
+use Rattle.fpgad_run.specs.Lines.{without_cr, ends_text, text_ahead, kept}
+use Rattle.line_text.specs.Words.{is_blank, words_of}
+use Rattle.line_text.specs.Decimal.{decimal_of}
+
+-- a letter, a digit or `_`
+abbrev pub is_name_byte : ℕ → Bool
+is_name_byte b = is_ascii_alphanumeric b || b == 95
+
+-- a name has 1 to 32 of them
+abbrev pub is_name : List ℕ → Bool
+is_name name = nat_lt 0 (length name) && nat_le (length name) 32 && list_all is_name_byte name
+
+-- `op admit NAME WIDTH`
+abbrev pub admission : List ℕ → Option ℕ → Form (List ℕ)
+admission name None = Faulty
+admission name (Some width) = Asks (Operator (Admit name width))
+
+-- the words after `op`
+abbrev pub operator_form : List (List ℕ) → Form (List ℕ)
+operator_form (verb ∷ []) = if bytes_eq verb (codes "list") then Asks (Operator ListAll) else Faulty
+operator_form (verb ∷ name ∷ []) = if bytes_eq verb (codes "evict") && is_name name then Asks (Operator (Evict name)) else Faulty
+operator_form (verb ∷ name ∷ width ∷ []) = if bytes_eq verb (codes "admit") && is_name name then admission name (decimal_of 32 width) else Faulty
+operator_form words = Faulty
+
+-- a session line that is one word
+abbrev pub verb_form : List ℕ → List ℕ → Form (List ℕ)
+verb_form name verb =
+    if bytes_eq verb (codes "upload") then Begins name Upload else
+    if bytes_eq verb (codes "change") then Begins name Change else
+    if bytes_eq verb (codes "status") then Asks (Session name (Command Status)) else
+    if bytes_eq verb (codes "withdraw") then Asks (Session name (Command Withdraw)) else
+    Asks (Session name (Refused UnknownCommand))
+
+-- the words of a session line of that length
+abbrev pub session_form : List ℕ → ℕ → List (List ℕ) → Form (List ℕ)
+session_form name long [] = Asks (Session name Blank)
+session_form name long (verb ∷ []) = if nat_lt 4096 long then Asks (Session name (Refused UnknownCommand)) else verb_form name verb
+session_form name long words = Asks (Session name (Refused UnknownCommand))
+
+-- a line by its first word and what stands after it and one blank
+abbrev pub form_by : List ℕ → List ℕ → Form (List ℕ)
+form_by [] rest = Skipped
+form_by (b ∷ name) rest =
+    if b == 35 then Skipped else
+    if b == 64 then (if is_name name then session_form name (length rest) (words_of rest) else Faulty) else
+    if bytes_eq (b ∷ name) (codes "op") then operator_form (words_of rest) else Faulty
+
+-- the blanks ahead of a line are not looked at
+abbrev pub without_blanks : List ℕ → List ℕ
+without_blanks line = drop (position_or_len (λ b. not (is_blank b)) line) line
+
+-- what a line of the script, without the CR at its end, is by itself
+unfoldable pub form_in : List ℕ → Form (List ℕ)
+form_in line = form_by (before_first is_blank (without_blanks line)) (after_first is_blank (without_blanks line))
+
+abbrev pub form_of : List ℕ → Form (List ℕ)
+form_of line = form_in (without_cr line)
+
+abbrev pub text_command : TextKind → List ℕ → TenantCommand
+text_command Upload text = UploadText text
+text_command Change text = ChangeText text
+
+-- the command with its text, of which the first 1,048,577 bytes are kept, or the refusal of one that doesn't end
+abbrev pub text_line : TextKind → Option (List ℕ) → SessionLine
+text_line kind (Some text) = Command (text_command kind (kept text))
+text_line kind None = Refused UnfinishedUpload
+
+abbrev pub Items : Type 0
+Items = Result (List (Item (List ℕ))) ℕ
+
+abbrev pub with_item : ℕ → Act (List ℕ) → Items → Items
+with_item number act (Ok items) = Ok (record { line = number; act = act } ∷ items)
+with_item number act (Err fault) = Err fault
+
+-- what a line of that number makes of the items after it
+abbrev pub with_line : ℕ → Form (List ℕ) → List (List ℕ) → Items → Items
+with_line number Skipped lines rest = rest
+with_line number Faulty lines rest = Err number
+with_line number (Asks act) lines rest = with_item number act rest
+with_line number (Begins name kind) lines rest = with_item number (Session name (text_line kind (text_ahead lines))) rest
+
+abbrev pub begins_text : Form (List ℕ) → Bool
+begins_text (Begins name kind) = true
+begins_text form = false
+
+-- the items from the line of that number on, or the number of the least faulty line; the lines of a text are none of the script's
+abbrev pub items_from : ℕ → Bool → List (List ℕ) → Items
+items_from number within [] = Ok []
+items_from number true (line ∷ lines) = if ends_text line then items_from (number + 1) false lines else items_from (number + 1) true lines
+items_from number false (line ∷ lines) = with_line number (form_of line) lines (items_from (number + 1) (begins_text (form_of line)) lines)
+
+-- the items of a script whose first line has that number, or the number of its least faulty line
+abbrev pub script_of : ℕ → List ℕ → Items
+script_of number text = items_from number false (physical_lines text)
+
+-- a reader of that script may answer this
+abbrev pub Gives : Items → Result (List (Item (List ℕ))) ScriptError → Type 0
+Gives meant (Ok items) = meant ≡ Ok items
+Gives meant (Err (Fault number)) = meant ≡ Err number
+Gives meant (Err NoMemory) = ⊤
+
+-- what a name or an item is without where it lies in memory
+abbrev pub named_operator : OperatorLine (Bor (List ℕ)) → OperatorLine (List ℕ)
+named_operator (Admit name width) = Admit name.now width
+named_operator (Evict name) = Evict name.now
+named_operator ListAll = ListAll
+
+abbrev pub named_act : Act (Bor (List ℕ)) → Act (List ℕ)
+named_act (Operator line) = Operator (named_operator line)
+named_act (Session name line) = Session name.now line
+
+abbrev pub named_form : Form (Bor (List ℕ)) → Form (List ℕ)
+named_form Skipped = Skipped
+named_form Faulty = Faulty
+named_form (Asks act) = Asks (named_act act)
+named_form (Begins name kind) = Begins name.now kind
+
+abbrev pub named_item : Item (Bor (List ℕ)) → Item (List ℕ)
+named_item item = record { line = item.line; act = named_act item.act }

@@ -1,0 +1,39 @@
+-- Private: a script that runs, and what it has told so far.
+use Rattle.std.specs.Prelude.{ℕ, ◌≡◌, List, [], ◌++◌, length}
+use Rattle.service_core.specs.Run.{Call}
+use Rattle.service_core.specs.Service.{ServiceState}
+use Rattle.fpgad_run.specs.declared.program.Running.{Running}
+use Rattle.fpgad_run.specs.declared.script.Act.{Act}
+use Rattle.fpgad_run.specs.Run.{Stage, Section, IsAnswered, output_of, told_operator, told_session}
+use Rattle.fpgad_run.specs.Zipped.{zipped}
+
+abbrev pub stage_of : Running → Stage
+stage_of running = record { names = running.operator; service = running.core }
+
+abbrev pub sections_of : Running → List Section
+sections_of running = zipped running.sections.names running.sections.texts.items
+
+-- each section has a name, and each id one
+pub record IsEven (running : Running) : Type 0 where
+  pub sections : length running.sections.texts.items ≡ length running.sections.names
+  pub ids : length running.operator ≡ length running.core.histories
+
+-- what would be written now
+abbrev pub told_so_far : Running → List ℕ
+told_so_far running = output_of running.operator_text.items (sections_of running)
+
+-- nothing is told yet
+pub record Begins (core : ServiceState) (running : Running) : Type 0 where
+  pub stage : stage_of running ≡ record { names = []; service = core }
+  pub operator_text : running.operator_text.items ≡ []
+  pub sections : sections_of running ≡ []
+  pub even : IsEven running
+
+-- an act is answered
+pub record Serves (old : Running) (act : Act (List ℕ)) (new : Running) : Type 0 where
+  pub calls : List Call
+  pub text : List ℕ
+  pub answered : IsAnswered (stage_of old) act calls text (stage_of new)
+  pub operator_text : new.operator_text.items ≡ old.operator_text.items ++ told_operator act text
+  pub sections : sections_of new ≡ told_session (sections_of old) act text
+  pub even : IsEven new

@@ -1,0 +1,29 @@
+//! The service as a program over a script.
+//!
+//! - `read_options` reads the command line, `read_script` the script: each line is an operator's or a session's.
+//! - `run_script` reads a script, checks it whole, serves it in order and writes the replies: the operator's, then each
+//!   session's. `Outcome` tells how it ended, by a status and a message.
+//! - `push_answer`, `push_reply` and `push_session_refusal` are the texts that a session is answered with.
+//! - In `specs/`, `Script` says what a script says, `SessionText` and `OperatorText` how answers are spelled, `Run` what the
+//!   items of a script are answered, and `Program` what is written and how a run ends.
+#![tactic(auto)]
+
+mod names;
+mod operator;
+mod options;
+mod outcome;
+mod program;
+mod script;
+mod sections;
+mod session_text;
+
+pub use options::{CommandLine, Options, read_options};
+pub use outcome::Outcome;
+pub use program::{Architecture, run, run_script};
+pub use script::{
+    Act, Item, OperatorLine, Script, ScriptError, SessionLine, SessionRefusal, read_script,
+};
+pub use session_text::{push_answer, push_reply, push_session_refusal};
+
+#[cfg(test)]
+mod tests;

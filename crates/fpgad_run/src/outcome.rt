@@ -1,0 +1,70 @@
+ghost use Rattle.std.specs.Prelude.{◌≡◌};
+ghost use Rattle.fpgad_run.specs.Outcomes.{status_of};
+
+use arch_file::ArchFault;
+use std::alloc::AllocError;
+use std::fmt;
+
+/// How a run of a script ended.
+#[derive(Clone, Copy, Debug, PartialEq, Eq)]
+pub enum Outcome {
+    /// All replies are written.
+    Done,
+    /// The architecture's file can't be read.
+    ArchUnreadable,
+    ArchRefused(ArchFault),
+    InputFailed,
+    OutputFailed,
+    /// The number of the script's least faulty line.
+    ScriptFault(usize),
+    /// There was no memory for the program's own tables.
+    NoMemory,
+}
+
+impl Outcome {
+    /// The status that the program ends with.
+    pub fn status(&self) -> u8
+        ensures { result ≡ status_of self.now }
+    {
+        match self {
+            Outcome::Done => 0,
+            Outcome::ArchUnreadable
+            | Outcome::ArchRefused(_)
+            | Outcome::InputFailed
+            | Outcome::OutputFailed => 1,
+            Outcome::ScriptFault(_) => 3,
+            Outcome::NoMemory => 4,
+        }
+    }
+}
+
+/// The message for standard error, without its line's end.
+impl fmt::Display for Outcome {
+    ghost use Rattle.std.specs.Prelude.{Some};
+    ghost use Rattle.fpgad_run.specs.Outcomes.{message_of};
+
+    ghost output = { λ outcome. Some (message_of outcome) };
+
+    fn fmt<W: fmt::Write>(&self, f: &mut fmt::Formatter<W>) -> fmt::Result {
+        match self {
+            Outcome::Done => write!(f, ""),
+            Outcome::ArchUnreadable => write!(f, "arch: unreadable"),
+            Outcome::ArchRefused(fault) => write!(f, "arch: {fault}"),
+            Outcome::InputFailed => write!(f, "input: failed"),
+            Outcome::OutputFailed => write!(f, "output: failed"),
+            Outcome::ScriptFault(line) => write!(f, "script: line {line}"),
+            Outcome::NoMemory => write!(f, "memory"),
+        }
+    }
+}
+
+impl From<AllocError> for Outcome {
+    ghost use Rattle.std.specs.Prelude.{◌≡◌};
+    ghost use Rattle.fpgad_run.specs.declared.outcome.Outcome.TheVariants.{NoMemory};
+
+    ghost from_gives = { λ _ outcome. outcome ≡ NoMemory };
+
+    fn from(_error: AllocError) -> Self {
+        Outcome::NoMemory
+    }
+}

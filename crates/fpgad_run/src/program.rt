@@ -1,0 +1,234 @@
+ghost use Rattle.std.specs.Prelude.{◌≡◌, ◌+◌, ◌<◌, ◌≤◌, ◌^◌, [], Ok, length, true, OnOk, IfOk, IfSome};
+ghost use Rattle.arch_file.specs.Arch.{IsArch, arch_of};
+ghost use Rattle.fpgad_run.specs.Script.{named_act, script_of};
+ghost use Rattle.fpgad_run.specs.Program.{Decides, IsReplies, Replies, Writes, checked, start_of};
+ghost use Rattle.fpgad_run.specs.SessionAnswer.{IsSessionAnswer};
+
+use crate::operator::Operator;
+use crate::options::Options;
+use crate::outcome::Outcome;
+use crate::script::{Act, Item, Script, ScriptError, SessionLine, read_script, split_architecture};
+use crate::sections::{Sections, push_section};
+use crate::session_text::{push_answer, push_session_refusal};
+use arch_file::{Arch, ArchError, read_arch};
+use line_text::{ReadError, Sink, Source, read_all, write_all};
+use service_core::{Core, Device};
+use std::alloc::{AllocError, Global};
+
+/// Where the architecture's text is.
+#[derive(Clone, Copy, Debug)]
+pub enum Architecture<'a> {
+    /// At the script's head, up to a line that is `.` alone.
+    InScript,
+    /// The text.
+    Text(&'a [u8]),
+    /// In a file that can't be read.
+    Unreadable,
+}
+
+/// Runs a script: reads it whole, checks it whole, serves it in order, and writes the replies. Without memory for
+/// the program's own tables, and where it or the architecture is refused, nothing is written.
+pub fn run_script<R: Source, W: Sink>(
+    alloc: Global,
+    options: &Options,
+    architecture: Architecture<'_>,
+    reader: &mut R,
+    writer: &mut W,
+) -> Outcome
+    // What the text decides, where the reader tells it.
+    ensures decided { IfSome (R.remaining reader.old) (λ input. Decides (start_of options.now.tracks architecture.entry input) result) }
+    // What is written, and that nothing else is.
+    ensures written { Writes options.now architecture.entry (R.remaining reader.old) result (W.contents writer.old) (W.contents writer.new) }
+    ensures unreadable { architecture.entry ≡ Architecture.Unreadable → result ≡ Outcome.ArchUnreadable }
+    ensures input { result ≡ Outcome.InputFailed → R.has_failed reader.new ≡ true }
+    ensures output { result ≡ Outcome.OutputFailed → W.has_failed writer.new ≡ true }
+{
+    if matches!(&architecture, Architecture::Unreadable) {
+        return Outcome::ArchUnreadable;
+    }
+    let input = match read_all(alloc, reader) {
+        Ok(input) => input,
+        Err(ReadError::Failed) => return Outcome::InputFailed,
+        Err(ReadError::NoMemory) => return Outcome::NoMemory,
+    };
+    let output = match replies(alloc, options, architecture, input.as_slice()) {
+        Ok(output) => output,
+        Err(outcome) => return outcome,
+    };
+    match write_all(writer, output.as_slice()) {
+        Ok(()) => Outcome::Done,
+        Err(_) => Outcome::OutputFailed,
+    }
+}
+
+/// The same with the runtime's memory.
+pub fn run<H: AllocGlobal, R: Source, W: Sink>(
+    rt: &H,
+    options: &Options,
+    architecture: Architecture<'_>,
+    reader: &mut R,
+    writer: &mut W,
+) -> Outcome
+    ensures decided { IfSome (R.remaining reader.old) (λ input. Decides (start_of options.now.tracks architecture.entry input) result) }
+    ensures written { Writes options.now architecture.entry (R.remaining reader.old) result (W.contents writer.old) (W.contents writer.new) }
+    ensures unreadable { architecture.entry ≡ Architecture.Unreadable → result ≡ Outcome.ArchUnreadable }
+    ensures input { result ≡ Outcome.InputFailed → R.has_failed reader.new ≡ true }
+    ensures output { result ≡ Outcome.OutputFailed → W.has_failed writer.new ≡ true }
+{
+    run_script(rt.alloc(), options, architecture, reader, writer)
+}
+
+/// The bytes that the run of a script writes, or why it writes none.
+fn replies(
+    alloc: Global,
+    options: &Options,
+    architecture: Architecture<'_>,
+    input: &[u8],
+) -> Result<Vec<u8>, Outcome>
+    requires { length input.now < 2 ^ 63 }
+    ensures { Replies options.now (start_of options.now.tracks architecture.entry input.now) result }
+{
+    match architecture {
+        Architecture::InScript => {
+            let (head, number, rest) = split_architecture(input);
+            begin(alloc, options, head, number, rest)
+        }
+        Architecture::Text(text) => begin(alloc, options, text, 1, input),
+        Architecture::Unreadable => Err(Outcome::ArchUnreadable),
+    }
+}
+
+/// The same with the architecture's text, and the script's from the line of that number on.
+fn begin(
+    alloc: Global,
+    options: &Options,
+    head: &[u8],
+    number: usize,
+    script: &[u8],
+) -> Result<Vec<u8>, Outcome>
+    requires { number + length script.now < 2 ^ 64 }
+    ensures { Replies options.now (checked (arch_of head.now options.now.tracks) (script_of number script.now)) result }
+{
+    let arch = match read_arch(alloc, head, options.tracks) {
+        Ok(arch) => arch,
+        Err(ArchError::Fault(fault)) => return Err(Outcome::ArchRefused(fault)),
+        Err(ArchError::NoMemory) => return Err(Outcome::NoMemory),
+    };
+    let script = match read_script(alloc, script, number) {
+        Ok(script) => script,
+        Err(ScriptError::Fault(line)) => return Err(Outcome::ScriptFault(line)),
+        Err(ScriptError::NoMemory) => return Err(Outcome::NoMemory),
+    };
+    match serve(alloc, options, arch, script) {
+        Ok(output) => Ok(output),
+        Err(_) => Err(Outcome::NoMemory),
+    }
+}
+
+/// Serves the items of a script in order, from an empty device.
+fn serve(
+    alloc: Global,
+    options: &Options,
+    arch: Arch,
+    script: Script<'_>,
+) -> Result<Vec<u8>, AllocError>
+    requires { IsArch arch }
+    ensures { IfOk result (λ output. IsReplies options.now (Ok (arch, script.entry)) output.items) }
+{
+    let core = Core::new(
+        alloc,
+        Device {
+            arch,
+            columns: options.columns,
+            rows: options.rows,
+        },
+    )?;
+    let mut running = Running::new(alloc, core);
+    let mut items = script.into_items();
+    items.reverse();
+    while let Some(item) = items.pop() {
+        running.serve(item)?;
+    }
+    running.output(alloc)
+}
+
+/// A script that runs: the core, the operator's names, and what was told so far.
+#[derive(Drop)]
+struct Running<'t> {
+    core: Core,
+    operator: Operator<'t>,
+    operator_text: Vec<u8>,
+    sections: Sections<'t>,
+    reply: Vec<u8>,
+}
+
+impl<'t> Running<'t> {
+    ghost use Rattle.fpgad_run.specs.Told.{Begins, IsEven, Serves, told_so_far};
+
+    fn new(alloc: Global, core: Core) -> Self
+        requires { core.histories ≡ [] }
+        ensures { Begins core result }
+    {
+        Running {
+            core,
+            operator: Operator::new(alloc),
+            operator_text: Vec::new(alloc),
+            sections: Sections::new(alloc),
+            reply: Vec::new(alloc),
+        }
+    }
+
+    /// Serves one item.
+    fn serve(&mut self, item: Item<&'t [u8]>) -> Result<(), AllocError>
+        requires { IsEven self.old }
+        ensures { OnOk result (Serves self.old (named_act item.entry.act) self.new) }
+    {
+        let Item { line: _, act } = item;
+        match act {
+            Act::Operator(line) => {
+                self.operator
+                    .serve(&mut self.core, line, &mut self.operator_text)
+            }
+            Act::Session(name, line) => {
+                self.reply.clear();
+                answer(
+                    &mut self.core,
+                    self.operator.last_id(name),
+                    line,
+                    &mut self.reply,
+                )?;
+                self.sections.push(name, self.reply.as_slice())
+            }
+        }
+    }
+
+    /// All that was told: the operator's replies, and each name's.
+    fn output(&self, alloc: Global) -> Result<Vec<u8>, AllocError>
+        requires { IsEven self.now }
+        ensures { IfOk result (λ output. output.items ≡ told_so_far self.now) }
+    {
+        let mut out = Vec::new(alloc);
+        push_section(&mut out, b"op", self.operator_text.as_slice())?;
+        self.sections.append_to(&mut out)?;
+        Ok(out)
+    }
+}
+
+/// Appends the answer to a session's line, for the tenancy of that id.
+fn answer(
+    core: &mut Core,
+    id: u32,
+    line: SessionLine,
+    reply: &mut Vec<u8>,
+) -> Result<(), AllocError>
+    ensures { OnOk result (IsSessionAnswer core.old id line reply.old.items reply.new.items core.new) }
+{
+    match line {
+        SessionLine::Blank => Ok(()),
+        SessionLine::Refused(refusal) => push_session_refusal(reply, refusal),
+        SessionLine::Command(command) => {
+            let answer = core.tenant(id, command);
+            push_answer(reply, &answer)
+        }
+    }
+}

@@ -1,0 +1,9 @@
+mod Edges
+mod Exact
+mod Agrees
+mod Examples
+mod Labels
+mod Settles
+mod Choices
+mod Trails
+mod Street

@@ -1,0 +1,156 @@
+-- What a search keeps true while it labels nodes. Cited by private functions alone.
+use Rattle.std.proofs.Common.{◌≡◌, ◌≢◌, ℕ, ◌+◌, ◌*◌, ◌^◌, ◌<◌, ◌≤◌, ◌⊎◌, List, [], ◌∷◌, length, get_or, set}
+use Rattle.std.specs.List.{sum_by, All, Contains}
+use Rattle.std.specs.Prelude.{if◌then◌else◌, ◌==◌}
+use Rattle.std.specs.List.Sorted.{IsPermutation}
+use Rattle.std.specs.BinaryHeap.{heap_items, IsHeap, IsUpperBound}
+use Rattle.std.specs.Ordering.{nat_cmp, ordering_then}
+use Rattle.std.specs.declared.cmp.Ordering.{Ordering}
+use Rattle.std.specs.declared.cmp.Reverse.{Reverse}
+use Rattle.least_path.specs.Graph.{Graph}
+use Rattle.least_path.specs.Path.{Leads, IsPath, cost_of}
+use Rattle.least_path.specs.declared.search.Label.{Label}
+use Rattle.least_path.specs.declared.search.Waiting.{Waiting}
+use Rattle.least_path.specs.declared.search.Search.{Search}
+
+abbrev pub waiting_cmp : Waiting → Waiting → Ordering
+waiting_cmp a b = ordering_then (ordering_then (nat_cmp a.at_least b.at_least) (nat_cmp a.cost b.cost)) (nat_cmp a.node b.node)
+
+-- the greatest comes out of the heap first
+abbrev pub entry_cmp : Reverse Waiting → Reverse Waiting → Ordering
+entry_cmp x y = waiting_cmp y.0 x.0
+
+abbrev pub no_label : Label
+no_label = record { cost = 0; epoch = 0 }
+
+-- what the node's label says
+abbrev pub cost_in : List Label → ℕ → ℕ
+cost_in labels node = (get_or labels node no_label).cost
+
+-- which search wrote it
+abbrev pub epoch_in : List Label → ℕ → ℕ
+epoch_in labels node = (get_or labels node no_label).epoch
+
+-- The node has a label of this search.
+abbrev pub IsLabelledIn : ℕ → List Label → ℕ → Type 0
+IsLabelledIn epoch labels node = epoch_in labels node ≡ epoch
+
+abbrev pub cost_at : Search → ℕ → ℕ
+cost_at s node = cost_in s.labels.items node
+
+abbrev pub IsLabelled : Search → ℕ → Type 0
+IsLabelled s node = IsLabelledIn s.epoch s.labels.items node
+
+-- falls with each label
+abbrev pub potential : ℕ → List Label → ℕ
+potential epoch labels = sum_by (λ label. if label.epoch == epoch then label.cost else 2 ^ 60) labels
+
+-- how many nodes have no label of this search
+abbrev pub fresh : ℕ → List Label → ℕ
+fresh epoch labels = sum_by (λ label. if label.epoch == epoch then 0 else 1) labels
+
+-- falls with each label and each entry that leaves the heap
+abbrev pub left : Search → ℕ
+left s = 2 * potential s.epoch s.labels.items + length (heap_items s.heap)
+
+-- A path leads there at that cost.
+pub record Reached (g : Graph) (starts : List ℕ) (node cost : ℕ) : Type 0 where
+  pub path : List ℕ
+  pub is_path : IsPath g starts node path
+  pub costs : cost_of g path ≡ cost
+
+-- No way leads from the node to the goal.
+abbrev pub HasNoWay : Graph → ℕ → ℕ → Type 0
+HasNoWay g goal node = (rest : List ℕ) → Leads g goal node rest → ⊥
+
+-- Nothing is to be done for a path to the node at that cost.
+abbrev pub IsServed : Graph → ℕ → ℕ → List Label → ℕ → ℕ → Type 0
+IsServed g goal epoch labels node cost = HasNoWay g goal node ⊎ (IsLabelledIn epoch labels node × (cost_in labels node ≤ cost))
+
+-- Each end of the node's edges is served over the node, which is not the goal.
+abbrev pub IsClosed : Graph → ℕ → ℕ → List Label → ℕ → Type 0
+IsClosed g goal epoch labels node = (node ≢ goal) × All (λ end. IsServed g goal epoch labels end (cost_in labels node + g.cost end)) (g.ends node)
+
+-- an entry of the heap: at least what any path over the node costs, from a label that was no cheaper than the present one
+pub record IsEntry (g : Graph) (goal epoch : ℕ) (labels : List Label) (entry : Reverse Waiting) : Type 0 where
+  pub within : entry.0.node < g.count
+  pub labelled : IsLabelledIn epoch labels entry.0.node
+  pub cheaper : cost_in labels entry.0.node ≤ entry.0.cost
+  pub from : entry.0.cost ≤ entry.0.at_least
+  pub to : (rest : List ℕ) → Leads g goal entry.0.node rest → entry.0.at_least ≤ entry.0.cost + sum_by g.cost rest
+
+-- The node's label is in the heap.
+pub record Waits (labels : List Label) (heap : List (Reverse Waiting)) (node : ℕ) : Type 0 where
+  pub entry : Reverse Waiting
+  pub contained : Contains heap entry
+  pub its_node : entry.0.node ≡ node
+  pub its_cost : entry.0.cost ≡ cost_in labels node
+
+-- Each node that has a label is closed or waits, but for the one that is being looked at.
+pub record Frontier (g : Graph) (starts : List ℕ) (goal except epoch : ℕ) (labels : List Label) (heap : List (Reverse Waiting)) : Type 0 where
+  pub room : g.count ≤ length labels
+  pub few : length labels ≤ 2 ^ 23
+  pub begun : 1 ≤ epoch
+  pub cheap : (v : ℕ) → v < g.count → IsLabelledIn epoch labels v → cost_in labels v + fresh epoch labels * 2 ^ 36 ≤ length labels * 2 ^ 36
+  pub reached : (v : ℕ) → v < g.count → IsLabelledIn epoch labels v → Reached g starts v (cost_in labels v)
+  pub cared_for : (v : ℕ) → v < g.count → IsLabelledIn epoch labels v → (v ≡ except) ⊎ (IsClosed g goal epoch labels v ⊎ Waits labels heap v)
+  pub entries : All (IsEntry g goal epoch labels) heap
+  pub heap_order : IsHeap entry_cmp heap
+
+abbrev pub IsFrontier : Graph → List ℕ → ℕ → ℕ → Search → Type 0
+IsFrontier g starts goal except s = Frontier g starts goal except s.epoch s.labels.items (heap_items s.heap)
+
+-- the state before the first label
+pub record IsBegun (s : Search) (count : ℕ) : Type 0 where
+  pub room : count ≤ length s.labels.items
+  pub few : length s.labels.items ≤ 2 ^ 23
+  pub begun : 1 ≤ s.epoch
+  pub none_labelled : All (λ label. label.epoch < s.epoch) s.labels.items
+  pub no_heap : heap_items s.heap ≡ []
+  pub heap_order : IsHeap entry_cmp (heap_items s.heap)
+
+pub record IsSame (s t : Search) : Type 0 where
+  pub epoch : t.epoch ≡ s.epoch
+  pub labels : t.labels.items ≡ s.labels.items
+  pub heap : heap_items t.heap ≡ heap_items s.heap
+
+-- A cheaper label, and an entry for it.
+pub record AddsLabel (g : Graph) (goal : ℕ) (s t : Search) (node cost : ℕ) : Type 0 where
+  pub at_least : ℕ
+  pub epoch : t.epoch ≡ s.epoch
+  pub labels : t.labels.items ≡ set s.labels.items node (record { cost = cost; epoch = s.epoch })
+  pub cheaper : IsLabelled s node → cost < cost_at s node
+  pub from : cost ≤ at_least
+  pub to : (rest : List ℕ) → Leads g goal node rest → at_least ≤ cost + sum_by g.cost rest
+  pub pushed : IsPermutation (record { 0 = record { at_least = at_least; cost = cost; node = node } } ∷ heap_items s.heap) (heap_items t.heap)
+  pub heap_order : IsHeap entry_cmp (heap_items s.heap) → IsHeap entry_cmp (heap_items t.heap)
+
+-- what an offer changes
+abbrev pub Offers : Graph → ℕ → Search → Search → ℕ → ℕ → Type 0
+Offers g goal s t node cost = (IsSame s t × IsServed g goal s.epoch s.labels.items node cost) ⊎ AddsLabel g goal s t node cost
+
+-- The first entry leaves the heap.
+pub record Pops (s t : Search) (waiting : Waiting) : Type 0 where
+  pub epoch : t.epoch ≡ s.epoch
+  pub labels : t.labels.items ≡ s.labels.items
+  pub taken : IsPermutation (heap_items s.heap) (record { 0 = waiting } ∷ heap_items t.heap)
+  pub heap_order : IsHeap entry_cmp (heap_items s.heap) → IsHeap entry_cmp (heap_items t.heap) × IsUpperBound entry_cmp (record { 0 = waiting }) (heap_items t.heap)
+
+-- Labels come and fall.
+pub record Falls (s t : Search) : Type 0 where
+  pub epoch : t.epoch ≡ s.epoch
+  pub left : left t ≤ left s
+  pub served : (g : Graph) (goal node cost : ℕ) → IsServed g goal s.epoch s.labels.items node cost → IsServed g goal t.epoch t.labels.items node cost
+
+-- the search before it looks at a further node
+pub record IsGoing (g : Graph) (starts : List ℕ) (goal : ℕ) (s : Search) : Type 0 where
+  pub frontier : IsFrontier g starts goal g.count s
+  pub entered : All (λ start. IsServed g goal s.epoch s.labels.items start 0) starts
+
+-- the search when the goal has come out of the heap: no entry that is left leads to a path that is less
+pub record IsSettled (g : Graph) (starts : List ℕ) (goal : ℕ) (s : Search) : Type 0 where
+  pub frontier : IsFrontier g starts goal goal s
+  pub entered : All (λ start. IsServed g goal s.epoch s.labels.items start 0) starts
+  pub goal_labelled : IsLabelled s goal
+  pub no_less : All (λ entry. cost_at s goal ≤ entry.0.at_least) (heap_items s.heap)
+  pub no_nearer : All (λ entry. entry.0.at_least ≤ cost_at s goal → cost_at s goal ≤ entry.0.cost) (heap_items s.heap)

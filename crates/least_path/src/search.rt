@@ -1,0 +1,99 @@
+ghost use Rattle.std.specs.Prelude.{◌≡◌, ◌^◌, ◌<◌, ◌≤◌, All, OnOk, IfOk, IfSome, IfNone, vec_len};
+ghost use Rattle.least_path.specs.Graph.{AreNodes};
+ghost use Rattle.least_path.specs.LeastPath.{least_path, TellsLeastPath, HasNoPath, nodes_of};
+
+mod frontier;
+mod walk;
+
+use crate::path::Path;
+use crate::roads::Roads;
+use std::alloc::{AllocError, Global};
+use std::cmp::Reverse;
+use std::collections::BinaryHeap;
+
+/// What a search knows of a node: what the cheapest path to it that was found so far costs.
+#[derive(Clone, Copy)]
+struct Label {
+    cost: u64,
+    /// The search that wrote the label. To every other one the node has none.
+    epoch: u32,
+}
+
+/// A node whose edges are to be looked at, in the order in which that is done.
+#[derive(Clone, Copy, PartialEq, Eq, PartialOrd, Ord)]
+struct Waiting {
+    /// At least what any path over the node to the goal costs.
+    at_least: u64,
+    /// The cost of the node's label when the entry was made.
+    cost: u64,
+    node: usize,
+}
+
+/// A searcher that keeps its room from one search to the next, and clears none of it.
+#[derive(Drop)]
+pub struct Search {
+    epoch: u32,
+    labels: Vec<Label>,
+    heap: BinaryHeap<Reverse<Waiting>>,
+    ghost past: { All (λ label. label.epoch ≤ epoch) labels.items },
+    ghost few: { vec_len labels ≤ 2 ^ 23 },
+}
+
+impl Search {
+    ghost use Rattle.least_path.specs.Frontier.{IsBegun};
+
+    /// A searcher with no room yet.
+    pub fn new(alloc: Global) -> Self {
+        Search {
+            epoch: 0,
+            labels: Vec::new(alloc),
+            heap: BinaryHeap::new(alloc),
+        }
+    }
+
+    /// The least path from one of `starts` to `goal`, by cost and then as a dictionary orders
+    /// words, and `None` where there is no path. Earlier searches, also ones that found no
+    /// memory, change nothing of it.
+    pub fn least<R: Roads>(
+        &mut self,
+        alloc: Global,
+        roads: &R,
+        starts: &[usize],
+        goal: usize,
+    ) -> Result<Option<Path>, AllocError>
+        requires starts { AreNodes (R.graph roads.now) starts.now }
+        requires goal { goal < (R.graph roads.now).count }
+        ensures found { IfOk result (λ answer.
+            IfSome answer (λ path. TellsLeastPath (R.graph roads.now) starts.now goal path)) }
+        ensures none { IfOk result (λ answer.
+            IfNone answer (HasNoPath (R.graph roads.now) starts.now goal)) }
+        ensures exact { IfOk result (λ answer.
+            nodes_of answer ≡ least_path (R.graph roads.now) starts.now goal) }
+    {
+        self.begin(roads.count())?;
+        if !self.settle(roads, starts, goal)? {
+            return Ok(None);
+        }
+        let cost = self.labels[goal].cost;
+        let nodes = self.walk(alloc, roads, starts, goal)?;
+        Ok(Some(Path { nodes, cost }))
+    }
+
+    /// Makes room for the labels of `count` nodes, and forgets those of the searches before.
+    fn begin(&mut self, count: usize) -> Result<(), AllocError>
+        requires { count ≤ 2 ^ 23 }
+        ensures { OnOk result (IsBegun self.new count) }
+    {
+        const NONE: Label = Label { cost: 0, epoch: 0 };
+        if self.epoch == u32::MAX {
+            self.labels.clear();
+            self.epoch = 0;
+        }
+        if self.labels.len() < count {
+            self.labels.resize(count, NONE)?;
+        }
+        self.epoch += 1;
+        self.heap.clear();
+        Ok(())
+    }
+}

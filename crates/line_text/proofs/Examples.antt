@@ -1,0 +1,123 @@
+-- Joined lines of small texts, and numbers, computed by the checker.
+use Rattle.std.proofs.Common.{Some, None, ◌≡◌, ℕ, List, [], ◌∷◌, Ok, Err, refl, codes}
+use Rattle.line_text.specs.declared.fault.LineFault.TheVariants.{NotAscii}
+use Rattle.line_text.specs.Decimal.{decimal_of, millionths_of, whole_of}
+use Rattle.line_text.specs.Words.{words_of}
+use Rattle.line_text.specs.Lines.{JoinedLine, joined_bytes, kept, lines_of, physical_lines}
+
+abbrev numbered : ℕ → List (List ℕ) → JoinedLine
+numbered n words = record { number = n; words = words }
+
+-- words are parted by spaces, tabs and CRs
+blanks : words_of (32 ∷ 97 ∷ 98 ∷ 9 ∷ 13 ∷ 99 ∷ 32 ∷ []) ≡ codes "ab" ∷ codes "c" ∷ []
+blanks = refl
+
+-- the last line needs no LF
+lines_end : physical_lines (codes "a\n\nb") ≡ codes "a" ∷ [] ∷ codes "b" ∷ []
+lines_end = refl
+
+lf_at_end : physical_lines (codes "a\n") ≡ codes "a" ∷ []
+lf_at_end = refl
+
+-- a comment and the blanks before it are cut, and the final `\` becomes a blank
+cuts : kept (codes "a b \\ # c") ≡ codes "a b  "
+cuts = refl
+
+-- blanks before the `\` stay, and count
+joins : joined_bytes ((1, codes "a \\") ∷ (2, codes "b ") ∷ []) ≡ codes "a  b"
+joins = refl
+
+continued_and_commented : lines_of (codes "a \\\nb # c\n\n# only\nd") ≡ Ok (numbered 1 (codes "a" ∷ codes "b" ∷ []) ∷ numbered 5 (codes "d" ∷ []) ∷ [])
+unfolding lines_of
+continued_and_commented = refl
+
+-- no word spans two physical lines
+parted : lines_of (codes "ab\\\ncd") ≡ Ok (numbered 1 (codes "ab" ∷ codes "cd" ∷ []) ∷ [])
+unfolding lines_of
+parted = refl
+
+-- a `\` in a comment continues nothing
+commented_backslash : lines_of (codes "a # \\\nb") ≡ Ok (numbered 1 (codes "a" ∷ []) ∷ numbered 2 (codes "b" ∷ []) ∷ [])
+unfolding lines_of
+commented_backslash = refl
+
+-- one `\` alone is taken, and a `\` before it stays in its word
+two_backslashes : lines_of (codes "a\\\\\nb\\c") ≡ Ok (numbered 1 (codes "a\\" ∷ codes "b\\c" ∷ []) ∷ [])
+unfolding lines_of
+two_backslashes = refl
+
+-- a final `\` with nothing after it
+final_backslash : lines_of (codes "a \\") ≡ Ok (numbered 1 (codes "a" ∷ []) ∷ [])
+unfolding lines_of
+final_backslash = refl
+
+-- a line that is `\` alone can be the first of a joined line
+backslash_alone : lines_of (codes "\\\na") ≡ Ok (numbered 1 (codes "a" ∷ []) ∷ [])
+unfolding lines_of
+backslash_alone = refl
+
+-- a CR before LF is a blank, also behind a `\`
+cr_lf : lines_of (97 ∷ 32 ∷ 92 ∷ 13 ∷ 10 ∷ 98 ∷ 13 ∷ 10 ∷ 99 ∷ []) ≡ Ok (numbered 1 (codes "a" ∷ codes "b" ∷ []) ∷ numbered 3 (codes "c" ∷ []) ∷ [])
+unfolding lines_of
+cr_lf = refl
+
+no_words : lines_of (codes "\n \\\n\n# a\n") ≡ Ok []
+unfolding lines_of
+no_words = refl
+
+-- a byte 128 in a comment is lawful, and elsewhere it names its own physical line
+in_comment : lines_of (97 ∷ 35 ∷ 128 ∷ []) ≡ Ok (numbered 1 (codes "a" ∷ []) ∷ [])
+unfolding lines_of
+in_comment = refl
+
+outside_comment : lines_of (97 ∷ 92 ∷ 10 ∷ 128 ∷ 10 ∷ 129 ∷ []) ≡ Err (NotAscii 2)
+unfolding lines_of
+outside_comment = refl
+
+-- so is a control byte, and the byte 127
+control_byte : lines_of (10 ∷ 7 ∷ []) ≡ Err (NotAscii 2)
+unfolding lines_of
+control_byte = refl
+
+delete_byte : lines_of (127 ∷ []) ≡ Err (NotAscii 1)
+unfolding lines_of
+delete_byte = refl
+
+nine_digits : whole_of (codes "012345678") ≡ Some 12345678
+nine_digits = refl
+
+ten_digits : whole_of (codes "0123456789") ≡ None
+ten_digits = refl
+
+no_digit : whole_of [] ≡ None
+no_digit = refl
+
+largest_32 : decimal_of 32 (codes "00000000004294967295") ≡ Some 4294967295
+largest_32 = refl
+
+above_32 : decimal_of 32 (codes "4294967296") ≡ None
+above_32 = refl
+
+signed : decimal_of 64 (codes "+1") ≡ None
+signed = refl
+
+half : millionths_of (codes ".5") ≡ Some 500000
+half = refl
+
+one_and_point : millionths_of (codes "01.") ≡ Some 1000000
+one_and_point = refl
+
+largest : millionths_of (codes "1000000.999999") ≡ Some 1000000999999
+largest = refl
+
+above_a_million : millionths_of (codes "1000001") ≡ None
+above_a_million = refl
+
+seven_places : millionths_of (codes "0.0000001") ≡ None
+seven_places = refl
+
+point_alone : millionths_of (codes ".") ≡ None
+point_alone = refl
+
+two_points : millionths_of (codes "1.2.3") ≡ None
+two_points = refl

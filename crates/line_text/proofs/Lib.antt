@@ -1,0 +1,7 @@
+mod DecimalLemmas
+mod Examples
+mod LineLemmas
+mod OnePass
+mod ReaderLemmas
+mod TextSteps
+mod WordLemmas

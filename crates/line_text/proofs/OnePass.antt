@@ -1,0 +1,242 @@
+-- Reading a text one physical line after another gives what its runs give.
+use Rattle.std.proofs.Common.{◌≡◌, ℕ, ◌+◌, Bool, true, false, cond, ◌&&◌, List, [], ◌∷◌, ◌++◌, length, map, filter, Result, Ok, Err, Option, Some, None, refl, sym, ap, ◌∙◌, arith, append_assoc, length-append, nat_lt}
+use Rattle.std.proofs.lemmas.List.{append-nil}
+use Rattle.std.proofs.lemmas.Grind.{flat_map-append}
+use Rattle.std.specs.List.{slice_split, onto_first, flat_map, enumerate_from, find, filter_map, cons_option}
+use Rattle.line_text.specs.declared.fault.LineFault.{LineFault}
+use Rattle.line_text.specs.declared.fault.LineFault.TheVariants.{NotAscii, LineTooLong}
+use Rattle.line_text.specs.Words.{is_blank, is_filled, words_of}
+use Rattle.line_text.specs.Lines.{JoinedLine, physical_lines, trimmed, without_comment, without_last, kept, is_continued, is_not_ascii, runs, unless_fault, most_bytes, joined_bytes, joined, fault_of, fault_at, lines_of_runs, lines_of}
+use Rattle.line_text.specs.Reading.{OpenLine, Reading, begun, extended, ended, settled, continued_or_ended, after, finished}
+
+slice_split-filled : {X : Type 0} (p : X → Bool) (xs : List X) → is_filled (slice_split p xs) ≡ true
+slice_split-filled p [] = refl
+slice_split-filled p (x ∷ xs) =
+    elim (p x) as (λ b. is_filled (cond b ([] ∷ slice_split p xs) (onto_first x (slice_split p xs))) ≡ true) [
+      | true ↦ refl
+      | false ↦ elim (slice_split p xs) as (λ parts. is_filled (onto_first x parts) ≡ true) [ [] ↦ refl | part ∷ parts ↦ refl ]
+    ]
+
+onto_first-append : {X : Type 0} (x : X) (parts more : List (List X)) → is_filled parts ≡ true → onto_first x (parts ++ more) ≡ onto_first x parts ++ more
+onto_first-append x [] more e = cc
+onto_first-append x (part ∷ parts) more e = refl
+
+-- the parts on both sides of an element at which the list is split
+pub slice_split-append : {X : Type 0} (p : X → Bool) (xs : List X) (y : X) (ys : List X) → p y ≡ true → slice_split p (xs ++ y ∷ ys) ≡ slice_split p xs ++ slice_split p ys
+slice_split-append p [] y ys e = rw e
+slice_split-append p (x ∷ xs) y ys e =
+    elim (p x) as (λ b. cond b ([] ∷ slice_split p (xs ++ y ∷ ys)) (onto_first x (slice_split p (xs ++ y ∷ ys))) ≡ cond b ([] ∷ slice_split p xs) (onto_first x (slice_split p xs)) ++ slice_split p ys) [
+      | true ↦ ap (λ parts. [] ∷ parts) (slice_split-append p xs y ys e)
+      | false ↦ ap (onto_first x) (slice_split-append p xs y ys e) ∙ onto_first-append x (slice_split p xs) (slice_split p ys) (slice_split-filled p xs)
+    ]
+
+pub filter-append : {X : Type 0} (p : X → Bool) (xs ys : List X) → filter p (xs ++ ys) ≡ filter p xs ++ filter p ys
+filter-append p [] ys = refl
+filter-append p (x ∷ xs) ys =
+    elim (p x) as (λ b. cond b (x ∷ filter p (xs ++ ys)) (filter p (xs ++ ys)) ≡ cond b (x ∷ filter p xs) (filter p xs) ++ filter p ys)
+    [ true ↦ ap (λ zs. x ∷ zs) (filter-append p xs ys) | false ↦ filter-append p xs ys ]
+
+-- a blank parts words
+pub words_of-blank : (xs ys : List ℕ) → words_of (xs ++ 32 ∷ ys) ≡ words_of xs ++ words_of ys
+words_of-blank xs ys = ap (filter is_filled) (slice_split-append is_blank xs 32 ys refl) ∙ filter-append is_filled (slice_split is_blank xs) (slice_split is_blank ys)
+
+-- what a continued line keeps is its bytes without the last, and a blank
+kept_continued : (line : List ℕ) → is_continued line ≡ true → kept line ≡ without_last (trimmed (without_comment line)) ++ 32 ∷ []
+kept_continued line e = rw e
+
+-- the words of what a continued line keeps, and of what follows it
+pub words_of-continued : (line rest : List ℕ) → is_continued line ≡ true → words_of (kept line ++ rest) ≡ words_of (kept line) ++ words_of rest
+words_of-continued line rest e =
+    let body = without_last (trimmed (without_comment line)) in
+    let whole : kept line ≡ body ++ 32 ∷ [] = kept_continued line e in
+    ap (λ bytes. words_of (bytes ++ rest)) whole ∙ (ap words_of (append_assoc body (32 ∷ []) rest) ∙ (words_of-blank body rest ∙ ap (λ words. words ++ words_of rest) (sym (ap words_of whole ∙ (words_of-blank body [] ∙ append-nil (words_of body))))))
+
+-- the words of the lines of a run, each by itself
+abbrev words_within : List (ℕ × List ℕ) → List (List ℕ)
+words_within run = flat_map (λ line. words_of (kept line.1)) run
+
+-- each of these lines is continued
+abbrev AreContinued : List (ℕ × List ℕ) → Type 0
+AreContinued [] = Unit {0}
+AreContinued (line ∷ rest) = (is_continued line.1 ≡ true) × AreContinued rest
+
+-- each of these lines is ASCII
+abbrev AreAscii : List (ℕ × List ℕ) → Type 0
+AreAscii [] = Unit {0}
+AreAscii (line ∷ rest) = (is_not_ascii line.1 ≡ false) × AreAscii rest
+
+-- no word spans two lines
+words_of-joined : (run : List (ℕ × List ℕ)) (rest : List ℕ) → AreContinued run → words_of (joined_bytes run ++ rest) ≡ words_within run ++ words_of rest
+words_of-joined [] rest h = refl
+words_of-joined (line ∷ run) rest h =
+    ap words_of (append_assoc (kept line.1) (joined_bytes run) rest)
+    ∙ (words_of-continued line.1 (joined_bytes run ++ rest) h.0
+    ∙ (ap (λ words. words_of (kept line.1) ++ words) (words_of-joined run rest h.1)
+    ∙ sym (append_assoc (words_of (kept line.1)) (words_within run) (words_of rest))))
+
+-- these lines before the first of the runs
+abbrev glued : List (ℕ × List ℕ) → List (List (ℕ × List ℕ)) → List (List (ℕ × List ℕ))
+glued [] all = all
+glued (line ∷ run) all = onto_first line (glued run all)
+
+glued-push : (run : List (ℕ × List ℕ)) (line : ℕ × List ℕ) (all : List (List (ℕ × List ℕ))) → glued (run ++ line ∷ []) all ≡ glued run (onto_first line all)
+glued-push [] line all = refl
+glued-push (first ∷ run) line all = ap (onto_first first) (glued-push run line all)
+
+glued-cons : (run first : List (ℕ × List ℕ)) (all : List (List (ℕ × List ℕ))) → glued run (first ∷ all) ≡ (run ++ first) ∷ all
+glued-cons [] first all = refl
+glued-cons (line ∷ run) first all = ap (onto_first line) (glued-cons run first all)
+
+glued-nil : (line : ℕ × List ℕ) (run : List (ℕ × List ℕ)) → glued (line ∷ run) [] ≡ (line ∷ run) ∷ []
+glued-nil line [] = refl
+glued-nil line (next ∷ run) = ap (onto_first line) (glued-nil next run)
+
+-- the open line that these lines make
+abbrev open_of : List (ℕ × List ℕ) → Option OpenLine
+open_of [] = None
+open_of (line ∷ run) = Some (record { number = line.0; words = words_within (line ∷ run); count = length (joined_bytes (line ∷ run)) })
+
+abbrev reading_of : List JoinedLine → List (ℕ × List ℕ) → Reading
+reading_of done run = record { done = done; unfinished = open_of run }
+
+-- lines before those that a result has
+abbrev onto : List JoinedLine → Result (List JoinedLine) LineFault → Result (List JoinedLine) LineFault
+onto done (Ok lines) = Ok (done ++ lines)
+onto done (Err fault) = Err fault
+
+abbrev pub and_then : {A B : Type 0} → Result A LineFault → (A → Result B LineFault) → Result B LineFault
+and_then (Ok a) f = f a
+and_then (Err fault) f = Err fault
+
+-- what reading the lines one after another gives
+abbrev pub read_all : Reading → List (ℕ × List ℕ) → Result (List JoinedLine) LineFault
+read_all reading [] = finished reading
+read_all reading (line ∷ rest) = and_then (after reading line.0 line.1) (λ later. read_all later rest)
+
+same_open : (n : ℕ) (words more : List (List ℕ)) (count count' : ℕ) → words ≡ more → count ≡ count' → Some (let line : OpenLine = record { number = n; words = words; count = count } in line) ≡ Some (record { number = n; words = more; count = count' })
+same_open n words more count count' e f = cc
+
+-- one more line of an open line
+extended-push : (run : List (ℕ × List ℕ)) (line : ℕ × List ℕ) → Some (extended (begun (open_of run) line.0) line.1) ≡ open_of (run ++ line ∷ [])
+extended-push [] line =
+    same_open line.0 _ _ _ _ (sym (append-nil (words_of (kept line.1)))) (omega (arith, ap length (append-nil (kept line.1))))
+extended-push (first ∷ run) line =
+    same_open first.0 _ _ _ _
+    (ap (λ words. words_within (first ∷ run) ++ words) (sym (append-nil (words_of (kept line.1)))) ∙ sym (flat_map-append (λ (l : ℕ × List ℕ). words_of (kept l.1)) (first ∷ run) (line ∷ [])))
+    (ap (λ n. length (joined_bytes (first ∷ run)) + n) (ap length (sym (append-nil (kept line.1)))) ∙ (sym (length-append (joined_bytes (first ∷ run)) (joined_bytes (line ∷ []))) ∙ ap length (sym (flat_map-append (λ (l : ℕ × List ℕ). kept l.1) (first ∷ run) (line ∷ [])))))
+
+ended_by_cases : (done lines : List JoinedLine) (faults : List LineFault) (n : ℕ) (line : JoinedLine) (has_words is_long : Bool) → onto done (unless_fault (cons_option (cond (has_words && is_long) (Some (LineTooLong n)) None) faults) (cond has_words (line ∷ lines) lines)) ≡ and_then (cond has_words (cond is_long (Err (LineTooLong n)) (Ok (done ++ line ∷ []))) (Ok done)) (λ before. onto before (unless_fault faults lines))
+ended_by_cases done lines faults n line false is_long = refl
+ended_by_cases done lines faults n line true true = refl
+ended_by_cases done lines [] n line true false = ap Ok (sym (append_assoc done (line ∷ []) lines))
+ended_by_cases done lines (fault ∷ faults) n line true false = refl
+
+find-none : (run : List (ℕ × List ℕ)) → AreAscii run → find (λ line. is_not_ascii line.1) run ≡ None
+find-none [] a = refl
+find-none (line ∷ run) a = rw a.0 (find-none run a.1)
+
+find-first : (run : List (ℕ × List ℕ)) (line : ℕ × List ℕ) (tail : List (ℕ × List ℕ)) → AreAscii run → is_not_ascii line.1 ≡ true → find (λ l. is_not_ascii l.1) (run ++ line ∷ tail) ≡ Some line
+find-first [] line tail a e = rw e
+find-first (first ∷ run) line tail a e = rw a.0 (find-first run line tail a.1 e)
+
+-- a run that is ASCII, as its end sees it
+ended-run : (done : List JoinedLine) (run : List (ℕ × List ℕ)) (line : OpenLine) (all : List (List (ℕ × List ℕ))) → open_of run ≡ Some line → words_of (joined_bytes run) ≡ words_within run → AreAscii run → onto done (lines_of_runs (run ∷ all)) ≡ and_then (ended done line) (λ lines. onto lines (lines_of_runs all))
+ended-run done [] line all o w a = cc
+ended-run done (first ∷ run) line all o w a =
+    let bytes = joined_bytes (first ∷ run) in
+    let faults = filter_map fault_of all in
+    let lines = filter (λ (l : JoinedLine). is_filled l.words) (map joined all) in
+    let whole : OpenLine = record { number = first.0; words = words_within (first ∷ run); count = length bytes } in
+    let same : whole ≡ line = cc in
+    ap (λ found. onto done (unless_fault (cons_option (fault_at found (first ∷ run)) faults) (cond (is_filled (words_of bytes)) (joined (first ∷ run) ∷ lines) lines))) (find-none (first ∷ run) a)
+    ∙ (ap (λ words. onto done (unless_fault (cons_option (cond (is_filled words && nat_lt most_bytes (length bytes)) (Some (LineTooLong first.0)) None) faults) (cond (is_filled words) (record { number = first.0; words = words } ∷ lines) lines))) w
+    ∙ (ended_by_cases done lines faults first.0 (record { number = first.0; words = whole.words }) (is_filled whole.words) (nat_lt most_bytes (length bytes))
+    ∙ ap (λ (l : OpenLine). and_then (ended done l) (λ more. onto more (lines_of_runs all))) same))
+
+AreAscii-push : (run : List (ℕ × List ℕ)) (line : ℕ × List ℕ) → AreAscii run → is_not_ascii line.1 ≡ false → AreAscii (run ++ line ∷ [])
+AreAscii-push [] line a e = (e, tt)
+AreAscii-push (first ∷ run) line a e = (a.0, AreAscii-push run line a.1 e)
+
+AreContinued-push : (run : List (ℕ × List ℕ)) (line : ℕ × List ℕ) → AreContinued run → is_continued line.1 ≡ true → AreContinued (run ++ line ∷ [])
+AreContinued-push [] line a e = (e, tt)
+AreContinued-push (first ∷ run) line a e = (a.0, AreContinued-push run line a.1 e)
+
+words_of-run : (run : List (ℕ × List ℕ)) → AreContinued run → words_of (joined_bytes run) ≡ words_within run
+words_of-run run c =
+    ap words_of (sym (append-nil (joined_bytes run))) ∙ (words_of-joined run [] c ∙ append-nil (words_within run))
+
+words_of-run_push : (run : List (ℕ × List ℕ)) (line : ℕ × List ℕ) → AreContinued run → words_of (joined_bytes (run ++ line ∷ [])) ≡ words_within (run ++ line ∷ [])
+words_of-run_push run line c =
+    ap words_of (flat_map-append (λ (l : ℕ × List ℕ). kept l.1) run (line ∷ []) ∙ ap (λ bytes. joined_bytes run ++ bytes) (append-nil (kept line.1)))
+    ∙ (words_of-joined run (kept line.1) c
+    ∙ (ap (λ words. words_within run ++ words) (sym (append-nil (words_of (kept line.1)))) ∙ sym (flat_map-append (λ (l : ℕ × List ℕ). words_of (kept l.1)) run (line ∷ []))))
+
+-- what reading on from there gives is what the runs from there give
+abbrev GivesRuns : List (ℕ × List ℕ) → List JoinedLine → List (ℕ × List ℕ) → Type 0
+GivesRuns rest done run = read_all (reading_of done run) rest ≡ onto done (lines_of_runs (glued run (runs rest)))
+
+at_end : (done : List JoinedLine) (run : List (ℕ × List ℕ)) → AreContinued run → AreAscii run → GivesRuns [] done run
+at_end done [] c a = ap Ok (sym (append-nil done))
+at_end done (first ∷ run) c a =
+    let whole : OpenLine = record { number = first.0; words = words_within (first ∷ run); count = length (joined_bytes (first ∷ run)) } in
+    sym (ap (λ all. onto done (lines_of_runs all)) (glued-nil first run) ∙ (ended-run done (first ∷ run) whole [] refl (words_of-run (first ∷ run) c) a ∙ same_ended (ended done whole)))
+  where
+    same_ended : (r : Result (List JoinedLine) LineFault) → and_then r (λ lines. Ok (lines ++ [])) ≡ r
+    same_ended (Ok lines) = ap Ok (append-nil lines)
+    same_ended (Err fault) = refl
+
+-- the first run begins with the first line
+first_of_runs : (line : ℕ × List ℕ) (rest : List (ℕ × List ℕ)) → (tail : List (ℕ × List ℕ)) × (others : List (List (ℕ × List ℕ))) × (runs (line ∷ rest) ≡ (line ∷ tail) ∷ others)
+first_of_runs line rest =
+    elim (is_continued line.1) as (λ b. (tail : List (ℕ × List ℕ)) × (others : List (List (ℕ × List ℕ))) × (cond b (onto_first line (runs rest)) ((line ∷ []) ∷ runs rest) ≡ (line ∷ tail) ∷ others)) [
+      | true ↦ elim (runs rest) as (λ all. (tail : List (ℕ × List ℕ)) × (others : List (List (ℕ × List ℕ))) × (onto_first line all ≡ (line ∷ tail) ∷ others)) [ [] ↦ ([], [], refl) | run ∷ all ↦ (run, all, refl) ]
+      | false ↦ ([], runs rest, refl)
+    ]
+
+not_ascii : (done : List JoinedLine) (run : List (ℕ × List ℕ)) (line : ℕ × List ℕ) (rest : List (ℕ × List ℕ)) → AreAscii run → is_not_ascii line.1 ≡ true → onto done (lines_of_runs (glued run (runs (line ∷ rest)))) ≡ Err (NotAscii line.0)
+not_ascii done run line rest a e =
+    let parts = first_of_runs line rest in
+    ap (λ all. onto done (lines_of_runs (glued run all))) parts.2
+    ∙ (ap (λ all. onto done (lines_of_runs all)) (glued-cons run (line ∷ parts.0) parts.1)
+    ∙ ap (λ found. onto done (unless_fault (cons_option (fault_at found (run ++ line ∷ parts.0)) (filter_map fault_of parts.1)) (filter (λ (l : JoinedLine). is_filled l.words) (map joined ((run ++ line ∷ parts.0) ∷ parts.1))))) (find-first run line parts.0 a e))
+
+read_settled : (rest : List (ℕ × List ℕ)) → ((done : List JoinedLine) → GivesRuns rest done []) → (r : Result (List JoinedLine) LineFault) → and_then (settled r) (λ later. read_all later rest) ≡ and_then r (λ lines. onto lines (lines_of_runs (runs rest)))
+read_settled rest h (Ok lines) = h lines
+read_settled rest h (Err fault) = refl
+
+-- one line, where the rest is read as it should be
+one_line : (line : ℕ × List ℕ) (rest : List (ℕ × List ℕ)) → ((done : List JoinedLine) (run : List (ℕ × List ℕ)) → AreContinued run → AreAscii run → GivesRuns rest done run) → (done : List JoinedLine) (run : List (ℕ × List ℕ)) → AreContinued run → AreAscii run → GivesRuns (line ∷ rest) done run
+one_line line rest h done run c a =
+    elim (is_not_ascii line.1) as (λ b. is_not_ascii line.1 ≡ b → and_then (cond b (Err (NotAscii line.0)) (continued_or_ended (is_continued line.1) done new)) (λ later. read_all later rest) ≡ onto done (lines_of_runs (glued run (runs (line ∷ rest))))) [
+      | true ↦ λ e. sym (not_ascii done run line rest a e)
+      | false ↦ λ ascii. elim (is_continued line.1) as (λ b. is_continued line.1 ≡ b → and_then (continued_or_ended b done new) (λ later. read_all later rest) ≡ onto done (lines_of_runs (glued run (cond b (onto_first line (runs rest)) ((line ∷ []) ∷ runs rest))))) [
+        | true ↦ λ e. ap (λ line'. read_all (record { done = done; unfinished = line' }) rest) (extended-push run line)
+            ∙ (h done (run ++ line ∷ []) (AreContinued-push run line c e) (AreAscii-push run line a ascii)
+            ∙ ap (λ all. onto done (lines_of_runs all)) (glued-push run line (runs rest)))
+        | false ↦ λ e. read_settled rest (λ lines. h lines [] tt tt) (ended done new)
+            ∙ sym (ap (λ all. onto done (lines_of_runs all)) (glued-cons run (line ∷ []) (runs rest))
+            ∙ ended-run done (run ++ line ∷ []) new (runs rest) (sym (extended-push run line)) (words_of-run_push run line c) (AreAscii-push run line a ascii))
+      ] refl
+    ] refl
+  where
+    new : OpenLine
+    new = extended (begun (open_of run) line.0) line.1
+
+read_as_runs : (rest : List (ℕ × List ℕ)) (done : List JoinedLine) (run : List (ℕ × List ℕ)) → AreContinued run → AreAscii run → GivesRuns rest done run
+read_as_runs [] done run c a = at_end done run c a
+read_as_runs (line ∷ rest) done run c a =
+    one_line line rest (λ d r. read_as_runs rest d r) done run c a
+
+same_onto : (r : Result (List JoinedLine) LineFault) → onto [] r ≡ r
+same_onto (Ok lines) = refl
+same_onto (Err fault) = refl
+
+-- nothing read yet
+abbrev pub unread : Reading
+unread = record { done = []; unfinished = None }
+
+-- the numbered lines of a text, read one after another, give its lines
+pub lines_of-read : (text : List ℕ) → lines_of text ≡ read_all unread (enumerate_from 1 (physical_lines text))
+unfolding lines_of
+lines_of-read text =
+    sym (read_as_runs (enumerate_from 1 (physical_lines text)) [] [] tt tt ∙ same_onto (lines_of_runs (runs (enumerate_from 1 (physical_lines text)))))

@@ -1,0 +1,8 @@
+pub mod Decimal
+pub mod Device
+pub mod Lines
+pub mod Physical
+pub mod Reader
+pub mod Reading
+pub mod Spans
+pub mod Words

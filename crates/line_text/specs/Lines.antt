@@ -1,0 +1,109 @@
+-- Joined lines of words.
+use Rattle.std.specs.Prelude.{ℕ, ◌≡◌, ◌-◌, Bool, not, ◌&&◌, ◌||◌, ◌==◌, nat_lt, nat_le, if◌then◌else◌, List, [], ◌∷◌, ◌++◌, length, take, map, filter, slice_index, Result, Ok, Err, ⊤, Option, Some, None}
+use Rattle.std.specs.List.{before_first, suffix_len, list_all, find, filter_map, flat_map, enumerate_from, onto_first}
+use Rattle.line_text.specs.declared.fault.LineFault.{LineFault}
+use Rattle.line_text.specs.declared.fault.LineFault.TheVariants.{NotAscii, LineTooLong}
+use Rattle.line_text.specs.declared.fault.LineError.{LineError}
+use Rattle.line_text.specs.declared.fault.LineError.TheVariants.{NoMemory, Fault}
+use Rattle.line_text.specs.Words.{is_blank, is_filled, words_of}
+
+-- a joined line: the number of its first physical line, from 1, and its words
+pub record JoinedLine : Type 0 where
+  pub number : ℕ
+  pub words : List (List ℕ)
+
+-- the physical lines: each ends at LF or at the end of the text
+abbrev pub physical_lines : List ℕ → List (List ℕ)
+physical_lines [] = []
+physical_lines (byte ∷ rest) =
+    if byte == 10 then [] ∷ physical_lines rest else onto_first byte (physical_lines rest)
+
+-- a physical line up to its comment, which begins at `#`
+abbrev pub without_comment : List ℕ → List ℕ
+without_comment line = before_first (λ byte. byte == 35) line
+
+-- the same without the blanks at its end
+abbrev pub trimmed : List ℕ → List ℕ
+trimmed bytes = take (length bytes - suffix_len is_blank bytes) bytes
+
+-- whether the last of these bytes is `\`
+abbrev pub ends_in_backslash : List ℕ → Bool
+ends_in_backslash bytes = slice_index bytes (length bytes - 1) == 92
+
+-- the bytes without the last one
+abbrev pub without_last : List ℕ → List ℕ
+without_last bytes = take (length bytes - 1) bytes
+
+-- a final `\` becomes a blank
+abbrev pub blanked : List ℕ → List ℕ
+blanked bytes = if ends_in_backslash bytes then without_last bytes ++ 32 ∷ [] else bytes
+
+-- whether a physical line is continued on the next one
+abbrev pub is_continued : List ℕ → Bool
+is_continued line = ends_in_backslash (trimmed (without_comment line))
+
+-- what a physical line gives to its joined line
+abbrev pub kept : List ℕ → List ℕ
+kept line = blanked (trimmed (without_comment line))
+
+-- whether a byte may stand outside comments: a blank, or a printing ASCII character
+abbrev pub is_lawful : ℕ → Bool
+is_lawful byte = is_blank byte || (nat_le 33 byte && nat_le byte 126)
+
+-- whether a physical line has another byte outside comments
+abbrev pub is_not_ascii : List ℕ → Bool
+is_not_ascii line = not (list_all is_lawful (without_comment line))
+
+-- the physical lines, each with its number, in runs: a run goes on as long as its lines are continued
+abbrev pub runs : List (ℕ × List ℕ) → List (List (ℕ × List ℕ))
+runs [] = []
+runs (line ∷ rest) = if is_continued line.1 then onto_first line (runs rest) else (line ∷ []) ∷ runs rest
+
+-- the number of a run's first line
+abbrev pub first_number : List (ℕ × List ℕ) → ℕ
+first_number [] = 0
+first_number (line ∷ _) = line.0
+
+-- the bytes of the joined line of a run
+abbrev pub joined_bytes : List (ℕ × List ℕ) → List ℕ
+joined_bytes run = flat_map (λ line. kept line.1) run
+
+-- the joined line of a run
+abbrev pub joined : List (ℕ × List ℕ) → JoinedLine
+joined run = record { number = first_number run; words = words_of (joined_bytes run) }
+
+-- the bytes that a joined line may have
+abbrev pub most_bytes : ℕ
+most_bytes = 262144
+
+-- whether the joined line of a run has words and too many bytes
+abbrev pub is_too_long : List (ℕ × List ℕ) → Bool
+is_too_long run = is_filled (words_of (joined_bytes run)) && nat_lt most_bytes (length (joined_bytes run))
+
+-- a line that is not ASCII is named before the whole run's length
+abbrev pub fault_at : Option (ℕ × List ℕ) → List (ℕ × List ℕ) → Option LineFault
+fault_at (Some line) run = Some (NotAscii line.0)
+fault_at None run = if is_too_long run then Some (LineTooLong (first_number run)) else None
+
+-- what is wrong with a run
+abbrev pub fault_of : List (ℕ × List ℕ) → Option LineFault
+fault_of run = fault_at (find (λ line. is_not_ascii line.1) run) run
+
+-- the first of the faults, or the lines where there is none
+abbrev pub unless_fault : List LineFault → List JoinedLine → Result (List JoinedLine) LineFault
+unless_fault [] lines = Ok lines
+unless_fault (fault ∷ _) lines = Err fault
+
+-- the joined lines that have words, or the fault of the first run that has one
+abbrev pub lines_of_runs : List (List (ℕ × List ℕ)) → Result (List JoinedLine) LineFault
+lines_of_runs all = unless_fault (filter_map fault_of all) (filter (λ line. is_filled line.words) (map joined all))
+
+-- the joined lines of a text that have words, or the least fault
+unfoldable pub lines_of : List ℕ → Result (List JoinedLine) LineFault
+lines_of text = lines_of_runs (runs (enumerate_from 1 (physical_lines text)))
+
+-- a reader of that text may answer this
+abbrev pub Gives : Result (List JoinedLine) LineFault → Result (List JoinedLine) LineError → Type 0
+Gives meant (Ok lines) = meant ≡ Ok lines
+Gives meant (Err (Fault fault)) = meant ≡ Err fault
+Gives meant (Err NoMemory) = ⊤

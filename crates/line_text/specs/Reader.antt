@@ -1,0 +1,37 @@
+-- Private: how a reader keeps what it has read.
+use Rattle.std.specs.Prelude.{ℕ, ◌≡◌, Bool, true, false, List, drop, Option, Some, None, Result, Ok, Err, ⊤}
+use Rattle.line_text.specs.declared.fault.LineError.{LineError}
+use Rattle.line_text.specs.declared.fault.LineError.TheVariants.{NoMemory, Fault}
+use Rattle.line_text.specs.declared.reader.Reader.{Reader}
+use Rattle.line_text.specs.Lines.{JoinedLine}
+use Rattle.line_text.specs.Spans.{bytes_of, seen_lines}
+use Rattle.line_text.specs.Reading.{OpenLine, Reading, after, ended}
+
+-- the line whose words begin at that place
+abbrev pub open_line : Reader → OpenLine
+open_line r = record { number = r.number; words = drop r.start (bytes_of r.words.items); count = r.count }
+
+-- that line, if it is open
+abbrev pub line_if : Bool → OpenLine → Option OpenLine
+line_if true line = Some line
+line_if false line = None
+
+-- the lines that have ended
+abbrev pub done_of : Reader → List JoinedLine
+done_of r = seen_lines (bytes_of r.words.items) r.spans.items
+
+-- what a reader has read
+abbrev pub reading_of : Reader → Reading
+reading_of r = record { done = done_of r; unfinished = line_if r.is_open (open_line r) }
+
+-- a physical line of that number was read
+abbrev pub IsReadOn : Reading → ℕ → List ℕ → Result (Unit {0}) LineError → Reading → Type 0
+IsReadOn old n physical (Ok _) new = after old n physical ≡ Ok new
+IsReadOn old n physical (Err (Fault fault)) new = after old n physical ≡ Err fault
+IsReadOn old n physical (Err NoMemory) new = ⊤
+
+-- the open line was ended
+abbrev pub IsEnded : List JoinedLine → OpenLine → Result (Unit {0}) LineError → List JoinedLine → Type 0
+IsEnded done line (Ok _) new = ended done line ≡ Ok new
+IsEnded done line (Err (Fault fault)) new = ended done line ≡ Err fault
+IsEnded done line (Err NoMemory) new = ⊤

@@ -1,0 +1,16 @@
+-- The words of a line.
+use Rattle.std.specs.Prelude.{ℕ, Bool, true, false, ◌||◌, ◌==◌, List, [], ◌∷◌, filter}
+use Rattle.std.specs.List.{slice_split}
+
+-- space, tab and CR
+abbrev pub is_blank : ℕ → Bool
+is_blank byte = byte == 32 || byte == 9 || byte == 13
+
+-- whether there is an element
+abbrev pub is_filled : {X : Type 0} → List X → Bool
+is_filled [] = false
+is_filled (_ ∷ _) = true
+
+-- the words of a line: what stands between blanks
+abbrev pub words_of : List ℕ → List (List ℕ)
+words_of line = filter is_filled (slice_split is_blank line)

@@ -1,0 +1,15 @@
+/// What is wrong with a text's lines, with the number of the line, from 1.
+#[derive(Clone, Copy, Debug, PartialEq, Eq)]
+pub enum LineFault {
+    /// A byte outside comments is neither blank nor a printing ASCII character.
+    NotAscii(u32),
+    /// A joined line has more than 262,144 bytes.
+    LineTooLong(u32),
+}
+
+/// Why a text has no lines.
+#[derive(Clone, Copy, Debug, PartialEq, Eq)]
+pub enum LineError {
+    NoMemory,
+    Fault(LineFault),
+}

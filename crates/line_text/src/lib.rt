@@ -1,0 +1,39 @@
+//! Text as joined lines of words, numbers in decimal digits, and the devices that bytes come from and go to.
+//!
+//! A physical line ends at LF or at the end of the text. What stands from its first `#` on is cut, and then the blanks at its
+//! end: spaces, tabs and CRs. If it then ends in `\`, that becomes a blank and the next physical line is joined to it. A joined
+//! line has the number of its first physical line, from 1; its words stand between blanks. [`logical_lines`] gives the joined
+//! lines that have words, as slices of the text, or the least fault: another byte than a blank or a printing ASCII character
+//! outside comments, or a joined line of more than 262,144 bytes. Netlists in BLIF and architecture files are read by it.
+//!
+//! A [`Source`] gives bytes and a [`Sink`] takes them. Both answer [`Failed`] from their first failure on.
+#![tactic(auto)]
+
+mod decimal;
+mod fault;
+mod lines;
+mod memory_sink;
+mod memory_source;
+mod physical_line;
+mod reader;
+mod sink;
+mod source;
+mod std_sink;
+mod std_source;
+mod text;
+mod words;
+
+pub use decimal::{decimal_u32, decimal_u64, millionths, whole_number};
+pub use fault::{LineError, LineFault};
+pub use lines::{Line, Lines, logical_lines};
+pub use memory_sink::MemorySink;
+pub use memory_source::MemorySource;
+pub use sink::{Sink, write_all};
+pub use source::{Failed, ReadError, Source, read_all};
+pub use std_sink::StdSink;
+pub use std_source::StdSource;
+pub use text::Text;
+pub use words::append_words;
+
+#[cfg(test)]
+mod tests;

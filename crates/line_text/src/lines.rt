@@ -1,0 +1,99 @@
+ghost use Rattle.std.specs.Prelude.{IsTrue, ◌↔◌, ◌≡◌, ◌<◌, ◌^◌, ◌∷◌, ◌+◌, ◌≤◌, ◌==◌, length, position, slice_get, Some, map};
+ghost use Rattle.line_text.specs.Lines.{Gives, JoinedLine, lines_of, physical_lines};
+
+use crate::fault::{LineError, LineFault};
+use crate::physical_line::split_content;
+use crate::reader::Reader;
+use std::alloc::Global;
+use std::marker::Model;
+
+/// A joined line: the number of its first physical line, from 1, and its words, slices of the text.
+#[derive(Clone, Copy)]
+pub struct Line<'a, 't> {
+    pub number: u32,
+    pub words: &'a [&'t [u8]],
+}
+
+/// Where the words of a line stand among all words.
+#[derive(Clone, Copy)]
+pub(crate) struct Span {
+    pub(crate) number: u32,
+    pub(crate) start: usize,
+    pub(crate) end: usize,
+}
+
+/// The joined lines of a text that have words. Its value is the list of the lines.
+#[derive(Drop)]
+pub struct Lines<'t> {
+    words: Vec<&'t [u8]>,
+    spans: Vec<Span>,
+}
+
+impl<'t> Model for Lines<'t> {
+    ghost use Rattle.std.specs.Prelude.{List, length};
+    ghost use Rattle.line_text.specs.Lines.{JoinedLine};
+    ghost use Rattle.line_text.specs.Spans.{AreWithin, bytes_of, seen_lines};
+
+    ghost Value = { List JoinedLine };
+
+    ghost view = { λ a. seen_lines (bytes_of a.words.items) a.spans.items };
+
+    ghost invariant = { λ a. AreWithin (length a.words.items) a.spans.items };
+}
+
+impl<'t> Lines<'t> {
+    ghost use Rattle.line_text.specs.Spans.{AreWithin, bytes_of, seen_lines};
+
+    /// The lines of these spans of the words.
+    pub(crate) fn new(words: Vec<&'t [u8]>, spans: Vec<Span>) -> Self
+        requires { AreWithin (length words.items) spans.items }
+        ensures { result ≡ seen_lines (bytes_of words.entry.items) spans.items }
+    {
+        Lines { words, spans }
+    }
+
+    /// How many lines there are.
+    pub fn len(&self) -> usize
+        ensures { result ≡ length self.now }
+    {
+        self.spans.len()
+    }
+
+    /// Whether there is none.
+    pub fn is_empty(&self) -> bool
+        ensures { IsTrue result ↔ (length self.now ≡ 0) }
+    {
+        self.spans.is_empty()
+    }
+
+    /// The line at that place, from 0.
+    pub fn line(&self, place: usize) -> Line<'_, 't>
+        requires { place < length self.now }
+        ensures { slice_get self.now place ≡ Some (record { number = result.number; words = map (λ w. w.now) result.words.now }) }
+    {
+        let span = self.spans[place];
+        Line {
+            number: span.number,
+            words: &self.words[span.start..span.end],
+        }
+    }
+}
+
+/// The joined lines of a text, or their least fault.
+pub fn logical_lines(alloc: Global, text: &[u8]) -> Result<Lines<'_>, LineError>
+    requires { length text.now < 2 ^ 32 }
+    ensures { Gives (lines_of text.now) result }
+{
+    let mut reader = Reader::new(alloc);
+    let mut number = 0;
+    let mut rest = text;
+    while !rest.is_empty() {
+        number += 1;
+        let Some((content, others)) = split_content(rest) else {
+            return Err(LineError::Fault(LineFault::NotAscii(number)));
+        };
+        reader.read_line(number, content)?;
+        rest = others;
+    }
+    reader.finish()
+}

@@ -1,0 +1,65 @@
+ghost use Rattle.std.specs.Prelude.{◌≡◌, ◌≤◌, ◌<◌, length, not, position, drop, take, true, MatchOption, ◌==◌};
+ghost use Rattle.std.specs.List.{position_or_len};
+ghost use Rattle.line_text.specs.Lines.{is_not_ascii};
+ghost use Rattle.line_text.specs.Physical.{IsContent, first_line, is_plain as is_plain_byte, later_lines};
+
+/// Whether the byte ends no line, begins no comment and may stand outside comments.
+fn is_plain(byte: u8) -> bool
+    ensures { result ≡ is_plain_byte byte }
+{
+    match byte {
+        b'#' => false,
+        b'\t' | b'\r' => true,
+        _ => b' ' <= byte && byte <= b'~',
+    }
+}
+
+/// The place of the first byte that is not plain.
+fn plain_end(text: &[u8]) -> Option<usize>
+    ensures { result ≡ position (λ byte. not (is_plain_byte byte)) text.now }
+{
+    text.iter().position(|byte| !is_plain(*byte))
+}
+
+/// The plain bytes at the front, and the bytes from there on.
+fn split_plain(text: &[u8]) -> (&[u8], &[u8])
+    ensures front { result.0.now ≡ take (position_or_len (λ byte. not (is_plain_byte byte)) text.now) text.now }
+    ensures back { result.1.now ≡ drop (position_or_len (λ byte. not (is_plain_byte byte)) text.now) text.now }
+{
+    text.split_at(plain_end(text).unwrap_or(text.len()))
+}
+
+/// The place of the first LF.
+fn line_end(text: &[u8]) -> Option<usize>
+    ensures { result ≡ position (λ byte. byte == 10) text.now }
+{
+    text.iter().position(|byte| *byte == b'\n')
+}
+
+/// What follows the first LF.
+fn after_line(text: &[u8]) -> &[u8]
+    ensures { result.now ≡ later_lines text.now }
+{
+    match line_end(text) {
+        Some(end) => &text[end + 1..],
+        None => &text[text.len()..],
+    }
+}
+
+/// The first physical line of a text without its comment, and what follows its LF. None where another byte than a blank or
+/// a printing ASCII character stands before the comment.
+pub(crate) fn split_content(text: &[u8]) -> Option<(&[u8], &[u8])>
+    ensures { MatchOption result (is_not_ascii (first_line text.now) ≡ true) (λ parts. IsContent text.now parts.0.now parts.1.now) }
+{
+    let (content, after) = split_plain(text);
+    let Some((stop, rest)) = after.split_first() else {
+        return Some((content, after));
+    };
+    if *stop == b'\n' {
+        return Some((content, rest));
+    }
+    if *stop == b'#' {
+        return Some((content, after_line(rest)));
+    }
+    None
+}

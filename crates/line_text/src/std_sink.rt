@@ -1,0 +1,76 @@
+ghost use Rattle.std.specs.Prelude.{◌≡◌, take, IfOk, OnErr, false};
+ghost use Rattle.std.specs.Io.{WritesAtMost};
+ghost use Rattle.std.specs.Io.KnownBytes.{Appends, Keeps};
+
+use crate::sink::Sink;
+use crate::source::Failed;
+use std::io::{ErrorKind, Write};
+
+/// How often a call that was interrupted is made again.
+const MOST_TRIES: u32 = 1_000_000;
+
+/// A sink over a writer of the standard library. A call that was interrupted is made again.
+#[derive(Drop)]
+pub struct StdSink<W: Write + Drop> {
+    writer: W,
+    failed: bool,
+}
+
+impl<W: Write + Drop> StdSink<W> {
+    /// A sink that holds what the writer holds.
+    pub fn new(writer: W) -> Self
+        ensures bytes { ⟦<StdSink<W> as Sink>⟧.contents result ≡ W.contents writer }
+        ensures works { ⟦<StdSink<W> as Sink>⟧.has_failed result ≡ false }
+    {
+        StdSink {
+            writer,
+            failed: false,
+        }
+    }
+
+    /// The writer, which may have bytes to flush.
+    pub fn into_writer(self) -> W
+        ensures { W.contents result ≡ ⟦<StdSink<W> as Sink>⟧.contents self }
+    {
+        let StdSink { writer, failed: _ } = self;
+        writer
+    }
+}
+
+/// One write, made again where it was interrupted.
+fn write_once<W: Write>(writer: &mut W, bytes: &[u8]) -> Result<usize, Failed>
+    ensures bound { WritesAtMost result bytes.now }
+    ensures ok { IfOk result (λ n. Appends (W.contents writer.old) (W.contents writer.new) (take n bytes.now)) }
+    ensures err { OnErr result (Keeps (W.contents writer.old) (W.contents writer.new)) }
+{
+    for _ in 0..MOST_TRIES {
+        match writer.write(bytes) {
+            Ok(count) => return Ok(count),
+            Err(e) => {
+                if e.kind() != ErrorKind::Interrupted {
+                    return Err(Failed);
+                }
+            }
+        }
+    }
+    Err(Failed)
+}
+
+impl<W: Write + Drop> Sink for StdSink<W> {
+    ghost contents = { λ s. W.contents s.writer };
+
+    ghost has_failed = { λ s. s.failed };
+
+    fn write(&mut self, bytes: &[u8]) -> Result<usize, Failed> {
+        if self.failed {
+            return Err(Failed);
+        }
+        match write_once(&mut self.writer, bytes) {
+            Ok(count) if count > 0 || bytes.is_empty() => Ok(count),
+            _ => {
+                self.failed = true;
+                Err(Failed)
+            }
+        }
+    }
+}

@@ -1,0 +1,31 @@
+//! The routing graph of a strip: which wires, pins and pads there are, and which of them a net can go between.
+//!
+//! The definition is two tests on the geometry, of what is a node and of what is a pair, and no list. A node is a source
+//! or a sink of a block or a pad, one of their pins, or a wire of a channel; nodes are ordered by column, kind, row and
+//! number, and numbered in that order. Edges lead from sources over output pins, wires and input pins to sinks, and
+//! between wires of one track that meet at a point, both ways.
+//!
+//! [`StripGraph`] is what a router uses: nodes by number, and the other ends of each node's edges in node order. An
+//! architecture and a strip determine it, which [`one_graph`] says, so any two are the same graph. [`Fabric`] implements
+//! it. All columns of blocks have the same nodes, so it keeps the nodes of one column in a table, and the edges of the
+//! columns that differ: column 0 with its vertical channel, the first of blocks, one for all between, and the last.
+#![tactic(auto)]
+
+mod column;
+mod edges;
+mod fabric;
+mod geometry;
+mod graph;
+mod joins;
+mod laws;
+mod node;
+mod numbering;
+mod table;
+#[cfg(test)]
+mod tests;
+
+pub use edges::Edges;
+pub use fabric::Fabric;
+pub use graph::{StripGraph, one_graph};
+pub use laws::laws_of_geometry;
+pub use node::{Node, NodeKind};

@@ -1,0 +1,62 @@
+-- What the definitions say of small cases, computed by the checker.
+use Rattle.std.proofs.Common.{◌≡◌, List, [], ◌∷◌, Ok, Err, Some, None, refl}
+use Rattle.tenant_slot.specs.declared.reply.StateName.TheVariants.{Empty}
+use Rattle.tenant_slot.specs.declared.command.Command.TheVariants.{Status, Withdraw}
+use Rattle.tenant_slot.specs.declared.command.Event.TheVariants.{Command as Asked}
+use Rattle.tenant_slot.specs.declared.reply.Reply.TheVariants.{Refused}
+use Rattle.tenant_slot.specs.declared.reply.Refusal.TheVariants.{WrongState}
+use Rattle.service_core.specs.declared.device.Device.{Device}
+use Rattle.service_core.specs.declared.not_served.NoteCause.TheVariants as cause
+use Rattle.service_core.specs.declared.not_served.NotServed.TheVariants.{NoMemory, JournalFull, NoSuchTenancy}
+use Rattle.service_core.specs.History.{History, closed}
+use Rattle.service_core.specs.Service.{admitted, empty, history_of, live_of, modified, strip_on, with_tenancy, without_tenancy}
+use Rattle.service_core.specs.Run.{Call, Admit, Evict, Tenant}
+use Rattle.service_core.specs.OwnEvents.{own_events, own_replies}
+
+-- the strip of a tenancy has its own width, and the device's rows and pads
+strip_of_two_columns : (device : Device) → strip_on device 2 ≡ record { width = 2; rows = device.rows; io_rat = device.arch.io_rat }
+strip_of_two_columns device = refl
+
+-- ids count from 1, and a closed tenancy keeps its history, but is not live
+second_history : (first second : History) → history_of (first ∷ second ∷ []) 2 ≡ Some second
+second_history first second = refl
+
+no_history_at_zero : (first second : History) → history_of (first ∷ second ∷ []) 0 ≡ None
+no_history_at_zero first second = refl
+
+one_closed : (device : Device) → live_of (modified (admitted device 4 ∷ admitted device 3 ∷ []) 2 closed) 2 ≡ None
+one_closed device = refl
+
+other_live : (device : Device) → live_of (modified (admitted device 4 ∷ admitted device 3 ∷ []) 2 closed) 1 ≡ Some (admitted device 4)
+other_live device = refl
+
+-- two tenancies admitted, the first evicted: its id stays its own
+admitted_and_evicted : (device : Device) →
+    (without_tenancy (with_tenancy (with_tenancy (empty device) 4 0) 4 5) 1)
+    ≡ record {
+      device = device;
+      plan = record { columns = device.columns; strips = record { id = 2; offset = 5; width = 4 } ∷ [] };
+      histories = closed (admitted device 4) ∷ admitted device 4 ∷ [];
+    }
+admitted_and_evicted device = refl
+
+-- a tenancy's own events are its served commands, and those that found its journal full; not what others asked, nor what found
+-- no memory or no tenancy
+abbrev calls : List Call
+calls =
+    Admit 1 (Ok (1, 0))
+    ∷ Tenant 1 Withdraw (Ok (record { id = 1; place = 0; command = Withdraw; reply = Refused (WrongState Empty) }))
+    ∷ Tenant 2 Status (Err (NoSuchTenancy (record { id = 2; cause = cause.NoSuchTenancy })))
+    ∷ Tenant 1 Status (Err NoMemory)
+    ∷ Tenant 1 Status (Err (JournalFull (record { id = 1; cause = cause.JournalFull })))
+    ∷ Evict 1 (Ok tt)
+    ∷ []
+
+own_events_of_one : own_events 1 calls ≡ Asked Withdraw ∷ Asked Status ∷ []
+own_events_of_one = refl
+
+own_replies_of_one : own_replies 1 calls ≡ Some (Refused (WrongState Empty)) ∷ None ∷ []
+own_replies_of_one = refl
+
+own_events_of_another : own_events 2 calls ≡ []
+own_events_of_another = refl

@@ -1,0 +1,6 @@
+mod Examples
+pub mod Lists
+pub mod Histories
+pub mod Keeps
+pub mod Alone
+pub mod Parted

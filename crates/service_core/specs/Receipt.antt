@@ -1,0 +1,17 @@
+-- What a receipt and a note tell.
+use Rattle.std.specs.Prelude.{ℕ}
+use Rattle.tenant_slot.specs.declared.command.Command.{Command}
+use Rattle.tenant_slot.specs.declared.reply.Reply.{Reply}
+use Rattle.service_core.specs.declared.not_served.NoteCause.{NoteCause}
+
+-- a command of a tenancy, the place of its entry in the journal, and its reply
+pub record Receipted : Type 0 where
+  pub id : ℕ
+  pub place : ℕ
+  pub command : Command
+  pub reply : Reply
+
+-- why the core had no reply for that id
+pub record Noted : Type 0 where
+  pub id : ℕ
+  pub cause : NoteCause

@@ -1,0 +1,108 @@
+-- All tenancies on one device.
+use Rattle.std.specs.Prelude.{ℕ, ◌≡◌, ◌+◌, ◌-◌, ◌<◌, ◌≤◌, List, [], ◌∷◌, ◌++◌, length, true, Option, Some, None, option_map, All, slice_index_or, ◌==◌, if◌then◌else◌}
+use Rattle.arch_file.specs.Arch.{IsArch, IsWithin}
+use Rattle.grid.specs.declared.Strip.{Strip}
+use Rattle.strips.specs.declared.placed_strip.PlacedStrip.{PlacedStrip}
+use Rattle.strips.specs.Plan.{Plan, strip_of, with_strip, without}
+use Rattle.service_core.specs.declared.device.Device.{Device}
+use Rattle.service_core.specs.declared.entry.Entry.{Entry}
+use Rattle.service_core.specs.History.{History, IsReplayed, with_entry, closed}
+
+-- the device, where the live tenancies' strips stand, and the history of each id from 1 on
+pub record ServiceState : Type 0 where
+  pub device : Device
+  pub plan : Plan
+  pub histories : List History
+
+-- a device that no one uses
+abbrev pub empty : Device → ServiceState
+empty device = record { device = device; plan = record { columns = device.columns; strips = [] }; histories = [] }
+
+-- the history of that id, the first being 1
+abbrev pub history_of : List History → ℕ → Option History
+history_of [] id = None
+history_of (h ∷ hs) id = if id == 1 then Some h else history_of hs (id - 1)
+
+-- the histories, that one changed
+abbrev pub modified : List History → ℕ → (History → History) → List History
+modified [] id change = []
+modified (h ∷ hs) id change = if id == 1 then change h ∷ hs else h ∷ modified hs (id - 1) change
+
+abbrev pub if_live : Option History → Option History
+if_live None = None
+if_live (Some h) = if h.live then Some h else None
+
+-- the history of that id, if the tenancy is live
+abbrev pub live_of : List History → ℕ → Option History
+live_of histories id = if_live (history_of histories id)
+
+abbrev pub entries_in : Option History → List Entry
+entries_in None = []
+entries_in (Some h) = h.entries
+
+-- the journal of that id, closed or not
+abbrev pub journal_of : ServiceState → ℕ → List Entry
+journal_of state id = entries_in (history_of state.histories id)
+
+-- the size of a strip of that width on the device
+abbrev pub strip_on : Device → ℕ → Strip
+strip_on device width = record { width = width; rows = device.rows; io_rat = device.arch.io_rat }
+
+-- a tenancy of that width as it is admitted
+abbrev pub admitted : Device → ℕ → History
+admitted device width = record { arch = device.arch; strip = strip_on device width; live = true; entries = [] }
+
+-- one tenancy more, of the next id
+abbrev pub with_tenancy : ServiceState → ℕ → ℕ → ServiceState
+with_tenancy state width offset = record state {
+  plan = with_strip state.plan (record { id = length state.histories + 1; offset = offset; width = width });
+  histories = state.histories ++ admitted state.device width ∷ [];
+}
+
+-- that tenancy ended: its strip is free, its history is closed
+abbrev pub without_tenancy : ServiceState → ℕ → ServiceState
+without_tenancy state id = record state {
+  plan = record state.plan { strips = without state.plan.strips id };
+  histories = modified state.histories id closed;
+}
+
+-- one entry more in that tenancy's journal
+abbrev pub with_entry_of : ServiceState → ℕ → Entry → ServiceState
+with_entry_of state id entry = record state { histories = modified state.histories id (with_entry entry) }
+
+-- a live tenancy is at its place in the list
+pub record IsLiveIn (histories : List History) (id : ℕ) : Type 0 where
+  pub positive : 0 < id
+  pub within : id ≤ length histories
+  pub flag : (d : History) → (slice_index_or histories (id - 1) d).live ≡ true
+  pub history : (d : History) → history_of histories id ≡ Some (slice_index_or histories (id - 1) d)
+
+-- the width of that id's strip, as it is placed and as its tenancy has it
+abbrev pub placed_width : List PlacedStrip → ℕ → Option ℕ
+placed_width strips id = option_map (λ s. s.width) (strip_of strips id)
+
+abbrev pub live_width : List History → ℕ → Option ℕ
+live_width histories id = option_map (λ h. h.strip.width) (live_of histories id)
+
+-- the device keeps the limits
+pub record IsDevice (device : Device) : Type 0 where
+  pub arch : IsArch device.arch
+  pub columns : IsWithin 1 device.columns 256
+  pub rows : IsWithin 1 device.rows 64
+
+-- the tenancy is one of that device
+pub record IsOn (device : Device) (h : History) : Type 0 where
+  pub arch : h.arch ≡ device.arch
+  pub strip : h.strip ≡ strip_on device h.strip.width
+
+-- just the live tenancies have strips, each of its width, and each journal is that of its tenancy alone
+pub record IsService (device : Device) (strips : List PlacedStrip) (histories : List History) : Type 0 where
+  pub linked : (id : ℕ) → placed_width strips id ≡ live_width histories id
+  pub few : length histories ≤ 65535
+  pub on_device : All (IsOn device) histories
+  pub replayed : All (λ h. IsReplayed h.arch h.strip h.entries) histories
+
+-- and the device keeps the limits
+pub record IsSound (device : Device) (strips : List PlacedStrip) (histories : List History) : Type 0 where
+  pub lawful : IsDevice device
+  pub kept : IsService device strips histories

@@ -1,0 +1,29 @@
+//! All tenancies on one device: who is admitted and where, and what each is answered.
+//!
+//! - `Core` is the machine. The operator's calls are `admit` and `evict`, a tenant's is `tenant`.
+//! - A tenancy has a journal of its own, kept when it ends: each event that was served, with its reply.
+//! - Each tenancy is answered as if it were alone on a device of its strip's size (`headline`). `specs/`
+//!   says what one call does (`Calls`), and what any list of them does (`Run`, `Headline`).
+#![tactic(auto)]
+
+mod device;
+mod entry;
+mod law;
+mod not_served;
+mod op_refusal;
+mod receipt;
+mod service;
+mod tenancy;
+#[cfg(test)]
+mod tests;
+
+pub use device::Device;
+pub use entry::Entry;
+pub use law::headline;
+pub use not_served::{NotServed, Note, NoteCause};
+pub use op_refusal::OpRefusal;
+pub use receipt::Receipt;
+pub use service::{MAX_ADMISSIONS, Service};
+
+/// The core: the pure machine of all tenancies.
+pub type Core = Service;

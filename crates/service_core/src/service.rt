@@ -1,0 +1,206 @@
+ghost use Rattle.std.specs.Prelude.{◌≡◌, ◌≤◌, ◌+◌, IfOk, None, All, MatchBool, length, option_map, option_copied, slice_get};
+ghost use Rattle.arch_file.specs.Arch.{IsArch};
+ghost use Rattle.strips.specs.Plan.{offset_of};
+ghost use Rattle.service_core.specs.History.{IsReplayed, state_of};
+ghost use Rattle.service_core.specs.Service.{IsLiveIn, empty, journal_of, live_of};
+ghost use Rattle.service_core.specs.Calls.{ChecksAdmission, IsAdmitted, IsEvicted, IsServed};
+ghost use Rattle.service_core.specs.Headline.{AreParted};
+
+use crate::device::Device;
+use crate::entry::Entry;
+use crate::not_served::{NotServed, Note, NoteCause};
+use crate::op_refusal::OpRefusal;
+use crate::receipt::Receipt;
+use crate::tenancy::Tenancy;
+use arch_file::SharedArch;
+use grid::Strip;
+use std::alloc::{AllocError, Global};
+use std::marker::Model;
+use strips::{Layout, MAX_STRIPS};
+use tenant_slot::{Command, StateName};
+
+/// The most admissions: ids are 1 to 65,535, and no id is given twice.
+pub const MAX_ADMISSIONS: usize = 65_535;
+
+/// The tenancies on one device. The tenancy of an id stands at `id - 1`, live or closed. Its value is the
+/// device, where the strips of the live tenancies stand, and each tenancy's history.
+#[derive(Drop)]
+pub struct Service {
+    alloc: Global,
+    arch: SharedArch,
+    rows: u32,
+    layout: Layout,
+    tenancies: Vec<Tenancy>,
+}
+
+impl Model for Service {
+    ghost use Rattle.service_core.specs.Service.{IsSound, ServiceState};
+
+    ghost Value = { ServiceState };
+
+    ghost view = { λ s. record {
+      device = record { arch = s.arch; columns = s.layout.columns; rows = s.rows };
+      plan = s.layout;
+      histories = s.tenancies.items;
+    } };
+
+    ghost invariant = { λ s. IsSound (record { arch = s.arch; columns = s.layout.columns; rows = s.rows }) s.layout.strips s.tenancies.items };
+}
+
+impl Service {
+    /// The service of a device that no one uses.
+    pub fn new(alloc: Global, device: Device) -> Result<Self, AllocError>
+        requires arch { IsArch device.arch }
+        requires has_columns { 1 ≤ device.columns }
+        requires columns { device.columns ≤ 256 }
+        requires has_rows { 1 ≤ device.rows }
+        requires rows { device.rows ≤ 64 }
+        ensures { IfOk result (λ service. service ≡ empty device) }
+    {
+        let Device {
+            arch,
+            columns,
+            rows,
+        } = device;
+        Ok(Service {
+            alloc,
+            arch: SharedArch::new(alloc, arch)?,
+            rows,
+            layout: Layout::new(columns),
+            tenancies: Vec::new(alloc),
+        })
+    }
+
+    /// How many tenancies have been admitted so far: their ids are 1 to that number.
+    pub fn admissions(&self) -> u32
+        ensures value { result ≡ length self.now.histories }
+        ensures few { result ≤ 65535 }
+    {
+        self.tenancies.len() as u32
+    }
+
+    /// The state of a live tenancy.
+    pub fn state(&self, id: u32) -> Option<StateName>
+        ensures { result ≡ option_map (λ h. (state_of h).name) (live_of self.now.histories id) }
+    {
+        if !is_live(&self.tenancies, id) {
+            return None;
+        }
+        Some(self.tenancies[id as usize - 1].state())
+    }
+
+    /// The width of a live tenancy's strip, in columns.
+    pub fn width(&self, id: u32) -> Option<u32>
+        ensures { result ≡ option_map (λ h. h.strip.width) (live_of self.now.histories id) }
+    {
+        if !is_live(&self.tenancies, id) {
+            return None;
+        }
+        Some(self.tenancies[id as usize - 1].width())
+    }
+
+    /// Where a live tenancy's strip stands: how many columns lie before it. All strips are parted.
+    pub fn offset(&self, id: u32) -> Option<u32>
+        ensures value { result ≡ offset_of self.now.plan.strips id }
+        ensures parted { AreParted self.now.device self.now }
+    {
+        self.layout.offset(id)
+    }
+
+    /// An entry of a journal, of closed tenancies too. Each journal's replies are those of its tenancy alone.
+    #[tactic(auto, using(crate::proofs::Lists::by_id))]
+    pub fn entry(&self, id: u32, place: u32) -> Option<&Entry>
+        ensures value { option_copied result ≡ slice_get (journal_of self.now id) place }
+        ensures replayed { All (λ h. IsReplayed h.arch h.strip h.entries) self.now.histories }
+    {
+        if id == 0 || id as usize > self.tenancies.len() {
+            return None;
+        }
+        self.tenancies[id as usize - 1].entry(place)
+    }
+
+    /// Admits a tenancy, at the least offset that parts its strip from the others. Answers its id and offset.
+    pub fn admit(&mut self, width: u32) -> Result<(u32, u32), OpRefusal>
+        ensures { IsAdmitted self.old width result self.new }
+    {
+        self.check_admission(width)?;
+        let id = self.tenancies.len() as u32 + 1;
+        let strip = Strip {
+            width,
+            rows: self.rows,
+            io_rat: self.arch.arch().io_rat,
+        };
+        let tenancy = Tenancy::new(self.alloc, id, &self.arch, strip)?;
+        self.tenancies.reserve(1)?;
+        let offset = self.layout.place(id, width).unwrap();
+        self.tenancies.push(tenancy).unwrap();
+        Ok((id, offset))
+    }
+
+    /// Whether a tenancy of that width may be admitted, if there is memory.
+    fn check_admission(&self, width: u32) -> Result<(), OpRefusal>
+        ensures { ChecksAdmission self.now width result }
+    {
+        if self.layout.is_bad_width(width) {
+            return Err(OpRefusal::BadWidth);
+        }
+        if self.layout.len() == MAX_STRIPS {
+            return Err(OpRefusal::TooManyStrips);
+        }
+        if self.tenancies.len() == MAX_ADMISSIONS {
+            return Err(OpRefusal::IdsSpent);
+        }
+        match self.layout.first_fit(width) {
+            Some(_) => Ok(()),
+            None => Err(OpRefusal::NoRoom),
+        }
+    }
+
+    /// Ends a tenancy. Its strip is free again, and its journal stays. Takes no memory.
+    pub fn evict(&mut self, id: u32) -> Result<(), OpRefusal>
+        ensures { IsEvicted self.old id result self.new }
+    {
+        if !is_live(&self.tenancies, id) {
+            return Err(OpRefusal::NoSuchTenancy);
+        }
+        self.layout.remove(id);
+        self.tenancies[id as usize - 1].close();
+        Ok(())
+    }
+
+    /// Serves a command of a live tenancy, as if it were alone.
+    pub fn tenant(&mut self, id: u32, command: Command) -> Result<Receipt, NotServed>
+        ensures { IsServed self.old id command result self.new }
+    {
+        if !is_live(&self.tenancies, id) {
+            let cause = NoteCause::NoSuchTenancy;
+            return Err(NotServed::NoSuchTenancy(Note { id, cause }));
+        }
+        let tenancy = &mut self.tenancies[id as usize - 1];
+        let place = tenancy.len();
+        match tenancy.serve(command) {
+            Ok((command, reply)) => Ok(Receipt {
+                id,
+                place,
+                command,
+                reply,
+            }),
+            Err(tenant_slot::NotServed::NoMemory) => Err(NotServed::NoMemory),
+            Err(tenant_slot::NotServed::JournalFull) => {
+                let cause = NoteCause::JournalFull;
+                Err(NotServed::JournalFull(Note { id, cause }))
+            }
+        }
+    }
+}
+
+/// Whether that tenancy is live.
+#[tactic(auto, using(crate::proofs::Lists::by_id))]
+fn is_live(tenancies: &[Tenancy], id: u32) -> bool
+    ensures { MatchBool result (IsLiveIn tenancies.now id) (live_of tenancies.now id ≡ None) }
+{
+    if id == 0 || id as usize > tenancies.len() {
+        return false;
+    }
+    tenancies[id as usize - 1].is_live()
+}

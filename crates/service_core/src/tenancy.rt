@@ -1,0 +1,107 @@
+ghost use Rattle.std.specs.Prelude.{◌≡◌, ◌≤◌, [], true, IfOk, length, option_copied, slice_get};
+ghost use Rattle.service_core.specs.History.{ServesHistory, closed, state_of};
+
+use crate::entry::Entry;
+use arch_file::SharedArch;
+use grid::Strip;
+use std::alloc::{AllocError, Global};
+use std::marker::Model;
+use tenant_slot::{Command, Event, NotServed, Reply, Slot, StateName};
+
+/// One tenancy with its journal, which is kept when the tenancy ends.
+#[derive(Drop)]
+pub(crate) struct Tenancy {
+    arch: SharedArch,
+    strip: Strip,
+    slot: Option<Slot>,
+    journal: Vec<Entry>,
+}
+
+impl Model for Tenancy {
+    ghost use Rattle.std.specs.Prelude.{is_some};
+    ghost use Rattle.service_core.specs.History.{History, IsHistory};
+
+    ghost Value = { History };
+
+    ghost view = { λ t. record { arch = t.arch; strip = t.strip; live = is_some t.slot; entries = t.journal.items } };
+
+    ghost invariant = { λ t. IsHistory t.arch t.strip t.slot t.journal.items };
+}
+
+impl Tenancy {
+    /// A tenancy as it is admitted.
+    pub(crate) fn new(
+        alloc: Global,
+        id: u32,
+        arch: &SharedArch,
+        strip: Strip,
+    ) -> Result<Self, AllocError>
+        ensures { IfOk result (λ t. t ≡ record { arch = arch.now; strip = strip; live = true; entries = [] }) }
+    {
+        Ok(Tenancy {
+            arch: arch.clone()?,
+            strip,
+            slot: Some(Slot::new(alloc, id, arch.clone()?, strip)),
+            journal: Vec::new(alloc),
+        })
+    }
+
+    pub(crate) fn is_live(&self) -> bool
+        ensures { result ≡ self.now.live }
+    {
+        self.slot.is_some()
+    }
+
+    pub(crate) fn width(&self) -> u32
+        ensures { result ≡ self.now.strip.width }
+    {
+        self.strip.width
+    }
+
+    /// How many entries the journal has.
+    pub(crate) fn len(&self) -> u32
+        ensures { result ≡ length self.now.entries }
+    {
+        self.journal.len() as u32
+    }
+
+    pub(crate) fn entry(&self, place: u32) -> Option<&Entry>
+        ensures { option_copied result ≡ slice_get self.now.entries place }
+    {
+        self.journal.get(place as usize)
+    }
+
+    pub(crate) fn state(&self) -> StateName
+        requires { self.now.live ≡ true }
+        ensures { result ≡ (state_of self.now).name }
+    {
+        match &self.slot {
+            Some(slot) => slot.state(),
+            None => unreachable!(),
+        }
+    }
+
+    /// Serves a command, and keeps it with its reply. Hands out both.
+    pub(crate) fn serve(&mut self, command: Command) -> Result<(Command, Reply), NotServed>
+        requires { self.old.live ≡ true }
+        ensures { ServesHistory self.old command result self.new }
+    {
+        let Some(slot) = &mut self.slot else {
+            unreachable!()
+        };
+        let answer = slot.answer(&command)?;
+        let told = (command.clone()?, answer.reply().clone()?);
+        self.journal.reserve(1)?;
+        let reply = slot.accept(answer);
+        let event = Event::Command(command);
+        self.journal.push(Entry { event, reply }).unwrap();
+        Ok(told)
+    }
+
+    /// Ends the tenancy. Its journal stays.
+    pub(crate) fn close(&mut self)
+        ensures { self.new ≡ closed self.old }
+    {
+        self.slot = None;
+    }
+}

@@ -1,0 +1,2 @@
+pub mod Laid
+mod Examples

@@ -1,0 +1,64 @@
+-- Where strips stand on a device.
+use Rattle.std.specs.Prelude.{ℕ, ◌≡◌, ◌≢◌, ◌+◌, ◌<◌, ◌≤◌, ◌⊎◌, List, [], ◌∷◌, ◌++◌, length, filter, All, AllPairs, Bool, true, false, not, ◌||◌, ◌==◌, nat_lt, Option, Some, None, option_map, find, Result, Ok, Err}
+use Rattle.strips.specs.declared.placed_strip.PlacedStrip.{PlacedStrip}
+use Rattle.strips.specs.declared.layout.TheConstants.{MAX_STRIPS}
+use Rattle.strips.specs.declared.refusal.Refusal.{Refusal}
+use Rattle.strips.specs.declared.refusal.Refusal.TheVariants.{NoRoom, TooManyStrips, BadWidth}
+
+-- a device of so many columns, and the strips on it
+pub record Plan : Type 0 where
+  pub columns : ℕ
+  pub strips : List PlacedStrip
+
+-- a column lies unused between the end of one and the beginning of the other
+abbrev pub AreApart : PlacedStrip → PlacedStrip → Type 0
+AreApart s t = (s.offset + s.width + 1 ≤ t.offset) ⊎ (t.offset + t.width + 1 ≤ s.offset)
+
+-- the strips are parted: each stands on the device, and between two of them a column lies unused
+pub record IsParted (plan : Plan) : Type 0 where
+  pub inside : All (λ s. s.offset + s.width ≤ plan.columns) plan.strips
+  pub apart : AllPairs AreApart plan.strips
+
+-- one strip more
+abbrev pub with_strip : Plan → PlacedStrip → Plan
+with_strip plan strip = record plan { strips = plan.strips ++ strip ∷ [] }
+
+-- a strip of that width can stand at that offset: with it, whatever its id, the strips are parted
+pub record FitsAt (plan : Plan) (width offset : ℕ) : Type 0 where
+  pub wide : 0 < width
+  pub parted : IsParted (with_strip plan (record { id = 0; offset = offset; width = width }))
+
+-- the least offset at which it fits, or none where it fits at none
+abbrev pub IsFirstFit : Plan → ℕ → Option ℕ → Type 0
+IsFirstFit plan width (Some offset) = FitsAt plan width offset × ((lower : ℕ) → lower < offset → FitsAt plan width lower → ⊥)
+IsFirstFit plan width None = (offset : ℕ) → FitsAt plan width offset → ⊥
+
+-- the strip of that id
+abbrev pub strip_of : List PlacedStrip → ℕ → Option PlacedStrip
+strip_of strips id = find (λ strip. strip.id == id) strips
+
+-- where the strip of that id stands
+abbrev pub offset_of : List PlacedStrip → ℕ → Option ℕ
+offset_of strips id = option_map (λ strip. strip.offset) (strip_of strips id)
+
+-- the strips but for that one
+abbrev pub without : List PlacedStrip → ℕ → List PlacedStrip
+without strips id = filter (λ strip. not (strip.id == id)) strips
+
+-- the strips are few, parted, none is empty, and no two have the same id
+pub record IsLaidOut (plan : Plan) : Type 0 where
+  pub few : length plan.strips ≤ MAX_STRIPS
+  pub wide : All (λ s. 0 < s.width) plan.strips
+  pub parted : IsParted plan
+  pub distinct : AllPairs (λ s t. s.id ≢ t.id) plan.strips
+
+-- no strip of that width can stand on that device
+abbrev pub is_bad_width : Plan → ℕ → Bool
+is_bad_width plan width = width == 0 || nat_lt plan.columns width
+
+-- a strip is placed at the first fit, or refused by the last refusal that holds
+abbrev pub IsPlaced : Plan → ℕ → ℕ → Result ℕ Refusal → Plan → Type 0
+IsPlaced old id width (Ok offset) new = (is_bad_width old width ≡ false) × (length old.strips < MAX_STRIPS) × IsFirstFit old width (Some offset) × (new ≡ with_strip old (record { id = id; offset = offset; width = width }))
+IsPlaced old id width (Err NoRoom) new = (is_bad_width old width ≡ false) × (length old.strips < MAX_STRIPS) × IsFirstFit old width None × (new ≡ old)
+IsPlaced old id width (Err TooManyStrips) new = (is_bad_width old width ≡ false) × (length old.strips ≡ MAX_STRIPS) × (new ≡ old)
+IsPlaced old id width (Err BadWidth) new = (is_bad_width old width ≡ true) × (new ≡ old)

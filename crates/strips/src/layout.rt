@@ -1,0 +1,144 @@
+//! The strips on a device.
+
+ghost use Rattle.std.specs.Prelude.{◌≡◌, ◌↔◌, ◌<◌, ◌≤◌, ◌+◌, ◌^◌, ◌==◌, [], length, All, IsTrue, None};
+ghost use Rattle.strips.specs.Plan.{AreApart, IsFirstFit, IsLaidOut, IsPlaced, is_bad_width, offset_of, without};
+
+use crate::placed_strip::PlacedStrip;
+use crate::refusal::Refusal;
+use arrayvec::ArrayVec;
+use std::marker::Model;
+
+/// The most strips that a layout holds.
+pub const MAX_STRIPS: usize = 64;
+
+/// The strips on a device of so many columns, parted from one another.
+#[derive(Drop)]
+pub struct Layout {
+    columns: u32,
+    strips: ArrayVec<PlacedStrip, MAX_STRIPS>,
+}
+
+impl Model for Layout {
+    ghost use Rattle.strips.specs.Plan.{Plan, IsLaidOut};
+
+    ghost Value = { Plan };
+
+    ghost view = { λ a. record { columns = a.columns; strips = a.strips.items } };
+
+    ghost invariant = { λ a. IsLaidOut (record { columns = a.columns; strips = a.strips.items }) };
+}
+
+impl Layout {
+    /// An empty device of so many columns.
+    pub fn new(columns: u32) -> Self
+        ensures { result ≡ record { columns = columns; strips = [] } }
+    {
+        Layout {
+            columns,
+            strips: ArrayVec::new(),
+        }
+    }
+
+    /// The columns of the device.
+    pub fn columns(&self) -> u32
+        ensures { result ≡ self.now.columns }
+    {
+        self.columns
+    }
+
+    /// How many strips there are.
+    pub fn len(&self) -> usize
+        ensures value { result ≡ length self.now.strips }
+        ensures few { result ≤ MAX_STRIPS }
+    {
+        self.strips.len()
+    }
+
+    /// Whether there is no strip.
+    pub fn is_empty(&self) -> bool
+        ensures { result ≡ (length self.now.strips == 0) }
+    {
+        self.strips.is_empty()
+    }
+
+    /// Whether there is room for no further strip.
+    pub fn is_full(&self) -> bool
+        ensures { IsTrue result ↔ (length self.now.strips ≡ MAX_STRIPS) }
+    {
+        self.strips.is_full()
+    }
+
+    /// Whether a strip of that width stands on no such device: it has no column, or more than the device.
+    pub fn is_bad_width(&self, width: u32) -> bool
+        ensures { result ≡ is_bad_width self.now width }
+    {
+        width == 0 || self.columns < width
+    }
+
+    /// The least offset at which a strip of that width is parted from all others.
+    pub fn first_fit(&self, width: u32) -> Option<u32>
+        ensures { IsFirstFit self.now width result }
+    {
+        if self.is_bad_width(width) {
+            return None;
+        }
+        for offset in 0..self.columns - width + 1 {
+            let strip = PlacedStrip {
+                id: 0,
+                offset,
+                width,
+            };
+            if is_apart_from_all(&self.strips, strip) {
+                return Some(offset);
+            }
+        }
+        None
+    }
+
+    /// Where the strip of that id stands.
+    pub fn offset(&self, id: u32) -> Option<u32>
+        ensures value { result ≡ offset_of self.now.strips id }
+        ensures laid_out { IsLaidOut self.now }
+    {
+        self.strips
+            .iter()
+            .find(|strip| strip.id == id)
+            .map(|strip| strip.offset)
+    }
+
+    /// Places a strip at the least offset at which it is parted from all others.
+    pub fn place(&mut self, id: u32, width: u32) -> Result<u32, Refusal>
+        requires { offset_of self.old.strips id ≡ None }
+        ensures { IsPlaced self.old id width result self.new }
+    {
+        if self.is_bad_width(width) {
+            return Err(Refusal::BadWidth);
+        }
+        if self.is_full() {
+            return Err(Refusal::TooManyStrips);
+        }
+        let Some(offset) = self.first_fit(width) else {
+            return Err(Refusal::NoRoom);
+        };
+        self.strips.push(PlacedStrip { id, offset, width });
+        Ok(offset)
+    }
+
+    /// Takes the strip of that id away, if there is one.
+    pub fn remove(&mut self, id: u32)
+        ensures { self.new ≡ record self.old { strips = without self.old.strips id } }
+    {
+        self.strips.retain(|strip| strip.id != id);
+    }
+}
+
+/// Whether a column lies unused between the strip and each of those.
+fn is_apart_from_all(strips: &[PlacedStrip], strip: PlacedStrip) -> bool
+    requires small { strip.offset + strip.width < 2 ^ 32 }
+    requires inside { All (λ s. s.offset + s.width < 2 ^ 32) strips.now }
+    ensures { IsTrue result ↔ All (λ s. AreApart s strip) strips.now }
+{
+    strips.iter().all(|s| {
+        s.offset + s.width < strip.offset || strip.offset + strip.width < s.offset
+    })
+}

@@ -1,0 +1,5 @@
+pub mod SingleUser
+pub mod Names
+pub mod Answer
+pub mod Slot
+pub mod Phase

@@ -1,0 +1,28 @@
+-- The numbers and names that replies are printed with.
+use Rattle.std.specs.Prelude.{ℕ, List, codes}
+use Rattle.tenant_slot.specs.declared.reply.StateName.{StateName}
+use Rattle.tenant_slot.specs.declared.reply.StateName.TheVariants.{Empty, Loaded}
+use Rattle.tenant_slot.specs.declared.reply.Refusal.{Refusal}
+use Rattle.tenant_slot.specs.declared.reply.Refusal.TheVariants.{WrongState, BadBlif}
+use Rattle.tenant_slot.specs.declared.not_served.NotServed.{NotServed}
+use Rattle.tenant_slot.specs.declared.not_served.NotServed.TheVariants.{NoMemory, JournalFull}
+
+abbrev pub state_text : StateName → List ℕ
+state_text Empty = codes "Empty"
+state_text Loaded = codes "Loaded"
+
+abbrev pub refusal_number : Refusal → ℕ
+refusal_number (WrongState state) = 3
+refusal_number (BadBlif fault) = 4
+
+abbrev pub refusal_text : Refusal → List ℕ
+refusal_text (WrongState state) = codes "WrongState"
+refusal_text (BadBlif fault) = codes "BadBlif"
+
+abbrev pub not_served_number : NotServed → ℕ
+not_served_number NoMemory = 1
+not_served_number JournalFull = 2
+
+abbrev pub not_served_text : NotServed → List ℕ
+not_served_text NoMemory = codes "NoMemory"
+not_served_text JournalFull = codes "JournalFull"

@@ -1,0 +1,44 @@
+ghost use Rattle.std.specs.Prelude.{◌≡◌};
+ghost use Rattle.tenant_slot.specs.declared.not_served.NotServed.TheVariants.{NoMemory};
+
+use std::alloc::AllocError;
+
+/// Why a command has no reply, and no entry of the journal. Nothing changed.
+#[derive(Clone, Copy, Debug, PartialEq, Eq)]
+pub enum NotServed {
+    NoMemory,
+    /// The journal has all the entries that it may have.
+    JournalFull,
+}
+
+impl NotServed {
+    ghost use Rattle.tenant_slot.specs.Names.{not_served_number, not_served_text};
+
+    /// The refusal's number in replies.
+    pub fn number(self) -> u32
+        ensures { result ≡ not_served_number self }
+    {
+        match self {
+            NotServed::NoMemory => 1,
+            NotServed::JournalFull => 2,
+        }
+    }
+
+    /// The refusal's name in replies.
+    pub fn name(self) -> &'static str
+        ensures { result.now ≡ not_served_text self }
+    {
+        match self {
+            NotServed::NoMemory => "NoMemory",
+            NotServed::JournalFull => "JournalFull",
+        }
+    }
+}
+
+impl From<AllocError> for NotServed {
+    ghost from_gives = { λ _ e. e ≡ NoMemory };
+
+    fn from(_e: AllocError) -> NotServed {
+        NotServed::NoMemory
+    }
+}

@@ -1,0 +1,94 @@
+ghost use Rattle.std.specs.Prelude.{◌≡◌};
+ghost use Rattle.tenant_slot.specs.Names.{refusal_number, refusal_text, state_text};
+
+use blif::BlifFault;
+use std::alloc::AllocError;
+
+/// The name of a state of one tenancy.
+#[derive(Clone, Copy, Debug, PartialEq, Eq)]
+pub enum StateName {
+    Empty,
+    Loaded,
+}
+
+impl StateName {
+    /// The name in replies.
+    pub fn name(self) -> &'static str
+        ensures { result.now ≡ state_text self }
+    {
+        match self {
+            StateName::Empty => "Empty",
+            StateName::Loaded => "Loaded",
+        }
+    }
+}
+
+/// What `status` answers: the state, and how many steps of the running job are finished, 0 where none runs.
+#[derive(Clone, Copy, Debug, PartialEq, Eq)]
+pub struct Status {
+    pub state: StateName,
+    pub steps: u32,
+}
+
+/// Why a command is refused. The state stays, and the refusal is an entry of the journal.
+#[derive(Debug, Drop)]
+pub enum Refusal {
+    /// The command isn't lawful in this state.
+    WrongState(StateName),
+    /// The netlist has this fault.
+    BadBlif(BlifFault),
+}
+
+impl Refusal {
+    /// The refusal's number in replies. They are looked at in this order.
+    pub fn number(&self) -> u32
+        ensures { result ≡ refusal_number self.now }
+    {
+        match self {
+            Refusal::WrongState(_) => 3,
+            Refusal::BadBlif(_) => 4,
+        }
+    }
+
+    /// The refusal's name in replies.
+    pub fn name(&self) -> &'static str
+        ensures { result.now ≡ refusal_text self.now }
+    {
+        match self {
+            Refusal::WrongState(_) => "WrongState",
+            Refusal::BadBlif(_) => "BadBlif",
+        }
+    }
+}
+
+impl Clone for Refusal {
+    ghost is_clone = { λ refusal copy. copy ≡ refusal };
+
+    fn clone(&self) -> Result<Self, AllocError> {
+        match self {
+            Refusal::WrongState(state) => Ok(Refusal::WrongState(*state)),
+            Refusal::BadBlif(fault) => Ok(Refusal::BadBlif(fault.clone()?)),
+        }
+    }
+}
+
+/// What a command is answered.
+#[derive(Debug, Drop)]
+pub enum Reply {
+    /// The command was accepted, and led to this state.
+    Accepted(StateName),
+    Status(Status),
+    Refused(Refusal),
+}
+
+impl Clone for Reply {
+    ghost is_clone = { λ reply copy. copy ≡ reply };
+
+    fn clone(&self) -> Result<Self, AllocError> {
+        match self {
+            Reply::Accepted(state) => Ok(Reply::Accepted(*state)),
+            Reply::Status(status) => Ok(Reply::Status(*status)),
+            Reply::Refused(refusal) => Ok(Reply::Refused(refusal.clone()?)),
+        }
+    }
+}

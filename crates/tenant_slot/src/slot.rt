@@ -1,0 +1,127 @@
+ghost use Rattle.std.specs.Prelude.{◌≡◌};
+ghost use Rattle.tenant_slot.specs.SingleUser.{start};
+ghost use Rattle.tenant_slot.specs.Answer.{Answers, IsAnswerIn};
+ghost use Rattle.tenant_slot.specs.Slot.{Serves, accepted};
+
+use crate::answer::Answer;
+use crate::command::Command;
+use crate::not_served::NotServed;
+use crate::phase::{Change, Phase};
+use crate::reply::{Refusal, Reply, StateName, Status};
+use arch_file::SharedArch;
+use grid::Strip;
+use std::alloc::Global;
+use std::marker::Model;
+
+/// The most entries of one tenancy's journal.
+pub const MAX_ENTRIES: u32 = 65_536;
+
+/// One tenancy. Its value is its id and the state of the service for a single user.
+#[derive(Drop)]
+pub struct Slot {
+    alloc: Global,
+    id: u32,
+    arch: SharedArch,
+    strip: Strip,
+    phase: Phase,
+    generation: u32,
+    entries: u32,
+}
+
+impl Model for Slot {
+    ghost use Rattle.tenant_slot.specs.Slot.{SlotState};
+    ghost use Rattle.tenant_slot.specs.Phase.{IsSlot, name_of, text_of};
+
+    ghost Value = { SlotState };
+
+    ghost view = { λ a. record {
+      id = a.id;
+      state = record { arch = a.arch; strip = a.strip; name = name_of a.phase; text = text_of a.phase; generation = a.generation; entries = a.entries };
+    } };
+
+    ghost invariant = { λ a. IsSlot a.arch.lut_size a.phase a.generation a.entries };
+}
+
+impl Slot {
+    /// A tenancy as it is admitted, in the state Empty. Takes no memory.
+    pub fn new(alloc: Global, id: u32, arch: SharedArch, strip: Strip) -> Self
+        ensures { result ≡ record { id = id; state = start arch strip } }
+    {
+        Slot {
+            alloc,
+            id,
+            arch,
+            strip,
+            phase: Phase::Empty,
+            generation: 0,
+            entries: 0,
+        }
+    }
+
+    pub fn id(&self) -> u32
+        ensures { result ≡ self.now.id }
+    {
+        self.id
+    }
+
+    pub fn state(&self) -> StateName
+        ensures { result ≡ self.now.state.name }
+    {
+        self.phase.name()
+    }
+
+    /// The answer to a command. Nothing changes until it is accepted, so all that takes memory comes first.
+    pub fn answer(&self, command: &Command) -> Result<Answer, NotServed>
+        ensures { Answers self.now.state command.now result }
+    {
+        if self.entries == MAX_ENTRIES {
+            return Err(NotServed::JournalFull);
+        }
+        let lut_size = self.arch.arch().lut_size;
+        let state = self.state();
+        match (&self.phase, command) {
+            (Phase::Empty, Command::Upload(text)) => {
+                Answer::load(self.alloc, lut_size, text, self.generation)
+            }
+            (Phase::Loaded(..), Command::Change(text)) => {
+                Answer::load(self.alloc, lut_size, text, self.generation + 1)
+            }
+            (Phase::Loaded(..), Command::Withdraw) => Ok(Answer {
+                lut_size,
+                change: Some(Change {
+                    phase: Phase::Empty,
+                    generation: self.generation + 1,
+                }),
+                reply: Reply::Accepted(StateName::Empty),
+            }),
+            (_, Command::Status) => Ok(Answer::unchanged(
+                lut_size,
+                Reply::Status(Status { state, steps: 0 }),
+            )),
+            _ => Ok(Answer::unchanged(lut_size, Reply::Refused(Refusal::WrongState(state)))),
+        }
+    }
+
+    /// Makes an answer come true, and counts its entry. Takes no memory.
+    pub fn accept(&mut self, answer: Answer) -> Reply
+        requires { IsAnswerIn self.old.state answer }
+        ensures reply { result ≡ answer.reply }
+        ensures state { self.new ≡ accepted self.old answer }
+    {
+        let Answer { change, reply, .. } = answer;
+        if let Some(change) = change {
+            self.phase = change.phase;
+            self.generation = change.generation;
+        }
+        self.entries += 1;
+        reply
+    }
+
+    /// Serves one command, exactly as the service for a single user does.
+    pub fn command(&mut self, command: &Command) -> Result<Reply, NotServed>
+        ensures { Serves self.old command.now result self.new }
+    {
+        let answer = self.answer(command)?;
+        Ok(self.accept(answer))
+    }
+}

@@ -1,0 +1,86 @@
+use crate::{Command, Refusal, Reply, SharedText, Slot, StateName};
+use arch_file::{SharedArch, read_arch};
+use grid::Strip;
+use line_text::Text;
+use std::alloc::Global;
+use std::test::Fail;
+
+const ARCH: &[u8] = b"io_rat 2
+chan_width_io 1
+chan_width_x uniform 1
+chan_width_y uniform 1
+inpin class: 0 bottom
+inpin class: 0 left
+outpin class: 1 top
+inpin class: 2 global top
+subblocks_per_clb 1
+subblock_lut_size 2
+Fc_type fractional
+Fc_output 1
+Fc_input 1
+Fc_pad 1
+switch_block_type subset
+segment frequency: 1 length: 1 wire_switch: 0 opin_switch: 0 Frac_cb: 1. Frac_sb: 1. Rmetal: 4.16 Cmetal: 81e-15
+switch 0 buffered: yes R: 786.9 Cin: 7.512e-15 Cout: 10.762e-15 Tdel: 456e-12
+";
+
+const AND: &[u8] = b".model t\n.inputs a b\n.outputs f\n.names a b f\n11 1\n.end\n";
+
+const TOO_WIDE: &[u8] = b".model m\n.inputs a b c\n.outputs f\n.names a b c f\n111 1\n";
+
+fn slot(alloc: Global) -> Result<Slot, Fail> {
+    match read_arch(alloc, ARCH, 2) {
+        Ok(arch) => {
+            let strip = Strip {
+                width: 1,
+                rows: 1,
+                io_rat: arch.io_rat,
+            };
+            Ok(Slot::new(alloc, 7, SharedArch::new(alloc, arch)?, strip))
+        }
+        Err(_) => Err("the architecture isn't read".into()),
+    }
+}
+
+fn text(alloc: Global, bytes: &[u8]) -> Result<SharedText, Fail> {
+    Ok(SharedText::new(alloc, Text::from_slice(alloc, bytes)?)?)
+}
+
+#[test]
+fn withdraw_is_not_lawful_at_first(rt: HostRuntime) -> Result<(), Fail> {
+    let mut slot = slot(rt.alloc())?;
+    let Reply::Refused(refusal) = slot.command(&Command::Withdraw)? else {
+        return Err("withdraw is lawful".into());
+    };
+    assert_eq!(rt; refusal.number(), 3);
+    assert!(rt; matches!(refusal, Refusal::WrongState(StateName::Empty)));
+    Ok(())
+}
+
+#[test]
+fn a_netlist_is_loaded(rt: HostRuntime) -> Result<(), Fail> {
+    let mut slot = slot(rt.alloc())?;
+    let upload = Command::Upload(text(rt.alloc(), AND)?);
+    let reply = slot.command(&upload)?;
+    assert!(rt; matches!(reply, Reply::Accepted(StateName::Loaded)));
+    Ok(())
+}
+
+#[test]
+fn a_netlist_with_a_fault_is_refused(rt: HostRuntime) -> Result<(), Fail> {
+    let mut slot = slot(rt.alloc())?;
+    let upload = Command::Upload(text(rt.alloc(), TOO_WIDE)?);
+    let Reply::Refused(refusal) = slot.command(&upload)? else {
+        return Err("the netlist is loaded".into());
+    };
+    assert_eq!(rt; refusal.number(), 4);
+    Ok(())
+}
+
+#[test]
+fn a_text_is_shared(rt: HostRuntime) -> Result<(), Fail> {
+    let shared = text(rt.alloc(), AND)?;
+    let copy = shared.clone()?;
+    assert_eq!(rt; copy.as_bytes(), AND);
+    Ok(())
+}

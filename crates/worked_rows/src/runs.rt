@@ -1,0 +1,102 @@
+//! The device of all rows, and how a row is run.
+use fpgad_run::{Architecture, Options, Outcome, run_script};
+use line_text::{MemorySink, MemorySource};
+use std::alloc::{AllocError, Global};
+use std::process::Abort;
+use std::test::Fail;
+
+/// One logic element with two inputs a block, two pads at each end of a column, every pin at every track.
+pub(crate) const ARCHITECTURE: &str = "\
+io_rat 2
+chan_width_io 1
+chan_width_x uniform 1
+chan_width_y uniform 1
+inpin class: 0 bottom
+inpin class: 0 left
+outpin class: 1 top
+inpin class: 2 global top
+subblocks_per_clb 1
+subblock_lut_size 2
+Fc_type fractional
+Fc_output 1
+Fc_input 1
+Fc_pad 1
+switch_block_type subset
+segment frequency: 1 length: 1 wire_switch: 0 opin_switch: 0 Frac_cb: 1. Frac_sb: 1. Rmetal: 4.16 Cmetal: 81e-15
+switch 0 buffered: yes R: 786.9 Cin: 7.512e-15 Cout: 10.762e-15 Tdel: 456e-12
+";
+
+/// The tenants' netlist: f is a and b.
+pub(crate) const NETLIST: &str = "\
+.model t
+.inputs a b
+.outputs f
+.names a b f
+11 1
+.end
+";
+
+/// A script with those lines below the architecture's text, of which the last is line 18.
+pub(crate) fn script_of(alloc: Global, lines: &str) -> Result<Vec<u8>, AllocError> {
+    let mut script = Vec::from_slice(alloc, ARCHITECTURE.as_bytes())?;
+    script.extend_from_slice(b".\n")?;
+    script.extend_from_slice(lines.as_bytes())?;
+    Ok(script)
+}
+
+/// A device of so many columns and one row, with two tracks in each channel.
+pub(crate) fn device_of(columns: u32) -> Result<Options, Fail> {
+    Ok(Options::new(2, columns, 1).ok_or("the device is above the limits")?)
+}
+
+/// What those lines write on a device of so many columns.
+pub(crate) fn written_by<H: Abort + AllocGlobal>(
+    rt: &H,
+    columns: u32,
+    lines: &str,
+) -> Result<Vec<u8>, Fail> {
+    let script = script_of(rt.alloc(), lines)?;
+    let mut source = MemorySource::new(script.as_slice());
+    let mut sink = MemorySink::new(rt.alloc());
+    let options = device_of(columns)?;
+    let outcome = run_script(
+        rt.alloc(),
+        &options,
+        Architecture::InScript,
+        &mut source,
+        &mut sink,
+    );
+    assert_eq!(rt; outcome, Outcome::Done);
+    assert_eq!(rt; outcome.status(), 0);
+    Ok(sink.into_bytes())
+}
+
+/// Compares what those lines write on a device of so many columns.
+pub(crate) fn assert_writes<H: Abort + AllocGlobal>(
+    rt: &H,
+    columns: u32,
+    lines: &str,
+    expected: &str,
+) -> Result<(), Fail> {
+    let written = written_by(rt, columns, lines)?;
+    assert_eq!(rt; std::str::from_utf8(written.as_slice())?, expected);
+    Ok(())
+}
+
+/// Runs an input that ends with that status and message, and writes nothing.
+pub(crate) fn assert_ends<H: Abort + AllocGlobal>(
+    rt: &H,
+    architecture: Architecture<'_>,
+    input: &[u8],
+    status: u8,
+    message: &str,
+) -> Result<(), Fail> {
+    let mut source = MemorySource::new(input);
+    let mut sink = MemorySink::new(rt.alloc());
+    let options = device_of(3)?;
+    let outcome = run_script(rt.alloc(), &options, architecture, &mut source, &mut sink);
+    assert_eq!(rt; outcome.to_string(rt.alloc())?.as_str(), message);
+    assert_eq!(rt; outcome.status(), status);
+    assert!(rt; sink.as_bytes().is_empty());
+    Ok(())
+}
