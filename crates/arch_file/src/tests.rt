@@ -3,6 +3,7 @@ ghost use Rattle.std.specs.Prelude.{◌≤◌};
 use crate::{Arch, ArchError, ArchFault, ArchFaultKind, Keyword, PinClass, SharedArch, read_arch};
 use line_text::{LineError, LineFault};
 use std::alloc::{AllocError, Global};
+use std::process::Abort;
 use std::test::Fail;
 
 /// The smallest architecture with all that one needs.
@@ -43,11 +44,16 @@ fn changed(alloc: Global, changes: &[(usize, &str)]) -> Result<String, AllocErro
 }
 
 /// What the reader tells of a text: its fault, or `ok`.
-fn told(alloc: Global, text: &str) -> Result<String, AllocError> {
-    match read_arch(alloc, text.as_bytes(), 2) {
+fn told_of(alloc: Global, text: &[u8]) -> Result<String, AllocError> {
+    match read_arch(alloc, text, 2) {
         Ok(_) => String::from_str(alloc, "ok"),
         Err(error) => error.to_string(alloc),
     }
+}
+
+/// The same of characters.
+fn told(alloc: Global, text: &str) -> Result<String, AllocError> {
+    told_of(alloc, text.as_bytes())
 }
 
 #[test]
@@ -134,15 +140,116 @@ fn a_second_segment_is_refused(rt: HostRuntime) -> Result<(), Fail> {
     Ok(())
 }
 
-#[test]
-fn the_first_lines_alone_lack_the_others(rt: HostRuntime) -> Result<(), Fail> {
-    let mut text = String::new(rt.alloc());
-    for (place, line) in SMALL.iter().enumerate() {
-        let want = if place < 16 { "3 Missing 0" } else { "ok" };
-        assert_eq!(rt; told(rt.alloc(), text.as_str())?.as_str(), want);
-        text.push_str(line)?;
-        text.push_str("\n")?;
+/// What the reader tells of the text's beginnings, each row from the row before up to so many bytes.
+const BEGINNINGS: [(usize, &str); 78] = [
+    (0, "3 Missing 0"),
+    (5, "1 Unknown 1"),
+    (7, "4 BadNumber 1"),
+    (9, "3 Missing 0"),
+    (21, "1 Unknown 2"),
+    (23, "4 BadNumber 2"),
+    (25, "3 Missing 0"),
+    (36, "1 Unknown 3"),
+    (38, "4 BadNumber 3"),
+    (44, "5 NotProfile 3"),
+    (46, "4 BadNumber 3"),
+    (48, "3 Missing 0"),
+    (59, "1 Unknown 4"),
+    (61, "4 BadNumber 4"),
+    (67, "5 NotProfile 4"),
+    (69, "4 BadNumber 4"),
+    (71, "3 Missing 0"),
+    (82, "1 Unknown 5"),
+    (84, "6 BadClass 5"),
+    (91, "7 BadSide 5"),
+    (93, "3 Missing 0"),
+    (104, "1 Unknown 6"),
+    (106, "6 BadClass 6"),
+    (111, "7 BadSide 6"),
+    (113, "3 Missing 0"),
+    (125, "1 Unknown 7"),
+    (127, "6 BadClass 7"),
+    (131, "7 BadSide 7"),
+    (133, "3 Missing 0"),
+    (144, "1 Unknown 8"),
+    (153, "6 BadClass 8"),
+    (157, "7 BadSide 8"),
+    (159, "3 Missing 0"),
+    (175, "1 Unknown 9"),
+    (177, "4 BadNumber 9"),
+    (179, "3 Missing 0"),
+    (195, "1 Unknown 10"),
+    (197, "4 BadNumber 10"),
+    (199, "3 Missing 0"),
+    (205, "1 Unknown 11"),
+    (207, "4 BadNumber 11"),
+    (216, "5 NotProfile 11"),
+    (218, "3 Missing 0"),
+    (226, "1 Unknown 12"),
+    (228, "4 BadNumber 12"),
+    (230, "3 Missing 0"),
+    (237, "1 Unknown 13"),
+    (239, "4 BadNumber 13"),
+    (241, "3 Missing 0"),
+    (246, "1 Unknown 14"),
+    (248, "4 BadNumber 14"),
+    (250, "3 Missing 0"),
+    (255, "1 Unknown 15"),
+    (256, "3 Missing 0"),
+    (266, "1 Unknown 15"),
+    (268, "4 BadNumber 15"),
+    (273, "5 NotProfile 15"),
+    (275, "3 Missing 0"),
+    (281, "1 Unknown 16"),
+    (283, "5 NotProfile 16"),
+    (294, "4 BadNumber 16"),
+    (296, "5 NotProfile 16"),
+    (304, "4 BadNumber 16"),
+    (306, "5 NotProfile 16"),
+    (319, "4 BadNumber 16"),
+    (321, "5 NotProfile 16"),
+    (334, "4 BadNumber 16"),
+    (336, "5 NotProfile 16"),
+    (345, "4 BadNumber 16"),
+    (348, "5 NotProfile 16"),
+    (357, "4 BadNumber 16"),
+    (360, "ok"),
+    (368, "4 BadNumber 16"),
+    (373, "ok"),
+    (381, "4 BadNumber 16"),
+    (388, "ok"),
+    (393, "1 Unknown 17"),
+    (466, "ok"),
+];
+
+/// Compares what the reader tells of a text's beginnings of these lengths.
+fn assert_beginnings<H: Abort + AllocGlobal>(
+    rt: &H,
+    text: &[u8],
+    first: usize,
+    last: usize,
+    want: &str,
+) -> Result<(), Fail> {
+    for length in first..=last {
+        let beginning = text.get(..length).ok_or("the text is shorter")?;
+        assert_eq!(rt;
+            told_of(rt.alloc(), beginning)?.as_str(),
+            want,
+            "{length} bytes"
+        );
     }
+    Ok(())
+}
+
+#[test]
+fn each_beginning_is_answered(rt: HostRuntime) -> Result<(), Fail> {
+    let text = changed(rt.alloc(), &[])?;
+    let mut first = 0usize;
+    for (last, want) in BEGINNINGS {
+        assert_beginnings(&rt, text.as_bytes(), first, last, want)?;
+        first = last.saturating_add(1);
+    }
+    assert_eq!(rt; first.saturating_sub(1), text.len());
     Ok(())
 }
 
