@@ -15,7 +15,9 @@ use Rattle.blif.specs.Names.{first}
 use Rattle.blif.specs.Sights.{Sights, sights_of}
 use Rattle.blif.specs.Circuits.{circuit_from}
 use Rattle.blif.specs.CircuitOf.{Fails, Gives, circuit_of, circuit_of_lines, circuit_of_read, declared_in, final_faults, line_faults, text_limit, unless_fault}
+use Rattle.blif.specs.BlifFaults.{net_limit}
 use Rattle.blif.proofs.Places.{first_append, first_append_none}
+use Rattle.blif.proofs.LawfulNets.{is_circuit}
 
 -- what a checker says is declared
 pub declared_is : (checked : Sights) (declared : List (List ℕ)) (lines : List JoinedLine) → checked ≡ sights_of declared lines → checked.declared ≡ declared
@@ -32,18 +34,20 @@ gives_line_fault lut_size lines declared (Fault fault) is fails =
     (ap (λ d. first (line_faults lut_size d [] lines)) (sym is) ∙ fails))
 
 -- without one the end decides
-pub gives_built : (lut_size : ℕ) (lines : List JoinedLine) (declared : List (List ℕ)) (result : Result Circuit BlifError) → declared ≡ declared_in lines → first (line_faults lut_size declared [] lines) ≡ None → MatchResult result (λ circuit. (first (final_faults declared lines) ≡ None) × (circuit ≡ circuit_from declared lines)) (Fails (first (final_faults declared lines))) → Gives (circuit_of_lines lut_size lines) result
+pub gives_built : (lut_size : ℕ) (lines : List JoinedLine) (declared : List (List ℕ)) (result : Result Circuit BlifError) → length (sights_of declared lines).nets ≤ net_limit → declared ≡ declared_in lines → first (line_faults lut_size declared [] lines) ≡ None → MatchResult result (λ circuit. (first (final_faults declared lines) ≡ None) × (circuit ≡ circuit_from declared lines)) (Fails (first (final_faults declared lines))) → Gives (circuit_of_lines lut_size lines) result
 unfolding circuit_of_lines
-gives_built lut_size lines declared (Err NoMemory) is none built = tt
-gives_built lut_size lines declared (Err (Fault fault)) is none built =
+gives_built lut_size lines declared (Err NoMemory) few is none built = tt
+gives_built lut_size lines declared (Err (Fault fault)) few is none built =
     ap (λ found. unless_fault found (circuit_from (declared_in lines) lines))
     (first_append_none (line_faults lut_size (declared_in lines) [] lines) (final_faults (declared_in lines) lines) (ap (λ d. first (line_faults lut_size d [] lines)) (sym is) ∙ none)
     ∙ ap (λ d. first (final_faults d lines)) (sym is) ∙ built)
-gives_built lut_size lines declared (Ok circuit) is none built =
-    ap (λ found. unless_fault found (circuit_from (declared_in lines) lines))
-    (first_append_none (line_faults lut_size (declared_in lines) [] lines) (final_faults (declared_in lines) lines) (ap (λ d. first (line_faults lut_size d [] lines)) (sym is) ∙ none)
-    ∙ ap (λ d. first (final_faults d lines)) (sym is) ∙ built.0)
-    ∙ ap Ok (ap (λ d. circuit_from d lines) (sym is) ∙ sym built.1)
+gives_built lut_size lines declared (Ok circuit) few is none built = (
+  ap (λ found. unless_fault found (circuit_from (declared_in lines) lines))
+      (first_append_none (line_faults lut_size (declared_in lines) [] lines) (final_faults (declared_in lines) lines) (ap (λ d. first (line_faults lut_size d [] lines)) (sym is) ∙ none)
+      ∙ ap (λ d. first (final_faults d lines)) (sym is) ∙ built.0)
+      ∙ ap Ok (ap (λ d. circuit_from d lines) (sym is) ∙ sym built.1),
+  rw built.1 (is_circuit declared lines few),
+)
 
 -- a text above the limit
 pub circuit_of-long : (text : List ℕ) (lut_size : ℕ) → text_limit < length text → circuit_of text lut_size ≡ Err (record { line = 0; kind = OverLimit })

@@ -2,6 +2,7 @@ mod Answering
 mod Building
 mod Examples
 mod Growing
+mod LawfulNets
 mod Named
 mod NetNumbers
 mod Places

@@ -15,6 +15,7 @@ use Rattle.blif.specs.LineNets.{reads_in}
 use Rattle.blif.specs.Sights.{sights_of, kind_of, is_end, inputs_of}
 use Rattle.blif.specs.BlifFaults.{driven, faults_in}
 use Rattle.blif.specs.Circuits.{circuit_from}
+use Rattle.blif.specs.LawfulCircuits.{IsCircuit}
 
 -- the lines before the end
 abbrev pub lines_to_end : List JoinedLine → List JoinedLine
@@ -83,6 +84,6 @@ Fails found NoMemory = ⊤
 
 -- a reader of that text may answer this
 abbrev pub Gives : Result Circuit BlifFault → Result Circuit BlifError → Type 0
-Gives meant (Ok circuit) = meant ≡ Ok circuit
+Gives meant (Ok circuit) = (meant ≡ Ok circuit) × IsCircuit circuit
 Gives meant (Err (Fault fault)) = meant ≡ Err fault
 Gives meant (Err NoMemory) = ⊤

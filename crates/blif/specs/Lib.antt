@@ -6,6 +6,7 @@ pub mod DrivenNets
 pub mod Faults
 pub mod Keywords
 pub mod LatchLines
+pub mod LawfulCircuits
 pub mod LineNets
 pub mod LookupTables
 pub mod Names

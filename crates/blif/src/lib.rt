@@ -11,6 +11,9 @@
 //! The circuit or the fault is `circuit_of` of `specs/CircuitOf.antt`, which speaks of the nets that all lines above name,
 //! drive and show, and lists every fault. The code goes over the lines twice: `checker` finds the first fault and numbers
 //! the nets, `parts` builds the circuit.
+//!
+//! Each circuit of a text keeps what `IsCircuit` of `specs/LawfulCircuits.antt` says. [`SharedCircuit`] is a circuit with
+//! many owners.
 #![tactic(auto)]
 
 mod checker;
@@ -26,6 +29,7 @@ mod net_names;
 mod nets;
 mod parts;
 mod reader;
+mod shared;
 mod span;
 mod tables;
 
@@ -35,6 +39,7 @@ pub use latches::{Latch, Latches};
 pub use net_names::NetNames;
 pub use nets::Nets;
 pub use reader::read_blif;
+pub use shared::SharedCircuit;
 pub use tables::{Table, Tables};
 
 #[cfg(test)]

@@ -1,4 +1,4 @@
-use crate::{BlifError, Latch, read_blif};
+use crate::{BlifError, Latch, SharedCircuit, read_blif};
 use std::alloc::{AllocError, Global};
 use std::test::Fail;
 
@@ -27,6 +27,20 @@ fn whole_chain(rt: HostRuntime) -> Result<(), Fail> {
     assert_eq!(rt; table.inputs, [0, 1].as_slice());
     assert_eq!(rt; table.output, 2);
     assert_eq!(rt; circuit.latches.as_slice().len(), 0);
+    Ok(())
+}
+
+#[test]
+fn a_circuit_is_shared(rt: HostRuntime) -> Result<(), Fail> {
+    let circuit = read_blif(rt.alloc(), WHOLE_CHAIN.as_bytes(), 2)?;
+    match SharedCircuit::new(rt.alloc(), circuit) {
+        Err(refused) => assert_eq!(rt; refused.value.nets.len(), 3),
+        Ok(shared) => {
+            let other = shared.clone()?;
+            assert_eq!(rt; other.circuit().inputs.as_slice(), [0, 1].as_slice());
+            assert_eq!(rt; other.circuit().tables.len(), 1);
+        }
+    }
     Ok(())
 }
 
