@@ -1,7 +1,6 @@
 //! Inputs that end with a status and a message.
-use crate::runs::{ARCHITECTURE, assert_ends, script_of};
+use crate::runs::{ARCHITECTURE, assert_ends, changed, script_of};
 use fpgad_run::Architecture;
-use std::alloc::{AllocError, Global};
 use std::test::Fail;
 
 #[test]
@@ -30,20 +29,6 @@ fn script_faults(rt: HostRuntime) -> Result<(), Fail> {
         assert_ends(&rt, Architecture::InScript, script.as_slice(), 3, message)?;
     }
     Ok(())
-}
-
-/// A text with other lines in place of the one of that number, from 1.
-fn changed(alloc: Global, text: &str, number: usize, lines: &str) -> Result<String, AllocError> {
-    let mut changed = String::new(alloc);
-    for (place, line) in text.lines().enumerate() {
-        if place + 1 == number {
-            changed.push_str(lines)?;
-        } else {
-            changed.push_str(line)?;
-            changed.push_str("\n")?;
-        }
-    }
-    Ok(changed)
 }
 
 #[test]

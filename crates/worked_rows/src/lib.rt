@@ -1,24 +1,36 @@
-//! Worked rows: whole scripts, run over memory, and the exact bytes that they write.
+//! Worked rows: whole scripts, run over memory, and the exact bytes that they write; and rows over a few crates.
 //!
 //! A row is a test named after it, with its script and its bytes as text. Each is run by [`fpgad_run::run_script`] on a
 //! device of one row and two tracks, below the text of one architecture. The bytes follow from the formats, and were not
 //! taken from the service.
 //!
 //! - `first_run`: two tenants that upload, ask and withdraw, on two devices.
+//! - `accepted_netlists`: netlists in the forms that tools and people write.
 //! - `refused_netlists`: netlists with a fault, which is told with its line.
 //! - `layouts`: where tenancies are admitted, and why not.
 //! - `sessions`: lines that are repeated, unknown, awkward or cut short.
 //! - `journals`: a full journal, beside a neighbour that goes on.
 //! - `faults`: inputs that end with a status and a message, and write nothing.
 //! - `devices`: readers and writers that fail.
+//!
+//! Rows that are no script:
+//!
+//! - `beginnings`: what the reader tells of each beginning of a netlist.
+//! - `graph_paths`: least paths over the routing graph of a strip.
 #![tactic(auto)]
 
+#[cfg(test)]
+mod accepted_netlists;
+#[cfg(test)]
+mod beginnings;
 #[cfg(test)]
 mod devices;
 #[cfg(test)]
 mod faults;
 #[cfg(test)]
 mod first_run;
+#[cfg(test)]
+mod graph_paths;
 #[cfg(test)]
 mod journals;
 #[cfg(test)]

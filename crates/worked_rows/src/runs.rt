@@ -44,6 +44,25 @@ pub(crate) fn script_of(alloc: Global, lines: &str) -> Result<Vec<u8>, AllocErro
     Ok(script)
 }
 
+/// A text with other lines in place of the one of that number, from 1.
+pub(crate) fn changed(
+    alloc: Global,
+    text: &str,
+    number: usize,
+    lines: &str,
+) -> Result<String, AllocError> {
+    let mut changed = String::new(alloc);
+    for (place, line) in text.lines().enumerate() {
+        if place + 1 == number {
+            changed.push_str(lines)?;
+        } else {
+            changed.push_str(line)?;
+            changed.push_str("\n")?;
+        }
+    }
+    Ok(changed)
+}
+
 /// A device of so many columns and one row, with two tracks in each channel.
 pub(crate) fn device_of(columns: u32) -> Result<Options, Fail> {
     Ok(Options::new(2, columns, 1).ok_or("the device is above the limits")?)
