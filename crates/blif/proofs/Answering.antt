@@ -17,7 +17,8 @@ use Rattle.blif.specs.Circuits.{circuit_from}
 use Rattle.blif.specs.CircuitOf.{Fails, Gives, circuit_of, circuit_of_lines, circuit_of_read, declared_in, final_faults, line_faults, text_limit, unless_fault}
 use Rattle.blif.specs.BlifFaults.{net_limit}
 use Rattle.blif.proofs.Places.{first_append, first_append_none}
-use Rattle.blif.proofs.LawfulNets.{is_circuit}
+use Rattle.blif.proofs.Faultless.{nil_from_first}
+use Rattle.blif.proofs.Lawful.{is_circuit}
 
 -- what a checker says is declared
 pub declared_is : (checked : Sights) (declared : List (List ℕ)) (lines : List JoinedLine) → checked ≡ sights_of declared lines → checked.declared ≡ declared
@@ -46,7 +47,7 @@ gives_built lut_size lines declared (Ok circuit) few is none built = (
       (first_append_none (line_faults lut_size (declared_in lines) [] lines) (final_faults (declared_in lines) lines) (ap (λ d. first (line_faults lut_size d [] lines)) (sym is) ∙ none)
       ∙ ap (λ d. first (final_faults d lines)) (sym is) ∙ built.0)
       ∙ ap Ok (ap (λ d. circuit_from d lines) (sym is) ∙ sym built.1),
-  rw built.1 (is_circuit declared lines few),
+  rw built.1 (is_circuit lut_size declared lines few (nil_from_first _ none) (nil_from_first _ built.0)),
 )
 
 -- a text above the limit

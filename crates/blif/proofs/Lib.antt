@@ -1,7 +1,11 @@
 mod Answering
 mod Building
+mod Counts
+mod Drivers
 mod Examples
+mod Faultless
 mod Growing
+mod Lawful
 mod LawfulNets
 mod Named
 mod NetNumbers

@@ -52,6 +52,17 @@ mark_at f (first ∷ names) name d h = by (bytes_eq name first) refl (λ there. 
         ap (λ k. get_or (map f (first ∷ names)) k d) (number_of-cons name first names false e ∙ one-add (number_of names name))
         ∙ rest (has_name-rest name first names e h)
 
+-- at its number stands the name
+pub name_at : (names : List (List ℕ)) (name : List ℕ) → has_name names name ≡ true → get_or names (number_of names name) [] ≡ name
+name_at [] name h = absurd cc
+name_at (first ∷ names) name h = by (bytes_eq name first) refl (λ there. name_at names name there)
+  where
+    by : (b : Bool) → bytes_eq name first ≡ b → (has_name names name ≡ true → get_or names (number_of names name) [] ≡ name) → get_or (first ∷ names) (number_of (first ∷ names) name) [] ≡ name
+    by true e rest = ap (λ k. get_or (first ∷ names) k []) (number_of-cons name first names true e) ∙ sym ((bytes_eq-Decides name first).0 e)
+    by false e rest =
+        ap (λ k. get_or (first ∷ names) k []) (number_of-cons name first names false e ∙ one-add (number_of names name))
+        ∙ rest (has_name-rest name first names e h)
+
 -- a name that is there stays when another is added
 has_name-with_name : (names : List (List ℕ)) (added name : List ℕ) → has_name names name ≡ true → has_name (with_name names added) name ≡ true
 has_name-with_name names added name h = by (has_name names added)

@@ -1,5 +1,6 @@
 -- What each circuit of a text keeps.
-use Rattle.std.specs.Prelude.{ℕ, ◌<◌, ◌≤◌, All, length}
+use Rattle.std.specs.Prelude.{ℕ, ◌≡◌, ◌≢◌, ◌<◌, ◌≤◌, Bool, true, List, ◌++◌, All, AllPairs, length, map, nat_eq}
+use Rattle.std.specs.List.{AllPass, list_any}
 use Rattle.std.specs.Option.{ForSome}
 use Rattle.blif.specs.declared.circuit.Circuit.{Circuit}
 use Rattle.blif.specs.declared.latches.Latch.{Latch}
@@ -16,10 +17,29 @@ pub record IsLatchWithin (count : ℕ) (latch : Latch) : Type 0 where
   pub output : latch.output < count
   pub control : ForSome latch.control (λ net. net < count)
 
--- the circuit has at most 8,192 nets, and each number that it holds is that of a net
+-- whether the net is among the nets
+abbrev pub has_net : List ℕ → ℕ → Bool
+has_net nets net = list_any (nat_eq net) nets
+
+-- the nets by what drives them: the inputs, then the outputs of tables, then those of latches
+abbrev pub drivers_of : Circuit → List ℕ
+drivers_of circuit = circuit.inputs ++ (map (λ table. table.output) circuit.tables ++ map (λ latch. latch.output) circuit.latches)
+
+-- what the latch reads is driven
+pub record IsLatchDriven (drivers : List ℕ) (latch : Latch) : Type 0 where
+  pub input : has_net drivers latch.input ≡ true
+  pub control : ForSome latch.control (λ net. has_net drivers net ≡ true)
+
+-- the circuit has at most 8,192 nets, and each number that it holds is that of a net; no net is driven twice, none is
+-- shown twice, and each that is read is driven
 pub record IsCircuit (circuit : Circuit) : Type 0 where
   pub few : length circuit.nets ≤ 8192
   pub inputs : All (λ net. net < length circuit.nets) circuit.inputs
   pub outputs : All (λ net. net < length circuit.nets) circuit.outputs
   pub tables : All (IsTableWithin (length circuit.nets)) circuit.tables
   pub latches : All (IsLatchWithin (length circuit.nets)) circuit.latches
+  pub driven_once : AllPairs (λ net other. net ≢ other) (drivers_of circuit)
+  pub shown_once : AllPairs (λ net other. net ≢ other) circuit.outputs
+  pub driven_outputs : AllPass (has_net (drivers_of circuit)) circuit.outputs
+  pub driven_tables : All (λ table. AllPass (has_net (drivers_of circuit)) table.inputs) circuit.tables
+  pub driven_latches : All (IsLatchDriven (drivers_of circuit)) circuit.latches

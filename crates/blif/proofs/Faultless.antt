@@ -1,0 +1,94 @@
+-- What holds of lines that have no fault.
+use Rattle.std.proofs.Common.{◌≡◌, ℕ, Bool, true, false, not, ◌&&◌, ◌||◌, cond, nat_lt, length, List, [], ◌∷◌, ◌++◌, None, map, if◌then◌else◌, refl, ◌∙◌, append_assoc}
+use Rattle.std.proofs.lemmas.List.{append-nil}
+use Rattle.std.proofs.lemmas.List.Folds.{list_all-append}
+use Rattle.std.specs.List.{flat_map, list_all}
+use Rattle.line_text.specs.Lines.{JoinedLine}
+use Rattle.blif.specs.declared.fault.BlifFaultKind.TheVariants.{BadLatch, NoModel, OverLimit, Unknown}
+use Rattle.blif.specs.declared.keyword.Keyword.{Keyword}
+use Rattle.blif.specs.Names.{first, has_name, repeats, with_names}
+use Rattle.blif.specs.LineNets.{latch_output, names_in, output_of, reads_in}
+use Rattle.blif.specs.LatchLines.{is_latch}
+use Rattle.blif.specs.Sights.{Sights, sights_of, sights_after, kind_of}
+use Rattle.blif.specs.BlifFaults.{driven, driver_faults, fault_where, faults_in, is_model, kind_faults, net_limit, latch_faults, table_faults}
+use Rattle.blif.specs.CircuitOf.{final_faults, line_faults, undriven, undriven_faults}
+use Rattle.blif.proofs.Sightings.{sights_push}
+
+pub nil_from_first : {X : Type 0} (xs : List X) → first xs ≡ None → xs ≡ []
+nil_from_first [] h = refl
+nil_from_first (x ∷ xs) h = absurd cc
+
+pub nil_left : {X : Type 0} (xs ys : List X) → xs ++ ys ≡ [] → xs ≡ []
+nil_left [] ys h = refl
+nil_left (x ∷ xs) ys h = absurd cc
+
+pub nil_right : {X : Type 0} (xs ys : List X) → xs ++ ys ≡ [] → ys ≡ []
+nil_right [] ys h = h
+nil_right (x ∷ xs) ys h = absurd cc
+
+pub nil_from_map : {X Y : Type 0} (f : X → Y) (xs : List X) → map f xs ≡ [] → xs ≡ []
+nil_from_map f [] h = refl
+nil_from_map f (x ∷ xs) h = absurd cc
+
+-- a line without a fault has none by itself or with the lines above it
+kind_faultless : (lut_size : ℕ) (above : Sights) (keyword : Keyword) (words : List (List ℕ)) → faults_in lut_size above keyword words ≡ [] → kind_faults lut_size above keyword words ≡ []
+kind_faultless lut_size above keyword words h = by above.ended h
+  where
+    by : (b : Bool) → (if b then Unknown ∷ [] else kind_faults lut_size above keyword words ++ (fault_where (not (above.begun || is_model keyword)) NoModel ++ fault_where (nat_lt net_limit (length (with_names above.nets (names_in keyword words)))) OverLimit)) ≡ [] → kind_faults lut_size above keyword words ≡ []
+    by true none = absurd cc
+    by false none = nil_left _ _ none
+
+-- what each line without a fault keeps holds after lines without a fault
+module _ (lut_size : ℕ) (declared : List (List ℕ)) (Kept : List JoinedLine → Type 0)
+    (step : (above : List JoinedLine) (line : JoinedLine) → kind_faults lut_size (sights_of declared above) (kind_of line) line.words ≡ [] → Kept above → Kept (above ++ line ∷ [])) where
+  pub kept_by_lines : (above lines : List JoinedLine) → Kept above → line_faults lut_size declared above lines ≡ [] → Kept (above ++ lines)
+  unfolding line_faults
+  kept_by_lines above [] start h = rw append-nil start
+  kept_by_lines above (line ∷ lines) start h =
+      let kinds = nil_from_map _ _ (nil_left _ _ h) in
+      let further = kept_by_lines (above ++ line ∷ []) lines (step above line (kind_faultless lut_size (sights_of declared above) (kind_of line) line.words kinds) start) (nil_right _ _ h) in
+      rw append_assoc at further
+
+-- the same for what the lines have brought
+pub kept_by_sights : (lut_size : ℕ) (declared : List (List ℕ)) (Kept : Sights → Type 0) → ((above : Sights) (keyword : Keyword) (words : List (List ℕ)) → kind_faults lut_size above keyword words ≡ [] → Kept above → Kept (sights_after keyword words above)) → (lines : List JoinedLine) → Kept (sights_of declared []) → line_faults lut_size declared [] lines ≡ [] → Kept (sights_of declared lines)
+kept_by_sights lut_size declared Kept step lines start h =
+    kept_by_lines lut_size declared (λ above. Kept (sights_of declared above))
+    (λ above line none kept. rw (sights_push declared above line) (step (sights_of declared above) (kind_of line) line.words none kept))
+    [] lines start h
+
+-- a table without a fault drives what is free
+pub table_output_free : (lut_size : ℕ) (taken names : List (List ℕ)) → table_faults lut_size taken names ≡ [] → repeats taken (output_of names) ≡ []
+table_output_free lut_size taken [] h = absurd cc
+table_output_free lut_size taken (name ∷ names) h = nil_from_map _ _ (nil_right _ _ h)
+
+-- a latch does
+pub latch_output_free : (taken args : List (List ℕ)) → latch_faults taken args ≡ [] → repeats taken (latch_output args) ≡ []
+latch_output_free taken args h = by (is_latch args) h
+  where
+    by : (b : Bool) → (if b then driver_faults taken (latch_output args) else BadLatch ∷ []) ≡ [] → repeats taken (latch_output args) ≡ []
+    by true none = nil_from_map _ _ none
+    by false none = absurd cc
+
+-- where no undriven net is read, all that is read is driven
+all_driven : (drivers names : List (List ℕ)) → undriven drivers names ≡ [] → list_all (has_name drivers) names ≡ true
+all_driven drivers [] h = refl
+all_driven drivers (name ∷ names) h = by (has_name drivers name) h (λ rest. all_driven drivers names rest)
+  where
+    by : (b : Bool) → cond (not b) (name ∷ undriven drivers names) (undriven drivers names) ≡ [] → (undriven drivers names ≡ [] → list_all (has_name drivers) names ≡ true) → (b && list_all (has_name drivers) names) ≡ true
+    by true none rest = rest none
+    by false none rest = absurd cc
+
+pub reads_driven : (drivers : List (List ℕ)) (lines : List JoinedLine) → flat_map (undriven_faults drivers) lines ≡ [] → list_all (has_name drivers) (flat_map (λ (l : JoinedLine). reads_in (kind_of l) l.words) lines) ≡ true
+unfolding undriven_faults
+reads_driven drivers [] h = refl
+reads_driven drivers (line ∷ lines) h =
+    let reads : List (List ℕ) = reads_in (kind_of line) line.words in
+    let head : list_all (has_name drivers) reads ≡ true = all_driven drivers reads (nil_from_map _ _ (nil_from_map _ _ (nil_left _ _ h))) in
+    let tail = reads_driven drivers lines (nil_right _ _ h) in
+    list_all-append (has_name drivers) reads _ ∙ (λ i. head i && tail i)
+
+-- at the end no line reads an undriven net
+pub end_faultless : (declared : List (List ℕ)) (lines : List JoinedLine) → final_faults declared lines ≡ [] → flat_map (undriven_faults (driven (sights_of declared lines))) lines ≡ []
+unfolding final_faults
+end_faultless declared [] h = absurd cc
+end_faultless declared (line ∷ lines) h = h

@@ -1,0 +1,59 @@
+-- The circuit of lines without a fault is lawful.
+use Rattle.std.proofs.Common.{◌≡◌, ℕ, ◌+◌, ◌<◌, ◌≤◌, Bool, true, not, List, [], ◌++◌, length, map, get_or, arith}
+use Rattle.std.specs.List.{AllPass, flat_map, list_all}
+use Rattle.std.proofs.lemmas.List.Elements.{All-nil, All-append, All-filter}
+use Rattle.std.proofs.lemmas.List.Sums.{list_all-from_AllPass}
+use Rattle.line_text.specs.Lines.{JoinedLine}
+use Rattle.blif.specs.declared.circuit.Circuit.{Circuit}
+use Rattle.blif.specs.LookupTables.{LookupTable}
+use Rattle.blif.specs.Names.{has_name, number_of, with_names}
+use Rattle.blif.specs.LineNets.{reads_in}
+use Rattle.blif.specs.Sights.{Sights, kind_of, names_of, inputs_of, clocks_of, drives_of, outputs_of, sights_of, undeclared}
+use Rattle.blif.specs.BlifFaults.{net_limit}
+use Rattle.blif.specs.Circuits.{circuit_from, latches_in, parts_of, tables_in}
+use Rattle.blif.specs.CircuitOf.{final_faults, line_faults}
+use Rattle.blif.specs.LawfulCircuits.{IsCircuit, IsLatchDriven, IsLatchWithin, IsTableWithin, drivers_of, has_net}
+use Rattle.blif.proofs.Named.{all_named}
+use Rattle.blif.proofs.Counts.{count_of, different, numbers_counted}
+use Rattle.blif.proofs.Faultless.{end_faultless, kept_by_sights, reads_driven}
+use Rattle.blif.proofs.Drivers.{DrivenOnce, ShownOnce, drivers_counted, driven_once_after, shown_once_after, drives_named, is_among, is_once, latches_driven, numbers_driven, outputs_driven, tables_driven}
+use Rattle.blif.proofs.LawfulNets.{clocks_named, each_line, inputs_named, latches_within, names_pass, numbers_within, outputs_named, tables_within}
+
+-- the circuit of lines that name few nets is lawful
+pub is_circuit : (lut_size : ℕ) (declared : List (List ℕ)) (lines : List JoinedLine) → length (sights_of declared lines).nets ≤ net_limit → line_faults lut_size declared [] lines ≡ [] → final_faults declared lines ≡ [] → IsCircuit (circuit_from declared lines)
+unfolding circuit_from parts_of sights_of
+is_circuit lut_size declared lines few line_faultless faultless =
+    let sights : Sights = sights_of declared lines in
+    let nets : List (List ℕ) = with_names [] (flat_map names_of lines) in
+    let test : List ℕ → Bool = has_name nets in
+    let count : ℕ = length nets in
+    let named : list_all test (flat_map names_of lines) ≡ true = all_named [] (flat_map names_of lines) in
+    let inputs : AllPass test (flat_map inputs_of lines) = each_line test (λ name. test name ≡ true) names_of inputs_of (λ line. inputs_named nets (kind_of line) line.words) lines named in
+    let outputs : AllPass test (flat_map outputs_of lines) = each_line test (λ name. test name ≡ true) names_of outputs_of (λ line. outputs_named nets (kind_of line) line.words) lines named in
+    let clocks : AllPass test (flat_map clocks_of lines) = each_line test (λ name. test name ≡ true) names_of clocks_of (λ line. clocks_named nets (kind_of line) line.words) lines named in
+    let inner : AllPass test (undeclared declared (flat_map clocks_of lines)) = All-filter (λ name. not (has_name declared name)) (λ name. test name ≡ true) (flat_map clocks_of lines) clocks in
+    let clocks_are_nets : AllPass test sights.clocks = names_pass test [] (undeclared declared (flat_map clocks_of lines)) (All-nil _) inner in
+    let circuit : Circuit = circuit_from declared lines in
+    let all : List ℕ = drivers_of circuit in
+    let drives : AllPass test sights.drivers = each_line test (λ name. test name ≡ true) names_of drives_of (λ line. drives_named nets (kind_of line) line.words) lines named in
+    let counted : (n : ℕ) → count_of n all ≡ count_of n (map (number_of nets) sights.clocks) + count_of n (map (number_of nets) sights.drivers) = drivers_counted declared lines in
+    let is_driven : List ℕ → Bool = has_name (sights.clocks ++ sights.drivers) in
+    let among = is_among nets sights.clocks sights.drivers all counted in
+    let reads_of : JoinedLine → List (List ℕ) = λ line. reads_in (kind_of line) line.words in
+    let reads : list_all is_driven (flat_map reads_of lines) ≡ true = reads_driven (sights.clocks ++ sights.drivers) lines (end_faultless declared lines faultless) in
+    let once : DrivenOnce sights = kept_by_sights lut_size declared DrivenOnce (driven_once_after lut_size) lines (λ name. omega arith) line_faultless in
+    let shown : ShownOnce sights = kept_by_sights lut_size declared ShownOnce (shown_once_after lut_size) lines (λ name. omega arith) line_faultless in
+    record {
+      few = few;
+      inputs =
+          All-append (λ net. net < count) (map (number_of nets) (flat_map inputs_of lines)) _ (numbers_within nets _ inputs)
+          (numbers_within nets _ clocks_are_nets);
+      outputs = numbers_within nets _ outputs;
+      tables = each_line test (IsTableWithin count) names_of (λ (line : JoinedLine). tables_in nets line.number (kind_of line) line.words) (λ line. tables_within nets line.number (kind_of line) line.words) lines named;
+      latches = each_line test (IsLatchWithin count) names_of (λ (line : JoinedLine). latches_in nets line.number (kind_of line) line.words) (λ line. latches_within nets line.number (kind_of line) line.words) lines named;
+      driven_once = different all (is_once nets sights.clocks sights.drivers all counted (list_all-from_AllPass test sights.clocks clocks_are_nets) (list_all-from_AllPass test sights.drivers drives) once);
+      shown_once = different circuit.outputs (λ n. omega (arith, numbers_counted nets n sights.outputs (list_all-from_AllPass test sights.outputs outputs), shown (get_or nets n [])));
+      driven_outputs = numbers_driven nets all is_driven among _ (each_line is_driven (λ name. is_driven name ≡ true) reads_of outputs_of (λ line. outputs_driven nets all is_driven among (kind_of line) line.words) lines reads);
+      driven_tables = each_line is_driven (λ (table : LookupTable). AllPass (has_net all) table.inputs) reads_of (λ (line : JoinedLine). tables_in nets line.number (kind_of line) line.words) (λ line. tables_driven nets all is_driven among line.number (kind_of line) line.words) lines reads;
+      driven_latches = each_line is_driven (IsLatchDriven all) reads_of (λ (line : JoinedLine). latches_in nets line.number (kind_of line) line.words) (λ line. latches_driven nets all is_driven among line.number (kind_of line) line.words) lines reads;
+    }
