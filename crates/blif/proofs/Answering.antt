@@ -11,6 +11,7 @@ use Rattle.blif.specs.declared.fault.BlifFaultKind.TheVariants.{OverLimit}
 use Rattle.blif.specs.declared.fault.BlifError.{BlifError}
 use Rattle.blif.specs.declared.fault.BlifError.TheVariants.{Fault, NoMemory}
 use Rattle.blif.specs.Faults.{error_of_lines}
+use Rattle.blif.specs.LineOrder.{RisesFrom}
 use Rattle.blif.specs.Names.{first}
 use Rattle.blif.specs.Sights.{Sights, sights_of}
 use Rattle.blif.specs.Circuits.{circuit_from}
@@ -18,7 +19,7 @@ use Rattle.blif.specs.CircuitOf.{Fails, Gives, circuit_of, circuit_of_lines, cir
 use Rattle.blif.specs.BlifFaults.{net_limit}
 use Rattle.blif.proofs.Places.{first_append, first_append_none}
 use Rattle.blif.proofs.Faultless.{nil_from_first}
-use Rattle.blif.proofs.Lawful.{is_circuit}
+use Rattle.blif.proofs.Lawful.{is_circuit, is_narrow}
 
 -- what a checker says is declared
 pub declared_is : (checked : Sights) (declared : List (List ℕ)) (lines : List JoinedLine) → checked ≡ sights_of declared lines → checked.declared ≡ declared
@@ -26,7 +27,7 @@ unfolding sights_of
 declared_is checked declared lines sights = ap (λ s. let t : Sights = s in t.declared) sights
 
 -- a line's fault is the least
-pub gives_line_fault : (lut_size : ℕ) (lines : List JoinedLine) (declared : List (List ℕ)) (error : BlifError) → declared ≡ declared_in lines → Fails (first (line_faults lut_size declared [] lines)) error → Gives (circuit_of_lines lut_size lines) (Err error)
+pub gives_line_fault : (lut_size : ℕ) (lines : List JoinedLine) (declared : List (List ℕ)) (error : BlifError) → declared ≡ declared_in lines → Fails (first (line_faults lut_size declared [] lines)) error → Gives lut_size (circuit_of_lines lut_size lines) (Err error)
 unfolding circuit_of_lines
 gives_line_fault lut_size lines declared NoMemory is fails = tt
 gives_line_fault lut_size lines declared (Fault fault) is fails =
@@ -35,19 +36,20 @@ gives_line_fault lut_size lines declared (Fault fault) is fails =
     (ap (λ d. first (line_faults lut_size d [] lines)) (sym is) ∙ fails))
 
 -- without one the end decides
-pub gives_built : (lut_size : ℕ) (lines : List JoinedLine) (declared : List (List ℕ)) (result : Result Circuit BlifError) → length (sights_of declared lines).nets ≤ net_limit → declared ≡ declared_in lines → first (line_faults lut_size declared [] lines) ≡ None → MatchResult result (λ circuit. (first (final_faults declared lines) ≡ None) × (circuit ≡ circuit_from declared lines)) (Fails (first (final_faults declared lines))) → Gives (circuit_of_lines lut_size lines) result
+pub gives_built : (lut_size : ℕ) (lines : List JoinedLine) (declared : List (List ℕ)) (result : Result Circuit BlifError) → RisesFrom 1 lines → length (sights_of declared lines).nets ≤ net_limit → declared ≡ declared_in lines → first (line_faults lut_size declared [] lines) ≡ None → MatchResult result (λ circuit. (first (final_faults declared lines) ≡ None) × (circuit ≡ circuit_from declared lines)) (Fails (first (final_faults declared lines))) → Gives lut_size (circuit_of_lines lut_size lines) result
 unfolding circuit_of_lines
-gives_built lut_size lines declared (Err NoMemory) few is none built = tt
-gives_built lut_size lines declared (Err (Fault fault)) few is none built =
+gives_built lut_size lines declared (Err NoMemory) rises few is none built = tt
+gives_built lut_size lines declared (Err (Fault fault)) rises few is none built =
     ap (λ found. unless_fault found (circuit_from (declared_in lines) lines))
     (first_append_none (line_faults lut_size (declared_in lines) [] lines) (final_faults (declared_in lines) lines) (ap (λ d. first (line_faults lut_size d [] lines)) (sym is) ∙ none)
     ∙ ap (λ d. first (final_faults d lines)) (sym is) ∙ built)
-gives_built lut_size lines declared (Ok circuit) few is none built = (
+gives_built lut_size lines declared (Ok circuit) rises few is none built = (
   ap (λ found. unless_fault found (circuit_from (declared_in lines) lines))
       (first_append_none (line_faults lut_size (declared_in lines) [] lines) (final_faults (declared_in lines) lines) (ap (λ d. first (line_faults lut_size d [] lines)) (sym is) ∙ none)
       ∙ ap (λ d. first (final_faults d lines)) (sym is) ∙ built.0)
       ∙ ap Ok (ap (λ d. circuit_from d lines) (sym is) ∙ sym built.1),
-  rw built.1 (is_circuit lut_size declared lines few (nil_from_first _ none) (nil_from_first _ built.0)),
+  rw built.1 (is_circuit lut_size declared lines rises few (nil_from_first _ none) (nil_from_first _ built.0)),
+  rw built.1 (is_narrow lut_size declared lines (nil_from_first _ none)),
 )
 
 -- a text above the limit
@@ -63,6 +65,6 @@ circuit_of-short text lut_size read short is =
     ∙ ap (circuit_of_read lut_size) is
 
 -- a fault of lines is the least
-pub gives_error_of_lines : (text : List ℕ) (lut_size : ℕ) (error : LineError) → length text ≤ text_limit → LinesGive (lines_of text) (Err error) → Gives (circuit_of text lut_size) (Err (error_of_lines error))
+pub gives_error_of_lines : (text : List ℕ) (lut_size : ℕ) (error : LineError) → length text ≤ text_limit → LinesGive (lines_of text) (Err error) → Gives lut_size (circuit_of text lut_size) (Err (error_of_lines error))
 gives_error_of_lines text lut_size LineNoMemory short is = tt
 gives_error_of_lines text lut_size (LineFaultError fault) short is = circuit_of-short text lut_size (Err fault) short is

@@ -1,28 +1,31 @@
 -- The circuit of lines without a fault is lawful.
-use Rattle.std.proofs.Common.{◌≡◌, ℕ, ◌+◌, ◌<◌, ◌≤◌, Bool, true, not, List, [], ◌++◌, length, map, get_or, arith}
+use Rattle.std.proofs.Common.{◌≡◌, ℕ, ◌+◌, ◌<◌, ◌≤◌, Bool, true, not, All, List, [], ◌++◌, length, map, get_or, arith}
 use Rattle.std.specs.List.{AllPass, flat_map, list_all}
 use Rattle.std.proofs.lemmas.List.Elements.{All-nil, All-append, All-filter}
 use Rattle.std.proofs.lemmas.List.Sums.{list_all-from_AllPass}
 use Rattle.line_text.specs.Lines.{JoinedLine}
 use Rattle.blif.specs.declared.circuit.Circuit.{Circuit}
+use Rattle.blif.specs.declared.latches.Latch.{Latch as StoredLatch}
 use Rattle.blif.specs.LookupTables.{LookupTable}
 use Rattle.blif.specs.Names.{has_name, number_of, with_names}
 use Rattle.blif.specs.LineNets.{reads_in}
+use Rattle.blif.specs.LineOrder.{RisesFrom}
 use Rattle.blif.specs.Sights.{Sights, kind_of, names_of, inputs_of, clocks_of, drives_of, outputs_of, sights_of, undeclared}
 use Rattle.blif.specs.BlifFaults.{net_limit}
 use Rattle.blif.specs.Circuits.{circuit_from, latches_in, parts_of, tables_in}
 use Rattle.blif.specs.CircuitOf.{final_faults, line_faults}
-use Rattle.blif.specs.LawfulCircuits.{IsCircuit, IsLatchDriven, IsLatchWithin, IsTableWithin, drivers_of, has_net}
+use Rattle.blif.specs.LawfulCircuits.{IsCircuit, IsLatchDriven, IsLatchWithin, IsNarrow, IsTableWithin, drivers_of, has_net}
 use Rattle.blif.proofs.Named.{all_named}
 use Rattle.blif.proofs.Counts.{count_of, different, numbers_counted}
 use Rattle.blif.proofs.Faultless.{end_faultless, kept_by_sights, reads_driven}
 use Rattle.blif.proofs.Drivers.{DrivenOnce, ShownOnce, drivers_counted, driven_once_after, shown_once_after, drives_named, is_among, is_once, latches_driven, numbers_driven, outputs_driven, tables_driven}
 use Rattle.blif.proofs.LawfulNets.{clocks_named, each_line, inputs_named, latches_within, names_pass, numbers_within, outputs_named, tables_within}
+use Rattle.blif.proofs.LineParts.{all_narrow, apart, latches_at, one_part, rising, tables_at}
 
 -- the circuit of lines that name few nets is lawful
-pub is_circuit : (lut_size : ℕ) (declared : List (List ℕ)) (lines : List JoinedLine) → length (sights_of declared lines).nets ≤ net_limit → line_faults lut_size declared [] lines ≡ [] → final_faults declared lines ≡ [] → IsCircuit (circuit_from declared lines)
+pub is_circuit : (lut_size : ℕ) (declared : List (List ℕ)) (lines : List JoinedLine) → RisesFrom 1 lines → length (sights_of declared lines).nets ≤ net_limit → line_faults lut_size declared [] lines ≡ [] → final_faults declared lines ≡ [] → IsCircuit (circuit_from declared lines)
 unfolding circuit_from parts_of sights_of
-is_circuit lut_size declared lines few line_faultless faultless =
+is_circuit lut_size declared lines rises few line_faultless faultless =
     let sights : Sights = sights_of declared lines in
     let nets : List (List ℕ) = with_names [] (flat_map names_of lines) in
     let test : List ℕ → Bool = has_name nets in
@@ -43,17 +46,32 @@ is_circuit lut_size declared lines few line_faultless faultless =
     let reads : list_all is_driven (flat_map reads_of lines) ≡ true = reads_driven (sights.clocks ++ sights.drivers) lines (end_faultless declared lines faultless) in
     let once : DrivenOnce sights = kept_by_sights lut_size declared DrivenOnce (driven_once_after lut_size) lines (λ name. omega arith) line_faultless in
     let shown : ShownOnce sights = kept_by_sights lut_size declared ShownOnce (shown_once_after lut_size) lines (λ name. omega arith) line_faultless in
+    let tables : JoinedLine → List LookupTable = λ line. tables_in nets line.number (kind_of line) line.words in
+    let latches : JoinedLine → List StoredLatch = λ line. latches_in nets line.number (kind_of line) line.words in
+    let on_tables : (line : JoinedLine) → All (λ table. table.line ≡ line.number) (tables line) = λ line. tables_at nets line.number (kind_of line) line.words in
+    let on_latches : (line : JoinedLine) → All (λ latch. latch.line ≡ line.number) (latches line) = λ line. latches_at nets line.number (kind_of line) line.words in
+    let one : (line : JoinedLine) → length (tables line) + length (latches line) ≤ 1 = λ line. one_part nets line.number (kind_of line) line.words in
+    let few_tables : (line : JoinedLine) → length (tables line) ≤ 1 = λ line. omega (arith, one line) in
+    let few_latches : (line : JoinedLine) → length (latches line) ≤ 1 = λ line. omega (arith, one line) in
     record {
       few = few;
       inputs =
           All-append (λ net. net < count) (map (number_of nets) (flat_map inputs_of lines)) _ (numbers_within nets _ inputs)
           (numbers_within nets _ clocks_are_nets);
       outputs = numbers_within nets _ outputs;
-      tables = each_line test (IsTableWithin count) names_of (λ (line : JoinedLine). tables_in nets line.number (kind_of line) line.words) (λ line. tables_within nets line.number (kind_of line) line.words) lines named;
-      latches = each_line test (IsLatchWithin count) names_of (λ (line : JoinedLine). latches_in nets line.number (kind_of line) line.words) (λ line. latches_within nets line.number (kind_of line) line.words) lines named;
+      tables = each_line test (IsTableWithin count) names_of tables (λ line. tables_within nets line.number (kind_of line) line.words) lines named;
+      latches = each_line test (IsLatchWithin count) names_of latches (λ line. latches_within nets line.number (kind_of line) line.words) lines named;
       driven_once = different all (is_once nets sights.clocks sights.drivers all counted (list_all-from_AllPass test sights.clocks clocks_are_nets) (list_all-from_AllPass test sights.drivers drives) once);
       shown_once = different circuit.outputs (λ n. omega (arith, numbers_counted nets n sights.outputs (list_all-from_AllPass test sights.outputs outputs), shown (get_or nets n [])));
       driven_outputs = numbers_driven nets all is_driven among _ (each_line is_driven (λ name. is_driven name ≡ true) reads_of outputs_of (λ line. outputs_driven nets all is_driven among (kind_of line) line.words) lines reads);
-      driven_tables = each_line is_driven (λ (table : LookupTable). AllPass (has_net all) table.inputs) reads_of (λ (line : JoinedLine). tables_in nets line.number (kind_of line) line.words) (λ line. tables_driven nets all is_driven among line.number (kind_of line) line.words) lines reads;
-      driven_latches = each_line is_driven (IsLatchDriven all) reads_of (λ (line : JoinedLine). latches_in nets line.number (kind_of line) line.words) (λ line. latches_driven nets all is_driven among line.number (kind_of line) line.words) lines reads;
+      driven_tables = each_line is_driven (λ (table : LookupTable). AllPass (has_net all) table.inputs) reads_of tables (λ line. tables_driven nets all is_driven among line.number (kind_of line) line.words) lines reads;
+      driven_latches = each_line is_driven (IsLatchDriven all) reads_of latches (λ line. latches_driven nets all is_driven among line.number (kind_of line) line.words) lines reads;
+      tables_rise = rising tables (λ (table : LookupTable). table.line) on_tables few_tables 1 lines rises;
+      latches_rise = rising latches (λ (latch : StoredLatch). latch.line) on_latches few_latches 1 lines rises;
+      lines_apart = apart tables (λ (table : LookupTable). table.line) on_tables latches (λ (latch : StoredLatch). latch.line) on_latches one 1 lines rises;
     }
+
+-- and its tables are narrow
+pub is_narrow : (lut_size : ℕ) (declared : List (List ℕ)) (lines : List JoinedLine) → line_faults lut_size declared [] lines ≡ [] → IsNarrow lut_size (circuit_from declared lines)
+unfolding circuit_from parts_of
+is_narrow lut_size declared lines faultless = all_narrow (sights_of declared lines).nets lut_size declared lines faultless

@@ -7,9 +7,11 @@ mod Faultless
 mod Growing
 mod Lawful
 mod LawfulNets
+mod LineParts
 mod Named
 mod NetNumbers
 mod Places
+mod RisingLines
 mod Seen
 mod Sightings
 mod Words

@@ -15,7 +15,7 @@ use Rattle.blif.specs.LineNets.{reads_in}
 use Rattle.blif.specs.Sights.{sights_of, kind_of, is_end, inputs_of}
 use Rattle.blif.specs.BlifFaults.{driven, faults_in}
 use Rattle.blif.specs.Circuits.{circuit_from}
-use Rattle.blif.specs.LawfulCircuits.{IsCircuit}
+use Rattle.blif.specs.LawfulCircuits.{IsCircuit, IsNarrow}
 
 -- the lines before the end
 abbrev pub lines_to_end : List JoinedLine → List JoinedLine
@@ -82,8 +82,8 @@ abbrev pub Fails : Option BlifFault → BlifError → Type 0
 Fails found (Fault fault) = found ≡ Some fault
 Fails found NoMemory = ⊤
 
--- a reader of that text may answer this
-abbrev pub Gives : Result Circuit BlifFault → Result Circuit BlifError → Type 0
-Gives meant (Ok circuit) = (meant ≡ Ok circuit) × IsCircuit circuit
-Gives meant (Err (Fault fault)) = meant ≡ Err fault
-Gives meant (Err NoMemory) = ⊤
+-- a reader of a text that means this may answer that, for tables of at most so many inputs
+abbrev pub Gives : ℕ → Result Circuit BlifFault → Result Circuit BlifError → Type 0
+Gives lut_size meant (Ok circuit) = (meant ≡ Ok circuit) × IsCircuit circuit × IsNarrow lut_size circuit
+Gives lut_size meant (Err (Fault fault)) = meant ≡ Err fault
+Gives lut_size meant (Err NoMemory) = ⊤

@@ -31,7 +31,8 @@ pub record IsLatchDriven (drivers : List ℕ) (latch : Latch) : Type 0 where
   pub control : ForSome latch.control (λ net. has_net drivers net ≡ true)
 
 -- the circuit has at most 8,192 nets, and each number that it holds is that of a net; no net is driven twice, none is
--- shown twice, and each that is read is driven
+-- shown twice, and each that is read is driven; tables and latches stand in the order of their lines, none on a line of
+-- another
 pub record IsCircuit (circuit : Circuit) : Type 0 where
   pub few : length circuit.nets ≤ 8192
   pub inputs : All (λ net. net < length circuit.nets) circuit.inputs
@@ -43,3 +44,10 @@ pub record IsCircuit (circuit : Circuit) : Type 0 where
   pub driven_outputs : AllPass (has_net (drivers_of circuit)) circuit.outputs
   pub driven_tables : All (λ table. AllPass (has_net (drivers_of circuit)) table.inputs) circuit.tables
   pub driven_latches : All (IsLatchDriven (drivers_of circuit)) circuit.latches
+  pub tables_rise : AllPairs (λ table later. table.line < later.line) circuit.tables
+  pub latches_rise : AllPairs (λ latch later. latch.line < later.line) circuit.latches
+  pub lines_apart : All (λ table. All (λ latch. table.line ≢ latch.line) circuit.latches) circuit.tables
+
+-- each table has at most so many inputs
+abbrev pub IsNarrow : ℕ → Circuit → Type 0
+IsNarrow lut_size circuit = All (λ table. length table.inputs ≤ lut_size) circuit.tables

@@ -8,6 +8,7 @@ pub mod Keywords
 pub mod LatchLines
 pub mod LawfulCircuits
 pub mod LineNets
+pub mod LineOrder
 pub mod LookupTables
 pub mod Names
 pub mod Sights

@@ -2,6 +2,7 @@
 ghost use Rattle.std.specs.Prelude.{◌≡◌, ◌≤◌, ◌++◌, [], ◌∷◌, length, None, Some, IfOk, MatchResult, MatchOption};
 ghost use Rattle.std.specs.List.{flat_map};
 ghost use Rattle.blif.specs.Names.{first, with_names};
+ghost use Rattle.blif.specs.LineOrder.{RisesFrom};
 ghost use Rattle.blif.specs.Sights.{names_of, sights_of};
 ghost use Rattle.blif.specs.Circuits.{circuit_from, circuit_with, model_of, parts_of};
 ghost use Rattle.blif.specs.CircuitOf.{Fails, Gives, circuit_of, circuit_of_lines, declared_in, final_faults, line_faults, undriven_faults};
@@ -22,7 +23,7 @@ const TEXT_LIMIT: usize = 1_048_576;
 
 /// The circuit of a text whose tables have at most that many inputs, or its least fault.
 pub fn read_blif(alloc: Global, text: &[u8], lut_size: u32) -> Result<Circuit, BlifError>
-    ensures { Gives (circuit_of text.now lut_size) result }
+    ensures { Gives lut_size (circuit_of text.now lut_size) result }
 {
     if text.len() > TEXT_LIMIT {
         return Err(BlifError::Fault(BlifFault {
@@ -34,9 +35,10 @@ pub fn read_blif(alloc: Global, text: &[u8], lut_size: u32) -> Result<Circuit, B
     read_lines(alloc, &lines, lut_size)
 }
 
-/// The circuit of these lines, or their least fault.
+/// The circuit of these lines, whose numbers rise, or their least fault.
 fn read_lines(alloc: Global, lines: &Lines<'_>, lut_size: u32) -> Result<Circuit, BlifError>
-    ensures { Gives (circuit_of_lines lut_size lines.now) result }
+    requires { RisesFrom 1 lines.now }
+    ensures { Gives lut_size (circuit_of_lines lut_size lines.now) result }
 {
     let declared = declared_inputs(alloc, lines)?;
     let checker = check_lines(alloc, lines, lut_size, declared)?;

@@ -1,7 +1,11 @@
 use Rattle.std.proofs.Common.{Ok}
 use Rattle.std.proofs.lemmas.Result.{err_from_is_err_and}
 use Rattle.blif.proofs.Answering.{circuit_of-long, circuit_of-short, gives_error_of_lines}
+use Rattle.blif.proofs.RisingLines.{rises_in_text}
 use Rattle.blif.proofs.reader.read_blif.Goals as goal
+
+pub read_lines-requires : goal.read_lines-requires
+read_lines-requires c = rises_in_text c.args.text.now c.in_ok-lines.lines c.in_ok-lines.ensures
 
 pub returns-then-text-gt-TEXT_LIMIT : goal.returns-then-text-gt-TEXT_LIMIT
 returns-then-text-gt-TEXT_LIMIT c = circuit_of-long c.args.text.now c.args.lut_size c.if-text-gt-TEXT_LIMIT.true

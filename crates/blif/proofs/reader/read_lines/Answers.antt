@@ -20,4 +20,4 @@ pub returns : goal.returns
 returns c =
     let sights = c.in_ok-checker.ensures.1 in
     let same = declared_is c.in_ok-checker.checker c.in_ok-declared.declared c.args.lines.now sights in
-    gives_built c.args.lut_size c.args.lines.now c.in_ok-checker.checker.declared c.build.result (rw (same, ← sights) c.in_ok-checker.ensures.2) (same ∙ c.in_ok-declared.ensures) (ap (λ d. first (line_faults c.args.lut_size d [] c.args.lines.now)) same ∙ c.in_ok-checker.ensures.0) c.build.ensures
+    gives_built c.args.lut_size c.args.lines.now c.in_ok-checker.checker.declared c.build.result c.requires (rw (same, ← sights) c.in_ok-checker.ensures.2) (same ∙ c.in_ok-declared.ensures) (ap (λ d. first (line_faults c.args.lut_size d [] c.args.lines.now)) same ∙ c.in_ok-checker.ensures.0) c.build.ensures
