@@ -1,7 +1,11 @@
 -- The definition at small netlists.
 use Rattle.std.proofs.Common.{◌≡◌, ℕ, List, [], ◌∷◌, Some, Ok, Err, codes, refl}
+use Rattle.std.specs.Fmt.{digits}
+use Rattle.std.proofs.Math.Utf8.{encode}
 use Rattle.line_text.specs.Lines.{JoinedLine}
 use Rattle.blif.specs.declared.fault.BlifFaultKind.TheVariants.{MixedCover, TooWide, TwoDrivers, Undriven, NoModel}
+use Rattle.blif.specs.Faults.{printed_fault}
+use Rattle.blif.specs.LawfulCircuits.{drivers_of}
 use Rattle.blif.specs.Sights.{sights_of}
 use Rattle.blif.specs.Circuits.{parts_of, circuit_from}
 use Rattle.blif.specs.CircuitOf.{circuit_of_lines, declared_in, final_faults, line_faults, undriven_faults}
@@ -52,3 +56,12 @@ read_first = refl
 nothing : circuit_of_lines 2 [] ≡ Err (record { line = 0; kind = NoModel })
 unfolding circuit_of_lines line_faults final_faults undriven_faults declared_in sights_of parts_of circuit_from
 nothing = refl
+
+-- how a fault with a net is told
+told : printed_fault (record { line = 3; kind = Undriven (codes "z") }) ≡ codes "6 Undriven 3 z"
+unfolding digits encode
+told = refl
+
+-- the drivers of a circuit
+drivers : drivers_of (record { model = codes "t"; nets = codes "c" ∷ codes "d" ∷ codes "q" ∷ codes "f" ∷ []; inputs = 1 ∷ 0 ∷ []; outputs = []; tables = record { line = 5; inputs = 2 ∷ []; output = 3 } ∷ []; latches = record { line = 4; input = 1; output = 2; control = Some 0 } ∷ [] }) ≡ 1 ∷ 0 ∷ 3 ∷ 2 ∷ []
+drivers = refl

@@ -1,5 +1,6 @@
 -- How replies tell a fault.
-use Rattle.std.specs.Prelude.{ℕ, List, Option, None, Some, codes}
+use Rattle.std.specs.Prelude.{ℕ, List, [], ◌++◌, Option, None, Some, codes, encode_utf8_all}
+use Rattle.std.specs.Fmt.{decimal}
 use Rattle.line_text.specs.declared.fault.LineFault.{LineFault}
 use Rattle.line_text.specs.declared.fault.LineFault.TheVariants.{NotAscii as LineNotAscii, LineTooLong as LineLineTooLong}
 use Rattle.line_text.specs.declared.fault.LineError.{LineError}
@@ -54,6 +55,20 @@ net_of NoModel = None
 net_of OverLimit = None
 net_of NotAscii = None
 net_of LineTooLong = None
+
+-- a blank and the net, each byte as the character of its number, where there is a net
+abbrev pub printed_net : Option (List ℕ) → List ℕ
+printed_net None = []
+printed_net (Some net) = codes " " ++ encode_utf8_all net
+
+-- number, name, line, and the net where the fault names one, parted by blanks
+abbrev pub printed_fault : BlifFault → List ℕ
+printed_fault fault = decimal (number_of fault.kind) ++ codes " " ++ name_of fault.kind ++ codes " " ++ decimal fault.line ++ printed_net (net_of fault.kind)
+
+-- the fault, or that memory ran out
+abbrev pub printed_error : BlifError → List ℕ
+printed_error NoMemory = codes "memory"
+printed_error (Fault fault) = printed_fault fault
 
 -- a fault of lines as a fault of the netlist
 abbrev pub fault_of_lines : LineFault → BlifFault

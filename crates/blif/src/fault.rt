@@ -1,4 +1,5 @@
-ghost use Rattle.std.specs.Prelude.{◌≡◌};
+ghost use Rattle.std.specs.Prelude.{◌≡◌, ◌++◌, codes, encode_utf8_all};
+ghost use Rattle.std.specs.Fmt.{WritesOnOk};
 ghost use Rattle.std.specs.Option.{option_copied};
 ghost use Rattle.blif.specs.Faults.{name_of, net_of, number_of};
 
@@ -131,19 +132,32 @@ impl BlifFault {
 
 /// The number, the name, the line, and the net where the fault names one, parted by blanks.
 impl fmt::Display for BlifFault {
+    ghost use Rattle.std.specs.Prelude.{Some};
+    ghost use Rattle.blif.specs.Faults.{printed_fault};
+
+    ghost output = { λ fault. Some (printed_fault fault) };
+
     fn fmt<W: fmt::Write>(&self, f: &mut fmt::Formatter<W>) -> fmt::Result {
         let number = self.number();
         let name = self.name();
         let line = self.line;
         write!(f, "{number} {name} {line}")?;
-        if let Some(net) = self.net() {
-            f.write_char(' ')?;
-            for byte in net.as_bytes() {
-                f.write_char(char::from(*byte))?;
-            }
+        match self.net() {
+            None => Ok(()),
+            Some(net) => write_net(net.as_bytes(), f),
         }
-        Ok(())
     }
+}
+
+/// Writes a blank, and each byte of the net as the character of its number.
+fn write_net<W: fmt::Write>(net: &[u8], f: &mut fmt::Formatter<W>) -> fmt::Result
+    ensures { WritesOnOk W.write_str_gives f.old result (codes " " ++ encode_utf8_all net.now) f.new }
+{
+    f.write_char(' ')?;
+    for byte in net {
+        f.write_char(char::from(*byte))?;
+    }
+    Ok(())
 }
 
 impl Error for BlifFault {}
@@ -167,6 +181,11 @@ pub enum BlifError {
 }
 
 impl fmt::Display for BlifError {
+    ghost use Rattle.std.specs.Prelude.{Some};
+    ghost use Rattle.blif.specs.Faults.{printed_error};
+
+    ghost output = { λ error. Some (printed_error error) };
+
     fn fmt<W: fmt::Write>(&self, f: &mut fmt::Formatter<W>) -> fmt::Result {
         match self {
             BlifError::NoMemory => write!(f, "memory"),

@@ -1,0 +1,8 @@
+use Rattle.std.proofs.Common.{◌++◌, codes, take}
+use Rattle.std.specs.Prelude.{encode_utf8_all}
+use Rattle.std.specs.Fmt.{HasWritten, IsPlainFormatter}
+use Rattle.blif.proofs.fault.write_net.Given as goal
+
+-- the blank and the bytes so far are written
+abbrev pub invariant-loop-byte : goal.invariant-loop-byte
+invariant-loop-byte g l = IsPlainFormatter l.fn.f → HasWritten g.W.Write.write_str_gives l.fn.f (codes " " ++ encode_utf8_all (take l.byte-index l.net)) l.f
