@@ -1,0 +1,102 @@
+-- The definitions at small circuits.
+use Rattle.std.proofs.Common.{◌≡◌, ℕ, List, [], ◌∷◌, Option, Some, None, true, false, codes, refl}
+use Rattle.arch_file.specs.declared.arch.Arch.{Arch}
+use Rattle.arch_file.specs.declared.arch.PinClass.TheVariants.{Input, Output, Clock}
+use Rattle.blif.specs.declared.circuit.Circuit.{Circuit}
+use Rattle.cluster.specs.Bles.{bles_of}
+use Rattle.cluster.specs.Clusters.{packed_of, clusters_after, cluster_of, packing_steps, unfit_of}
+
+-- clusters of one table with two inputs
+abbrev small : Arch
+small = record {
+  io_rat = 2;
+  pins = record { class = Input; sides = record { top = false; bottom = true; left = false; right = false } }
+      ∷ record { class = Input; sides = record { top = false; bottom = false; left = true; right = false } }
+      ∷ record { class = Output; sides = record { top = true; bottom = false; left = false; right = false } }
+      ∷ record { class = Clock; sides = record { top = true; bottom = false; left = false; right = false } } ∷ [];
+  cluster_size = 1;
+  lut_size = 2;
+  tracks = 2;
+  fc_output = 2;
+  fc_input = 2;
+  fc_pad = 2;
+}
+
+-- and of two
+abbrev wide : Arch
+wide = record small { cluster_size = 2 }
+
+-- a table of a and a latch behind it, clocked by that net, with these outputs
+abbrev stored : Option ℕ → List ℕ → Circuit
+stored control outputs = record {
+  model = codes "r";
+  nets = codes "a" ∷ codes "c" ∷ codes "q" ∷ codes "f" ∷ [];
+  inputs = 0 ∷ 1 ∷ [];
+  outputs = outputs;
+  tables = record { line = 4; inputs = 0 ∷ []; output = 3 } ∷ [];
+  latches = record { line = 6; input = 3; output = 2; control = control } ∷ [];
+}
+
+-- read by the latch alone
+one_element : bles_of (stored (Some 1) (2 ∷ [])) ≡ record { inputs = 0 ∷ []; output = 2; clock = Some 1 } ∷ []
+unfolding bles_of
+one_element = refl
+
+-- read by the latch and an output
+two_elements : bles_of (stored (Some 1) (2 ∷ 3 ∷ [])) ≡ record { inputs = 0 ∷ []; output = 3; clock = None } ∷ record { inputs = 3 ∷ []; output = 2; clock = Some 1 } ∷ []
+unfolding bles_of
+two_elements = refl
+
+-- the latch is controlled by what it stores
+controlled_by_table : bles_of (stored (Some 3) (2 ∷ [])) ≡ record { inputs = 0 ∷ []; output = 3; clock = None } ∷ record { inputs = 3 ∷ []; output = 2; clock = Some 3 } ∷ []
+unfolding bles_of
+controlled_by_table = refl
+
+-- a table that reads its own output, and another net twice
+own_output : bles_of (record {
+  model = codes "r";
+  nets = codes "a" ∷ codes "q" ∷ codes "f" ∷ [];
+  inputs = 0 ∷ [];
+  outputs = 1 ∷ [];
+  tables = record { line = 4; inputs = 0 ∷ 2 ∷ 0 ∷ []; output = 2 } ∷ [];
+  latches = record { line = 6; input = 2; output = 1; control = None } ∷ [];
+})
+    ≡ record { inputs = 0 ∷ 2 ∷ []; output = 2; clock = None } ∷ record { inputs = 2 ∷ []; output = 1; clock = None } ∷ []
+unfolding bles_of
+own_output = refl
+
+-- a cluster each
+apart : (packed_of (stored (Some 1) (2 ∷ 3 ∷ [])) small).clusters ≡ (0 ∷ []) ∷ (1 ∷ []) ∷ []
+unfolding packed_of bles_of clusters_after cluster_of
+apart = refl
+
+-- two tables of which one reads the other
+abbrev chain : Circuit
+chain = record {
+  model = codes "n";
+  nets = codes "a" ∷ codes "b" ∷ codes "g" ∷ codes "f" ∷ [];
+  inputs = 0 ∷ 1 ∷ [];
+  outputs = 2 ∷ [];
+  tables = record { line = 4; inputs = 0 ∷ 1 ∷ []; output = 3 } ∷ record { line = 6; inputs = 3 ∷ []; output = 2 } ∷ [];
+  latches = [];
+}
+
+two_in_one : (packed_of chain wide).clusters ≡ (0 ∷ 1 ∷ []) ∷ []
+unfolding packed_of bles_of clusters_after cluster_of
+two_in_one = refl
+
+one_step : packing_steps chain wide ≡ 1
+unfolding packed_of bles_of clusters_after cluster_of
+one_step = refl
+
+-- three inputs, and two pins for them
+too_wide : unfit_of (record {
+  model = codes "m";
+  nets = codes "a" ∷ codes "b" ∷ codes "c" ∷ codes "f" ∷ [];
+  inputs = 0 ∷ 1 ∷ 2 ∷ [];
+  outputs = 3 ∷ [];
+  tables = record { line = 4; inputs = 0 ∷ 1 ∷ 2 ∷ []; output = 3 } ∷ [];
+  latches = [];
+}) small ≡ Some 0
+unfolding unfit_of bles_of
+too_wide = refl

@@ -1,0 +1,129 @@
+-- A packed circuit has few blocks, and its elements have nets of the circuit.
+use Rattle.std.proofs.Common.{◌≡◌, ◌≢◌, ℕ, suc, zero, ◌+◌, ◌^◌, ◌<◌, ◌≤◌, Bool, true, false, List, [], ◌∷◌, ◌++◌, Option, None, Some, All, filter, length, map, drop, if◌then◌else◌, refl, ap, subst, arith, length-append, ◌⊎◌, inl, inr, eqb}
+use Rattle.std.specs.List.{AllPairs, list_any, take_while, prefix_len, find}
+use Rattle.std.specs.Option.{ForSome}
+use Rattle.std.proofs.lemmas.Bool.Decides.{Decides-eqb, eqb_tells}
+use Rattle.std.proofs.lemmas.Map.Made.{IsDistinct-from_AllPairs}
+use Rattle.std.proofs.lemmas.Map.Steps.{length-le_from_distinct_below}
+use Rattle.std.proofs.lemmas.List.Elements.{All-nil, All-cons, All-head, All-tail, All-append, All-filter, All-map, All-drop, All-take, All-weaker}
+use Rattle.blif.specs.declared.circuit.Circuit.{Circuit}
+use Rattle.blif.specs.declared.latches.Latch.{Latch}
+use Rattle.blif.specs.LookupTables.{LookupTable}
+use Rattle.blif.specs.LawfulCircuits.{IsCircuit, IsLatchWithin, IsTableWithin, drivers_of}
+use Rattle.arch_file.specs.declared.arch.Arch.{Arch}
+use Rattle.cluster.specs.Nets.{has, with_net, with_nets}
+use Rattle.cluster.specs.Bles.{LogicElement, bles_of, element_of_latch, element_of_table, in_line_order, is_above, latch_behind, stands_alone, is_read_once}
+use Rattle.cluster.specs.Clusters.{PackedCircuit, clusters_after, cluster_of, free_of, with_cluster, packed_of}
+use Rattle.cluster.specs.ClusterPins.{IsElementWithin}
+use Rattle.cluster.specs.LawfulPackings.{IsPacked}
+use Rattle.cluster.proofs.Members.{within}
+
+-- what holds of all holds of one that is found
+found : (P : ℕ → Type 0) (numbers : List ℕ) → All P numbers → (number : ℕ) → list_any (eqb number) numbers ≡ true → P number
+found P [] h number e = absurd cc
+found P (other ∷ numbers) h number e = by (eqb_tells number other) (found P numbers (All-tail P other numbers h) number)
+  where
+    by : ((eqb number other ≡ true) × (number ≡ other)) ⊎ ((eqb number other ≡ false) × (number ≢ other)) → (list_any (eqb number) numbers ≡ true → P number) → P number
+    by (inl same) next = rw same.1 (h 0 number (omega arith))
+    by (inr differs) next = next (rw differs.0 at e)
+
+-- numbers below a bound, each once, are no more than the bound
+few_distinct : (numbers : List ℕ) (bound : ℕ) → AllPairs (λ number other. number ≢ other) numbers → All (λ number. number < bound) numbers → length numbers ≤ bound
+few_distinct numbers bound apart below = length-le_from_distinct_below numbers bound (IsDistinct-from_AllPairs Decides-eqb numbers apart) (found (λ number. number < bound) numbers below)
+
+-- each step makes one cluster at most
+one_more : (clusters : List (List ℕ)) (cluster : List ℕ) → length (with_cluster clusters cluster) ≤ length clusters + 1
+one_more clusters [] = omega arith
+one_more clusters (seed ∷ others) = omega (arith, length-append clusters ((seed ∷ others) ∷ []))
+
+few_clusters : (arch : Arch) (elements : List LogicElement) (steps : ℕ) → length (clusters_after arch elements steps) ≤ steps
+unfolding clusters_after
+few_clusters arch elements zero = omega arith
+few_clusters arch elements (suc steps) =
+    let before = few_clusters arch elements steps in
+    omega (arith, one_more (clusters_after arch elements steps) (cluster_of arch elements (free_of elements (clusters_after arch elements steps))))
+
+-- the blocks of a packed circuit
+pub few_blocks : (packed : PackedCircuit) → IsPacked packed → length packed.circuit.inputs + length packed.circuit.outputs + length packed.clusters < 2 ^ 32
+unfolding packed_of
+few_blocks packed lawful =
+    let circuit = packed.circuit in
+    let c = lawful.circuit in
+    let drivers = few_distinct (drivers_of circuit) (length circuit.nets) c.driven_once (within circuit c) in
+    let outputs = few_distinct circuit.outputs (length circuit.nets) c.shown_once c.outputs in
+    let inputs = length-append circuit.inputs (map (λ (table : LookupTable). table.output) circuit.tables ++ map (λ (latch : Latch). latch.output) circuit.latches) in
+    let clusters_are : length packed.clusters ≡ length (clusters_after packed.arch (bles_of circuit) (length (bles_of circuit))) = ap (λ (p : PackedCircuit). length p.clusters) lawful.exact in
+    let clusters = few_clusters packed.arch (bles_of circuit) (length (bles_of circuit)) in
+    omega (arith, drivers, outputs, inputs, clusters_are, clusters, c.few, lawful.few_elements)
+
+-- what holds of all holds of each once
+All-with_net : (P : ℕ → Type 0) (nets : List ℕ) (net : ℕ) → All P nets → P net → All P (with_net nets net)
+All-with_net P nets net all one = by (has nets net)
+  where
+    by : (b : Bool) → All P (if b then nets else nets ++ net ∷ [])
+    by true = all
+    by false = All-append P nets (net ∷ []) all (All-cons P net [] one (All-nil P))
+
+All-with_nets : (P : ℕ → Type 0) (nets others : List ℕ) → All P nets → All P others → All P (with_nets nets others)
+All-with_nets P nets [] all more = all
+All-with_nets P nets (other ∷ others) all more =
+    All-with_nets P (with_net nets other) others (All-with_net P nets other all (All-head P other others more)) (All-tail P other others more)
+
+-- what is found among lawful latches is lawful
+found_latch : (count : ℕ) (test : Latch → Bool) (latches : List Latch) → All (IsLatchWithin count) latches → ForSome (find test latches) (IsLatchWithin count)
+found_latch count test [] all = λ latch is. absurd cc
+found_latch count test (first ∷ latches) all = by (test first) (found_latch count test latches (All-tail (IsLatchWithin count) first latches all))
+  where
+    by : (b : Bool) → ForSome (find test latches) (IsLatchWithin count) → ForSome (if b then Some first else find test latches) (IsLatchWithin count)
+    by true rest = λ latch is. let same : first ≡ latch = cc in subst (IsLatchWithin count) same (All-head (IsLatchWithin count) first latches all)
+    by false rest = rest
+
+behind_lawful : (circuit : Circuit) (net : ℕ) → IsCircuit circuit → ForSome (latch_behind circuit net) (IsLatchWithin (length circuit.nets))
+behind_lawful circuit net c = by (is_read_once circuit net)
+  where
+    by : (b : Bool) → ForSome (if b then find (λ latch. eqb latch.input net) circuit.latches else None) (IsLatchWithin (length circuit.nets))
+    by true = found_latch (length circuit.nets) (λ latch. eqb latch.input net) circuit.latches c.latches
+    by false = λ latch is. absurd cc
+
+table_element : (count : ℕ) (table : LookupTable) (behind : Option Latch) → IsTableWithin count table → ForSome behind (IsLatchWithin count) → IsElementWithin count (element_of_table table behind)
+table_element count table None t b = record {
+  inputs = All-with_nets (λ net. net < count) [] table.inputs (All-nil (λ net. net < count)) t.inputs;
+  output = t.output;
+  clock = λ net is. absurd cc;
+}
+table_element count table (Some latch) t b = record {
+  inputs = All-with_nets (λ net. net < count) [] table.inputs (All-nil (λ net. net < count)) t.inputs;
+  output = (b latch refl).output;
+  clock = (b latch refl).control;
+}
+
+latch_element : (count : ℕ) (latch : Latch) → IsLatchWithin count latch → IsElementWithin count (element_of_latch latch)
+latch_element count latch l = record {
+  inputs = All-cons (λ net. net < count) latch.input [] l.input (All-nil (λ net. net < count));
+  output = l.output;
+  clock = l.control;
+}
+
+latch_elements : (count : ℕ) (latches : List Latch) → All (IsLatchWithin count) latches → All (IsElementWithin count) (map element_of_latch latches)
+latch_elements count latches all = All-map (IsElementWithin count) element_of_latch latches (All-weaker (IsLatchWithin count) (λ latch. IsElementWithin count (element_of_latch latch)) (latch_element count) latches all)
+
+module _ (circuit : Circuit) (lawful : IsCircuit circuit) where
+  abbrev nets : ℕ
+  nets = length circuit.nets
+
+  ordered : (tables : List LookupTable) (latches : List Latch) → All (IsTableWithin nets) tables → All (IsLatchWithin nets) latches → All (IsElementWithin nets) (in_line_order circuit tables latches)
+  ordered [] latches t l = latch_elements nets latches l
+  ordered (table ∷ tables) latches t l =
+      let P = IsElementWithin nets in
+      let early = take_while (is_above table.line) latches in
+      let late = drop (prefix_len (is_above table.line) latches) latches in
+      All-append P (map element_of_latch early) _
+      (latch_elements nets early (All-take (IsLatchWithin nets) (prefix_len (is_above table.line) latches) latches l))
+      (All-cons P (element_of_table table (latch_behind circuit table.output)) (in_line_order circuit tables late)
+      (table_element nets table (latch_behind circuit table.output) (All-head (IsTableWithin nets) table tables t) (behind_lawful circuit table.output lawful))
+      (ordered tables late (All-tail (IsTableWithin nets) table tables t) (All-drop (IsLatchWithin nets) (prefix_len (is_above table.line) latches) latches l)))
+
+  -- the elements of a circuit have nets of it
+  pub elements_within : All (IsElementWithin (length circuit.nets)) (bles_of circuit)
+  unfolding bles_of
+  elements_within = ordered circuit.tables (filter (stands_alone circuit) circuit.latches) lawful.tables (All-filter (stands_alone circuit) (IsLatchWithin nets) circuit.latches lawful.latches)

@@ -1,0 +1,27 @@
+-- Block nets whose readers stand in one list that grows.
+use Rattle.std.proofs.Common.{◌≡◌, ℕ, ◌≤◌, Bool, List, [], ◌∷◌, ◌++◌, length, map, refl, ap, ◌∙◌, arith}
+use Rattle.std.proofs.lemmas.List.{map_push}
+use Rattle.cluster.specs.declared.block_nets.NetSpan.{NetSpan}
+use Rattle.cluster.specs.Blocks.{BlockNet}
+use Rattle.cluster.specs.FlatNets.{net_at, AreNetsWithin}
+use Rattle.cluster.proofs.Growing.{part_of-append, part_of-added}
+
+-- the nets whose readers are parts of the list stay
+nets-append : (xs ys : List ℕ) (nets : List NetSpan) → AreNetsWithin (length xs) nets → map (net_at (xs ++ ys)) nets ≡ map (net_at xs) nets
+nets-append xs ys [] within = refl
+nets-append xs ys (net ∷ nets) within =
+    let head = ap (λ (readers : List ℕ). let n : BlockNet = record { net = net.net; driver = net.driver; readers = readers; global = net.global } in n) (part_of-append xs ys net.readers within.0.0 within.0.1) in
+    let tail = nets-append xs ys nets within.1 in
+    cc
+
+-- the nets with one more, whose readers were added to the list
+pub nets_push : (xs ys : List ℕ) (nets : List NetSpan) (net driver start end : ℕ) (global : Bool) → AreNetsWithin (length xs) nets → start ≡ length xs → end ≡ length (xs ++ ys) → map (net_at (xs ++ ys)) (nets ++ record { net = net; driver = driver; readers = record { start = start; end = end }; global = global } ∷ []) ≡ map (net_at xs) nets ++ record { net = net; driver = driver; readers = ys; global = global } ∷ []
+nets_push xs ys nets net driver start end global within starts ends =
+    map_push (net_at (xs ++ ys)) nets (record { net = net; driver = driver; readers = record { start = start; end = end }; global = global })
+    ∙ ap (λ (front : List BlockNet). front ++ net_at (xs ++ ys) (record { net = net; driver = driver; readers = record { start = start; end = end }; global = global }) ∷ []) (nets-append xs ys nets within)
+    ∙ ap (λ (readers : List ℕ). map (net_at xs) nets ++ record { net = net; driver = driver; readers = readers; global = global } ∷ []) (part_of-added xs ys start end starts ends)
+
+-- the readers stand among more
+pub nets_within_more : (count more : ℕ) (nets : List NetSpan) → count ≤ more → AreNetsWithin count nets → AreNetsWithin more nets
+nets_within_more count more [] h within = within
+nets_within_more count more (net ∷ nets) h within = ((within.0.0, let end = within.0.1 in omega arith), nets_within_more count more nets h within.1)

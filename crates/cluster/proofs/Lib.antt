@@ -1,0 +1,30 @@
+mod Counting
+mod FirstSights
+mod FlatElements
+mod Growing
+mod LineOrder
+pub mod Members
+pub mod Outside
+pub mod Steps
+mod Within
+mod Leading
+mod Marking
+mod Choosing
+mod Fitting
+mod Elements
+mod Going
+mod Unfit
+mod Parts
+mod CountingSort
+mod Marks
+mod NetLists
+mod ReaderLists
+mod FlatNets
+mod PinRanks
+mod NetLaws
+mod DrivenNets
+mod FewBlocks
+mod BlockLists
+mod TableLaws
+mod PackedLaws
+mod Examples

@@ -1,0 +1,131 @@
+-- What every packing keeps: clusters have members, and these are elements, of which there are few.
+use Rattle.std.proofs.Common.{◌≡◌, ◌≢◌, ℕ, suc, zero, ◌+◌, ◌<◌, ◌≤◌, Bool, true, false, List, [], ◌∷◌, ◌++◌, All, filter, length, map, drop, if◌then◌else◌, sym, refl, ◌∙◌, arith, nat_lt, length-append, ap, eqb, ◌⊎◌, inl, inr}
+use Rattle.std.proofs.lemmas.List.{length-map, take-append-drop}
+use Rattle.std.specs.List.{list_any, range_with_len, take_while, prefix_len}
+use Rattle.std.proofs.lemmas.Bool.Decides.{Decides-eqb, eqb_tells}
+use Rattle.std.proofs.lemmas.List.Sums.{length-filter, count_by-le-length}
+use Rattle.std.proofs.lemmas.Map.Made.{IsDistinct-from_AllPairs}
+use Rattle.std.proofs.lemmas.Map.Steps.{length-le_from_distinct_below}
+use Rattle.std.proofs.lemmas.List.Elements.{All-nil, All-cons, All-tail, All-append, All-filter, All-map}
+use Rattle.arch_file.specs.declared.arch.Arch.{Arch}
+use Rattle.arch_file.specs.Arch.{IsArch}
+use Rattle.blif.specs.declared.circuit.Circuit.{Circuit}
+use Rattle.blif.specs.declared.latches.Latch.{Latch}
+use Rattle.blif.specs.LookupTables.{LookupTable}
+use Rattle.blif.specs.LawfulCircuits.{IsCircuit, drivers_of}
+use Rattle.cluster.specs.Bles.{LogicElement, bles_of, element_of_latch, element_of_table, in_line_order, is_above, latch_behind, stands_alone}
+use Rattle.cluster.specs.Clusters.{cluster_of, clusters_after, first_most, free_of, grown, input_count_at, leading, may_join, packed_of, seed_of, shared_nets, with_cluster, with_member}
+use Rattle.cluster.specs.Packing.{IsPacked}
+
+-- what is chosen among lawful numbers is lawful
+pub leading_lawful : (P : ℕ → Type 0) (score : ℕ → ℕ) (best : ℕ) (numbers : List ℕ) → P best → All P numbers → P (leading score best numbers)
+leading_lawful P score best [] b h = b
+leading_lawful P score best (number ∷ numbers) b h = leading_lawful P score (if nat_lt (score best) (score number) then number else best) numbers (by (nat_lt (score best) (score number))) (All-tail P number numbers h)
+  where
+    by : (test : Bool) → P (if test then number else best)
+    by true = h 0 number (omega arith)
+    by false = b
+
+with_lawful : (P : ℕ → Type 0) (score : ℕ → ℕ) (members numbers : List ℕ) → All P members → All P numbers → All P (with_member members (first_most score numbers))
+with_lawful P score members [] h k = h
+with_lawful P score members (number ∷ numbers) h k = All-append P members _ h (All-cons P _ [] (leading_lawful P score number numbers (k 0 number (omega arith)) (All-tail P number numbers k)) (All-nil P))
+
+module _ (arch : Arch) (elements : List LogicElement) where
+  -- an element's number
+  abbrev IsElement : ℕ → Type 0
+  IsElement number = number < length elements
+
+  grown_lawful : (free seed : List ℕ) (additions : ℕ) → All IsElement free → All IsElement seed → All IsElement (grown arch elements free seed additions)
+  grown_lawful free seed zero f s = s
+  grown_lawful free seed (suc additions) f s =
+      let g = grown_lawful free seed additions f s in
+      let members = grown arch elements free seed additions in
+      with_lawful IsElement (shared_nets elements members) members (filter (may_join arch elements members) free) g (All-filter (may_join arch elements members) IsElement free f)
+
+  cluster_lawful : (free : List ℕ) → All IsElement free → All IsElement (cluster_of arch elements free)
+  unfolding cluster_of
+  cluster_lawful free f = grown_lawful free (seed_of elements free) arch.cluster_size f (with_lawful IsElement (input_count_at elements) [] free (All-nil IsElement) f)
+
+  ranged : (start count bound : ℕ) → start + count ≤ bound → All (λ number. number < bound) (range_with_len start count)
+  ranged start zero bound h = All-nil _
+  ranged start (suc count) bound h = All-cons (λ number. number < bound) start _ (omega (arith, h)) (ranged (start + 1) count bound (omega (arith, h)))
+
+  free_lawful : (clusters : List (List ℕ)) → All IsElement (free_of elements clusters)
+  free_lawful clusters = All-filter _ IsElement (range_with_len 0 (length elements)) (ranged 0 (length elements) (length elements) (omega arith))
+
+  -- a lawful cluster
+  abbrev IsClusterOf : List ℕ → Type 0
+  IsClusterOf cluster = All IsElement cluster
+
+  with_one : (clusters : List (List ℕ)) (cluster : List ℕ) → All IsClusterOf clusters → IsClusterOf cluster → All IsClusterOf (with_cluster clusters cluster)
+  with_one clusters [] h k = h
+  with_one clusters (seed ∷ others) h k = All-append IsClusterOf clusters _ h (All-cons IsClusterOf (seed ∷ others) [] k (All-nil IsClusterOf))
+
+  seeded_one : (clusters : List (List ℕ)) (cluster : List ℕ) → All (λ c. 0 < length c) clusters → All (λ c. 0 < length c) (with_cluster clusters cluster)
+  seeded_one clusters [] h = h
+  seeded_one clusters (seed ∷ others) h = All-append (λ c. 0 < length c) clusters _ h (All-cons (λ c. 0 < length c) (seed ∷ others) [] (omega arith) (All-nil _))
+
+  -- the members of clusters are elements
+  pub all_members : (steps : ℕ) → All (λ cluster. All (λ number. number < length elements) cluster) (clusters_after arch elements steps)
+  unfolding clusters_after
+  all_members zero = All-nil _
+  all_members (suc steps) = with_one (clusters_after arch elements steps) (cluster_of arch elements (free_of elements (clusters_after arch elements steps))) (all_members steps) (cluster_lawful (free_of elements (clusters_after arch elements steps)) (free_lawful (clusters_after arch elements steps)))
+
+  -- each cluster has a seed
+  pub all_seeded : (steps : ℕ) → All (λ cluster. 0 < length cluster) (clusters_after arch elements steps)
+  unfolding clusters_after
+  all_seeded zero = All-nil _
+  all_seeded (suc steps) = seeded_one (clusters_after arch elements steps) (cluster_of arch elements (free_of elements (clusters_after arch elements steps))) (all_seeded steps)
+
+-- what holds of all holds of one that is found
+found : (P : ℕ → Type 0) (numbers : List ℕ) → All P numbers → (number : ℕ) → list_any (eqb number) numbers ≡ true → P number
+found P [] h number e = absurd cc
+found P (other ∷ numbers) h number e = by (eqb_tells number other) (found P numbers (All-tail P other numbers h) number)
+  where
+    by : ((eqb number other ≡ true) × (number ≡ other)) ⊎ ((eqb number other ≡ false) × (number ≢ other)) → (list_any (eqb number) numbers ≡ true → P number) → P number
+    by (inl same) next = rw same.1 (h 0 number (omega arith))
+    by (inr differs) next = next (rw differs.0 at e)
+
+-- at most as many elements as tables and latches
+module _ (circuit : Circuit) where
+  kept_few : (latches : List Latch) → length (filter (stands_alone circuit) latches) ≤ length latches
+  kept_few latches = omega (arith, length-filter (stands_alone circuit) latches, count_by-le-length (stands_alone circuit) latches)
+
+  in_order_few : (tables : List LookupTable) (latches : List Latch) → length (in_line_order circuit tables latches) ≡ length tables + length latches
+  in_order_few [] latches = omega (arith, length-map latches element_of_latch)
+  in_order_few (table ∷ tables) latches =
+      let early = take_while (is_above table.line) latches in
+      let late = drop (prefix_len (is_above table.line) latches) latches in
+      let rest = in_line_order circuit tables late in
+      let whole = length-append (map element_of_latch early) (element_of_table table (latch_behind circuit table.output) ∷ rest) in
+      let parts : length early + length late ≡ length latches = sym (length-append early late) ∙ ap length (take-append-drop (prefix_len (is_above table.line) latches) latches) in
+      omega (arith, whole, length-map early element_of_latch, in_order_few tables late, parts)
+
+  pub within : IsCircuit circuit → All (λ net. net < length circuit.nets) (drivers_of circuit)
+  within c =
+      All-append (λ net. net < length circuit.nets) circuit.inputs _ c.inputs
+      (All-append (λ net. net < length circuit.nets) (map (λ table. table.output) circuit.tables) _
+      (All-map (λ net. net < length circuit.nets) (λ table. table.output) circuit.tables (λ k d small. (c.tables k d small).output))
+      (All-map (λ net. net < length circuit.nets) (λ latch. latch.output) circuit.latches (λ k d small. (c.latches k d small).output)))
+
+  pub few_bles : IsCircuit circuit → length (bles_of circuit) ≤ 8192
+  unfolding bles_of
+  few_bles c =
+      let kept = filter (stands_alone circuit) circuit.latches in
+      let distinct = IsDistinct-from_AllPairs Decides-eqb (drivers_of circuit) c.driven_once in
+      let few = length-le_from_distinct_below (drivers_of circuit) (length circuit.nets) distinct (found (λ net. net < length circuit.nets) (drivers_of circuit) (within c)) in
+      let sums = length-append circuit.inputs (map (λ table. table.output) circuit.tables ++ map (λ latch. latch.output) circuit.latches) in
+      let more = length-append (map (λ table. table.output) circuit.tables) (map (λ latch. latch.output) circuit.latches) in
+      omega (arith, in_order_few circuit.tables kept, kept_few circuit.latches, few, c.few, sums, more, length-map circuit.tables (λ table. table.output), length-map circuit.latches (λ latch. latch.output))
+
+-- the packing of a lawful circuit keeps all of it
+pub packed_lawful : (circuit : Circuit) (arch : Arch) → IsCircuit circuit → IsArch arch → IsPacked (packed_of circuit arch)
+unfolding packed_of
+packed_lawful circuit arch c a = record {
+  circuit = c;
+  arch = a;
+  members = all_members arch (bles_of circuit) (length (bles_of circuit));
+  seeds = all_seeded arch (bles_of circuit) (length (bles_of circuit));
+  few_elements = few_bles circuit c;
+  exact = refl;
+}

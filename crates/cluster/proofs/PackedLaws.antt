@@ -1,0 +1,139 @@
+-- What a packed circuit tells of its blocks and pins.
+use Rattle.std.proofs.Common.{◌≡◌, refl, sym, ap, ◌∙◌, ℕ, ◌+◌, ◌-◌, ◌<◌, ◌≤◌, Bool, true, false, Option, Some, None, List, [], ◌++◌, if◌then◌else◌, length, get_or, map, slice_get, slice_index, arith, length-append}
+use Rattle.std.specs.List.{range_with_len, enumerate_from}
+use Rattle.std.specs.Option.{option_flatten}
+use Rattle.std.proofs.lemmas.List.{length-map, get_or-map, get_or_append_left, get_or-append_right}
+use Rattle.std.proofs.lemmas.List.FromFn.{length-enumerate_from, get_or-enumerate_from, length-range_with_len, get_or-range_with_len}
+use Rattle.std.proofs.lemmas.Option.{slice_get-get_or, get_or_from_slice_get}
+use Rattle.arch_file.specs.declared.arch.Pin.{Pin}
+use Rattle.arch_file.specs.declared.arch.PinClass.{PinClass}
+use Rattle.arch_file.specs.declared.arch.PinClass.TheVariants.{Input, Clock}
+use Rattle.cluster.specs.declared.packed_tables.PackedTables.{PackedTables}
+use Rattle.cluster.specs.declared.block.Block.{Block}
+use Rattle.cluster.specs.declared.block.Block.TheVariants.{InputPad, OutputPad, Cluster}
+use Rattle.cluster.specs.Bles.{LogicElement, bles_of, element_at}
+use Rattle.cluster.specs.Clusters.{PackedCircuit, elements_at, outputs_of, outside_inputs, clocks_of}
+use Rattle.cluster.specs.PackedTables.{AreTablesOf}
+use Rattle.cluster.specs.Blocks.{blocks_of, carried, cluster_block, if_leaving, leaves_block, nets_of_cluster, pins_of, rank_of}
+use Rattle.cluster.specs.ClusterPins.{pin_ranks}
+
+-- how many blocks there are
+pub length-blocks_of : (packed : PackedCircuit) → length (blocks_of packed) ≡ length packed.circuit.inputs + length packed.circuit.outputs + length packed.clusters
+length-blocks_of packed =
+    let inputs = map InputPad packed.circuit.inputs in
+    let outputs = map OutputPad packed.circuit.outputs in
+    let numbers = range_with_len 0 (length packed.clusters) in
+    omega (arith, length-append (inputs ++ outputs) (map Cluster numbers), length-append inputs outputs, length-map packed.circuit.inputs InputPad, length-map packed.circuit.outputs OutputPad, length-map numbers Cluster, length-range_with_len 0 (length packed.clusters))
+
+-- the blocks of each kind
+pub input_pad_at : (packed : PackedCircuit) (number : ℕ) → number < length packed.circuit.inputs → slice_get (blocks_of packed) number ≡ Some (InputPad (slice_index packed.circuit.inputs number))
+input_pad_at packed number h =
+    let none = InputPad 0 in
+    let inputs = map InputPad packed.circuit.inputs in
+    let outputs = map OutputPad packed.circuit.outputs in
+    let clusters = map Cluster (range_with_len 0 (length packed.clusters)) in
+    let pads : number < length (inputs ++ outputs) = omega (arith, length-append inputs outputs, length-map packed.circuit.inputs InputPad) in
+    slice_get-get_or (blocks_of packed) number none (omega (arith, length-blocks_of packed))
+    ∙ ap (λ (block : Block). Some block) (get_or_append_left (inputs ++ outputs) clusters none number pads ∙ get_or_append_left inputs outputs none number (omega (arith, length-map packed.circuit.inputs InputPad)) ∙ get_or-map InputPad packed.circuit.inputs number 0 none h)
+
+pub output_pad_at : (packed : PackedCircuit) (number : ℕ) → length packed.circuit.inputs ≤ number → number - length packed.circuit.inputs < length packed.circuit.outputs → slice_get (blocks_of packed) number ≡ Some (OutputPad (slice_index packed.circuit.outputs (number - length packed.circuit.inputs)))
+output_pad_at packed number past h =
+    let none = InputPad 0 in
+    let inputs = map InputPad packed.circuit.inputs in
+    let outputs = map OutputPad packed.circuit.outputs in
+    let clusters = map Cluster (range_with_len 0 (length packed.clusters)) in
+    let pads : number < length (inputs ++ outputs) = omega (arith, length-append inputs outputs, length-map packed.circuit.inputs InputPad, length-map packed.circuit.outputs OutputPad) in
+    slice_get-get_or (blocks_of packed) number none (omega (arith, length-blocks_of packed))
+    ∙ ap (λ (block : Block). Some block) (get_or_append_left (inputs ++ outputs) clusters none number pads ∙ get_or-append_right inputs outputs (length packed.circuit.inputs) number none (length-map packed.circuit.inputs InputPad) past ∙ get_or-map OutputPad packed.circuit.outputs (number - length packed.circuit.inputs) 0 none h)
+
+pub cluster_at : (packed : PackedCircuit) (number : ℕ) → number < length (blocks_of packed) → length packed.circuit.inputs ≤ number → length packed.circuit.outputs ≤ number - length packed.circuit.inputs → slice_get (blocks_of packed) number ≡ Some (Cluster (number - length packed.circuit.inputs - length packed.circuit.outputs))
+cluster_at packed number within past_inputs past_outputs =
+    let none = InputPad 0 in
+    let inputs = map InputPad packed.circuit.inputs in
+    let outputs = map OutputPad packed.circuit.outputs in
+    let numbers = range_with_len 0 (length packed.clusters) in
+    let pads = length packed.circuit.inputs + length packed.circuit.outputs in
+    let pads_are : length (inputs ++ outputs) ≡ pads = omega (arith, length-append inputs outputs, length-map packed.circuit.inputs InputPad, length-map packed.circuit.outputs OutputPad) in
+    let here : number - pads < length packed.clusters = omega (arith, length-blocks_of packed) in
+    slice_get-get_or (blocks_of packed) number none within
+    ∙ ap (λ (block : Block). Some block) (get_or-append_right (inputs ++ outputs) (map Cluster numbers) pads number none pads_are (omega arith)
+    ∙ get_or-map Cluster numbers (number - pads) 0 none (omega (arith, length-range_with_len 0 (length packed.clusters)))
+    ∙ ap Cluster (get_or-range_with_len 0 (length packed.clusters) (number - pads) 0 here ∙ omega arith))
+
+-- what a pin carries
+pub pin_at : (packed : PackedCircuit) (cluster pin rank : ℕ) (class : PinClass) (ranks : List ℕ) (d : Pin) (net : Option ℕ) → pin < length packed.arch.pins → (get_or packed.arch.pins pin d).class ≡ class → ranks ≡ pin_ranks packed.arch.pins → rank ≡ get_or ranks pin rank → net ≡ carried (nets_of_cluster packed cluster) class rank → slice_get (pins_of packed cluster) pin ≡ Some net
+pin_at packed cluster pin rank class ranks d net h is ranks_are read net_is =
+    let pins = packed.arch.pins in
+    let first : ℕ × Pin = (0, d) in
+    let f : ℕ × Pin → Option ℕ = λ pin. carried (nets_of_cluster packed cluster) pin.1.class (rank_of pins pin.0 pin.1.class) in
+    let g : ℕ × Pin → ℕ = λ pin. rank_of pins pin.0 pin.1.class in
+    let numbered : pin < length (enumerate_from 0 pins) = omega (arith, length-enumerate_from 0 pins) in
+    let here : get_or (enumerate_from 0 pins) pin first ≡ (pin, get_or pins pin d) = get_or-enumerate_from 0 pins pin first h ∙ ap (λ (n : ℕ). let p : ℕ × Pin = (n, get_or pins pin d) in p) (omega arith) in
+    let rank_is : rank ≡ rank_of pins pin class = read ∙ ap (λ (ranks : List ℕ). get_or ranks pin rank) ranks_are ∙ get_or-map g (enumerate_from 0 pins) pin first rank numbered ∙ ap g here ∙ ap (rank_of pins pin) is in
+    let carries : f (pin, get_or pins pin d) ≡ net = ap (λ (class : PinClass). carried (nets_of_cluster packed cluster) class (rank_of pins pin class)) is ∙ ap (carried (nets_of_cluster packed cluster) class) (sym rank_is) ∙ sym net_is in
+    slice_get-get_or (pins_of packed cluster) pin None (omega (arith, length-map (enumerate_from 0 pins) f, length-enumerate_from 0 pins))
+    ∙ ap (λ (net : Option ℕ). Some net) (get_or-map f (enumerate_from 0 pins) pin first None numbered ∙ ap f here ∙ carries)
+
+-- as many ranks as pins
+pub length-pin_ranks : (pins : List Pin) → length (pin_ranks pins) ≡ length pins
+length-pin_ranks pins = length-map (enumerate_from 0 pins) (λ (pin : ℕ × Pin). rank_of pins pin.0 pin.1.class) ∙ length-enumerate_from 0 pins
+
+-- the row of a cluster
+pub row_at : (f : List ℕ → List ℕ) (clusters rows : List (List ℕ)) (cluster : ℕ) (row : List ℕ) → cluster < length clusters → rows ≡ map f clusters → slice_get rows cluster ≡ Some row → row ≡ f (get_or clusters cluster [])
+row_at f clusters rows cluster row h are found =
+    sym (get_or_from_slice_get rows cluster row [] found) ∙ ap (λ (rows : List (List ℕ)). get_or rows cluster []) are ∙ get_or-map f clusters cluster [] [] h
+
+-- what an output pin carries
+output_at : (packed : PackedCircuit) (cluster place : ℕ) → place < length (get_or packed.clusters cluster []) → option_flatten (slice_get (nets_of_cluster packed cluster).outputs place) ≡ if_leaving packed (cluster_block packed cluster) (element_at (bles_of packed.circuit) (get_or (get_or packed.clusters cluster []) place 0)).output
+output_at packed cluster place h =
+    let members = get_or packed.clusters cluster [] in
+    let elements = elements_at (bles_of packed.circuit) members in
+    let none : LogicElement = record { inputs = []; output = 0; clock = None } in
+    let f = if_leaving packed (cluster_block packed cluster) in
+    let among : place < length elements = omega (arith, length-map members (element_at (bles_of packed.circuit))) in
+    let outputs : place < length (outputs_of elements) = omega (arith, length-map elements (λ (element : LogicElement). element.output)) in
+    ap option_flatten (slice_get-get_or (map f (outputs_of elements)) place None (omega (arith, length-map (outputs_of elements) f)))
+    ∙ get_or-map f (outputs_of elements) place 0 None outputs
+    ∙ ap f (get_or-map (λ (element : LogicElement). element.output) elements place none 0 among ∙ ap (λ (element : LogicElement). element.output) (get_or-map (element_at (bles_of packed.circuit)) members place 0 none h))
+
+if_leaves : (packed : PackedCircuit) (block net : ℕ) → leaves_block packed block net ≡ true → if_leaving packed block net ≡ Some net
+if_leaves packed block net is = by (leaves_block packed block net) is
+  where
+    by : (b : Bool) → b ≡ true → (if b then Some net else None) ≡ Some net
+    by true e = refl
+    by false e = absurd cc
+
+if_stays : (packed : PackedCircuit) (block net : ℕ) → leaves_block packed block net ≡ false → if_leaving packed block net ≡ None
+if_stays packed block net is = by (leaves_block packed block net) is
+  where
+    by : (b : Bool) → b ≡ false → (if b then Some net else None) ≡ None
+    by true e = absurd cc
+    by false e = refl
+
+-- the output of the element at a place
+pub output_of_member : (packed : PackedCircuit) (elements : List LogicElement) (cluster place : ℕ) (members : List ℕ) (element : LogicElement) → elements ≡ bles_of packed.circuit → slice_get packed.clusters cluster ≡ Some members → place < length members → slice_get elements (get_or members place 0) ≡ Some element → option_flatten (slice_get (nets_of_cluster packed cluster).outputs place) ≡ if_leaving packed (cluster_block packed cluster) element.output
+output_of_member packed elements cluster place members element elements_are found h read =
+    let none : LogicElement = record { inputs = []; output = 0; clock = None } in
+    let at : get_or packed.clusters cluster [] ≡ members = get_or_from_slice_get packed.clusters cluster members [] found in
+    let within : place < length (get_or packed.clusters cluster []) = omega (arith, ap (λ (members : List ℕ). length members) at) in
+    let is : element_at (bles_of packed.circuit) (get_or members place 0) ≡ element = ap (λ (elements : List LogicElement). element_at elements (get_or members place 0)) (sym elements_are) ∙ get_or_from_slice_get elements (get_or members place 0) element none read in
+    output_at packed cluster place within
+    ∙ ap (λ (members : List ℕ). if_leaving packed (cluster_block packed cluster) (element_at (bles_of packed.circuit) (get_or members place 0)).output) at
+    ∙ ap (λ (element : LogicElement). if_leaving packed (cluster_block packed cluster) element.output) is
+
+pub output_leaves : (packed : PackedCircuit) (elements : List LogicElement) (cluster place : ℕ) (members : List ℕ) (element : LogicElement) → elements ≡ bles_of packed.circuit → slice_get packed.clusters cluster ≡ Some members → place < length members → slice_get elements (get_or members place 0) ≡ Some element → leaves_block packed (cluster_block packed cluster) element.output ≡ true → Some element.output ≡ option_flatten (slice_get (nets_of_cluster packed cluster).outputs place)
+output_leaves packed elements cluster place members element elements_are found h read leaves =
+    sym (output_of_member packed elements cluster place members element elements_are found h read ∙ if_leaves packed (cluster_block packed cluster) element.output leaves)
+
+pub output_stays : (packed : PackedCircuit) (elements : List LogicElement) (cluster place : ℕ) (members : List ℕ) (element : LogicElement) → elements ≡ bles_of packed.circuit → slice_get packed.clusters cluster ≡ Some members → place < length members → slice_get elements (get_or members place 0) ≡ Some element → leaves_block packed (cluster_block packed cluster) element.output ≡ false → None ≡ option_flatten (slice_get (nets_of_cluster packed cluster).outputs place)
+output_stays packed elements cluster place members element elements_are found h read stays =
+    sym (output_of_member packed elements cluster place members element elements_are found h read ∙ if_stays packed (cluster_block packed cluster) element.output stays)
+
+-- what an input pin and the clock pin carry
+pub input_entry : (packed : PackedCircuit) (tables : PackedTables) (cluster rank : ℕ) (row : List ℕ) → cluster < length packed.clusters → AreTablesOf packed tables → slice_get tables.inputs cluster ≡ Some row → slice_get row rank ≡ carried (nets_of_cluster packed cluster) Input rank
+input_entry packed tables cluster rank row h kept found =
+    ap (λ (row : List ℕ). slice_get row rank) (row_at (λ members. outside_inputs (elements_at (bles_of packed.circuit) members)) packed.clusters tables.inputs cluster row h kept.inputs found)
+
+pub clock_entry : (packed : PackedCircuit) (tables : PackedTables) (cluster rank : ℕ) (row : List ℕ) → cluster < length packed.clusters → AreTablesOf packed tables → slice_get tables.clocks cluster ≡ Some row → slice_get row rank ≡ carried (nets_of_cluster packed cluster) Clock rank
+clock_entry packed tables cluster rank row h kept found =
+    ap (λ (row : List ℕ). slice_get row rank) (row_at (λ members. clocks_of (elements_at (bles_of packed.circuit) members)) packed.clusters tables.clocks cluster row h kept.clocks found)

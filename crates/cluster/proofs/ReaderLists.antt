@@ -1,0 +1,125 @@
+-- Which blocks read which nets, gathered cluster by cluster.
+use Rattle.std.proofs.Common.{◌≡◌, refl, sym, ap, subst, ◌∙◌, ℕ, zero, suc, ◌+◌, ◌<◌, ◌==◌, Bool, true, false, not, cond, eqb, if◌then◌else◌, List, [], ◌∷◌, ◌++◌, All, length, take, get_or, map, filter, slice_index, arith, Some}
+use Rattle.std.specs.Prelude.{slice_get}
+use Rattle.std.specs.List.{flat_map, range_with_len}
+use Rattle.std.proofs.lemmas.List.{append-nil, append_assoc, map-id, map_more}
+use Rattle.std.proofs.lemmas.List.Concat.{flat_map-append}
+use Rattle.std.proofs.lemmas.List.Elements.{All-append, All-map, All-push, All-nil}
+use Rattle.std.proofs.lemmas.List.FromFn.{map-range_with_len_more}
+use Rattle.std.proofs.lemmas.Option.{get_or_from_slice_get}
+use Rattle.blif.specs.declared.circuit.Circuit.{Circuit}
+use Rattle.cluster.specs.declared.by_net.NetItem.{NetItem}
+use Rattle.cluster.specs.declared.cluster_sets.ClusterSets.{ClusterSets}
+use Rattle.cluster.specs.Nets.{has, with_nets}
+use Rattle.cluster.specs.NetSets.{NetsAmong}
+use Rattle.cluster.specs.Bles.{LogicElement}
+use Rattle.cluster.specs.Clusters.{elements_at, inputs_of, outputs_of, outside_inputs, clocks_of}
+use Rattle.cluster.specs.ByNet.{items_with, items_by_net}
+use Rattle.cluster.specs.ClusterPins.{TellReaders, inputs_of_clusters, clocks_of_clusters, pairs_with, pads_with, clusters_with, nets_read, members_of, readers_by_net}
+use Rattle.cluster.proofs.CountingSort.{items_with-append}
+use Rattle.cluster.proofs.NetLists.{StandsOnce, once_with_nets, filter-with_nets}
+
+-- what is gathered of the first so many clusters
+pub record AreGathered (circuit : Circuit) (elements : List LogicElement) (clusters : List (List ℕ)) (count : ℕ) (inputs clocks : List (List ℕ)) (pairs : List NetItem) (sets : ClusterSets) : Type 0 where
+  pub inputs_are : inputs ≡ inputs_of_clusters elements (take count clusters)
+  pub clocks_are : clocks ≡ clocks_of_clusters elements (take count clusters)
+  pub pairs_tell : TellReaders circuit elements clusters (length circuit.outputs) count pairs
+  pub input_nets : sets.inputs.count ≡ length circuit.nets
+  pub output_nets : sets.outputs.count ≡ length circuit.nets
+  pub clock_nets : sets.clocks.count ≡ length circuit.nets
+
+-- one number more in a `flat_map` over numbers
+pub flat_map-range_more : {A : Type 0} (f : ℕ → List A) (count : ℕ) → flat_map f (range_with_len 0 (count + 1)) ≡ flat_map f (range_with_len 0 count) ++ f count
+flat_map-range_more {A} f count =
+    let id : ℕ → ℕ = λ (n : ℕ). n in
+    let more : range_with_len 0 (count + 1) ≡ range_with_len 0 count ++ count ∷ [] =
+    sym (map-id (range_with_len 0 (count + 1))) ∙ map-range_with_len_more id 0 count count (omega arith) ∙ ap (λ (front : List ℕ). front ++ count ∷ []) (map-id (range_with_len 0 count)) in
+    ap (flat_map f) more ∙ flat_map-append f (range_with_len 0 count) (count ∷ []) ∙ ap (λ (last : List A). flat_map f (range_with_len 0 count) ++ last) (append-nil (f count))
+
+-- the items of one pair
+items_with_one : (b : Bool) (pair : NetItem) → map (λ (pair : NetItem). pair.item) (cond b (pair ∷ []) []) ≡ cond b (pair.item ∷ []) []
+items_with_one true pair = refl
+items_with_one false pair = refl
+
+-- nothing is told of no pads and no clusters
+pub tell_none : (circuit : Circuit) (elements : List LogicElement) (clusters : List (List ℕ)) (pairs : List NetItem) → pairs ≡ [] → TellReaders circuit elements clusters 0 0 pairs
+tell_none circuit elements clusters pairs none = subst (TellReaders circuit elements clusters 0 0) (sym none) (record { within = All-nil (λ (pair : NetItem). pair.net < length circuit.nets); tell = λ net. refl })
+
+-- one pad more
+pub tell_pad : (circuit : Circuit) (elements : List LogicElement) (clusters : List (List ℕ)) (pad : ℕ) (old new : List NetItem) → slice_index circuit.outputs pad < length circuit.nets → TellReaders circuit elements clusters pad 0 old → new ≡ old ++ record { net = slice_index circuit.outputs pad; item = length circuit.inputs + pad } ∷ [] → TellReaders circuit elements clusters (pad + 1) 0 new
+tell_pad circuit elements clusters pad old new net_within before more =
+    let last : NetItem = record { net = slice_index circuit.outputs pad; item = length circuit.inputs + pad } in
+    subst (TellReaders circuit elements clusters (pad + 1) 0) (sym more) (record {
+      within = All-push (λ (pair : NetItem). pair.net < length circuit.nets) old last before.within net_within;
+      tell = λ net.
+          items_with-append old (last ∷ []) net
+          ∙ ap (λ (items : List ℕ). items_with old net ++ items) (items_with_one (eqb last.net net) last)
+          ∙ ap (λ (items : List ℕ). items ++ cond (eqb last.net net) (last.item ∷ []) []) (before.tell net ∙ append-nil (pads_with circuit net pad))
+          ∙ sym (flat_map-range_more (λ pad. if slice_index circuit.outputs pad == net then (length circuit.inputs + pad) ∷ [] else []) pad)
+          ∙ sym (append-nil (pads_with circuit net (pad + 1)));
+    })
+
+-- the outside inputs stand once each
+once_outside : (elements : List LogicElement) (net : ℕ) → StandsOnce (outside_inputs elements) net
+once_outside elements net =
+    let p : ℕ → Bool = λ net. not (has (outputs_of elements) net) in
+    subst (λ (nets : List ℕ). StandsOnce nets net) (sym (filter-with_nets p [] (inputs_of elements))) (once_with_nets [] (filter p (inputs_of elements)) net refl)
+
+-- the item stands with each of the nets
+items_of_pairs : (item : ℕ) (nets : List ℕ) (net : ℕ) → items_with (pairs_with item nets) net ≡ map (λ (other : ℕ). item) (filter (λ other. eqb other net) nets)
+items_of_pairs item [] net = refl
+items_of_pairs item (other ∷ nets) net = by (eqb other net) (items_of_pairs item nets net)
+  where
+    by : (b : Bool) → items_with (pairs_with item nets) net ≡ map (λ (other : ℕ). item) (filter (λ other. eqb other net) nets) → map (λ (pair : NetItem). pair.item) (cond b (record { net = other; item = item } ∷ filter (λ (pair : NetItem). eqb pair.net net) (pairs_with item nets)) (filter (λ (pair : NetItem). eqb pair.net net) (pairs_with item nets))) ≡ map (λ (other : ℕ). item) (cond b (other ∷ filter (λ other. eqb other net) nets) (filter (λ other. eqb other net) nets))
+    by true rest = ap (λ (items : List ℕ). item ∷ items) rest
+    by false rest = rest
+
+one_item : (b : Bool) (item net : ℕ) → map (λ (other : ℕ). item) (cond b (net ∷ []) []) ≡ cond b (item ∷ []) []
+one_item true item net = refl
+one_item false item net = refl
+
+-- one cluster more
+pub tell_cluster : (circuit : Circuit) (elements : List LogicElement) (clusters : List (List ℕ)) (cluster : ℕ) (nets : List ℕ) (old new : List NetItem) → All (λ net. net < length circuit.nets) nets → nets ≡ nets_read (members_of elements clusters cluster) → TellReaders circuit elements clusters (length circuit.outputs) cluster old → new ≡ old ++ pairs_with (length circuit.inputs + length circuit.outputs + cluster) nets → TellReaders circuit elements clusters (length circuit.outputs) (cluster + 1) new
+tell_cluster circuit elements clusters cluster nets old new nets_within nets_are before more =
+    let item = length circuit.inputs + length circuit.outputs + cluster in
+    let members = members_of elements clusters cluster in
+    subst (TellReaders circuit elements clusters (length circuit.outputs) (cluster + 1)) (sym more) (record {
+      within = All-append (λ (pair : NetItem). pair.net < length circuit.nets) old (pairs_with item nets) before.within (All-map (λ (pair : NetItem). pair.net < length circuit.nets) (λ net. record { net = net; item = item }) nets nets_within);
+      tell = λ net.
+          let once : StandsOnce (nets_read members) net = once_with_nets (outside_inputs members) (clocks_of members) net (once_outside members net) in
+          let one : items_with (pairs_with item nets) net ≡ cond (has (nets_read members) net) (item ∷ []) [] =
+          items_of_pairs item nets net ∙ ap (λ (nets : List ℕ). map (λ (other : ℕ). item) (filter (λ other. eqb other net) nets)) nets_are ∙ ap (map (λ (other : ℕ). item)) once ∙ one_item (has (nets_read members) net) item net in
+          items_with-append old (pairs_with item nets) net
+          ∙ ap (λ (items : List ℕ). items_with old net ++ items) one
+          ∙ ap (λ (items : List ℕ). items ++ cond (has (nets_read members) net) (item ∷ []) []) (before.tell net)
+          ∙ append_assoc (pads_with circuit net (length circuit.outputs)) (clusters_with circuit elements clusters net cluster) (cond (has (nets_read members) net) (item ∷ []) [])
+          ∙ ap (λ (items : List ℕ). pads_with circuit net (length circuit.outputs) ++ items) (sym (flat_map-range_more (λ cluster. if has (nets_read (members_of elements clusters cluster)) net then (length circuit.inputs + length circuit.outputs + cluster) ∷ [] else []) cluster));
+    })
+
+-- the readers of all nets, once all pads and clusters are told
+pub told_all : (circuit : Circuit) (elements : List LogicElement) (clusters : List (List ℕ)) (pairs : List NetItem) → TellReaders circuit elements clusters (length circuit.outputs) (length clusters) pairs → items_by_net pairs (length circuit.nets) ≡ readers_by_net circuit elements clusters
+told_all circuit elements clusters pairs told = go 0 (length circuit.nets)
+  where
+    go : (start count : ℕ) → map (items_with pairs) (range_with_len start count) ≡ map (λ net. pads_with circuit net (length circuit.outputs) ++ clusters_with circuit elements clusters net (length clusters)) (range_with_len start count)
+    go start zero = refl
+    go start (suc count) = let head = told.tell start in let tail = go (start + 1) count in cc
+
+-- one cluster more is gathered
+pub gathered_more : (circuit : Circuit) (elements : List LogicElement) (clusters : List (List ℕ)) (k : ℕ) (members : List ℕ) (old_inputs old_clocks new_inputs new_clocks : List (List ℕ)) (old_pairs new_pairs : List NetItem) (sets gathered : ClusterSets) (read : NetsAmong) → k < length clusters → slice_get clusters k ≡ Some members → AreGathered circuit elements clusters k old_inputs old_clocks old_pairs sets
+    → gathered.inputs ≡ record { count = sets.inputs.count; nets = outside_inputs (elements_at elements members) } → gathered.clocks ≡ record { count = sets.inputs.count; nets = clocks_of (elements_at elements members) } → gathered.outputs.count ≡ sets.inputs.count
+    → new_inputs ≡ old_inputs ++ gathered.inputs.nets ∷ [] → new_clocks ≡ old_clocks ++ gathered.clocks.nets ∷ [] → read ≡ record { count = gathered.inputs.count; nets = with_nets gathered.inputs.nets gathered.clocks.nets } → All (λ net. net < read.count) read.nets
+    → new_pairs ≡ old_pairs ++ pairs_with (length circuit.inputs + length circuit.outputs + k) read.nets → AreGathered circuit elements clusters (k + 1) new_inputs new_clocks new_pairs (record { outputs = gathered.outputs; inputs = read; clocks = gathered.clocks })
+gathered_more circuit elements clusters k members old_inputs old_clocks new_inputs new_clocks old_pairs new_pairs sets gathered read within found before inputs clocks outputs more_inputs more_clocks read_is read_within more_pairs =
+    let at : get_or clusters k [] ≡ members = get_or_from_slice_get clusters k members [] found in
+    let input_nets : gathered.inputs.nets ≡ outside_inputs (elements_at elements (get_or clusters k [])) = ap (λ (set : NetsAmong). set.nets) inputs ∙ ap (λ (members : List ℕ). outside_inputs (elements_at elements members)) (sym at) in
+    let clock_nets : gathered.clocks.nets ≡ clocks_of (elements_at elements (get_or clusters k [])) = ap (λ (set : NetsAmong). set.nets) clocks ∙ ap (λ (members : List ℕ). clocks_of (elements_at elements members)) (sym at) in
+    let count : read.count ≡ length circuit.nets = ap (λ (set : NetsAmong). set.count) read_is ∙ ap (λ (set : NetsAmong). set.count) inputs ∙ before.input_nets in
+    let nets : read.nets ≡ nets_read (members_of elements clusters k) = ap (λ (set : NetsAmong). set.nets) read_is ∙ ap (λ (first : List ℕ). with_nets first gathered.clocks.nets) input_nets ∙ ap (with_nets (outside_inputs (elements_at elements (get_or clusters k [])))) clock_nets in
+    record {
+      inputs_are = more_inputs ∙ ap (λ (rows : List (List ℕ)). rows ++ gathered.inputs.nets ∷ []) before.inputs_are ∙ ap (λ (row : List ℕ). inputs_of_clusters elements (take k clusters) ++ row ∷ []) input_nets ∙ sym (map_more (λ (members : List ℕ). outside_inputs (elements_at elements members)) clusters k [] within);
+      clocks_are = more_clocks ∙ ap (λ (rows : List (List ℕ)). rows ++ gathered.clocks.nets ∷ []) before.clocks_are ∙ ap (λ (row : List ℕ). clocks_of_clusters elements (take k clusters) ++ row ∷ []) clock_nets ∙ sym (map_more (λ (members : List ℕ). clocks_of (elements_at elements members)) clusters k [] within);
+      pairs_tell = tell_cluster circuit elements clusters k read.nets old_pairs new_pairs (subst (λ (count : ℕ). All (λ net. net < count) read.nets) count read_within) nets before.pairs_tell more_pairs;
+      input_nets = count;
+      output_nets = outputs ∙ before.input_nets;
+      clock_nets = ap (λ (set : NetsAmong). set.count) clocks ∙ before.input_nets;
+    }

@@ -1,0 +1,208 @@
+-- Steps of packing: each makes one cluster of free elements while there are any, and then nothing changes any more.
+use Rattle.std.proofs.Common.{◌≡◌, ℕ, suc, zero, ◌+◌, ◌<◌, ◌≤◌, Bool, true, false, not, ◌||◌, ◌==◌, List, [], ◌∷◌, ◌++◌, Option, None, Some, filter, length, if◌then◌else◌, sym, ap, refl, ◌∙◌, arith, nat_lt, length-append, ◌-◌, max}
+use Rattle.std.proofs.lemmas.Bool.{eqb-true}
+use Rattle.std.proofs.lemmas.Bool.Decides.{nat_tests}
+use Rattle.std.specs.List.{list_any, range_with_len}
+use Rattle.std.proofs.lemmas.List.Folds.{list_any-append}
+use Rattle.std.proofs.lemmas.List.FromFn.{length-range_with_len}
+use Rattle.arch_file.specs.declared.arch.Arch.{Arch}
+use Rattle.cluster.specs.Nets.{has}
+use Rattle.cluster.specs.Bles.{LogicElement}
+use Rattle.cluster.specs.Clusters.{cluster_of, clusters_after, free_of, grown, input_count_at, leading, next_member, with_cluster, with_member}
+
+-- of none there is none to choose
+nothing_grows : (arch : Arch) (elements : List LogicElement) (additions : ℕ) → grown arch elements [] [] additions ≡ []
+nothing_grows arch elements zero = refl
+nothing_grows arch elements (suc additions) = rw (nothing_grows arch elements additions) refl
+
+pub no_cluster : (arch : Arch) (elements : List LogicElement) → cluster_of arch elements [] ≡ []
+unfolding cluster_of
+no_cluster arch elements = nothing_grows arch elements arch.cluster_size
+
+-- a cluster begins with its seed
+pub record BeginsWith (seed : ℕ) (members : List ℕ) : Type 0 where
+  pub others : List ℕ
+  pub whole : members ≡ seed ∷ others
+
+keeps_seed : {seed : ℕ} {members : List ℕ} (added : Option ℕ) → BeginsWith seed members → BeginsWith seed (with_member members added)
+keeps_seed None b = b
+keeps_seed (Some number) b = record { others = b.others ++ number ∷ []; whole = rw b.whole refl }
+
+grows_on : (arch : Arch) (elements : List LogicElement) (free : List ℕ) (seed additions : ℕ) → BeginsWith seed (grown arch elements free (seed ∷ []) additions)
+grows_on arch elements free seed zero = record { others = []; whole = refl }
+grows_on arch elements free seed (suc additions) = keeps_seed (next_member arch elements free (grown arch elements free (seed ∷ []) additions)) (grows_on arch elements free seed additions)
+
+-- the leading one is the first or one of the others
+leads_among : (score : ℕ → ℕ) (best : ℕ) (numbers : List ℕ) → has (best ∷ numbers) (leading score best numbers) ≡ true
+leads_among score best [] = grind (arith, nat_tests)
+leads_among score best (number ∷ numbers) = by (nat_lt (score best) (score number)) (leads_among score number numbers) (leads_among score best numbers)
+  where
+    by : (b : Bool) → has (number ∷ numbers) (leading score number numbers) ≡ true → has (best ∷ numbers) (leading score best numbers) ≡ true → has (best ∷ number ∷ numbers) (leading score (if b then number else best) numbers) ≡ true
+    by true h k = grind (arith, nat_tests, h)
+    by false h k = grind (arith, nat_tests, k)
+
+-- a cluster of free elements, if there are any, has a free one as its seed
+pub record Seeded (free cluster : List ℕ) : Type 0 where
+  pub seed : ℕ
+  pub begins : BeginsWith seed cluster
+  pub is_free : has free seed ≡ true
+
+pub cluster_seeded : (arch : Arch) (elements : List LogicElement) (number : ℕ) (free : List ℕ) → Seeded (number ∷ free) (cluster_of arch elements (number ∷ free))
+unfolding cluster_of
+cluster_seeded arch elements number free = record {
+  seed = leading (input_count_at elements) number free;
+  begins = grows_on arch elements (number ∷ free) (leading (input_count_at elements) number free) arch.cluster_size;
+  is_free = leads_among (input_count_at elements) number free;
+}
+
+-- what is left of numbers
+filter_few : (p q : ℕ → Bool) (weaker : (n : ℕ) → q n ≡ true → p n ≡ true) (numbers : List ℕ) → length (filter q numbers) ≤ length (filter p numbers)
+filter_few p q weaker [] = omega arith
+filter_few p q weaker (number ∷ numbers) = by (p number) (q number) refl refl (filter_few p q weaker numbers)
+  where
+    by : (a b : Bool) → p number ≡ a → q number ≡ b → length (filter q numbers) ≤ length (filter p numbers) → length (if b then number ∷ filter q numbers else filter q numbers) ≤ length (if a then number ∷ filter p numbers else filter p numbers)
+    by true true ep eq ih = omega (arith, ih)
+    by true false ep eq ih = omega (arith, ih)
+    by false true ep eq ih = let wrong : false ≡ true = sym ep ∙ weaker number eq in absurd cc
+    by false false ep eq ih = ih
+
+filter_fewer : (p q : ℕ → Bool) (weaker : (n : ℕ) → q n ≡ true → p n ≡ true) (lost : ℕ) (numbers : List ℕ) → has (filter p numbers) lost ≡ true → q lost ≡ false → length (filter q numbers) < length (filter p numbers)
+filter_fewer p q weaker lost [] h e = absurd cc
+filter_fewer p q weaker lost (number ∷ numbers) h e = by (p number) (q number) refl refl h (filter_few p q weaker numbers) (λ h. filter_fewer p q weaker lost numbers h e)
+  where
+    at : (c : Bool) → (number == lost) ≡ c → q number ≡ true → c || has (filter p numbers) lost ≡ true → has (filter p numbers) lost ≡ true
+    at true same eq h = let wrong : false ≡ true = sym e ∙ ap q (sym (eqb-true number lost same)) ∙ eq in absurd cc
+    at false same eq h = h
+
+    by : (a b : Bool) → p number ≡ a → q number ≡ b → has (if a then number ∷ filter p numbers else filter p numbers) lost ≡ true → length (filter q numbers) ≤ length (filter p numbers) → (has (filter p numbers) lost ≡ true → length (filter q numbers) < length (filter p numbers)) → length (if b then number ∷ filter q numbers else filter q numbers) < length (if a then number ∷ filter p numbers else filter p numbers)
+    by true true ep eq h few fewer = let less = fewer (at (number == lost) refl eq h) in omega (arith, less)
+    by true false ep eq h few fewer = omega (arith, few)
+    by false true ep eq h few fewer = let wrong : false ≡ true = sym ep ∙ weaker number eq in absurd cc
+    by false false ep eq h few fewer = fewer h
+
+-- the elements are told apart by whether they are in the cluster
+abbrev is_free : List (List ℕ) → ℕ → Bool
+is_free clusters number = not (list_any (λ cluster. has cluster number) clusters)
+
+later_free : (clusters : List (List ℕ)) (cluster : List ℕ) (number : ℕ) → is_free (clusters ++ cluster ∷ []) number ≡ true → is_free clusters number ≡ true
+later_free clusters cluster number h = let e = list_any-append (λ c. has c number) clusters (cluster ∷ []) in grind (arith, e, h)
+
+taken_now : (clusters : List (List ℕ)) (cluster : List ℕ) (number : ℕ) → has cluster number ≡ true → is_free (clusters ++ cluster ∷ []) number ≡ false
+taken_now clusters cluster number h = let e = list_any-append (λ c. has c number) clusters (cluster ∷ []) in grind (arith, e, h)
+
+has_seed : {seed : ℕ} {members : List ℕ} → BeginsWith seed members → has members seed ≡ true
+has_seed {seed} b = rw b.whole (grind (arith, nat_tests))
+
+module _ (arch : Arch) (elements : List LogicElement) where
+  -- the elements that are free after so many steps
+  abbrev pub free_after : ℕ → List ℕ
+  free_after steps = free_of elements (clusters_after arch elements steps)
+
+  -- a step with nothing free changes nothing
+  pub step_idle : (steps : ℕ) → free_after steps ≡ [] → clusters_after arch elements (suc steps) ≡ clusters_after arch elements steps
+  unfolding clusters_after
+  step_idle steps none = rw none (rw (no_cluster arch elements) refl)
+
+  -- a step with something free
+  pub record StepMade (clusters later : List (List ℕ)) : Type 0 where
+    pub more : length later ≡ length clusters + 1
+    pub fewer : length (free_of elements later) < length (free_of elements clusters)
+
+  with_seeded : (clusters : List (List ℕ)) (cluster : List ℕ) → Seeded (free_of elements clusters) cluster → StepMade clusters (with_cluster clusters cluster)
+  with_seeded clusters cluster s = rw s.begins.whole (record {
+    more = length-append clusters ((s.seed ∷ s.begins.others) ∷ []);
+    fewer = filter_fewer (is_free clusters) (is_free (clusters ++ (s.seed ∷ s.begins.others) ∷ [])) (later_free clusters (s.seed ∷ s.begins.others)) s.seed (range_with_len 0 (length elements)) s.is_free (taken_now clusters (s.seed ∷ s.begins.others) s.seed (has_seed (record { others = s.begins.others; whole = refl })));
+  })
+
+  made : (clusters : List (List ℕ)) (number : ℕ) (free : List ℕ) → free_of elements clusters ≡ number ∷ free → StepMade clusters (with_cluster clusters (cluster_of arch elements (free_of elements clusters)))
+  made clusters number free e = with_seeded clusters (cluster_of arch elements (free_of elements clusters)) (rw e (cluster_seeded arch elements number free))
+
+  pub step_made : (steps number : ℕ) (free : List ℕ) → free_after steps ≡ number ∷ free → StepMade (clusters_after arch elements steps) (clusters_after arch elements (suc steps))
+  unfolding clusters_after
+  step_made steps number free e = made (clusters_after arch elements steps) number free e
+
+  -- as many clusters as steps are made, and each took an element
+  pub record Going (steps : ℕ) : Type 0 where
+    pub clusters : length (clusters_after arch elements steps) ≡ steps
+    pub taken : length (free_after steps) + steps ≤ length elements
+
+  all_free : (numbers : List ℕ) → filter (is_free []) numbers ≡ numbers
+  all_free [] = refl
+  all_free (number ∷ numbers) = ap (λ ns. number ∷ ns) (all_free numbers)
+
+  pub going_first : Going 0
+  unfolding clusters_after
+  going_first = record { clusters = refl; taken = rw (all_free (range_with_len 0 (length elements))) (omega (arith, length-range_with_len 0 (length elements))) }
+
+  pub going_on : (steps number : ℕ) (free : List ℕ) → free_after steps ≡ number ∷ free → Going steps → Going (suc steps)
+  going_on steps number free e g = let m = step_made steps number free e in record { clusters = omega (arith, m.more, g.clusters); taken = omega (arith, m.fewer, g.taken) }
+
+  -- once nothing is free, nothing changes any more
+  idle : (steps more later : ℕ) → later ≡ more + steps → free_after steps ≡ [] → clusters_after arch elements later ≡ clusters_after arch elements steps
+  idle steps zero later e none = let same : later ≡ steps = omega (arith, e) in ap (clusters_after arch elements) same
+  idle steps (suc more) later e none =
+      let same : later ≡ suc (more + steps) = omega (arith, e) in
+      let before = idle steps more (more + steps) refl none in
+      ap (clusters_after arch elements) same ∙ step_idle (more + steps) (rw before none) ∙ before
+
+  -- clusters are never fewer later
+  one_grows : (steps : ℕ) (free : List ℕ) → free_after steps ≡ free → length (clusters_after arch elements steps) ≤ length (clusters_after arch elements (suc steps))
+  one_grows steps [] e = rw (step_idle steps e) (omega arith)
+  one_grows steps (number ∷ free) e = let m = step_made steps number free e in omega (arith, m.more)
+
+  grows : (steps more later : ℕ) → later ≡ more + steps → length (clusters_after arch elements steps) ≤ length (clusters_after arch elements later)
+  grows steps zero later e = let same : later ≡ steps = omega (arith, e) in rw same (omega arith)
+  grows steps (suc more) later e =
+      let same : later ≡ suc (more + steps) = omega (arith, e) in
+      rw same (omega (arith, grows steps more (more + steps) refl, one_grows (more + steps) (free_after (more + steps)) refl))
+
+  -- the clusters when each element is in one
+  abbrev pub whole : List (List ℕ)
+  whole = clusters_after arch elements (length elements)
+
+  -- after a step that leaves nothing free, all clusters are made
+  pub record IsLastStep (done : ℕ) : Type 0 where
+    pub clusters : clusters_after arch elements (done + 1) ≡ whole
+    pub steps : done + 1 ≡ max 1 (length whole)
+
+  at_end : (steps : ℕ) → free_after steps ≡ [] → steps ≤ length elements → whole ≡ clusters_after arch elements steps
+  at_end steps none small =
+      idle steps (length elements - steps) (length elements) (omega (arith, small)) none
+
+  last_of_some : (done number : ℕ) (free : List ℕ) → Going done → free_after done ≡ number ∷ free → free_after (suc done) ≡ [] → IsLastStep done
+  last_of_some done number free g e none =
+      let h = going_on done number free e g in
+      let w = at_end (suc done) none (omega (arith, h.taken)) in
+      record { clusters = ap (clusters_after arch elements) (omega arith) ∙ sym w; steps = rw w (omega (arith, h.clusters)) }
+
+  last_of_none : (done : ℕ) → Going done → free_after done ≡ [] → done ≡ 0 → IsLastStep done
+  last_of_none done g none first =
+      let w = at_end done none (omega (arith, g.taken)) in
+      record { clusters = ap (clusters_after arch elements) (omega arith) ∙ step_idle done none ∙ sym w; steps = rw w (omega (arith, g.clusters, first)) }
+
+  pub last_step : (done : ℕ) → Going done → (free_after done ≡ [] → done ≡ 0) → free_after (suc done) ≡ [] → IsLastStep done
+  last_step done g begun none = by (free_after done) refl
+    where
+      by : (free : List ℕ) → free_after done ≡ free → IsLastStep done
+      by [] e = last_of_none done g e (begun e)
+      by (number ∷ free) e = last_of_some done number free g e none
+
+  -- after a step that leaves something free, more are to come
+  pub record IsOneOfMore (done : ℕ) : Type 0 where
+    pub going : Going (suc done)
+    pub more : done + 1 < max 1 (length whole)
+
+  more_of_some : (done number other : ℕ) (free others : List ℕ) → Going done → free_after done ≡ number ∷ free → free_after (suc done) ≡ other ∷ others → IsOneOfMore done
+  more_of_some done number other free others g e f =
+      let h = going_on done number free e g in
+      let k = going_on (suc done) other others f h in
+      let enough : suc (suc done) ≤ length elements = omega (arith, k.taken) in
+      let least = grows (suc (suc done)) (length elements - suc (suc done)) (length elements) (omega (arith, enough)) in
+      record { going = h; more = omega (arith, k.clusters, least) }
+
+  pub one_of_more : (done other : ℕ) (others : List ℕ) → Going done → free_after (suc done) ≡ other ∷ others → IsOneOfMore done
+  one_of_more done other others g f = by (free_after done) refl
+    where
+      by : (free : List ℕ) → free_after done ≡ free → IsOneOfMore done
+      by [] e = let same : free_after (suc done) ≡ [] = rw (step_idle done e) e in let wrong : other ∷ others ≡ [] = sym f ∙ same in absurd cc
+      by (number ∷ free) e = more_of_some done number other free others g e f

@@ -1,0 +1,65 @@
+-- The tables of a packed circuit.
+use Rattle.std.proofs.Common.{◌≡◌, sym, ap, subst, ◌∙◌, ℕ, ◌<◌, ◌++◌, All, List, [], Some, length, get_or, slice_get, arith}
+use Rattle.std.proofs.lemmas.List.FromFn.{length-map-range_with_len}
+use Rattle.std.proofs.lemmas.Option.{get_or_from_slice_get, slice_get_within}
+use Rattle.arch_file.specs.declared.arch.Arch.{Arch}
+use Rattle.blif.specs.declared.circuit.Circuit.{Circuit}
+use Rattle.cluster.specs.declared.net_uses.NetUses.{NetUses}
+use Rattle.cluster.specs.declared.packed_tables.PackedTables.{PackedTables}
+use Rattle.cluster.specs.Nets.{distinct}
+use Rattle.cluster.specs.NetSets.{NetsAmong}
+use Rattle.cluster.specs.Bles.{LogicElement, bles_of}
+use Rattle.cluster.specs.Clusters.{PackedCircuit}
+use Rattle.cluster.specs.Blocks.{BlockNet, leaves_block}
+use Rattle.cluster.specs.ClusterPins.{IsElementWithin, inputs_of_clusters, clocks_of_clusters, clusters_with, pads_with, readers_by_net, pin_ranks}
+use Rattle.cluster.specs.NetUses.{controls_of, input_nets, cluster_nets, leaves_by}
+use Rattle.cluster.specs.LawfulPackings.{IsPacked}
+use Rattle.cluster.specs.PackedTables.{ArePartsOf, AreTablesOf}
+use Rattle.cluster.proofs.BlockLists.{leaves_by_uses, nets_by_uses}
+use Rattle.cluster.proofs.FewBlocks.{elements_within}
+
+-- a row for each net
+pub uses_count : (circuit : Circuit) (elements : List LogicElement) (clusters : List (List ℕ)) (uses : NetUses) → uses.globals ≡ record { count = length circuit.nets; nets = distinct (controls_of circuit.latches) } → uses.readers ≡ readers_by_net circuit elements clusters → length uses.readers ≡ uses.globals.count
+uses_count circuit elements clusters uses globals readers =
+    let f : ℕ → List ℕ = λ net. pads_with circuit net (length circuit.outputs) ++ clusters_with circuit elements clusters net (length clusters) in
+    ap (λ (rows : List (List ℕ)). length rows) readers ∙ length-map-range_with_len f 0 (length circuit.nets) ∙ sym (ap (λ (set : NetsAmong). set.count) globals)
+
+-- what was made is the tables of the packed circuit
+pub tables_made : (circuit : Circuit) (arch : Arch) (elements : List LogicElement) (clusters : List (List ℕ)) (tables : PackedTables) (none inputs : List BlockNet) → elements ≡ bles_of circuit → IsPacked (record { circuit = circuit; arch = arch; clusters = clusters }) → tables.inputs ≡ inputs_of_clusters elements clusters → tables.clocks ≡ clocks_of_clusters elements clusters
+    → tables.uses.globals ≡ record { count = length circuit.nets; nets = distinct (controls_of circuit.latches) } → tables.uses.readers ≡ readers_by_net circuit elements clusters → none ≡ [] → inputs ≡ none ++ input_nets circuit tables.uses (length circuit.inputs) → tables.nets ≡ inputs ++ cluster_nets circuit tables.uses elements clusters (length clusters) → tables.ranks.items ≡ pin_ranks arch.pins
+    → AreTablesOf (record { circuit = circuit; arch = arch; clusters = clusters }) tables
+tables_made circuit arch elements clusters tables none inputs elements_are lawful inputs_are clocks_are globals readers nothing input_nets_are nets_are ranks =
+    let packed : PackedCircuit = record { circuit = circuit; arch = arch; clusters = clusters } in
+    let all_readers : tables.uses.readers ≡ readers_by_net circuit (bles_of circuit) clusters = readers ∙ ap (λ (elements : List LogicElement). readers_by_net circuit elements clusters) elements_are in
+    record {
+      inputs = inputs_are ∙ ap (λ (elements : List LogicElement). inputs_of_clusters elements clusters) elements_are;
+      clocks = clocks_are ∙ ap (λ (elements : List LogicElement). clocks_of_clusters elements clusters) elements_are;
+      globals = globals;
+      readers = all_readers;
+      nets =
+          nets_are
+          ∙ ap (λ (front : List BlockNet). front ++ cluster_nets circuit tables.uses elements clusters (length clusters)) (input_nets_are ∙ ap (λ (front : List BlockNet). front ++ input_nets circuit tables.uses (length circuit.inputs)) nothing)
+          ∙ ap (λ (elements : List LogicElement). input_nets circuit tables.uses (length circuit.inputs) ++ cluster_nets circuit tables.uses elements clusters (length clusters)) elements_are
+          ∙ nets_by_uses packed tables.uses lawful (record { globals = globals; readers = all_readers });
+      ranks = ranks;
+    }
+
+-- what an element drives is among the nets of the tables
+pub ble_within : (packed : PackedCircuit) (elements : List LogicElement) (tables : PackedTables) (number : ℕ) (element : LogicElement) → ArePartsOf packed elements tables → slice_get elements number ≡ Some element → (element.output < tables.uses.globals.count) × (element.output < length tables.uses.readers)
+ble_within packed elements tables number element parts read =
+    let circuit = packed.circuit in
+    let within : All (IsElementWithin (length circuit.nets)) elements = subst (λ (elements : List LogicElement). All (IsElementWithin (length circuit.nets)) elements) (sym parts.bles) (elements_within circuit parts.lawful.circuit) in
+    let is : get_or elements number element ≡ element = get_or_from_slice_get elements number element element read in
+    let lawful : IsElementWithin (length circuit.nets) element = subst (IsElementWithin (length circuit.nets)) is (within number element (slice_get_within elements number element read)) in
+    let output = lawful.output in
+    let count : tables.uses.globals.count ≡ length circuit.nets = ap (λ (set : NetsAmong). set.count) parts.kept.globals in
+    let rows = uses_count circuit (bles_of circuit) packed.clusters tables.uses parts.kept.globals parts.kept.readers in
+    (omega arith, omega arith)
+
+-- whether it leaves its block
+pub leaves_told : (packed : PackedCircuit) (elements : List LogicElement) (tables : PackedTables) (number : ℕ) (element : LogicElement) → ArePartsOf packed elements tables → slice_get elements number ≡ Some element → (block driver : ℕ) → block ≡ driver → leaves_by tables.uses block element.output ≡ leaves_block packed driver element.output
+leaves_told packed elements tables number element parts read block driver same =
+    let count : tables.uses.globals.count ≡ length packed.circuit.nets = ap (λ (set : NetsAmong). set.count) parts.kept.globals in
+    let here = (ble_within packed elements tables number element parts read).0 in
+    ap (λ (block : ℕ). leaves_by tables.uses block element.output) same
+    ∙ leaves_by_uses packed tables.uses driver element.output (record { globals = parts.kept.globals; readers = parts.kept.readers }) (omega arith)

@@ -1,0 +1,10 @@
+use Rattle.std.proofs.Common.{◌∙◌, List, ap, eqb, not, sym, ℕ}
+use Rattle.cluster.specs.Blocks.{is_empty}
+use Rattle.cluster.specs.NetUses.{others}
+use Rattle.cluster.proofs.NetLaws.{second_test, some_left}
+use Rattle.cluster.proofs.net_uses.NetUses.leaves.Goals as goal
+
+pub returns-else-is_global : goal.returns-else-is_global
+returns-else-is_global c =
+    second_test _ _ _ (sym c.is_global.ensures ∙ c.if-is_global.false)
+    (c.has_other.ensures ∙ some_left (λ reader. not (eqb reader c.args.driver)) c.readers.result.now ∙ ap (λ (readers : List ℕ). not (is_empty (others c.args.driver readers))) c.readers.ensures)

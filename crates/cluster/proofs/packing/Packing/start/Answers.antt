@@ -1,0 +1,19 @@
+use Rattle.std.proofs.Common.{◌∙◌, ap, length}
+use Rattle.std.specs.List.{range_with_len}
+use Rattle.cluster.specs.Bles.{bles_of}
+use Rattle.cluster.proofs.Elements.{elements_lawful}
+use Rattle.cluster.proofs.Going.{begins}
+use Rattle.cluster.proofs.Members.{few_bles}
+use Rattle.cluster.proofs.packing.Packing.start.Goals as goal
+
+pub new-requires-2-clause-elements : goal.new-requires-2-clause-elements
+new-requires-2-clause-elements c = rw (c.in_ok-bles.ensures, c.len.ensures, c.circuit-2.ensures.value, c.circuit.ensures.value) (elements_lawful c.args.circuit.now c.circuit.ensures.lawful)
+
+pub new-requires-2-clause-few : goal.new-requires-2-clause-few
+new-requires-2-clause-few c = rw (c.in_ok-bles.ensures, c.circuit.ensures.value) (few_bles c.args.circuit.now c.circuit.ensures.lawful)
+
+pub invariant_of-result : goal.invariant_of-result
+invariant_of-result c =
+    let same = c.in_ok-bles.ensures ∙ ap bles_of c.circuit.ensures.value in
+    let grown = c.in_ok-grower.ensures in
+    rw (c.in_ok-clone.ensures.cases, c.in_ok-clone-2.ensures.cases, grown) (begins c.args.circuit.now c.args.arch.now _ c.new-clusters.result c.requires same (ap (λ es. range_with_len 0 (length es)) same) c.new-clusters.ensures)

@@ -1,0 +1,17 @@
+use Rattle.std.proofs.Common.{◌∙◌, sym, Some, None}
+use Rattle.cluster.proofs.Elements.{elements_lawful}
+use Rattle.cluster.proofs.Members.{few_bles}
+use Rattle.cluster.proofs.Unfit.{unfit_is}
+use Rattle.cluster.proofs.packing.check.Goals as goal
+
+pub unfit-requires-clause-elements : goal.unfit-requires-clause-elements
+unfit-requires-clause-elements c = rw (c.in_ok-bles.ensures, c.len.ensures) (elements_lawful c.args.circuit.now c.requires.circuit)
+
+pub unfit-requires-clause-few : goal.unfit-requires-clause-few
+unfit-requires-clause-few c = rw c.in_ok-bles.ensures (few_bles c.args.circuit.now c.requires.circuit)
+
+pub returns-in-None : goal.returns-in-None
+returns-in-None c = unfit_is c.args.circuit.now c.args.arch.now c.in_ok-bles.bles None c.in_ok-bles.ensures (sym c.in-None.is ∙ c.unfit.ensures)
+
+pub returns : goal.returns
+returns c = unfit_is c.args.circuit.now c.args.arch.now c.in_ok-bles.bles (Some c.in-Some.number) c.in_ok-bles.ensures (sym c.in-Some.is ∙ c.unfit.ensures)

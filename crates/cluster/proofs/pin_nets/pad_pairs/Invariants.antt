@@ -1,0 +1,8 @@
+use Rattle.std.proofs.Common.{ℕ, List}
+use Rattle.cluster.specs.Bles.{LogicElement}
+use Rattle.cluster.specs.ClusterPins.{TellReaders}
+use Rattle.cluster.proofs.pin_nets.pad_pairs.Given as goal
+
+abbrev pub invariant-loop-pad : goal.invariant-loop-pad
+invariant-loop-pad l =
+    (elements : List LogicElement) (clusters : List (List ℕ)) → TellReaders l.circuit elements clusters l.pad 0 l.pairs.items

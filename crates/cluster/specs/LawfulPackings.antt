@@ -1,0 +1,15 @@
+-- What every packed circuit keeps.
+use Rattle.std.specs.Prelude.{◌≡◌, ◌<◌, ◌≤◌, All, length}
+use Rattle.arch_file.specs.Arch.{IsArch}
+use Rattle.blif.specs.LawfulCircuits.{IsCircuit}
+use Rattle.cluster.specs.Bles.{bles_of}
+use Rattle.cluster.specs.Clusters.{PackedCircuit, packed_of}
+
+-- a packed circuit keeps the limits; its clusters have a seed, and their members are its elements
+pub record IsPacked (packed : PackedCircuit) : Type 0 where
+  pub circuit : IsCircuit packed.circuit
+  pub arch : IsArch packed.arch
+  pub members : All (λ cluster. All (λ number. number < length (bles_of packed.circuit)) cluster) packed.clusters
+  pub seeds : All (λ cluster. 0 < length cluster) packed.clusters
+  pub few_elements : length (bles_of packed.circuit) ≤ 8192
+  pub exact : packed ≡ packed_of packed.circuit packed.arch

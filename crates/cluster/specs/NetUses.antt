@@ -1,0 +1,40 @@
+-- Private: who uses which nets.
+use Rattle.std.specs.Prelude.{ℕ, ◌+◌, ◌==◌, Bool, not, ◌||◌, List, [], ◌∷◌, map, filter, length, slice_index}
+use Rattle.std.specs.List.{flat_map, range_with_len, slice_index_or}
+use Rattle.std.specs.Option.{option_to_list}
+use Rattle.blif.specs.declared.circuit.Circuit.{Circuit}
+use Rattle.blif.specs.declared.latches.Latch.{Latch}
+use Rattle.cluster.specs.declared.net_uses.NetUses.{NetUses}
+use Rattle.cluster.specs.Nets.{has}
+use Rattle.cluster.specs.Bles.{LogicElement}
+use Rattle.cluster.specs.Clusters.{outputs_of}
+use Rattle.cluster.specs.Blocks.{BlockNet, is_empty}
+use Rattle.cluster.specs.ClusterPins.{members_of}
+
+-- the nets that control latches, as often as they control one
+abbrev pub controls_of : List Latch → List ℕ
+controls_of latches = flat_map (λ latch. option_to_list latch.control) latches
+
+-- those of the readers that aren't the driver
+abbrev pub others : ℕ → List ℕ → List ℕ
+others driver readers = filter (λ reader. not (reader == driver)) readers
+
+-- what a block drives leaves it
+abbrev pub leaves_by : NetUses → ℕ → ℕ → Bool
+leaves_by uses driver net = has uses.globals.nets net || not (is_empty (others driver (slice_index_or uses.readers net [])))
+
+-- the net that the block drives
+abbrev pub net_by : NetUses → ℕ → ℕ → BlockNet
+net_by uses driver net = record { net = net; driver = driver; readers = others driver (slice_index_or uses.readers net []); global = has uses.globals.nets net }
+
+-- the nets that the first so many input pads drive
+abbrev pub input_nets : Circuit → NetUses → ℕ → List BlockNet
+input_nets circuit uses count = flat_map (λ pad. net_by uses pad (slice_index circuit.inputs pad) ∷ []) (range_with_len 0 count)
+
+-- the nets that a block with these elements drives
+abbrev pub driven_nets : NetUses → ℕ → List LogicElement → List BlockNet
+driven_nets uses driver elements = map (net_by uses driver) (filter (leaves_by uses driver) (outputs_of elements))
+
+-- the nets that the first so many clusters drive
+abbrev pub cluster_nets : Circuit → NetUses → List LogicElement → List (List ℕ) → ℕ → List BlockNet
+cluster_nets circuit uses elements clusters count = flat_map (λ cluster. driven_nets uses (length circuit.inputs + length circuit.outputs + cluster) (members_of elements clusters cluster)) (range_with_len 0 count)

@@ -1,0 +1,22 @@
+-- Private: a packing under way, and the growth of its clusters.
+use Rattle.std.specs.Prelude.{ℕ, suc, ◌≡◌, ◌+◌, ◌≤◌, List, [], ◌∷◌, None, length}
+use Rattle.arch_file.specs.declared.arch.Arch.{Arch}
+use Rattle.blif.specs.declared.circuit.Circuit.{Circuit}
+use Rattle.cluster.specs.Bles.{bles_of}
+use Rattle.cluster.specs.Clusters.{clusters_after, free_of, unfit_of}
+use Rattle.cluster.specs.Growing.{Growth}
+
+-- the steps whose clusters are made: where nothing is free any more, the step under way has made its cluster already
+abbrev pub steps_reached : List ℕ → ℕ → ℕ
+steps_reached [] made = suc made
+steps_reached (number ∷ free) made = made
+
+-- the clusters are those of the steps made, each of which took an element, and what is in none of them is free
+pub record IsUnderWay (circuit : Circuit) (arch : Arch) (growth : Growth) (clusters : List (List ℕ)) (made : ℕ) : Type 0 where
+  pub fit : unfit_of circuit arch ≡ None
+  pub elements : growth.elements ≡ bles_of circuit
+  pub free : growth.free ≡ free_of (bles_of circuit) clusters
+  pub exact : clusters ≡ clusters_after arch (bles_of circuit) (steps_reached growth.free made)
+  pub count : length (clusters_after arch (bles_of circuit) made) ≡ made
+  pub taken : length (free_of (bles_of circuit) (clusters_after arch (bles_of circuit) made)) + made ≤ length (bles_of circuit)
+  pub begun : free_of (bles_of circuit) (clusters_after arch (bles_of circuit) made) ≡ [] → made ≡ 0

@@ -1,0 +1,95 @@
+//! The nets on the pins of one cluster.
+ghost use Rattle.std.specs.Prelude.{◌≡◌, ◌<◌, [], All, IfOk, length, filter, not};
+ghost use Rattle.cluster.specs.Nets.{has, with_nets};
+ghost use Rattle.cluster.specs.Clusters.{elements_at, inputs_of, outputs_of, clocks_of, outside_inputs};
+ghost use Rattle.cluster.specs.ClusterPins.{IsElementWithin, all_clocks_of};
+
+use crate::bles::Bles;
+use crate::net_set::NetSet;
+use std::alloc::{AllocError, Global};
+
+/// The nets on the pins of a cluster, by class. Kept from one cluster to the next.
+#[derive(Debug, Drop)]
+pub(crate) struct ClusterSets {
+    pub(crate) outputs: NetSet,
+    pub(crate) inputs: NetSet,
+    pub(crate) clocks: NetSet,
+}
+
+impl ClusterSets {
+    /// No nets, of that many.
+    pub(crate) fn new(alloc: Global, count: usize) -> Result<Self, AllocError>
+        ensures inputs { IfOk result (λ sets. sets.inputs ≡ record { count = count; nets = [] }) }
+        ensures outputs { IfOk result (λ sets. sets.outputs ≡ record { count = count; nets = [] }) }
+        ensures clocks { IfOk result (λ sets. sets.clocks ≡ record { count = count; nets = [] }) }
+    {
+        Ok(ClusterSets {
+            outputs: NetSet::new(alloc, count)?,
+            inputs: NetSet::new(alloc, count)?,
+            clocks: NetSet::new(alloc, count)?,
+        })
+    }
+
+    /// The nets of a cluster with these members.
+    pub(crate) fn gather(&mut self, bles: &Bles, members: &[u32]) -> Result<(), AllocError>
+        requires members { All (λ number. number < length bles.now) members.now }
+        requires inputs_within { All (IsElementWithin self.old.inputs.count) bles.now }
+        requires outputs_count { self.old.outputs.count ≡ self.old.inputs.count }
+        requires clocks_count { self.old.clocks.count ≡ self.old.inputs.count }
+        ensures inputs { IfOk result (λ _. self.new.inputs ≡ record { count = self.old.inputs.count; nets = outside_inputs (elements_at bles.now members.now) }) }
+        ensures clocks { IfOk result (λ _. self.new.clocks ≡ record { count = self.old.inputs.count; nets = clocks_of (elements_at bles.now members.now) }) }
+        ensures outputs_count { IfOk result (λ _. self.new.outputs.count ≡ self.old.inputs.count) }
+    {
+        self.outputs.clear();
+        self.inputs.clear();
+        self.clocks.clear();
+        add_outputs(&mut self.outputs, bles, members)?;
+        add_inputs(&mut self.inputs, &self.outputs, bles, members)?;
+        add_clocks(&mut self.clocks, bles, members)?;
+        Ok(())
+    }
+}
+
+/// Adds what the members drive.
+fn add_outputs(outputs: &mut NetSet, bles: &Bles, members: &[u32]) -> Result<(), AllocError>
+    requires members { All (λ number. number < length bles.now) members.now }
+    requires within { All (IsElementWithin outputs.old.count) bles.now }
+    ensures { IfOk result (λ _. outputs.new ≡ record { count = outputs.old.count; nets = with_nets outputs.old.nets (outputs_of (elements_at bles.now members.now)) }) }
+{
+    for member in members {
+        outputs.insert(bles.ble(*member as usize).output)?;
+    }
+    Ok(())
+}
+
+/// Adds what the members read and none of them drives.
+fn add_inputs(
+    inputs: &mut NetSet,
+    outputs: &NetSet,
+    bles: &Bles,
+    members: &[u32],
+) -> Result<(), AllocError>
+    requires members { All (λ number. number < length bles.now) members.now }
+    requires within { All (IsElementWithin inputs.old.count) bles.now }
+    requires same_count { outputs.now.count ≡ inputs.old.count }
+    ensures { IfOk result (λ _. inputs.new ≡ record { count = inputs.old.count; nets = with_nets inputs.old.nets (filter (λ net. not (has outputs.now.nets net)) (inputs_of (elements_at bles.now members.now))) }) }
+{
+    for member in members {
+        inputs.insert_others(bles.ble(*member as usize).inputs, outputs)?;
+    }
+    Ok(())
+}
+
+/// Adds the clocks of the members.
+fn add_clocks(clocks: &mut NetSet, bles: &Bles, members: &[u32]) -> Result<(), AllocError>
+    requires members { All (λ number. number < length bles.now) members.now }
+    requires within { All (IsElementWithin clocks.old.count) bles.now }
+    ensures { IfOk result (λ _. clocks.new ≡ record { count = clocks.old.count; nets = with_nets clocks.old.nets (all_clocks_of (elements_at bles.now members.now)) }) }
+{
+    for member in members {
+        if let Some(clock) = bles.ble(*member as usize).clock {
+            clocks.insert(clock)?;
+        }
+    }
+    Ok(())
+}

@@ -1,0 +1,84 @@
+//! The nets that blocks drive.
+ghost use Rattle.std.specs.Prelude.{◌≡◌, ◌+◌, ◌^◌, ◌<◌, ◌++◌, All, IfOk, length};
+ghost use Rattle.cluster.specs.Clusters.{elements_at};
+ghost use Rattle.cluster.specs.ClusterPins.{IsElementWithin};
+ghost use Rattle.cluster.specs.NetUses.{input_nets, driven_nets, cluster_nets};
+
+use crate::bles::Bles;
+use crate::block::BlockNet;
+use crate::block_nets::BlockNets;
+use crate::clusters::Clusters;
+use crate::net_uses::NetUses;
+use blif::Circuit;
+use std::alloc::AllocError;
+
+/// Adds the nets that the input pads drive.
+pub(crate) fn add_input_nets(
+    nets: &mut BlockNets,
+    circuit: &Circuit,
+    uses: &NetUses,
+) -> Result<(), AllocError>
+    requires within { All (λ net. net < uses.now.globals.count) circuit.now.inputs }
+    requires same_count { length uses.now.readers ≡ uses.now.globals.count }
+    requires few { length circuit.now.inputs < 2 ^ 32 }
+    ensures { IfOk result (λ _. nets.new ≡ nets.old ++ input_nets circuit.now uses.now (length circuit.now.inputs)) }
+{
+    for (pad, net) in circuit.inputs.as_slice().iter().enumerate() {
+        nets.push(BlockNet {
+            net: *net,
+            driver: pad as u32,
+            readers: uses.readers(*net),
+            global: uses.is_global(*net),
+        })?;
+    }
+    Ok(())
+}
+
+/// Adds the nets that the clusters drive.
+pub(crate) fn add_cluster_nets(
+    nets: &mut BlockNets,
+    circuit: &Circuit,
+    uses: &NetUses,
+    bles: &Bles,
+    clusters: &Clusters,
+) -> Result<(), AllocError>
+    requires elements { All (IsElementWithin uses.now.globals.count) bles.now }
+    requires same_count { length uses.now.readers ≡ uses.now.globals.count }
+    requires members { All (λ cluster. All (λ number. number < length bles.now) cluster) clusters.now }
+    requires few { length circuit.now.inputs + length circuit.now.outputs + length clusters.now < 2 ^ 32 }
+    ensures { IfOk result (λ _. nets.new ≡ nets.old ++ cluster_nets circuit.now uses.now bles.now clusters.now (length clusters.now)) }
+{
+    let first = circuit.inputs.as_slice().len() + circuit.outputs.as_slice().len();
+    for cluster in 0..clusters.len() {
+        let members = clusters.cluster(cluster);
+        add_driven(nets, (first + cluster) as u32, uses, bles, members)?;
+    }
+    Ok(())
+}
+
+/// Adds the nets that a block with these members drives.
+fn add_driven(
+    nets: &mut BlockNets,
+    driver: u32,
+    uses: &NetUses,
+    bles: &Bles,
+    members: &[u32],
+) -> Result<(), AllocError>
+    requires elements { All (IsElementWithin uses.now.globals.count) bles.now }
+    requires same_count { length uses.now.readers ≡ uses.now.globals.count }
+    requires members { All (λ number. number < length bles.now) members.now }
+    ensures { IfOk result (λ _. nets.new ≡ nets.old ++ driven_nets uses.now driver (elements_at bles.now members.now)) }
+{
+    for member in members {
+        let net = bles.ble(*member as usize).output;
+        if uses.leaves(driver, net) {
+            nets.push(BlockNet {
+                net,
+                driver,
+                readers: uses.readers(net),
+                global: uses.is_global(net),
+            })?;
+        }
+    }
+    Ok(())
+}

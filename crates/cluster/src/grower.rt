@@ -1,0 +1,106 @@
+//! One cluster of free BLEs after another.
+ghost use Rattle.std.specs.Prelude.{◌≡◌, ◌<◌, ◌≤◌, [], ◌∷◌, All, List, ℕ, length, map, filter, not, None, vec_len, IfOk, IsTrue, ◌↔◌};
+ghost use Rattle.std.specs.List.{range_with_len};
+ghost use Rattle.arch_file.specs.Arch.{IsArch, input_count};
+ghost use Rattle.cluster.specs.Nets.{has};
+ghost use Rattle.cluster.specs.Clusters.{cluster_of, unfit_among};
+ghost use Rattle.cluster.specs.Growing.{IsElement, free_in};
+
+use crate::bles::Bles;
+use crate::draft::{Draft, seed};
+use arch_file::Arch;
+use std::alloc::{AllocError, Global};
+use std::marker::Model;
+
+/// BLEs, of which some are free, and the members of a cluster of free ones. Its value is the record of these.
+#[derive(Drop)]
+pub(crate) struct Grower {
+    bles: Bles,
+    taken: Vec<bool>,
+    draft: Draft,
+}
+
+impl Model for Grower {
+    ghost use Rattle.std.specs.Prelude.{vec_len};
+    ghost use Rattle.cluster.specs.Growing.{Growth, IsGrowth, free_in};
+
+    ghost Value = { Growth };
+
+    ghost view = { λ g. record { elements = g.bles; free = free_in g.taken.items; members = g.draft.members.items } };
+
+    ghost invariant = { λ g. IsGrowth (vec_len g.draft.nets.is_input) g.bles g.taken.items g.draft.members.items };
+}
+
+impl Grower {
+    /// These BLEs, all free, whose nets are below the count.
+    pub(crate) fn new(alloc: Global, bles: Bles, count: usize) -> Result<Self, AllocError>
+        requires elements { All (IsElement count) bles }
+        requires few { length bles ≤ 8192 }
+        ensures { IfOk result (λ grower. grower ≡ record { elements = bles; free = range_with_len 0 (length bles); members = [] }) }
+    {
+        let taken = vec![in alloc; false; bles.len()]?;
+        Ok(Grower {
+            bles,
+            taken,
+            draft: Draft::new(alloc, count)?,
+        })
+    }
+
+    /// The BLEs.
+    pub(crate) fn bles(&self) -> &Bles
+        ensures { result.now ≡ self.now.elements }
+    {
+        &self.bles
+    }
+
+    /// The BLEs alone.
+    pub(crate) fn into_bles(self) -> Bles
+        ensures { result ≡ self.elements }
+    {
+        self.bles
+    }
+
+    /// The members, the seed first.
+    pub(crate) fn members(&self) -> &[u32]
+        ensures value { result.now ≡ self.now.members }
+        ensures within { All (λ number. number < length self.now.elements) self.now.members }
+    {
+        self.draft.members()
+    }
+
+    /// Whether a BLE is free.
+    pub(crate) fn has_free(&self) -> bool
+        ensures { IsTrue result ↔ (0 < length self.now.free) }
+    {
+        seed(&self.bles, self.taken.as_slice()).is_some()
+    }
+
+    /// Chooses the members of a cluster among the free BLEs.
+    pub(crate) fn choose(&mut self, arch: &Arch) -> Result<(), AllocError>
+        requires arch { IsArch arch.now }
+        requires fit { unfit_among arch.now self.old.elements ≡ None }
+        ensures members { IfOk result (λ _. self.new.members ≡ cluster_of arch.now self.old.elements self.old.free) }
+        ensures elements { self.new.elements ≡ self.old.elements }
+        ensures free { self.new.free ≡ self.old.free }
+    {
+        self.draft.choose(arch, &self.bles, self.taken.as_slice())
+    }
+
+    /// The members are no longer free.
+    pub(crate) fn take(&mut self)
+        ensures elements { self.new.elements ≡ self.old.elements }
+        ensures free { self.new.free ≡ filter (λ number. not (has self.old.members number)) self.old.free }
+    {
+        mark_taken(self.taken.as_mut_slice(), self.draft.members());
+    }
+}
+
+/// Marks the members as taken.
+fn mark_taken(taken: &mut [bool], members: &[u32])
+    requires { All (λ number. number < length taken.old) members.now }
+    ensures { free_in taken.new ≡ filter (λ number. not (has members.now number)) (free_in taken.old) }
+{
+    for number in members {
+        taken[*number as usize] = true;
+    }
+}

@@ -1,0 +1,35 @@
+//! Packing: the tables and latches of a circuit as basic logic elements (BLEs), and these in clusters, as T-VPack does.
+//!
+//! - `Bles` are the elements, `check` says whether each fits into a cluster alone.
+//! - `Packing` makes the clusters, one a step. `Packed` is the result, with its blocks, nets and pins.
+#![tactic(auto)]
+
+mod bles;
+mod block;
+mod block_nets;
+mod by_net;
+mod cluster_sets;
+mod clusters;
+mod draft;
+mod driven_nets;
+mod fault;
+mod grower;
+mod leader;
+mod member_nets;
+mod net_set;
+mod net_uses;
+mod packed;
+mod packed_tables;
+mod packing;
+mod pin_nets;
+mod pin_ranks;
+mod pins;
+mod readers;
+mod rows;
+mod span;
+
+pub use bles::{Ble, Bles};
+pub use block::{Block, BlockNet};
+pub use fault::{PackError, PackFault};
+pub use packed::Packed;
+pub use packing::{PackEnd, Packing, check};

@@ -1,0 +1,68 @@
+//! Who uses which nets.
+ghost use Rattle.std.specs.Prelude.{◌≡◌, ◌<◌, ◌==◌, [], IfOk, length, not};
+ghost use Rattle.std.specs.List.{list_any, slice_index_or};
+ghost use Rattle.blif.specs.LawfulCircuits.{IsCircuit};
+ghost use Rattle.cluster.specs.Nets.{has, distinct};
+ghost use Rattle.cluster.specs.NetUses.{controls_of, leaves_by};
+
+use crate::by_net::ByNet;
+use crate::net_set::NetSet;
+use blif::Circuit;
+use std::alloc::{AllocError, Global};
+
+/// The nets that control latches, which are global, and for each net the blocks that have it on a pin other than one
+/// that drives it.
+#[derive(Debug, Drop)]
+pub(crate) struct NetUses {
+    pub(crate) globals: NetSet,
+    pub(crate) readers: ByNet,
+}
+
+impl NetUses {
+    /// The uses of the circuit's nets, which these blocks read.
+    pub(crate) fn new(alloc: Global, circuit: &Circuit, readers: ByNet) -> Result<Self, AllocError>
+        requires { IsCircuit circuit.now }
+        ensures globals { IfOk result (λ uses. uses.globals ≡ record { count = length circuit.now.nets; nets = distinct (controls_of circuit.now.latches) }) }
+        ensures readers { IfOk result (λ uses. uses.readers ≡ readers) }
+    {
+        let mut globals = NetSet::new(alloc, circuit.nets.len())?;
+        for latch in circuit.latches.as_slice() {
+            if let Some(control) = latch.control {
+                globals.insert(control)?;
+            }
+        }
+        Ok(NetUses { globals, readers })
+    }
+
+    /// Whether the net is global.
+    pub(crate) fn is_global(&self, net: u32) -> bool
+        requires { net < self.now.globals.count }
+        ensures { result ≡ has self.now.globals.nets net }
+    {
+        self.globals.has(net)
+    }
+
+    /// The blocks that have the net on a pin other than one that drives it.
+    pub(crate) fn readers(&self, net: u32) -> &[u32]
+        requires { net < length self.now.readers }
+        ensures { result.now ≡ slice_index_or self.now.readers net [] }
+    {
+        self.readers.of(net as usize)
+    }
+
+    /// Whether the net leaves the block that drives it.
+    pub(crate) fn leaves(&self, driver: u32, net: u32) -> bool
+        requires global { net < self.now.globals.count }
+        requires reader { net < length self.now.readers }
+        ensures { result ≡ leaves_by self.now driver net }
+    {
+        self.is_global(net) || has_other(self.readers(net), driver)
+    }
+}
+
+/// Whether one of the readers isn't the driver.
+fn has_other(readers: &[u32], driver: u32) -> bool
+    ensures { result ≡ list_any (λ reader. not (reader == driver)) readers.now }
+{
+    readers.iter().any(|reader| *reader != driver)
+}

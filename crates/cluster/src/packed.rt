@@ -1,0 +1,190 @@
+//! A packed circuit.
+ghost use Rattle.std.specs.Prelude.{◌≡◌, ◌+◌, ◌<◌, length, slice_get, Some};
+ghost use Rattle.cluster.specs.Bles.{bles_of};
+ghost use Rattle.cluster.specs.Blocks.{blocks_of, block_nets, pins_of, carried, nets_of_cluster};
+ghost use Rattle.cluster.specs.LawfulPackings.{IsPacked};
+ghost use Rattle.cluster.specs.PackedTables.{AreTablesOf};
+
+use crate::bles::{Ble, Bles};
+use crate::block::{Block, BlockNet};
+use crate::clusters::Clusters;
+use crate::packed_tables::PackedTables;
+use arch_file::{Arch, PinClass, SharedArch};
+use blif::{Circuit, SharedCircuit};
+use std::marker::Model;
+
+/// A packed circuit: its BLEs in clusters, with the blocks, nets and pins that follow.
+#[derive(Drop)]
+pub struct Packed {
+    circuit: SharedCircuit,
+    arch: SharedArch,
+    bles: Bles,
+    clusters: Clusters,
+    tables: PackedTables,
+}
+
+impl Model for Packed {
+    ghost use Rattle.cluster.specs.Clusters.{PackedCircuit};
+    ghost use Rattle.cluster.specs.PackedTables.{ArePartsOf};
+
+    ghost Value = { PackedCircuit };
+
+    ghost view = { λ p. record { circuit = p.circuit; arch = p.arch; clusters = p.clusters } };
+
+    ghost invariant = { λ p. ArePartsOf (record { circuit = p.circuit; arch = p.arch; clusters = p.clusters }) p.bles p.tables };
+}
+
+impl Packed {
+    /// The packed circuit of these parts. Takes no memory.
+    pub(crate) fn new(
+        circuit: SharedCircuit,
+        arch: SharedArch,
+        bles: Bles,
+        clusters: Clusters,
+        tables: PackedTables,
+    ) -> Self
+        requires bles { bles ≡ bles_of circuit }
+        requires packed { IsPacked (record { circuit = circuit; arch = arch; clusters = clusters }) }
+        requires tables { AreTablesOf (record { circuit = circuit; arch = arch; clusters = clusters }) tables }
+        ensures { result ≡ record { circuit = circuit; arch = arch; clusters = clusters } }
+    {
+        Packed {
+            circuit,
+            arch,
+            bles,
+            clusters,
+            tables,
+        }
+    }
+
+    /// The circuit.
+    pub fn circuit(&self) -> &Circuit
+        ensures value { result.now ≡ self.now.circuit }
+        ensures lawful { IsPacked self.now }
+    {
+        self.circuit.circuit()
+    }
+
+    /// The architecture.
+    pub fn arch(&self) -> &Arch
+        ensures value { result.now ≡ self.now.arch }
+        ensures lawful { IsPacked self.now }
+    {
+        self.arch.arch()
+    }
+
+    /// How many BLEs the circuit has.
+    pub fn ble_count(&self) -> usize
+        ensures { result ≡ length (bles_of self.now.circuit) }
+    {
+        self.bles.len()
+    }
+
+    /// The BLE of that number.
+    pub fn ble(&self, number: usize) -> Ble<'_>
+        requires { number < length (bles_of self.now.circuit) }
+        ensures { slice_get (bles_of self.now.circuit) number ≡ Some (record { inputs = result.inputs.now; output = result.output; clock = result.clock }) }
+    {
+        self.bles.ble(number)
+    }
+
+    /// How many clusters there are.
+    pub fn cluster_count(&self) -> usize
+        ensures { result ≡ length self.now.clusters }
+    {
+        self.clusters.len()
+    }
+
+    /// The BLEs of a cluster by number, the seed first.
+    pub fn cluster(&self, number: usize) -> &[u32]
+        requires { number < length self.now.clusters }
+        ensures { slice_get self.now.clusters number ≡ Some result.now }
+    {
+        self.clusters.cluster(number)
+    }
+
+    /// How many blocks there are: pads for inputs, pads for outputs, and clusters.
+    pub fn block_count(&self) -> usize
+        ensures { result ≡ length (blocks_of self.now) }
+    {
+        self.pad_count() + self.clusters.len()
+    }
+
+    /// The block of that number.
+    pub fn block(&self, number: usize) -> Block
+        requires { number < length (blocks_of self.now) }
+        ensures { slice_get (blocks_of self.now) number ≡ Some result }
+    {
+        let inputs = self.circuit.circuit().inputs.as_slice();
+        let outputs = self.circuit.circuit().outputs.as_slice();
+        if number < inputs.len() {
+            Block::InputPad(inputs[number])
+        } else if number - inputs.len() < outputs.len() {
+            Block::OutputPad(outputs[number - inputs.len()])
+        } else {
+            Block::Cluster((number - inputs.len() - outputs.len()) as u32)
+        }
+    }
+
+    /// How many nets there are between blocks.
+    pub fn net_count(&self) -> usize
+        ensures { result ≡ length (block_nets self.now) }
+    {
+        self.tables.nets.len()
+    }
+
+    /// The net of that number, which is not its number in the circuit.
+    pub fn net(&self, number: usize) -> BlockNet<'_>
+        requires { number < length (block_nets self.now) }
+        ensures { slice_get (block_nets self.now) number ≡ Some (record { net = result.net; driver = result.driver; readers = result.readers.now; global = result.global }) }
+    {
+        self.tables.nets.net(number)
+    }
+
+    /// The net of the circuit that a pin of a cluster carries, by the pin's number; None where the pin is open.
+    pub fn pin(&self, cluster: usize, pin: usize) -> Option<u32>
+        requires cluster { cluster < length self.now.clusters }
+        requires pin { pin < length self.now.arch.pins }
+        ensures { slice_get (pins_of self.now cluster) pin ≡ Some result }
+    {
+        let rank = self.tables.ranks[pin];
+        match self.arch.arch().pins.as_slice()[pin].class {
+            PinClass::Input => entry(self.tables.inputs.row(cluster), rank),
+            PinClass::Output => self.leaving_output(cluster, rank),
+            PinClass::Clock => entry(self.tables.clocks.row(cluster), rank),
+        }
+    }
+
+    /// How many pads there are.
+    fn pad_count(&self) -> usize
+        ensures { result ≡ length self.now.circuit.inputs + length self.now.circuit.outputs }
+    {
+        let circuit = self.circuit.circuit();
+        circuit.inputs.as_slice().len() + circuit.outputs.as_slice().len()
+    }
+
+    /// What the BLE at that place of a cluster drives, where it leaves the cluster.
+    fn leaving_output(&self, cluster: usize, place: usize) -> Option<u32>
+        requires { cluster < length self.now.clusters }
+        ensures { result ≡ carried (nets_of_cluster self.now cluster) PinClass.Output place }
+    {
+        let members = self.clusters.cluster(cluster);
+        if place >= members.len() {
+            return None;
+        }
+        let net = self.bles.ble(members[place] as usize).output;
+        let block = (self.pad_count() + cluster) as u32;
+        if self.tables.uses.leaves(block, net) {
+            Some(net)
+        } else {
+            None
+        }
+    }
+}
+
+/// What stands at that place of a row, if the row is that long.
+fn entry(row: &[u32], place: usize) -> Option<u32>
+    ensures { result ≡ slice_get row.now place }
+{
+    row.get(place).copied()
+}

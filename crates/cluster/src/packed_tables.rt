@@ -1,0 +1,61 @@
+//! What is kept beside a packed circuit, so that its pins and nets are told at once.
+ghost use Rattle.std.specs.Prelude.{◌≡◌, IfOk};
+ghost use Rattle.cluster.specs.Bles.{bles_of};
+ghost use Rattle.cluster.specs.LawfulPackings.{IsPacked};
+ghost use Rattle.cluster.specs.PackedTables.{AreTablesOf};
+
+use crate::bles::Bles;
+use crate::block_nets::BlockNets;
+use crate::clusters::Clusters;
+use crate::driven_nets::{add_cluster_nets, add_input_nets};
+use crate::net_uses::NetUses;
+use crate::pin_nets::PinNets;
+use crate::pin_ranks::ranks_of;
+use crate::rows::Rows;
+use arch_file::Arch;
+use blif::Circuit;
+use std::alloc::{AllocError, Global};
+
+/// The outside inputs and the clocks of each cluster, who uses which nets, the nets between blocks, and the ranks of
+/// pins.
+#[derive(Drop)]
+pub(crate) struct PackedTables {
+    pub(crate) inputs: Rows,
+    pub(crate) clocks: Rows,
+    pub(crate) uses: NetUses,
+    pub(crate) nets: BlockNets,
+    pub(crate) ranks: Vec<usize>,
+}
+
+impl PackedTables {
+    /// The tables of a packed circuit. Takes time in proportion to its size.
+    pub(crate) fn new(
+        alloc: Global,
+        circuit: &Circuit,
+        arch: &Arch,
+        bles: &Bles,
+        clusters: &Clusters,
+    ) -> Result<Self, AllocError>
+        requires bles { bles.now ≡ bles_of circuit.now }
+        requires packed { IsPacked (record { circuit = circuit.now; arch = arch.now; clusters = clusters.now }) }
+        ensures { IfOk result (λ tables. AreTablesOf (record { circuit = circuit.now; arch = arch.now; clusters = clusters.now }) tables) }
+    {
+        let PinNets {
+            inputs,
+            clocks,
+            readers,
+        } = PinNets::new(alloc, circuit, bles, clusters)?;
+        let uses = NetUses::new(alloc, circuit, readers)?;
+        let mut nets = BlockNets::new(alloc);
+        add_input_nets(&mut nets, circuit, &uses)?;
+        add_cluster_nets(&mut nets, circuit, &uses, bles, clusters)?;
+        let ranks = ranks_of(alloc, arch.pins.as_slice())?;
+        Ok(PackedTables {
+            inputs,
+            clocks,
+            uses,
+            nets,
+            ranks,
+        })
+    }
+}

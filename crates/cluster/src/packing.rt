@@ -1,0 +1,159 @@
+//! Packing, one cluster a step.
+ghost use Rattle.std.specs.Prelude.{◌≡◌, ◌≤◌, ◌==◌, All, filter, not, length, IfOk, None, OnErr};
+ghost use Rattle.arch_file.specs.Arch.{IsArch};
+ghost use Rattle.blif.specs.LawfulCircuits.{IsCircuit};
+ghost use Rattle.cluster.specs.Nets.{has};
+ghost use Rattle.cluster.specs.Clusters.{cluster_of, unfit_among, unfit_of, with_cluster};
+ghost use Rattle.cluster.specs.Growing.{IsElement};
+ghost use Rattle.cluster.specs.Packing.{IsChecked, GoesOn};
+
+use crate::bles::{Ble, Bles};
+use crate::clusters::Clusters;
+use crate::fault::{PackError, PackFault};
+use crate::grower::Grower;
+use crate::packed::Packed;
+use crate::packed_tables::PackedTables;
+use crate::pins::input_count;
+use arch_file::{Arch, SharedArch};
+use blif::{Circuit, SharedCircuit};
+use std::alloc::{AllocError, Global};
+use std::marker::Model;
+
+/// Whether each BLE of the circuit fits into a cluster alone, or the least that doesn't.
+pub fn check(alloc: Global, circuit: &Circuit, arch: &Arch) -> Result<(), PackError>
+    requires circuit { IsCircuit circuit.now }
+    requires arch { IsArch arch.now }
+    ensures { IsChecked (unfit_of circuit.now arch.now) result }
+{
+    let bles = Bles::new(alloc, circuit)?;
+    match unfit(&bles, circuit.nets.len(), arch) {
+        None => Ok(()),
+        Some(number) => Err(PackError::Fault(PackFault::CannotFit(number))),
+    }
+}
+
+/// The least BLE that doesn't fit into a cluster alone. Their nets are below the count.
+fn unfit(bles: &Bles, count: usize, arch: &Arch) -> Option<u32>
+    requires elements { All (IsElement count) bles.now }
+    requires few { length bles.now ≤ 8192 }
+    requires arch { IsArch arch.now }
+    ensures { result ≡ unfit_among arch.now bles.now }
+{
+    let pins = input_count(arch);
+    for number in 0..bles.len() {
+        if outside_inputs(bles.ble(number)) > pins {
+            return Some(number as u32);
+        }
+    }
+    None
+}
+
+/// How many nets the BLE reads that it doesn't drive itself.
+fn outside_inputs(ble: Ble<'_>) -> usize
+    ensures { result ≡ length (filter (λ net. not (net == ble.entry.output)) ble.entry.inputs.now) }
+{
+    ble.inputs.iter().filter(|net| **net != ble.output).count()
+}
+
+/// A packing under way. Its value is the circuit, the architecture and how many steps are made.
+#[derive(Drop)]
+pub struct Packing {
+    alloc: Global,
+    circuit: SharedCircuit,
+    arch: SharedArch,
+    grower: Grower,
+    clusters: Clusters,
+    made: usize,
+}
+
+impl Model for Packing {
+    ghost use Rattle.cluster.specs.Clusters.{PackingUnderWay};
+    ghost use Rattle.cluster.specs.UnderWay.{IsUnderWay};
+
+    ghost Value = { PackingUnderWay };
+
+    ghost view = { λ p. record { circuit = p.circuit; arch = p.arch; made = p.made } };
+
+    ghost invariant = { λ p. IsUnderWay p.circuit p.arch p.grower p.clusters p.made };
+}
+
+/// What a step of packing leads to.
+#[derive(Drop)]
+pub enum PackEnd {
+    More(Packing),
+    Last(Packed),
+}
+
+impl Packing {
+    /// A packing with no step made. Shares the circuit and the architecture.
+    pub fn start(
+        alloc: Global,
+        circuit: &SharedCircuit,
+        arch: &SharedArch,
+    ) -> Result<Self, AllocError>
+        requires { unfit_of circuit.now arch.now ≡ None }
+        ensures { IfOk result (λ packing. packing ≡ record { circuit = circuit.now; arch = arch.now; made = 0 }) }
+    {
+        let bles = Bles::new(alloc, circuit.circuit())?;
+        let grower = Grower::new(alloc, bles, circuit.circuit().nets.len())?;
+        let clusters = Clusters::new(alloc);
+        Ok(Packing {
+            alloc,
+            circuit: circuit.clone()?,
+            arch: arch.clone()?,
+            grower,
+            clusters,
+            made: 0,
+        })
+    }
+
+    /// Makes one cluster. Without memory the packing comes back as it was.
+    pub fn next(mut self) -> Result<PackEnd, Self>
+        ensures { GoesOn self result }
+    {
+        match add_cluster(&mut self.grower, &mut self.clusters, self.arch.arch()) {
+            Err(_) => return Err(self),
+            Ok(()) => {}
+        }
+        if self.grower.has_free() {
+            self.made += 1;
+            return Ok(PackEnd::More(self));
+        }
+        let tables = PackedTables::new(
+            self.alloc,
+            self.circuit.circuit(),
+            self.arch.arch(),
+            self.grower.bles(),
+            &self.clusters,
+        );
+        match tables {
+            Err(_) => Err(self),
+            Ok(tables) => Ok(PackEnd::Last(Packed::new(
+                self.circuit,
+                self.arch,
+                self.grower.into_bles(),
+                self.clusters,
+                tables,
+            ))),
+        }
+    }
+}
+
+/// Adds one cluster of free BLEs, if there are any. Without memory nothing is added.
+fn add_cluster(grower: &mut Grower, clusters: &mut Clusters, arch: &Arch) -> Result<(), AllocError>
+    requires arch { IsArch arch.now }
+    requires fit { unfit_among arch.now grower.old.elements ≡ None }
+    ensures elements { grower.new.elements ≡ grower.old.elements }
+    ensures added { IfOk result (λ _. clusters.new ≡ with_cluster clusters.old (cluster_of arch.now grower.old.elements grower.old.free)) }
+    ensures free { IfOk result (λ _. grower.new.free ≡ filter (λ number. not (has (cluster_of arch.now grower.old.elements grower.old.free) number)) grower.old.free) }
+    ensures unchanged { OnErr result (clusters.new ≡ clusters.old) }
+    ensures still { OnErr result (grower.new.free ≡ grower.old.free) }
+{
+    grower.choose(arch)?;
+    if grower.members().is_empty() {
+        return Ok(());
+    }
+    clusters.push(grower.members())?;
+    grower.take();
+    Ok(())
+}

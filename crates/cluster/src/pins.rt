@@ -1,0 +1,15 @@
+//! The pins of a cluster.
+ghost use Rattle.std.specs.Prelude.{◌≡◌};
+ghost use Rattle.arch_file.specs.Arch.{input_count};
+
+use arch_file::{Arch, PinClass};
+
+/// How many input pins a cluster has.
+pub(crate) fn input_count(arch: &Arch) -> usize
+    ensures { result ≡ input_count arch.now.pins }
+{
+    let pins = arch.pins.as_slice();
+    pins.iter()
+        .filter(|pin| pin.class == PinClass::Input)
+        .count()
+}
