@@ -1,5 +1,18 @@
-//! The places of a strip.
+//! The places of a strip, and whether a packed circuit fits it.
+//!
+//! A strip has columns 1 to `width` of logic blocks in rows 1 to `rows`, and at both ends of each column, in row 0 and in
+//! row `rows + 1`, `io_rat` pads. [`Strip::places`] gives the places of a kind in their order, by arithmetic and without memory:
+//! by column, then row, and pads then by number. [`Strip::fits`] compares the blocks of a packed circuit with them.
 #![tactic(auto)]
+
+mod fit;
+mod place;
+mod places;
+#[cfg(test)]
+mod tests;
+
+pub use fit::Fit;
+pub use place::{Kind, Place, Places};
 
 /// The size of a strip: what a tenancy has of the device, wherever it stands.
 #[derive(Clone, Copy, Debug, PartialEq, Eq)]

@@ -1,0 +1,4 @@
+pub mod Sizes
+pub mod Places
+pub mod Listed
+pub mod Fits

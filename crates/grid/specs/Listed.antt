@@ -1,0 +1,9 @@
+-- What `Places` shows.
+use Rattle.std.specs.Prelude.{List}
+use Rattle.grid.specs.declared.place.Place.{Place}
+use Rattle.grid.specs.declared.place.Places.{Places}
+use Rattle.grid.specs.Places.{places_of}
+
+-- the places in order
+abbrev pub listed : Places → List Place
+listed places = places_of places.strip places.kind

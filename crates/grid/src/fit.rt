@@ -1,0 +1,63 @@
+//! Whether a packed circuit fits a strip.
+ghost use Rattle.std.specs.Prelude.{◌≡◌, ◌+◌, length};
+ghost use Rattle.cluster.specs.Blocks.{blocks_of};
+ghost use Rattle.grid.specs.declared.place.Kind.TheVariants.{Logic, Pad};
+ghost use Rattle.grid.specs.Sizes.{IsStripSize};
+ghost use Rattle.grid.specs.Places.{places_of};
+ghost use Rattle.grid.specs.Fits.{block_count, compared, fit_of};
+
+use crate::Strip;
+use crate::place::Kind;
+use cluster::Packed;
+
+/// Whether the blocks of a circuit have places enough. Clusters of logic are looked at first.
+#[derive(Clone, Copy, Debug, PartialEq, Eq)]
+pub enum Fit {
+    Fits,
+    /// The strip has fewer places for logic blocks than are needed.
+    TooManyBlocks { have: usize, need: usize },
+    /// The strip has fewer places for pads than are needed.
+    TooManyPads { have: usize, need: usize },
+}
+
+impl Strip {
+    /// Whether the packed circuit fits the strip.
+    pub fn fits(self, packed: &Packed) -> Fit
+        requires { IsStripSize self }
+        ensures { result ≡ fit_of self packed.now }
+    {
+        compared(
+            self.places(Kind::Logic).len(),
+            packed.cluster_count(),
+            self.places(Kind::Pad).len(),
+            pad_count(packed),
+        )
+    }
+}
+
+/// Compares the places for logic blocks with the clusters, and then those for pads with the pads.
+fn compared(logic_places: usize, blocks: usize, pad_places: usize, pads: usize) -> Fit
+    ensures { result ≡ compared logic_places blocks pad_places pads }
+{
+    if logic_places < blocks {
+        Fit::TooManyBlocks {
+            have: logic_places,
+            need: blocks,
+        }
+    } else if pad_places < pads {
+        Fit::TooManyPads {
+            have: pad_places,
+            need: pads,
+        }
+    } else {
+        Fit::Fits
+    }
+}
+
+/// How many blocks of the circuit are pads.
+fn pad_count(packed: &Packed) -> usize
+    ensures { result ≡ block_count packed.now Pad }
+{
+    let circuit = packed.circuit();
+    circuit.inputs.as_slice().len() + circuit.outputs.as_slice().len()
+}

@@ -1,0 +1,76 @@
+//! Places in order.
+ghost use Rattle.std.specs.Prelude.{◌≡◌, ◌<◌, ◌≤◌, length, slice_get, Some};
+ghost use Rattle.grid.specs.Sizes.{IsStripSize};
+ghost use Rattle.grid.specs.Places.{column_len, place_in, places_of};
+ghost use Rattle.grid.specs.Listed.{listed};
+
+use crate::Strip;
+use crate::place::{Kind, Place, Places};
+
+impl Strip {
+    /// The places for a kind, by column, then row, then number. Takes no memory.
+    pub fn places(self, kind: Kind) -> Places
+        requires { IsStripSize self }
+        ensures { listed result ≡ places_of self kind }
+    {
+        Places { strip: self, kind }
+    }
+}
+
+impl Places {
+    /// How many places there are.
+    pub fn len(self) -> usize
+        ensures { result ≡ length (listed self) }
+    {
+        self.strip.width as usize * self.column_len() as usize
+    }
+
+    /// The place of that number, from 0.
+    pub fn place(self, number: usize) -> Place
+        requires { number < length (listed self) }
+        ensures { slice_get (listed self) number ≡ Some result }
+    {
+        let column_len = self.column_len() as usize;
+        self.place_in(
+            (number / column_len) as u32 + 1,
+            (number % column_len) as u32,
+        )
+    }
+
+    /// How many places each column has.
+    fn column_len(self) -> u32
+        ensures count { result ≡ column_len self.strip self.kind }
+        ensures some { 0 < result }
+        ensures few { result ≤ 64 }
+    {
+        match self.kind {
+            Kind::Logic => self.strip.rows,
+            Kind::Pad => 2 * self.strip.io_rat,
+        }
+    }
+
+    /// The place of that number in a column.
+    fn place_in(self, x: u32, number: u32) -> Place
+        requires { number < column_len self.strip self.kind }
+        ensures { result ≡ place_in self.strip self.kind x number }
+    {
+        let Strip { rows, io_rat, .. } = self.strip;
+        match self.kind {
+            Kind::Logic => Place {
+                x,
+                y: number + 1,
+                subblock: 0,
+            },
+            Kind::Pad if number < io_rat => Place {
+                x,
+                y: 0,
+                subblock: number,
+            },
+            Kind::Pad => Place {
+                x,
+                y: rows + 1,
+                subblock: number - io_rat,
+            },
+        }
+    }
+}

@@ -1,0 +1,145 @@
+-- The BLEs and pins of a cluster, by place.
+use Rattle.std.proofs.Common.{◌≡◌, ℕ, ◌<◌, ◌++◌, List, [], ◌∷◌, map, length, Option, Some, None, refl, sym, ap, ◌∙◌, slice_get, get_or, subst, All, arith}
+use Rattle.std.proofs.lemmas.List.Elements.{All-append, All-from_get_or, All-get_or, All-map}
+use Rattle.blif.specs.declared.circuit.Circuit.{Circuit}
+use Rattle.cluster.specs.Packing.{IsPacked}
+use Rattle.std.specs.Prelude.{⊤}
+use Rattle.std.specs.List.{enumerate_from, range_with_len, zip}
+use Rattle.std.proofs.lemmas.Option.{slice_get-map, get_or_from_slice_get, slice_get-get_or, slice_get_within}
+use Rattle.std.specs.Option.{option_map, option_eq}
+use Rattle.std.proofs.lemmas.List.{length-map}
+use Rattle.std.proofs.lemmas.Slice.Zip.{get_or-zip, length-zip}
+use Rattle.std.proofs.lemmas.List.FromFn.{get_or-range_with_len, length-enumerate_from, length-range_with_len}
+use Rattle.std.proofs.Math.Dec.{eqb}
+use denote.Enum.Bare.{sameb}
+use Rattle.arch_file.specs.contracts.arch.PinClass.{the_type}
+use Rattle.arch_file.specs.declared.arch.Pin.{Pin}
+use Rattle.arch_file.specs.declared.arch.PinClass.{PinClass}
+use Rattle.arch_file.specs.declared.arch.PinClass.TheVariants.{Input, Output, Clock}
+use Rattle.cluster.specs.Bles.{LogicElement, bles_of, element_at}
+use Rattle.cluster.specs.Clusters.{PackedCircuit, outputs_of}
+use Rattle.cluster.specs.Blocks.{block_name, blocks_of, elements_in, is_same_class, net_name, pins_of, seed_name}
+use Rattle.cluster.specs.declared.block.Block.{Block}
+use Rattle.cluster.specs.declared.block.Block.TheVariants.{InputPad, OutputPad, Cluster}
+use Rattle.vpr_files.specs.NetFile.{HasCluster, is_on}
+
+-- a BLE by its parts
+abbrev pub element : List ℕ → ℕ → Option ℕ → LogicElement
+element inputs output clock = record { inputs = inputs; output = output; clock = clock }
+
+-- the BLE of that number
+pub element_is : (bles : List LogicElement) (number : ℕ) (element : LogicElement) → slice_get bles number ≡ Some element → element_at bles number ≡ element
+element_is bles number element e = get_or_from_slice_get bles number element _ e
+
+-- the BLEs of a cluster with these members
+pub elements_are : (packed : PackedCircuit) (cluster : ℕ) (members : List ℕ) → slice_get packed.clusters cluster ≡ Some members → elements_in packed cluster ≡ map (element_at (bles_of packed.circuit)) members
+elements_are packed cluster members e = ap (map (element_at (bles_of packed.circuit))) (get_or_from_slice_get packed.clusters cluster members [] e)
+
+-- the BLE at a place
+pub element_in_at : (packed : PackedCircuit) (cluster : ℕ) (members : List ℕ) (place number : ℕ) → slice_get packed.clusters cluster ≡ Some members → slice_get members place ≡ Some number
+    → slice_get (elements_in packed cluster) place ≡ Some (element_at (bles_of packed.circuit) number)
+element_in_at packed cluster members place number e at =
+    ap (λ elements. slice_get elements place) (elements_are packed cluster members e)
+    ∙ slice_get-map (element_at (bles_of packed.circuit)) members place
+    ∙ ap (option_map (element_at (bles_of packed.circuit))) at
+
+-- what the BLE at a place drives
+pub output_at : (packed : PackedCircuit) (cluster : ℕ) (members : List ℕ) (place number : ℕ) (element : LogicElement) → slice_get packed.clusters cluster ≡ Some members → slice_get members place ≡ Some number → slice_get (bles_of packed.circuit) number ≡ Some element
+    → slice_get (outputs_of (elements_in packed cluster)) place ≡ Some element.output
+output_at packed cluster members place number element e at is =
+    slice_get-map (λ (one : LogicElement). one.output) (elements_in packed cluster) place
+    ∙ ap (option_map (λ (one : LogicElement). one.output)) (element_in_at packed cluster members place number e at)
+    ∙ ap (λ (one : LogicElement). Some one.output) (element_is (bles_of packed.circuit) number element is)
+
+-- a cluster has as many BLEs as members
+pub element_count : (packed : PackedCircuit) (cluster : ℕ) (members : List ℕ) → slice_get packed.clusters cluster ≡ Some members → length (elements_in packed cluster) ≡ length members
+element_count packed cluster members e = ap length (elements_are packed cluster members e) ∙ length-map members _
+
+pub output_count : (packed : PackedCircuit) (cluster : ℕ) (members : List ℕ) → slice_get packed.clusters cluster ≡ Some members → length (outputs_of (elements_in packed cluster)) ≡ length members
+output_count packed cluster members e = length-map (elements_in packed cluster) _ ∙ element_count packed cluster members e
+
+-- each pin carries something or nothing
+pub pin_count : (packed : PackedCircuit) (cluster : ℕ) → length (pins_of packed cluster) ≡ length packed.arch.pins
+pin_count packed cluster = length-map (enumerate_from 0 packed.arch.pins) _ ∙ length-enumerate_from 0 packed.arch.pins
+
+-- two lists side by side, at a place
+both_at : {A B : Type 0} (ks : List A) (vs : List B) (i : ℕ) (k : A) (v : B) → slice_get ks i ≡ Some k → slice_get vs i ≡ Some v → slice_get (zip ks vs) i ≡ Some (k, v)
+both_at ks vs i k v e f =
+    let within_ks = slice_get_within ks i k e in
+    let within_vs = slice_get_within vs i v f in
+    let within : i < length (zip ks vs) = omega (arith, length-zip ks vs) in
+    slice_get-get_or (zip ks vs) i (k, v) within
+    ∙ ap Some (get_or-zip ks vs i (k, v) within_ks within_vs)
+    ∙ ap (λ one. Some (one, get_or vs i v)) (get_or_from_slice_get ks i k k e)
+    ∙ ap (λ one. Some (k, one)) (get_or_from_slice_get vs i v v f)
+
+-- a pin and what it carries
+pub pin_at : (packed : PackedCircuit) (cluster number : ℕ) (pin : Pin) (carried : Option ℕ) → slice_get packed.arch.pins number ≡ Some pin → slice_get (pins_of packed cluster) number ≡ Some carried
+    → slice_get (zip packed.arch.pins (pins_of packed cluster)) number ≡ Some (pin, carried)
+pin_at packed cluster number pin carried e f = both_at packed.arch.pins (pins_of packed cluster) number pin carried e f
+
+pub zip_count : (packed : PackedCircuit) (cluster : ℕ) → length (zip packed.arch.pins (pins_of packed cluster)) ≡ length packed.arch.pins
+zip_count packed cluster = let count = pin_count packed cluster in omega (arith, length-zip packed.arch.pins (pins_of packed cluster))
+
+-- the comparison of two classes, and of what a pin carries with a net
+pub class_is : (a b : PinClass) → sameb the_type a b ≡ is_same_class b a
+class_is Input Input = refl
+class_is Input Output = refl
+class_is Input Clock = refl
+class_is Output Input = refl
+class_is Output Output = refl
+class_is Output Clock = refl
+class_is Clock Input = refl
+class_is Clock Output = refl
+class_is Clock Clock = refl
+
+pub carried_is : (carried : Option ℕ) (net : ℕ) → option_eq eqb carried (Some net) ≡ is_on net carried
+carried_is None net = refl
+carried_is (Some other) net = refl
+
+all_at : {X : Type 0} (P : X → Type 0) (xs : List X) (i : ℕ) (x : X) → slice_get xs i ≡ Some x → All P xs → P x
+all_at P xs i x e all = subst P (get_or_from_slice_get xs i x x e) (All-get_or P xs i x (slice_get_within xs i x e) all)
+
+-- the members of a cluster are BLEs
+pub member_is_ble : (packed : PackedCircuit) (cluster : ℕ) (members : List ℕ) (place number : ℕ) → IsPacked packed → slice_get packed.clusters cluster ≡ Some members → slice_get members place ≡ Some number → number < length (bles_of packed.circuit)
+member_is_ble packed cluster members place number lawful e at =
+    all_at (λ one. one < length (bles_of packed.circuit)) members place number at
+    (all_at (All (λ one. one < length (bles_of packed.circuit))) packed.clusters cluster members e lawful.members)
+
+-- the blocks that are clusters are those of the packing
+pub block_is_there : (packed : PackedCircuit) (number : ℕ) (block : Block) → slice_get (blocks_of packed) number ≡ Some block → HasCluster packed block
+block_is_there packed number block e = all_at (HasCluster packed) (blocks_of packed) number block e all
+  where
+    none : (nets : List ℕ) → All (λ (net : ℕ). ⊤) nets
+    none nets = All-from_get_or (λ (net : ℕ). ⊤) nets 0 (λ i within. tt)
+
+    few : (count : ℕ) → All (λ cluster. cluster < count) (range_with_len 0 count)
+    few count = All-from_get_or (λ cluster. cluster < count) (range_with_len 0 count) 0
+        (λ i within. let long = length-range_with_len 0 count in let here : i < count = omega arith in let is = get_or-range_with_len 0 count i 0 here in omega arith)
+
+    all : All (HasCluster packed) (blocks_of packed)
+    all =
+        All-append (HasCluster packed) (map InputPad packed.circuit.inputs ++ map OutputPad packed.circuit.outputs) (map Cluster (range_with_len 0 (length packed.clusters)))
+        (All-append (HasCluster packed) (map InputPad packed.circuit.inputs) (map OutputPad packed.circuit.outputs)
+        (All-map (HasCluster packed) InputPad packed.circuit.inputs (none packed.circuit.inputs))
+        (All-map (HasCluster packed) OutputPad packed.circuit.outputs (none packed.circuit.outputs)))
+        (All-map (HasCluster packed) Cluster (range_with_len 0 (length packed.clusters)) (few (length packed.clusters)))
+
+-- the name of a cluster with these members
+pub seed_is : (packed : PackedCircuit) (cluster : ℕ) (members : List ℕ) (seed : ℕ) (element : LogicElement) → slice_get packed.clusters cluster ≡ Some members → slice_get members 0 ≡ Some seed → slice_get (bles_of packed.circuit) seed ≡ Some element
+    → net_name packed.circuit element.output ≡ block_name packed (Cluster cluster)
+seed_is packed cluster members seed element e first is = ap (net_name packed.circuit) (sym (ap (λ (one : LogicElement). one.output) (element_is (bles_of packed.circuit) seed element is))) ∙ named members seed e first
+  where
+    named : (members : List ℕ) (seed : ℕ) → slice_get packed.clusters cluster ≡ Some members → slice_get members 0 ≡ Some seed → net_name packed.circuit (element_at (bles_of packed.circuit) seed).output ≡ block_name packed (Cluster cluster)
+    named [] seed e first = cc
+    named (one ∷ others) seed e first =
+        ap (λ number. net_name packed.circuit (element_at (bles_of packed.circuit) number).output) (sym (let same : one ≡ seed = cc in same))
+        ∙ sym (ap (seed_name packed.circuit) (elements_are packed cluster (one ∷ others) e))
+
+pub no_seed : (packed : PackedCircuit) (cluster : ℕ) (members : List ℕ) → slice_get packed.clusters cluster ≡ Some members → members ≡ [] → [] ≡ block_name packed (Cluster cluster)
+no_seed packed cluster members e none =
+    sym (ap (seed_name packed.circuit) (elements_are packed cluster members e ∙ ap (map (element_at (bles_of packed.circuit))) none))
+
+-- a text by the circuit that is found
+pub by_circuit : (f : Circuit → List ℕ) (text : List ℕ) (found circuit : Circuit) → text ≡ f found → found ≡ circuit → text ≡ f circuit
+by_circuit f text found circuit e is = e ∙ ap f is

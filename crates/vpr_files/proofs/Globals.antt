@@ -1,0 +1,73 @@
+-- The lines of global nets, net by net.
+use Rattle.std.proofs.Common.{◌≡◌, ℕ, ◌+◌, Bool, true, false, ◌||◌, List, [], ◌∷◌, ◌++◌, map, filter, cond, refl, sym, ap, ◌∙◌, codes, slice_get, Some, take, append-nil}
+use Rattle.std.proofs.lemmas.Option.{slice_get_within, get_or_from_slice_get}
+use Rattle.std.specs.List.{flat_map, list_any}
+use Rattle.std.proofs.lemmas.Grind.{flat_map-append}
+use Rattle.std.proofs.lemmas.List.Folds.{flat_map-map, list_any_more}
+use Rattle.blif.specs.declared.circuit.Circuit.{Circuit}
+use Rattle.cluster.specs.Clusters.{PackedCircuit}
+use Rattle.cluster.specs.Blocks.{BlockNet, block_nets, net_name}
+use Rattle.vpr_files.specs.TextLines.{line_of, text_of}
+use Rattle.vpr_files.specs.NetFile.{global_line, global_lines, with_gap}
+
+-- the text, if it is told
+abbrev pub told : Bool → List ℕ → List ℕ
+told true text = text
+told false text = []
+
+-- the line of a net, if it is global
+abbrev pub global_text : Circuit → BlockNet → List ℕ
+global_text circuit net = told net.global (line_of (global_line circuit net))
+
+has_some : {X : Type 0} → List X → Bool
+has_some [] = false
+has_some (x ∷ xs) = true
+
+flat_filter : {X : Type 0} (p : X → Bool) (f : X → List ℕ) (xs : List X) → flat_map (λ x. told (p x) (f x)) xs ≡ flat_map f (filter p xs)
+flat_filter p f [] = refl
+flat_filter p f (x ∷ xs) =
+    elim (p x) as (λ b. told b (f x) ++ flat_map (λ y. told (p y) (f y)) xs ≡ flat_map f (cond b (x ∷ filter p xs) (filter p xs))) [
+      | true ↦ ap (λ rest. f x ++ rest) (flat_filter p f xs)
+      | false ↦ flat_filter p f xs
+    ]
+
+some_filter : {X Y : Type 0} (p : X → Bool) (f : X → Y) (xs : List X) → has_some (map f (filter p xs)) ≡ list_any p xs
+unfolding has_some
+some_filter p f [] = refl
+some_filter p f (x ∷ xs) =
+    elim (p x) as (λ b. has_some (map f (cond b (x ∷ filter p xs) (filter p xs))) ≡ (b || list_any p xs)) [ true ↦ refl | false ↦ some_filter p f xs ]
+
+gap_text : (lines : List (List (List ℕ))) → text_of lines ++ told (has_some lines) (10 ∷ []) ≡ text_of (with_gap lines)
+unfolding has_some
+gap_text [] = refl
+gap_text (line ∷ lines) = sym (flat_map-append line_of (line ∷ lines) ([] ∷ []))
+
+-- the lines net by net, and an empty one if there was a global net
+pub globals_text : (packed : PackedCircuit) → flat_map (global_text packed.circuit) (block_nets packed) ++ told (list_any (λ net. net.global) (block_nets packed)) (10 ∷ []) ≡ text_of (global_lines packed)
+globals_text packed =
+    let is_global : BlockNet → Bool = λ net. net.global in
+    let line : BlockNet → List (List ℕ) = global_line packed.circuit in
+    let nets = block_nets packed in
+    ap (λ text. text ++ told (list_any is_global nets) (10 ∷ [])) (flat_filter is_global (λ net. line_of (line net)) nets ∙ sym (flat_map-map line_of line (filter is_global nets)))
+    ∙ ap (λ b. text_of (map line (filter is_global nets)) ++ told b (10 ∷ [])) (sym (some_filter is_global line nets))
+    ∙ gap_text (map line (filter is_global nets))
+
+-- the line of one, by the name that is found
+pub global_line_text : (circuit : Circuit) (name : List ℕ) (net : BlockNet) → name ≡ net_name circuit net.net → codes ".global " ++ (name ++ 10 ∷ []) ≡ line_of (global_line circuit net)
+global_line_text circuit name net named =
+    ap (λ n. codes ".global " ++ (n ++ 10 ∷ [])) (named ∙ sym (append-nil (net_name circuit net.net)))
+
+-- whether there is a global net, with one more net
+pub some_more : (nets : List BlockNet) (number : ℕ) (net : BlockNet) → slice_get nets number ≡ Some net
+    → (list_any (λ one. one.global) (take number nets) || net.global) ≡ list_any (λ one. one.global) (take (number + 1) nets)
+some_more nets number net e =
+    ap (λ (one : BlockNet). list_any (λ (o : BlockNet). o.global) (take number nets) || one.global) (sym (get_or_from_slice_get nets number net net e))
+    ∙ sym (list_any_more (λ one. one.global) nets number net (slice_get_within nets number net e))
+
+pub some_true : (b global : Bool) → global ≡ true → true ≡ (b || global)
+some_true true global e = refl
+some_true false global e = sym e
+
+pub some_false : (b global : Bool) → global ≡ false → b ≡ (b || global)
+some_false true global e = refl
+some_false false global e = sym e

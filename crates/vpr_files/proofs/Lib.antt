@@ -1,0 +1,6 @@
+pub mod WritingLemmas
+pub mod Searches
+pub mod ClusterLemmas
+pub mod TextLemmas
+pub mod Globals
+mod Examples

@@ -1,0 +1,28 @@
+-- The first place at which a test passes, looked for from the front.
+use Rattle.std.proofs.Common.{◌≡◌, ℕ, ◌+◌, ◌≤◌, Bool, true, false, cond, List, length, drop, Option, Some, None, sym, ap, ◌∙◌, position}
+use Rattle.std.specs.List.{position_from, slice_get}
+use Rattle.std.proofs.lemmas.List.{at_drop_more, at_drop_all}
+use Rattle.std.proofs.lemmas.Option.{slice_get_within, get_or_from_slice_get}
+use Rattle.std.proofs.lemmas.Iterator.Adapters.{position_from-zero}
+
+-- all is left to look at
+pub search_none : {X : Type 0} (p : X → Bool) (xs : List X) → position_from p 0 xs ≡ position p xs
+search_none p xs = sym (position_from-zero p xs)
+
+-- what is left begins with this one
+left_at : {X : Type 0} (p : X → Bool) (xs : List X) (i : ℕ) (x : X) → slice_get xs i ≡ Some x → position_from p i (drop i xs) ≡ cond (p x) (Some i) (position_from p (i + 1) (drop (i + 1) xs))
+left_at p xs i x e =
+    at_drop_more (position_from p i) xs i x (slice_get_within xs i x e)
+    ∙ ap (λ y. cond (p y) (Some i) (position_from p (i + 1) (drop (i + 1) xs))) (get_or_from_slice_get xs i x x e)
+
+-- the test fails here
+pub search_miss : {X : Type 0} (p : X → Bool) (xs : List X) (i : ℕ) (x : X) (r : Option ℕ) → slice_get xs i ≡ Some x → p x ≡ false → position_from p i (drop i xs) ≡ r → position_from p (i + 1) (drop (i + 1) xs) ≡ r
+search_miss p xs i x r e is h = sym (ap (λ b. cond b (Some i) (position_from p (i + 1) (drop (i + 1) xs))) is) ∙ sym (left_at p xs i x e) ∙ h
+
+-- the test passes here
+pub search_hit : {X : Type 0} (p : X → Bool) (xs : List X) (i : ℕ) (x : X) (r : Option ℕ) → slice_get xs i ≡ Some x → p x ≡ true → position_from p i (drop i xs) ≡ r → Some i ≡ r
+search_hit p xs i x r e is h = sym (ap (λ b. cond b (Some i) (position_from p (i + 1) (drop (i + 1) xs))) is) ∙ sym (left_at p xs i x e) ∙ h
+
+-- nothing is left to look at
+pub search_end : {X : Type 0} (p : X → Bool) (xs : List X) (i : ℕ) (r : Option ℕ) → length xs ≤ i → position_from p i (drop i xs) ≡ r → None ≡ r
+search_end p xs i r long h = sym (at_drop_all (position_from p i) xs i long) ∙ h

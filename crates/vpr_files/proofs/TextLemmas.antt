@@ -1,0 +1,116 @@
+-- Lines and blocks as they are written, part by part.
+use Rattle.std.proofs.Common.{◌≡◌, ℕ, List, [], ◌∷◌, ◌++◌, map, Option, refl, sym, ap, ◌∙◌, codes, slice_get, option_and_then, append_assoc, append-nil}
+use Rattle.std.specs.List.{flat_map, range_with_len}
+use Rattle.std.proofs.lemmas.Grind.{flat_map-append}
+use Rattle.std.proofs.lemmas.List.Folds.{flat_map-map}
+use Rattle.arch_file.specs.declared.arch.PinClass.TheVariants.{Output, Clock}
+use Rattle.cluster.specs.declared.block.Block.TheVariants.{InputPad, OutputPad, Cluster}
+use Rattle.cluster.specs.Bles.{LogicElement, bles_of, element_at}
+use Rattle.cluster.specs.Clusters.{PackedCircuit}
+use Rattle.cluster.specs.Blocks.{block_name, elements_in, net_name, pins_of}
+use Rattle.vpr_files.specs.TextLines.{line_of, spaced, text_of}
+use Rattle.vpr_files.specs.NetFile.{block_lines, element_line, input_word, net_word, pin_with, pin_word}
+
+-- the words of the inputs of a BLE, each behind a space
+abbrev pub inputs_text : PackedCircuit → ℕ → List ℕ → List ℕ
+inputs_text packed cluster inputs = flat_map (λ place. spaced (input_word packed cluster (slice_get inputs place))) (range_with_len 0 packed.arch.lut_size)
+
+-- the beginning of a BLE's line
+abbrev pub element_head : List ℕ → List ℕ
+element_head name = codes "subblock: " ++ (name ++ [])
+
+two_words : (output clock : List ℕ) → (spaced output ++ (spaced clock ++ [])) ++ 10 ∷ [] ≡ spaced output ++ (spaced clock ++ 10 ∷ [])
+two_words output clock = ap (λ t. 32 ∷ t) (append_assoc output (32 ∷ (clock ++ [])) (10 ∷ []) ∙ ap (λ t. output ++ 32 ∷ t) (append_assoc clock [] (10 ∷ [])))
+
+-- words and two more end a line
+words_tail : (name : List ℕ) (words : List (List ℕ)) (output clock : List ℕ)
+    → (name ++ []) ++ (flat_map spaced words ++ (spaced output ++ (spaced clock ++ 10 ∷ []))) ≡ (name ++ flat_map spaced (words ++ output ∷ clock ∷ [])) ++ 10 ∷ []
+words_tail name words output clock =
+    ap (λ n. n ++ (flat_map spaced words ++ (spaced output ++ (spaced clock ++ 10 ∷ [])))) (append-nil name)
+    ∙ sym (append_assoc name (flat_map spaced (words ++ output ∷ clock ∷ [])) (10 ∷ [])
+    ∙ ap (λ t. name ++ t) (ap (λ t. t ++ 10 ∷ []) (flat_map-append spaced words (output ∷ clock ∷ []))
+    ∙ append_assoc (flat_map spaced words) (spaced output ++ (spaced clock ++ [])) (10 ∷ [])
+    ∙ ap (λ t. flat_map spaced words ++ t) (two_words output clock)))
+
+-- the line of a BLE
+element_parts : (packed : PackedCircuit) (cluster : ℕ) (element : LogicElement)
+    → element_head (net_name packed.circuit element.output)
+    ++ (inputs_text packed cluster element.inputs
+    ++ (spaced (pin_word (pin_with packed cluster Output element.output))
+    ++ (spaced (pin_word (option_and_then (pin_with packed cluster Clock) element.clock)) ++ 10 ∷ [])))
+    ≡ line_of (element_line packed cluster element)
+element_parts packed cluster element =
+    let word = λ (place : ℕ). input_word packed cluster (slice_get element.inputs place) in
+    let output = pin_word (pin_with packed cluster Output element.output) in
+    let clock = pin_word (option_and_then (pin_with packed cluster Clock) element.clock) in
+    let name = net_name packed.circuit element.output in
+    ap (λ inputs. element_head name ++ (inputs ++ (spaced output ++ (spaced clock ++ 10 ∷ [])))) (sym (flat_map-map spaced word (range_with_len 0 packed.arch.lut_size)))
+    ∙ ap (λ rest. codes "subblock: " ++ rest) (words_tail name (map word (range_with_len 0 packed.arch.lut_size)) output clock)
+
+-- the line of the BLE of that number, by the parts that are found
+pub element_text : (packed : PackedCircuit) (cluster number : ℕ) (element : LogicElement) (name : List ℕ) (output clock : Option ℕ)
+    → element_at (bles_of packed.circuit) number ≡ element
+    → name ≡ net_name packed.circuit element.output
+    → output ≡ pin_with packed cluster Output element.output
+    → clock ≡ option_and_then (pin_with packed cluster Clock) element.clock
+    → element_head name ++ (inputs_text packed cluster element.inputs ++ (spaced (pin_word output) ++ (spaced (pin_word clock) ++ 10 ∷ [])))
+    ≡ line_of (element_line packed cluster (element_at (bles_of packed.circuit) number))
+element_text packed cluster number element name output clock is named at clocked =
+    ap (λ n. element_head n ++ (inputs_text packed cluster element.inputs ++ (spaced (pin_word output) ++ (spaced (pin_word clock) ++ 10 ∷ [])))) named
+    ∙ ap (λ o. element_head (net_name packed.circuit element.output) ++ (inputs_text packed cluster element.inputs ++ (spaced (pin_word o) ++ (spaced (pin_word clock) ++ 10 ∷ [])))) at
+    ∙ ap (λ k. element_head (net_name packed.circuit element.output) ++ (inputs_text packed cluster element.inputs ++ (spaced (pin_word (pin_with packed cluster Output element.output)) ++ (spaced (pin_word k) ++ 10 ∷ [])))) clocked
+    ∙ element_parts packed cluster element
+    ∙ ap (λ e. line_of (element_line packed cluster e)) (sym is)
+
+-- the words of the pins of a cluster, each behind a space
+abbrev pub pins_text : PackedCircuit → ℕ → List ℕ
+pins_text packed cluster = flat_map spaced (map (net_word packed.circuit) (pins_of packed cluster))
+
+-- the lines of its BLEs
+abbrev pub elements_text : PackedCircuit → ℕ → List ℕ
+elements_text packed cluster = text_of (map (element_line packed cluster) (elements_in packed cluster))
+
+-- the beginning of a cluster
+abbrev pub cluster_head : List ℕ → List ℕ
+cluster_head name = codes ".clb " ++ (name ++ (codes "\npinlist:" ++ []))
+
+-- a first line, a line of pins, the other lines and an empty one
+cluster_tail : (name word pins : List ℕ) (lines : List (List (List ℕ)))
+    → (name ++ (10 ∷ (word ++ []))) ++ (pins ++ (10 ∷ (text_of lines ++ 10 ∷ [])))
+    ≡ ((name ++ []) ++ 10 ∷ []) ++ ((word ++ (pins ++ 10 ∷ [])) ++ text_of (lines ++ [] ∷ []))
+cluster_tail name word pins lines = rw (flat_map-append line_of lines ([] ∷ [])) (simp (append_assoc, append-nil))
+
+cluster_parts : (packed : PackedCircuit) (cluster : ℕ)
+    → cluster_head (block_name packed (Cluster cluster)) ++ (pins_text packed cluster ++ (10 ∷ [] ++ (elements_text packed cluster ++ 10 ∷ [])))
+    ≡ text_of (block_lines packed (Cluster cluster))
+cluster_parts packed cluster =
+    ap (λ rest. codes ".clb " ++ rest) (cluster_tail (block_name packed (Cluster cluster)) (codes "pinlist:") (pins_text packed cluster) (map (element_line packed cluster) (elements_in packed cluster)))
+
+-- a cluster, by the name that is found
+pub cluster_text : (packed : PackedCircuit) (cluster : ℕ) (name : List ℕ) → name ≡ block_name packed (Cluster cluster)
+    → cluster_head name ++ (pins_text packed cluster ++ (10 ∷ [] ++ (elements_text packed cluster ++ 10 ∷ [])))
+    ≡ text_of (block_lines packed (Cluster cluster))
+cluster_text packed cluster name named =
+    ap (λ n. cluster_head n ++ (pins_text packed cluster ++ (10 ∷ [] ++ (elements_text packed cluster ++ 10 ∷ [])))) named ∙ cluster_parts packed cluster
+
+-- lists of lists in a row, each made into a text
+pub flat_map-flat_map : {X Y Z : Type 0} (h : Y → List Z) (g : X → List Y) (xs : List X) → flat_map h (flat_map g xs) ≡ flat_map (λ x. flat_map h (g x)) xs
+flat_map-flat_map h g [] = refl
+flat_map-flat_map h g (x ∷ xs) = flat_map-append h (g x) (flat_map g xs) ∙ ap (λ rest. flat_map h (g x) ++ rest) (flat_map-flat_map h g xs)
+
+pad_tail : (name word : List ℕ) → name ++ (10 ∷ (word ++ (name ++ 10 ∷ 10 ∷ []))) ≡ ((name ++ []) ++ 10 ∷ []) ++ ((word ++ ((name ++ []) ++ 10 ∷ [])) ++ 10 ∷ [])
+pad_tail name word = simp (append_assoc, append-nil)
+
+-- a pad of an input, by the name that is found
+pub input_text : (packed : PackedCircuit) (net : ℕ) (name : List ℕ) → name ≡ net_name packed.circuit net
+    → codes ".input " ++ (name ++ (codes "\npinlist: " ++ (name ++ (10 ∷ 10 ∷ [])))) ≡ text_of (block_lines packed (InputPad net))
+input_text packed net name named =
+    ap (λ n. codes ".input " ++ (n ++ (codes "\npinlist: " ++ (n ++ (10 ∷ 10 ∷ []))))) named
+    ∙ ap (λ rest. codes ".input " ++ rest) (pad_tail (net_name packed.circuit net) (codes "pinlist: "))
+
+-- a pad of an output
+pub output_text : (packed : PackedCircuit) (net : ℕ) (name : List ℕ) → name ≡ net_name packed.circuit net
+    → codes ".output out:" ++ (name ++ (codes "\npinlist: " ++ (name ++ (10 ∷ 10 ∷ [])))) ≡ text_of (block_lines packed (OutputPad net))
+output_text packed net name named =
+    ap (λ n. codes ".output out:" ++ (n ++ (codes "\npinlist: " ++ (n ++ (10 ∷ 10 ∷ []))))) named
+    ∙ ap (λ rest. codes ".output out:" ++ rest) (pad_tail (net_name packed.circuit net) (codes "pinlist: "))

@@ -1,0 +1,16 @@
+-- Lines of words.
+use Rattle.std.specs.Prelude.{ℕ, List, [], ◌∷◌, ◌++◌}
+use Rattle.std.specs.List.{flat_map}
+
+-- a word behind a space
+abbrev pub spaced : List ℕ → List ℕ
+spaced word = 32 ∷ word
+
+-- a line: its words with a space between them, ended by LF
+abbrev pub line_of : List (List ℕ) → List ℕ
+line_of [] = 10 ∷ []
+line_of (word ∷ words) = word ++ (flat_map spaced words ++ 10 ∷ [])
+
+-- a text: its lines in order
+abbrev pub text_of : List (List (List ℕ)) → List ℕ
+text_of lines = flat_map line_of lines

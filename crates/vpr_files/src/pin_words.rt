@@ -1,0 +1,128 @@
+//! The words that say by which pins the BLEs of a cluster are connected.
+ghost use Rattle.std.specs.Prelude.{◌≡◌, ◌<◌, length, option_and_then, position, slice_get, Some};
+ghost use Rattle.arch_file.specs.declared.arch.PinClass.TheVariants.{Clock};
+ghost use Rattle.cluster.specs.Bles.{bles_of, element_at};
+ghost use Rattle.std.specs.List.{flat_map, range_with_len};
+ghost use Rattle.vpr_files.specs.TextLines.{spaced, line_of};
+ghost use Rattle.cluster.specs.Packing.{IsPacked};
+ghost use Rattle.vpr_files.specs.NetFile.{driver_place, element_line, input_word, pin_with, pin_word};
+ghost use Rattle.vpr_files.specs.Writing.{Writes};
+
+use crate::net_file::net_name;
+use crate::writing::{end_line, write_number, write_parts, write_word};
+use arch_file::PinClass;
+use cluster::Packed;
+use line_text::{Failed, Sink};
+
+/// The number of the pin of that class that carries the net.
+fn pin_with(packed: &Packed, cluster: usize, class: PinClass, net: u32) -> Option<usize>
+    requires { cluster < length packed.now.clusters }
+    ensures { result ≡ pin_with packed.now cluster class net }
+{
+    for (number, pin) in packed.arch().pins.as_slice().iter().enumerate() {
+        if pin.class == class && packed.pin(cluster, number) == Some(net) {
+            return Some(number);
+        }
+    }
+    None
+}
+
+/// The place in the cluster of the BLE that drives the net.
+fn driver_place(packed: &Packed, cluster: usize, net: u32) -> Option<usize>
+    requires lawful { IsPacked packed.now }
+    requires cluster { cluster < length packed.now.clusters }
+    ensures { result ≡ driver_place packed.now cluster net }
+{
+    for (place, number) in packed.cluster(cluster).iter().enumerate() {
+        if packed.ble(*number as usize).output == net {
+            return Some(place);
+        }
+    }
+    None
+}
+
+/// Writes the number of a pin, or `open`.
+fn write_pin<W: Sink>(sink: &mut W, pin: Option<usize>) -> Result<(), Failed>
+    ensures { Writes W.contents W.has_failed sink.old sink.new (spaced (pin_word pin)) result }
+{
+    match pin {
+        Some(number) => write_number(sink, b" ", number),
+        None => write_word(sink, b"open"),
+    }
+}
+
+/// Writes where an input of a BLE comes from.
+fn write_input<W: Sink>(
+    packed: &Packed,
+    cluster: usize,
+    input: Option<u32>,
+    sink: &mut W,
+) -> Result<(), Failed>
+    requires lawful { IsPacked packed.now }
+    requires cluster { cluster < length packed.now.clusters }
+    ensures { Writes W.contents W.has_failed sink.old sink.new (spaced (input_word packed.now cluster input)) result }
+{
+    let Some(net) = input else {
+        return write_word(sink, b"open");
+    };
+    match driver_place(packed, cluster, net) {
+        Some(place) => write_number(sink, b" ble_", place),
+        None => write_pin(sink, pin_with(packed, cluster, PinClass::Input, net)),
+    }
+}
+
+/// The input at that place, if there is one.
+fn input_at(inputs: &[u32], place: usize) -> Option<u32>
+    ensures { result ≡ slice_get inputs.now place }
+{
+    inputs.get(place).copied()
+}
+
+/// Writes where the inputs of a BLE come from, one for each input of a table.
+fn write_inputs<W: Sink>(
+    packed: &Packed,
+    cluster: usize,
+    inputs: &[u32],
+    sink: &mut W,
+) -> Result<(), Failed>
+    requires { cluster < length packed.now.clusters }
+    ensures { Writes W.contents W.has_failed sink.old sink.new (flat_map (λ place. spaced (input_word packed.now cluster (slice_get inputs.now place))) (range_with_len 0 packed.now.arch.lut_size)) result }
+{
+    for place in 0..packed.arch().lut_size as usize {
+        write_input(packed, cluster, input_at(inputs, place), sink)?;
+    }
+    Ok(())
+}
+
+/// Writes the line of the BLE of that number: its name, its inputs, its output and its clock.
+pub(crate) fn write_element<W: Sink>(
+    packed: &Packed,
+    cluster: usize,
+    number: usize,
+    sink: &mut W,
+) -> Result<(), Failed>
+    requires cluster { cluster < length packed.now.clusters }
+    requires number { number < length (bles_of packed.now.circuit) }
+    ensures { Writes W.contents W.has_failed sink.old sink.new (line_of (element_line packed.now cluster (element_at (bles_of packed.now.circuit) number))) result }
+{
+    let ble = packed.ble(number);
+    write_parts(
+        sink,
+        &[b"subblock: ", net_name(packed.circuit(), ble.output)],
+    )?;
+    write_inputs(packed, cluster, ble.inputs, sink)?;
+    write_pin(
+        sink,
+        pin_with(packed, cluster, PinClass::Output, ble.output),
+    )?;
+    write_pin(sink, clock_pin(packed, cluster, ble.clock))?;
+    end_line(sink)
+}
+
+/// The number of the pin that carries the clock.
+fn clock_pin(packed: &Packed, cluster: usize, clock: Option<u32>) -> Option<usize>
+    requires { cluster < length packed.now.clusters }
+    ensures { result ≡ option_and_then (pin_with packed.now cluster Clock) clock }
+{
+    pin_with(packed, cluster, PinClass::Clock, clock?)
+}
