@@ -21,7 +21,8 @@ use Rattle.cluster.specs.Bles.{element_at}
 use Rattle.cluster.specs.Clusters.{cluster_of, elements_at, first_most, fits_in_cluster, grown, input_count_at, may_join, unfit_among, with_member}
 use Rattle.cluster.proofs.Choosing.{elements_more}
 use Rattle.cluster.proofs.FirstSights.{distinct-push, with_net-new, with_net-old}
-use Rattle.cluster.proofs.Outside.{IsOnce, once-distinct, with_nets-append}
+use Rattle.cluster.specs.Nets.{IsOnce}
+use Rattle.cluster.proofs.Outside.{once-distinct, with_nets-append}
 
 -- the inputs stand once
 pub inputs_once : (count : ℕ) (element : LogicElement) → IsElement count element → IsOnce element.inputs

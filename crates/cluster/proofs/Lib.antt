@@ -28,3 +28,8 @@ mod BlockLists
 mod TableLaws
 mod PackedLaws
 mod Examples
+pub mod Raising
+pub mod Choice
+pub mod ElementLemmas
+pub mod GrowthLemmas
+pub mod ChoosingLemmas

@@ -78,7 +78,7 @@ module _ (arch : Arch) (elements : List LogicElement) where
   all_seeded (suc steps) = seeded_one (clusters_after arch elements steps) (cluster_of arch elements (free_of elements (clusters_after arch elements steps))) (all_seeded steps)
 
 -- what holds of all holds of one that is found
-found : (P : ℕ → Type 0) (numbers : List ℕ) → All P numbers → (number : ℕ) → list_any (eqb number) numbers ≡ true → P number
+pub found : (P : ℕ → Type 0) (numbers : List ℕ) → All P numbers → (number : ℕ) → list_any (eqb number) numbers ≡ true → P number
 found P [] h number e = absurd cc
 found P (other ∷ numbers) h number e = by (eqb_tells number other) (found P numbers (All-tail P other numbers h) number)
   where

@@ -1,22 +1,17 @@
 -- The outside inputs of a cluster with one element more, and the nets that it shares.
 use Rattle.std.proofs.Common.{◌≡◌, ℕ, ◌+◌, Bool, true, false, not, ◌||◌, ◌&&◌, ◌==◌, List, [], ◌∷◌, ◌++◌, filter, length, if◌then◌else◌, sym, refl, ◌∙◌, arith, length-append, ap}
 use Rattle.std.proofs.lemmas.List.{append-nil, append_assoc}
-use Rattle.std.specs.Prelude.{⊤}
+use Rattle.std.specs.List.{flat_map}
 use Rattle.std.proofs.lemmas.List.{map-append}
 use Rattle.std.proofs.lemmas.Grind.{flat_map-append}
 use Rattle.std.proofs.lemmas.Bool.{eqb-true}
 use Rattle.std.proofs.lemmas.Bool.Decides.{nat_tests}
 use Rattle.std.proofs.lemmas.List.Elements.{filter-append}
 use Rattle.std.proofs.lemmas.List.Folds.{list_any-append}
-use Rattle.cluster.specs.Nets.{distinct, has, with_net, with_nets}
+use Rattle.cluster.specs.Nets.{IsOnce, distinct, has, with_net, with_nets}
 use Rattle.cluster.specs.Bles.{LogicElement}
 use Rattle.cluster.specs.Gains.{gained, loses}
-use Rattle.cluster.specs.Clusters.{inputs_of, outputs_of, outside_inputs}
-
--- no net of the list stands in it twice
-abbrev pub IsOnce : List ℕ → Type 0
-IsOnce [] = ⊤
-IsOnce (net ∷ nets) = (has nets net ≡ false) × IsOnce nets
+use Rattle.cluster.specs.Clusters.{inputs_of, nets_of, outputs_of, outside_inputs}
 
 pub has-append : (xs ys : List ℕ) (net : ℕ) → has (xs ++ ys) net ≡ (has xs net || has ys net)
 has-append xs ys net = list_any-append (λ other. other == net) xs ys
@@ -138,3 +133,31 @@ shared_more nets added (net ∷ others) = by (has nets net) refl (has added net)
     by true ea b eb more ih = grind (arith, ea, eb, more, ih)
     by false ea true eb more ih = grind (arith, ea, eb, more, ih)
     by false ea false eb more ih = grind (arith, ea, eb, more, ih)
+
+-- what the members have, they read or drive
+pub has-member_nets : (members : List LogicElement) (net : ℕ) → has (flat_map nets_of members) net ≡ (has (inputs_of members) net || has (outputs_of members) net)
+has-member_nets [] net = refl
+has-member_nets (element ∷ members) net =
+    let own = has-distinct (element.inputs ++ element.output ∷ []) net in
+    let parts = has-append element.inputs (element.output ∷ []) net in
+    let nets = has-append (nets_of element) (flat_map nets_of members) net in
+    let reads = has-append element.inputs (inputs_of members) net in
+    let ih = has-member_nets members net in
+    grind (arith, own, parts, nets, reads, ih)
+
+-- lists that have the same nets share the same
+pub shared_same : (nets others : List ℕ) → ((net : ℕ) → has nets net ≡ has others net) → (list : List ℕ) → length (filter (has nets) list) ≡ length (filter (has others) list)
+shared_same nets others same [] = refl
+shared_same nets others same (net ∷ list) = let here = same net in let ih = shared_same nets others same list in grind (arith, here, ih)
+
+all_new : (nets : List ℕ) → new_nets [] nets ≡ nets
+all_new [] = refl
+all_new (net ∷ nets) = ap (λ rest. net ∷ rest) (all_new nets)
+
+-- nets that stand once are distinct
+pub distinct-once : (nets : List ℕ) → IsOnce nets → distinct nets ≡ nets
+distinct-once nets once = with_nets-new [] nets once ∙ all_new nets
+
+-- and so are they with one that is new
+pub distinct-more : (nets : List ℕ) (net : ℕ) → IsOnce nets → distinct (nets ++ net ∷ []) ≡ with_net nets net
+distinct-more nets net once = with_nets-append [] nets (net ∷ []) ∙ ap (λ front. with_net front net) (distinct-once nets once)

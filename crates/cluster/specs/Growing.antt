@@ -1,5 +1,5 @@
 -- Private: a cluster under way, and the BLEs that are free.
-use Rattle.std.specs.Prelude.{ℕ, ◌≡◌, ◌<◌, ◌≤◌, Bool, true, not, List, All, filter, length, slice_get, slice_index_or, Some}
+use Rattle.std.specs.Prelude.{ℕ, ◌≡◌, ◌<◌, Bool, true, not, List, All, filter, length, slice_get, slice_index_or, Some}
 use Rattle.std.specs.List.{range_with_len}
 use Rattle.cluster.specs.declared.bles.Ble.{Ble}
 use Rattle.cluster.specs.Nets.{has, distinct}
@@ -24,14 +24,7 @@ abbrev pub free_in : List Bool → List ℕ
 free_in taken = filter (λ number. not (slice_index_or taken number true)) (range_with_len 0 (length taken))
 
 -- BLEs, of which some are free, and some are the members of a cluster
-pub record Growth : Type 0 where
+pub record GrowerState : Type 0 where
   pub elements : List LogicElement
   pub free : List ℕ
   pub members : List ℕ
-
--- what a grower keeps: a mark for each of few BLEs, and room for the nets of each
-pub record IsGrowth (count : ℕ) (all : List LogicElement) (taken : List Bool) (chosen : List ℕ) : Type 0 where
-  pub marks : length taken ≡ length all
-  pub few : length all ≤ 8192
-  pub elements : All (IsElement count) all
-  pub members : All (λ number. number < length all) chosen

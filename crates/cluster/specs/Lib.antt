@@ -9,8 +9,10 @@ pub mod Reads
 pub mod CircuitReaders
 pub mod Growing
 pub mod Gains
-pub mod MemberNetsOf
-pub mod Drafts
+pub mod ElementGains
+pub mod Elements
+pub mod Growth
+pub mod Choosing
 pub mod Leaders
 pub mod PackedTables
 pub mod UnderWay

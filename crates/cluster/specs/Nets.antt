@@ -1,5 +1,5 @@
 -- Nets by number, each once.
-use Rattle.std.specs.Prelude.{ℕ, Bool, List, [], ◌∷◌, ◌++◌, ◌==◌, if◌then◌else◌}
+use Rattle.std.specs.Prelude.{ℕ, ◌≡◌, Bool, false, ⊤, List, [], ◌∷◌, ◌++◌, ◌==◌, if◌then◌else◌}
 use Rattle.std.specs.List.{list_any}
 
 -- whether the net is among the nets
@@ -18,3 +18,8 @@ with_nets nets (net ∷ others) = with_nets (with_net nets net) others
 -- each of the nets once, at its first sight
 abbrev pub distinct : List ℕ → List ℕ
 distinct nets = with_nets [] nets
+
+-- no net stands in the list twice
+abbrev pub IsOnce : List ℕ → Type 0
+IsOnce [] = ⊤
+IsOnce (net ∷ nets) = (has nets net ≡ false) × IsOnce nets

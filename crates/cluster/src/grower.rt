@@ -7,7 +7,9 @@ ghost use Rattle.cluster.specs.Clusters.{cluster_of, unfit_among};
 ghost use Rattle.cluster.specs.Growing.{IsElement, free_in};
 
 use crate::bles::Bles;
-use crate::draft::{Draft, seed};
+use crate::element_index::Elements;
+use crate::growth::Growth;
+use crate::seeds::seed;
 use arch_file::Arch;
 use std::alloc::{AllocError, Global};
 use std::marker::Model;
@@ -15,20 +17,20 @@ use std::marker::Model;
 /// BLEs, of which some are free, and the members of a cluster of free ones. Its value is the record of these.
 #[derive(Drop)]
 pub(crate) struct Grower {
-    bles: Bles,
+    elements: Elements,
     taken: Vec<bool>,
-    draft: Draft,
+    growth: Growth,
 }
 
 impl Model for Grower {
-    ghost use Rattle.std.specs.Prelude.{vec_len};
-    ghost use Rattle.cluster.specs.Growing.{Growth, IsGrowth, free_in};
+    ghost use Rattle.cluster.specs.Growing.{GrowerState, free_in};
+    ghost use Rattle.cluster.specs.Growth.{IsGrower};
 
-    ghost Value = { Growth };
+    ghost Value = { GrowerState };
 
-    ghost view = { λ g. record { elements = g.bles; free = free_in g.taken.items; members = g.draft.members.items } };
+    ghost view = { λ g. record { elements = g.elements.elements; free = free_in g.taken.items; members = g.growth.members.items } };
 
-    ghost invariant = { λ g. IsGrowth (vec_len g.draft.nets.is_input) g.bles g.taken.items g.draft.members.items };
+    ghost invariant = { λ g. IsGrower g.elements g.taken.items g.growth };
 }
 
 impl Grower {
@@ -36,13 +38,16 @@ impl Grower {
     pub(crate) fn new(alloc: Global, bles: Bles, count: usize) -> Result<Self, AllocError>
         requires elements { All (IsElement count) bles }
         requires few { length bles ≤ 8192 }
+        requires few_nets { count ≤ 8192 }
         ensures { IfOk result (λ grower. grower ≡ record { elements = bles; free = range_with_len 0 (length bles); members = [] }) }
     {
         let taken = vec![in alloc; false; bles.len()]?;
+        let growth = Growth::new(alloc, bles.len(), count)?;
+        let elements = Elements::new(alloc, bles, count)?;
         Ok(Grower {
-            bles,
+            elements,
             taken,
-            draft: Draft::new(alloc, count)?,
+            growth,
         })
     }
 
@@ -50,14 +55,14 @@ impl Grower {
     pub(crate) fn bles(&self) -> &Bles
         ensures { result.now ≡ self.now.elements }
     {
-        &self.bles
+        self.elements.bles()
     }
 
     /// The BLEs alone.
     pub(crate) fn into_bles(self) -> Bles
         ensures { result ≡ self.elements }
     {
-        self.bles
+        self.elements.into_bles()
     }
 
     /// The members, the seed first.
@@ -65,14 +70,14 @@ impl Grower {
         ensures value { result.now ≡ self.now.members }
         ensures within { All (λ number. number < length self.now.elements) self.now.members }
     {
-        self.draft.members()
+        self.growth.members.as_slice()
     }
 
     /// Whether a BLE is free.
     pub(crate) fn has_free(&self) -> bool
         ensures { IsTrue result ↔ (0 < length self.now.free) }
     {
-        seed(&self.bles, self.taken.as_slice()).is_some()
+        seed(self.elements.bles(), self.taken.as_slice()).is_some()
     }
 
     /// Chooses the members of a cluster among the free BLEs.
@@ -83,7 +88,8 @@ impl Grower {
         ensures elements { self.new.elements ≡ self.old.elements }
         ensures free { self.new.free ≡ self.old.free }
     {
-        self.draft.choose(arch, &self.bles, self.taken.as_slice())
+        self.growth
+            .choose(arch, &self.elements, self.taken.as_slice())
     }
 
     /// The members are no longer free.
@@ -91,7 +97,7 @@ impl Grower {
         ensures elements { self.new.elements ≡ self.old.elements }
         ensures free { self.new.free ≡ filter (λ number. not (has self.old.members number)) self.old.free }
     {
-        mark_taken(self.taken.as_mut_slice(), self.draft.members());
+        mark_taken(self.taken.as_mut_slice(), self.growth.members.as_slice());
     }
 }
 

@@ -4,18 +4,20 @@
 //! - `Packing` makes the clusters, one a step. `Packed` is the result, with its blocks, nets and pins.
 #![tactic(auto)]
 
+mod additions;
 mod bles;
 mod block;
 mod block_nets;
 mod by_net;
 mod cluster_sets;
 mod clusters;
-mod draft;
 mod driven_nets;
+mod element_index;
 mod fault;
+mod gains;
 mod grower;
+mod growth;
 mod leader;
-mod member_nets;
 mod net_set;
 mod net_uses;
 mod packed;
@@ -26,6 +28,7 @@ mod pin_ranks;
 mod pins;
 mod readers;
 mod rows;
+mod seeds;
 mod span;
 
 pub use bles::{Ble, Bles};
@@ -33,3 +36,6 @@ pub use block::{Block, BlockNet};
 pub use fault::{PackError, PackFault};
 pub use packed::Packed;
 pub use packing::{PackEnd, Packing, check};
+
+#[cfg(test)]
+mod tests;

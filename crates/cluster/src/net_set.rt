@@ -55,7 +55,8 @@ impl NetSet {
     /// Adds the net at the end, unless it is there.
     pub(crate) fn insert(&mut self, net: u32) -> Result<(), AllocError>
         requires { net < self.old.count }
-        ensures { IfOk result (λ _. self.new ≡ record { count = self.old.count; nets = with_net self.old.nets net }) }
+        ensures count { self.new.count ≡ self.old.count }
+        ensures inserted { IfOk result (λ _. self.new ≡ record { count = self.old.count; nets = with_net self.old.nets net }) }
     {
         if !self.marks[net as usize] {
             self.nets.push(net)?;

@@ -8,4 +8,4 @@ returns c =
     let taken = c.in_ok-taken.ensures.items_if_clones_equal (λ y is. is) in
     let count = c.len.ensures in
     let free = ap free_in (taken ∙ ap (λ n. replicate n false) count) ∙ free_at_first _ in
-    rw (c.bles.view_is, free, c.in_ok-new.ensures.members) refl
+    rw (c.in_ok-elements.ensures, free, c.in_ok-growth.ensures.members) refl

@@ -11,6 +11,6 @@ loop-latch-preserved c =
     let control = ap (λ (latches : List Latch). (get_or latches c.loop-latch.latch-index none).control) (sym c.as_slice-latch-items.ensures) in
     let within : c.loop-latch.latch-index < length c.args.circuit.now.latches = omega arith in
     elim c.match-latch.branch [
-      | in-Some+in_ok-insert w ↦ controls_more c.args.circuit.now.latches c.loop-latch.latch-index _ none _ c.loop-latch.globals c.match-latch.globals within (control ∙ w.in-Some.is) c.loop-latch.invariant (w.globals-is ∙ w.in_ok-insert.ensures)
+      | in-Some+in_ok-insert w ↦ controls_more c.args.circuit.now.latches c.loop-latch.latch-index _ none _ c.loop-latch.globals c.match-latch.globals within (control ∙ w.in-Some.is) c.loop-latch.invariant (w.globals-is ∙ w.in_ok-insert.ensures.inserted)
       | in_default w ↦ controls_more c.args.circuit.now.latches c.loop-latch.latch-index _ none _ c.loop-latch.globals c.match-latch.globals within (control ∙ w.in_default.is) c.loop-latch.invariant w.globals-is
     ]

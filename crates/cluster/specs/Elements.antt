@@ -1,0 +1,42 @@
+-- Private: the elements of a circuit, by number and by net.
+use Rattle.std.specs.Prelude.{ℕ, ◌+◌, ◌≡◌, ◌<◌, ◌≤◌, List, [], ◌∷◌, ◌++◌, All, map, length, slice_index_or}
+use Rattle.cluster.specs.declared.by_net.NetItem.{NetItem}
+use Rattle.cluster.specs.Nets.{IsOnce, has}
+use Rattle.cluster.specs.Bles.{LogicElement, element_at}
+use Rattle.cluster.specs.Clusters.{nets_of}
+use Rattle.cluster.specs.Growing.{IsElement}
+
+-- elements over so many nets
+pub record ElementsOver : Type 0 where
+  pub elements : List LogicElement
+  pub nets : ℕ
+
+-- the elements are lawful, and over few nets
+pub record AreLawful (over : ElementsOver) : Type 0 where
+  pub few : over.nets ≤ 8192
+  pub lawful : All (IsElement over.nets) over.elements
+
+-- the elements that have the net, each once
+pub record AreHaving (elements : List LogicElement) (net : ℕ) (row : List ℕ) : Type 0 where
+  pub once : IsOnce row
+  pub within : All (λ number. number < length elements) row
+  pub listed : (number : ℕ) → number < length elements → has row number ≡ has (nets_of (element_at elements number)) net
+
+-- the row of a net
+abbrev pub row_at : List (List ℕ) → ℕ → List ℕ
+row_at rows net = slice_index_or rows net []
+
+-- the elements are lawful, and the rows hold for each net those that have it
+pub record AreElements (elements : List LogicElement) (rows : List (List ℕ)) : Type 0 where
+  pub few : length rows ≤ 8192
+  pub lawful : All (IsElement (length rows)) elements
+  pub having : (net : ℕ) → net < length rows → AreHaving elements net (row_at rows net)
+
+-- an element's number with each of its nets
+abbrev pub pairs_of : ℕ → List ℕ → List NetItem
+pairs_of number nets = map (λ net. record { net = net; item = number }) nets
+
+-- the same for elements, numbered from there on
+abbrev pub pairs_from : ℕ → List LogicElement → List NetItem
+pairs_from number [] = []
+pairs_from number (element ∷ elements) = pairs_of number (nets_of element) ++ pairs_from (number + 1) elements

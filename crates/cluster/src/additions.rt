@@ -1,0 +1,190 @@
+//! Which element a cluster under way takes next.
+ghost use Rattle.std.specs.Prelude.{◌≡◌, ◌<◌, ◌≤◌, ℕ, All, length, ◌&&◌, IfOk, IfSome, IsTrue, None};
+ghost use Rattle.std.specs.Option.{ForSome};
+ghost use Rattle.arch_file.specs.Arch.{IsArch, input_count};
+ghost use Rattle.cluster.specs.Clusters.{cluster_of, grown, may_join, next_member, unfit_among};
+ghost use Rattle.cluster.specs.Choosing.{IsBest, IsFirst, SharesNet, beats, is_candidate};
+ghost use Rattle.cluster.specs.Growing.{free_in};
+ghost use Rattle.cluster.specs.Growth.{IsGrowth, IsRoomFor};
+
+use crate::element_index::Elements;
+use crate::growth::Growth;
+use crate::pins::input_count;
+use crate::seeds::seed;
+use arch_file::Arch;
+use std::alloc::AllocError;
+
+impl Growth {
+    /// Whether the element is free, and fits with the members.
+    fn is_candidate(
+        &self,
+        arch: &Arch,
+        pins: usize,
+        elements: &Elements,
+        is_taken: &[bool],
+        number: u32,
+    ) -> bool
+        requires pins { pins ≡ input_count arch.now.pins }
+        requires growth { IsGrowth elements.now.elements elements.now.nets self.now }
+        requires taken { length is_taken.now ≡ length elements.now.elements }
+        requires number { number < length elements.now.elements }
+        ensures { result ≡ is_candidate arch.now elements.now.elements is_taken.now self.now.members.items number }
+    {
+        !is_taken[number as usize]
+            && !self.members.contains(&number)
+            && self.fits_with(arch, pins, elements, number)
+    }
+
+    /// Whether the element shares more nets with the members than the best so far, or as many and is lesser.
+    fn beats(&self, number: u32, best: Option<u32>) -> bool
+        requires number { number < length self.now.gains }
+        requires best { ForSome best (λ other. other < length self.now.gains) }
+        ensures { result ≡ beats self.now.gains number best }
+    {
+        match best {
+            None => true,
+            Some(best) => {
+                let gain = self.gains.of(number);
+                let most = self.gains.of(best);
+                most < gain || (gain == most && number < best)
+            }
+        }
+    }
+
+    /// Whether the element is to be taken rather than the best so far.
+    fn prefers(
+        &self,
+        arch: &Arch,
+        pins: usize,
+        elements: &Elements,
+        is_taken: &[bool],
+        number: u32,
+        best: Option<u32>,
+    ) -> bool
+        requires pins { pins ≡ input_count arch.now.pins }
+        requires growth { IsGrowth elements.now.elements elements.now.nets self.now }
+        requires taken { length is_taken.now ≡ length elements.now.elements }
+        requires number { number < length elements.now.elements }
+        requires best { ForSome best (λ other. other < length elements.now.elements) }
+        ensures { result ≡ (beats self.now.gains number best && is_candidate arch.now elements.now.elements is_taken.now self.now.members.items number) }
+    {
+        self.beats(number, best) && self.is_candidate(arch, pins, elements, is_taken, number)
+    }
+
+    /// Of the elements that share a net with the members, the one to take next, if one is free and fits.
+    fn best_touched(
+        &self,
+        arch: &Arch,
+        pins: usize,
+        elements: &Elements,
+        is_taken: &[bool],
+    ) -> Option<u32>
+        requires pins { pins ≡ input_count arch.now.pins }
+        requires growth { IsGrowth elements.now.elements elements.now.nets self.now }
+        requires taken { length is_taken.now ≡ length elements.now.elements }
+        ensures { IsBest arch.now elements.now.elements is_taken.now self.now.members.items self.now.gains (SharesNet elements.now.elements self.now.gains) result }
+    {
+        let mut best = None;
+        for number in self.gains.touched() {
+            if self.prefers(arch, pins, elements, is_taken, *number, best) {
+                best = Some(*number);
+            }
+        }
+        best
+    }
+
+    /// The least element that is free and fits.
+    fn first_fitting(
+        &self,
+        arch: &Arch,
+        pins: usize,
+        elements: &Elements,
+        is_taken: &[bool],
+    ) -> Option<u32>
+        requires pins { pins ≡ input_count arch.now.pins }
+        requires growth { IsGrowth elements.now.elements elements.now.nets self.now }
+        requires taken { length is_taken.now ≡ length elements.now.elements }
+        requires few { length elements.now.elements ≤ 8192 }
+        ensures { IsFirst arch.now elements.now.elements is_taken.now self.now.members.items result }
+    {
+        for number in 0..elements.len() as u32 {
+            if self.is_candidate(arch, pins, elements, is_taken, number) {
+                return Some(number);
+            }
+        }
+        None
+    }
+
+    /// The element to take next: of those that are free and fit the one that shares most nets with the members, the
+    /// least number deciding.
+    pub(crate) fn next_member(
+        &self,
+        arch: &Arch,
+        pins: usize,
+        elements: &Elements,
+        is_taken: &[bool],
+    ) -> Option<u32>
+        requires pins { pins ≡ input_count arch.now.pins }
+        requires growth { IsGrowth elements.now.elements elements.now.nets self.now }
+        requires taken { length is_taken.now ≡ length elements.now.elements }
+        requires few { length elements.now.elements ≤ 8192 }
+        ensures next { result ≡ next_member arch.now elements.now.elements (free_in is_taken.now) self.now.members.items }
+        ensures joins { IfSome result (λ number. (number < length elements.now.elements) × IsTrue (may_join arch.now elements.now.elements self.now.members.items number)) }
+    {
+        match self.best_touched(arch, pins, elements, is_taken) {
+            Some(number) => Some(number),
+            None => self.first_fitting(arch, pins, elements, is_taken),
+        }
+    }
+
+    /// Adds members while there is one to add.
+    fn grow(
+        &mut self,
+        arch: &Arch,
+        elements: &Elements,
+        is_taken: &[bool],
+    ) -> Result<(), AllocError>
+        requires arch { IsArch arch.now }
+        requires growth { IsGrowth elements.now.elements elements.now.nets self.old }
+        requires taken { length is_taken.now ≡ length elements.now.elements }
+        requires few { length elements.now.elements ≤ 8192 }
+        ensures members { IfOk result (λ _. self.new.members.items ≡ grown arch.now elements.now.elements (free_in is_taken.now) self.old.members.items arch.now.cluster_size) }
+        ensures within { All (λ number. number < length elements.now.elements) self.new.members.items }
+        ensures room { IsRoomFor elements.now self.new }
+    {
+        let pins = input_count(arch);
+        for added in 0..arch.cluster_size {
+            match self.next_member(arch, pins, elements, is_taken) {
+                None => return Ok(()),
+                Some(number) => self.add(elements, number)?,
+            }
+        }
+        Ok(())
+    }
+
+    /// Chooses the members of a cluster among the elements that are not taken.
+    pub(crate) fn choose(
+        &mut self,
+        arch: &Arch,
+        elements: &Elements,
+        is_taken: &[bool],
+    ) -> Result<(), AllocError>
+        requires arch { IsArch arch.now }
+        requires room { IsRoomFor elements.now self.old }
+        requires taken { length is_taken.now ≡ length elements.now.elements }
+        requires few { length elements.now.elements ≤ 8192 }
+        requires fit { unfit_among arch.now elements.now.elements ≡ None }
+        ensures members { IfOk result (λ _. self.new.members.items ≡ cluster_of arch.now elements.now.elements (free_in is_taken.now)) }
+        ensures within { All (λ number. number < length elements.now.elements) self.new.members.items }
+        ensures room { IsRoomFor elements.now self.new }
+    {
+        self.clear(elements);
+        match seed(elements.bles(), is_taken) {
+            None => Ok(()),
+            Some(seed) => {
+                self.add(elements, seed as u32)?;
+                self.grow(arch, elements, is_taken)
+            }
+        }
+    }
+}
