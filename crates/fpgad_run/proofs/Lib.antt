@@ -4,6 +4,5 @@ mod NameLemmas
 mod OperatorLemmas
 mod ReadingLemmas
 mod SectionLemmas
-mod Stepping
 mod Telling
 mod Walked

@@ -1,7 +1,7 @@
 use tenant_slot::{Event, Reply};
 
 /// An entry of a journal: what happened to the tenancy, and what it was told.
-#[derive(Drop)]
+#[derive(Debug, Drop)]
 pub struct Entry {
     pub event: Event,
     pub reply: Reply,

@@ -1,4 +1,3 @@
-pub mod Sources
 pub mod SingleUser
 pub mod Names
 pub mod Answer

@@ -1,8 +1,6 @@
 ghost use Rattle.std.specs.Prelude.{◌≡◌};
-ghost use Rattle.tenant_slot.specs.Names.{file_text, refusal_number, refusal_text, state_text};
+ghost use Rattle.tenant_slot.specs.Names.{refusal_number, refusal_text, state_text};
 
-use crate::advance::StepReply;
-use crate::shared_text::SharedText;
 use blif::BlifFault;
 use std::alloc::AllocError;
 
@@ -11,8 +9,6 @@ use std::alloc::AllocError;
 pub enum StateName {
     Empty,
     Loaded,
-    Packing,
-    Packed,
 }
 
 impl StateName {
@@ -23,8 +19,6 @@ impl StateName {
         match self {
             StateName::Empty => "Empty",
             StateName::Loaded => "Loaded",
-            StateName::Packing => "Packing",
-            StateName::Packed => "Packed",
         }
     }
 }
@@ -43,8 +37,6 @@ pub enum Refusal {
     WrongState(StateName),
     /// The netlist has this fault.
     BadBlif(BlifFault),
-    /// The logic element of this number is the least that fits into no cluster.
-    CannotPack(u32),
 }
 
 impl Refusal {
@@ -55,7 +47,6 @@ impl Refusal {
         match self {
             Refusal::WrongState(_) => 3,
             Refusal::BadBlif(_) => 4,
-            Refusal::CannotPack(_) => 5,
         }
     }
 
@@ -66,7 +57,6 @@ impl Refusal {
         match self {
             Refusal::WrongState(_) => "WrongState",
             Refusal::BadBlif(_) => "BadBlif",
-            Refusal::CannotPack(_) => "CannotPack",
         }
     }
 }
@@ -78,39 +68,17 @@ impl Clone for Refusal {
         match self {
             Refusal::WrongState(state) => Ok(Refusal::WrongState(*state)),
             Refusal::BadBlif(fault) => Ok(Refusal::BadBlif(fault.clone()?)),
-            Refusal::CannotPack(ble) => Ok(Refusal::CannotPack(*ble)),
         }
     }
 }
 
-/// What a result file is.
-#[derive(Clone, Copy, Debug, PartialEq, Eq)]
-pub enum FileKind {
-    /// The packed netlist.
-    Net,
-}
-
-impl FileKind {
-    /// The name in replies.
-    pub fn name(self) -> &'static str
-        ensures { result.now ≡ file_text self }
-    {
-        match self {
-            FileKind::Net => "net",
-        }
-    }
-}
-
-/// What a command or a step is answered.
+/// What a command is answered.
 #[derive(Debug, Drop)]
 pub enum Reply {
     /// The command was accepted, and led to this state.
     Accepted(StateName),
     Status(Status),
-    /// A result file, whole.
-    File { kind: FileKind, text: SharedText },
     Refused(Refusal),
-    Step(StepReply),
 }
 
 impl Clone for Reply {
@@ -120,12 +88,7 @@ impl Clone for Reply {
         match self {
             Reply::Accepted(state) => Ok(Reply::Accepted(*state)),
             Reply::Status(status) => Ok(Reply::Status(*status)),
-            Reply::File { kind, text } => Ok(Reply::File {
-                kind: *kind,
-                text: text.clone()?,
-            }),
             Reply::Refused(refusal) => Ok(Reply::Refused(refusal.clone()?)),
-            Reply::Step(reply) => Ok(Reply::Step(*reply)),
         }
     }
 }
