@@ -1,4 +1,4 @@
-use crate::{Command, Refusal, Reply, SharedText, Slot, StateName};
+use crate::{Command, NotServed, Refusal, Reply, SharedText, Slot, StateName};
 use arch_file::{SharedArch, read_arch};
 use grid::Strip;
 use line_text::Text;
@@ -82,5 +82,34 @@ fn a_text_is_shared(rt: HostRuntime) -> Result<(), Fail> {
     let shared = text(rt.alloc(), AND)?;
     let copy = shared.clone()?;
     assert_eq!(rt; copy.as_bytes(), AND);
+    Ok(())
+}
+
+#[test]
+fn a_slot_begins_empty(rt: HostRuntime) -> Result<(), Fail> {
+    let slot = slot(rt.alloc())?;
+    assert_eq!(rt; slot.id(), 7);
+    assert_eq!(rt; slot.state(), StateName::Empty);
+    Ok(())
+}
+
+#[test]
+fn an_answer_is_accepted_later(rt: HostRuntime) -> Result<(), Fail> {
+    let mut slot = slot(rt.alloc())?;
+    let answer = slot.answer(&Command::Status)?;
+    assert!(rt; matches!(answer.reply(), Reply::Status(_)));
+    let reply = slot.accept(answer);
+    assert!(rt; matches!(reply, Reply::Status(_)));
+    Ok(())
+}
+
+#[test]
+fn refusals_have_names(rt: HostRuntime) -> Result<(), Fail> {
+    let refusal = Refusal::WrongState(StateName::Loaded);
+    assert_eq!(rt; refusal.number(), 3);
+    assert_eq!(rt; refusal.name(), "WrongState");
+    assert_eq!(rt; StateName::Loaded.name(), "Loaded");
+    assert_eq!(rt; NotServed::JournalFull.number(), 2);
+    assert_eq!(rt; NotServed::NoMemory.name(), "NoMemory");
     Ok(())
 }
