@@ -1,12 +1,15 @@
 -- Examples that are computed.
-use Rattle.std.proofs.Common.{◌≡◌, ◌∷◌, [], codes, Ok, Err, refl}
+use Rattle.std.proofs.Common.{◌≡◌, ◌∷◌, ◌++◌, [], codes, decimal, Ok, Err, Some, None, refl}
 use Rattle.tenant_slot.specs.declared.reply.StateName.TheVariants.{Loaded}
-use Rattle.tenant_slot.specs.declared.reply.Reply.TheVariants.{Accepted}
-use Rattle.fpgad_run.specs.declared.script.OperatorLine.TheVariants.{Admit}
+use Rattle.tenant_slot.specs.declared.reply.Reply.TheVariants.{Accepted, File, Refused as RefusedReply}
+use Rattle.tenant_slot.specs.declared.reply.FileKind.TheVariants.{Net}
+use Rattle.tenant_slot.specs.declared.reply.Refusal.TheVariants.{CannotPack}
+use Rattle.tenant_slot.specs.declared.advance.StepReply.TheVariants.{Finished}
+use Rattle.fpgad_run.specs.declared.script.OperatorLine.TheVariants.{Admit, Step}
 use Rattle.fpgad_run.specs.declared.script.SessionRefusal.TheVariants.{UnfinishedUpload}
 use Rattle.fpgad_run.specs.declared.script.SessionLine.TheVariants.{Blank, Refused}
 use Rattle.fpgad_run.specs.declared.script.Act.TheVariants.{Operator, Session}
-use Rattle.fpgad_run.specs.OperatorText.{last_id}
+use Rattle.fpgad_run.specs.OperatorText.{last_id, outcome_text}
 use Rattle.fpgad_run.specs.Run.{written}
 use Rattle.fpgad_run.specs.Script.{form_in, script_of}
 use Rattle.fpgad_run.specs.SessionText.{reply_text}
@@ -14,6 +17,14 @@ use Rattle.fpgad_run.specs.SessionText.{reply_text}
 admission : script_of 1 (codes "op admit T 1\n") ≡ Ok (record { line = 1; act = Operator (Admit (codes "T") 1) } ∷ [])
 unfolding form_in
 admission = refl
+
+steps : script_of 1 (codes "op step T 300\n") ≡ Ok (record { line = 1; act = Operator (Step (codes "T") 300) } ∷ [])
+unfolding form_in
+steps = refl
+
+steps_without_number : script_of 1 (codes "op step T x\n") ≡ Err 1
+unfolding form_in
+steps_without_number = refl
 
 least_faulty_line : script_of 18 (codes "\nfly\nop x\n") ≡ Err 19
 unfolding form_in
@@ -25,6 +36,18 @@ text_without_end = refl
 
 accepted : reply_text (Accepted Loaded) ≡ codes "ok Loaded\n"
 accepted = refl
+
+cannot_pack : reply_text (RefusedReply (CannotPack 0)) ≡ codes "refused " ++ decimal 5 ++ codes " CannotPack" ++ (32 ∷ decimal 0) ++ codes "\n"
+cannot_pack = refl
+
+file : reply_text (File Net (codes "a\n\n")) ≡ codes "text net " ++ decimal 3 ++ codes "\na\n\n"
+file = refl
+
+finished : outcome_text (Ok (Some Finished)) ≡ codes "finished\n"
+finished = refl
+
+nothing : outcome_text (Ok None) ≡ codes "none\n"
+nothing = refl
 
 last_of_two : last_id (codes "T" ∷ codes "U" ∷ codes "T" ∷ []) (codes "T") ≡ 3
 last_of_two = refl

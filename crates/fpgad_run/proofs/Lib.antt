@@ -4,5 +4,6 @@ mod NameLemmas
 mod OperatorLemmas
 mod ReadingLemmas
 mod SectionLemmas
+mod Stepping
 mod Telling
 mod Walked

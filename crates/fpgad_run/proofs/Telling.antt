@@ -15,7 +15,7 @@ use Rattle.service_core.specs.Run.Call.{Tenant as TenantCall}
 use Rattle.service_core.specs.Calls.{IsServed}
 use Rattle.service_core.specs.Service.{ServiceState, empty, live_of}
 use Rattle.fpgad_run.specs.declared.program.Running.{Running}
-use Rattle.fpgad_run.specs.declared.script.OperatorLine.TheVariants.{Admit, Evict, List as ListAll}
+use Rattle.fpgad_run.specs.declared.script.OperatorLine.TheVariants.{Admit, Evict, List as ListAll, Step}
 use Rattle.fpgad_run.specs.declared.script.Item.{Item}
 use Rattle.fpgad_run.specs.declared.script.SessionLine.{SessionLine}
 use Rattle.fpgad_run.specs.declared.script.SessionLine.TheVariants.{Blank, Command, Refused}
@@ -26,6 +26,7 @@ use Rattle.fpgad_run.specs.Script.{named_act, named_item}
 use Rattle.fpgad_run.specs.SessionAnswer.{IsSessionAnswer}
 use Rattle.fpgad_run.specs.Run.{Stage, Section, Telling, Tells, IsAdmission, IsAnswered, calls_of, output_of, sections_after, told_operator, told_session}
 use Rattle.fpgad_run.proofs.OperatorLemmas.{length-modified}
+use Rattle.fpgad_run.proofs.Stepping.{Run-append}
 use Rattle.fpgad_run.specs.Told.{Begins, IsEven, Serves, sections_of, stage_of, told_so_far}
 use Rattle.fpgad_run.specs.declared.options.Options.{Options}
 use Rattle.arch_file.specs.declared.arch.Arch.{Arch}
@@ -72,10 +73,6 @@ progress_more start old new acts act p s =
 Run-one : (a b : ServiceState) (calls : List Call) (new : ServiceState) → calls ≡ [] → new ≡ a → Run a calls new
 Run-one a b calls new none same = rw none same
 
-pub Run-append : (a : ServiceState) (xs : List Call) (b : ServiceState) (ys : List Call) (c : ServiceState) → Run a xs b → Run b ys c → Run a (xs ++ ys) c
-Run-append a [] b ys c first next = let P : ServiceState → Type 0 = λ s. Run s ys c in subst P first next
-Run-append a (x ∷ xs) b ys c first next = (first.0, first.1, Run-append first.0 xs b ys c first.2 next)
-
 admission_runs : (live : Option History) (old : Stage) (name : List ℕ) (width : ℕ) (calls : List Call) (text : List ℕ) (new : Stage) → IsAdmission live old name width calls text new → Run old.service calls new.service
 admission_runs (Some h) old name width calls text new is = rw is.0 (ap (λ (s : Stage). s.service) is.2)
 admission_runs None old name width calls text new is = rw is.3 (new.service, is.1, refl)
@@ -83,6 +80,7 @@ admission_runs None old name width calls text new is = rw is.3 (new.service, is.
 pub answered_runs : (old : Stage) (act : Act (List ℕ)) (calls : List Call) (text : List ℕ) (new : Stage) → IsAnswered old act calls text new → Run old.service calls new.service
 answered_runs old (Operator (Admit name width)) calls text new is = admission_runs (live_of old.service.histories (last_id old.names name)) old name width calls text new is
 answered_runs old (Operator (Evict name)) calls text new is = rw is.3 (new.service, is.1, refl)
+answered_runs old (Operator (Step name count)) calls text new is = rw is.4 is.2
 answered_runs old (Operator ListAll) calls text new is = rw is.0 (ap (λ (s : Stage). s.service) is.2)
 answered_runs old (Session name Blank) calls text new is = rw is.0 (ap (λ (s : Stage). s.service) is.2)
 answered_runs old (Session name (Refused refusal)) calls text new is = rw is.0 (ap (λ (s : Stage). s.service) is.2)

@@ -1,13 +1,15 @@
 -- The texts that the operator is answered with, and the names that tenancies were admitted under.
 use Rattle.std.specs.Prelude.{ℕ, ◌+◌, List, [], ◌∷◌, ◌++◌, length, codes, decimal, Result, Ok, Err, Option, Some, None, unwrap_or, if◌then◌else◌}
+use Rattle.std.specs.declared.alloc.AllocError.{AllocError}
 use Rattle.std.specs.Str.{bytes_eq}
+use Rattle.tenant_slot.specs.declared.advance.StepReply.{StepReply}
 use Rattle.tenant_slot.specs.Names.{state_text}
 use Rattle.strips.specs.Plan.{offset_of}
 use Rattle.service_core.specs.declared.op_refusal.OpRefusal.{OpRefusal}
 use Rattle.service_core.specs.Names.{op_refusal_number, op_refusal_text}
 use Rattle.service_core.specs.History.{History, state_of}
 use Rattle.service_core.specs.Service.{ServiceState, live_of}
-use Rattle.fpgad_run.specs.SessionText.{blank_word, numbered_line}
+use Rattle.fpgad_run.specs.SessionText.{blank_word, numbered_line, step_text}
 
 -- a refusal of the operator as a line
 abbrev pub refused_text : ℕ → List ℕ → List ℕ
@@ -20,6 +22,12 @@ admitted_text (Err refusal) = refused_text (op_refusal_number refusal) (op_refus
 abbrev pub evicted_text : Result (Unit {0}) OpRefusal → List ℕ
 evicted_text (Ok nothing) = codes "ok" ++ 10 ∷ []
 evicted_text (Err refusal) = refused_text (op_refusal_number refusal) (op_refusal_text refusal)
+
+-- the outcome of a step as a line
+abbrev pub outcome_text : Result (Option StepReply) AllocError → List ℕ
+outcome_text (Ok (Some reply)) = step_text reply ++ 10 ∷ []
+outcome_text (Ok None) = codes "none" ++ 10 ∷ []
+outcome_text (Err error) = codes "nomemory" ++ 10 ∷ []
 
 -- the last id of a name, or 0. The names are those of all ids, the newest first; the oldest has id 1
 abbrev pub last_id : List (List ℕ) → List ℕ → ℕ

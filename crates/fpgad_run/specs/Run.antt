@@ -1,21 +1,22 @@
 -- What the items of a script are answered, one after another.
-use Rattle.std.specs.Prelude.{ℕ, ◌≡◌, List, [], ◌∷◌, ◌++◌, codes, Result, Option, Some, None, if◌then◌else◌}
+use Rattle.std.specs.Prelude.{ℕ, ◌≡◌, List, [], ◌∷◌, ◌++◌, length, map, codes, Result, Option, Some, None, if◌then◌else◌}
+use Rattle.std.specs.declared.alloc.AllocError.{AllocError}
 use Rattle.std.specs.List.{flat_map}
 use Rattle.std.specs.Str.{bytes_eq}
 use Rattle.service_core.specs.declared.op_refusal.OpRefusal.{OpRefusal}
 use Rattle.service_core.specs.declared.not_served.NotServed.{NotServed}
-use Rattle.service_core.specs.History.{History}
+use Rattle.service_core.specs.History.{History, StepMade}
 use Rattle.service_core.specs.Receipt.{Receipted}
-use Rattle.service_core.specs.Run.{Call}
-use Rattle.service_core.specs.Run.Call.{Admit as AdmitCall, Evict as EvictCall, Tenant as TenantCall}
-use Rattle.service_core.specs.Calls.{IsAdmitted, IsEvicted, IsServed}
+use Rattle.service_core.specs.Run.{Call, Run}
+use Rattle.service_core.specs.Run.Call.{Admit as AdmitCall, Advance as AdvanceCall, Evict as EvictCall, Tenant as TenantCall}
+use Rattle.service_core.specs.Calls.{IsAdmitted, IsEvicted, IsServed, told_of}
 use Rattle.service_core.specs.Service.{ServiceState, live_of}
-use Rattle.fpgad_run.specs.declared.script.OperatorLine.TheVariants.{Admit, Evict, List as ListAll}
+use Rattle.fpgad_run.specs.declared.script.OperatorLine.TheVariants.{Admit, Evict, List as ListAll, Step}
 use Rattle.fpgad_run.specs.declared.script.SessionLine.TheVariants.{Blank, Command, Refused}
 use Rattle.fpgad_run.specs.declared.script.Act.{Act}
 use Rattle.fpgad_run.specs.declared.script.Act.TheVariants.{Operator, Session}
 use Rattle.fpgad_run.specs.SessionText.{answer_text, session_refusal_text}
-use Rattle.fpgad_run.specs.OperatorText.{admitted_text, evicted_text, last_id, list_text, names_after, refused_text}
+use Rattle.fpgad_run.specs.OperatorText.{admitted_text, evicted_text, last_id, list_text, names_after, outcome_text, refused_text}
 
 -- the core's state, and the names of all ids, the newest first
 pub record Stage : Type 0 where
@@ -29,12 +30,27 @@ IsAdmission None old name width calls text new = (answer : Result (ℕ × ℕ) O
     × IsAdmitted old.service width answer new.service × (new.names ≡ names_after old.names name answer)
     × (calls ≡ AdmitCall width answer ∷ []) × (text ≡ admitted_text answer)
 
--- an act is answered with that text, after those calls of the core, none or one
+-- what calls of the core that each make a step may be answered
+abbrev pub Outcomes : Type 0
+Outcomes = List (Result (Option StepMade) AllocError)
+
+-- those calls, of the tenancy of that id
+abbrev pub advances : ℕ → Outcomes → List Call
+advances id outcomes = map (λ outcome. AdvanceCall id outcome) outcomes
+
+-- their outcomes, a line each
+abbrev pub outcomes_text : Outcomes → List ℕ
+outcomes_text outcomes = flat_map (λ outcome. outcome_text (told_of outcome)) outcomes
+
+-- an act is answered with that text, after those calls of the core: one for each step, else none or one
 abbrev pub IsAnswered : Stage → Act (List ℕ) → List Call → List ℕ → Stage → Type 0
 IsAnswered old (Operator (Admit name width)) calls text new = IsAdmission (live_of old.service.histories (last_id old.names name)) old name width calls text new
 IsAnswered old (Operator (Evict name)) calls text new = (answer : Result (Unit {0}) OpRefusal)
     × IsEvicted old.service (last_id old.names name) answer new.service × (new.names ≡ old.names)
     × (calls ≡ EvictCall (last_id old.names name) answer ∷ []) × (text ≡ evicted_text answer)
+IsAnswered old (Operator (Step name count)) calls text new = (outcomes : Outcomes)
+    × (length outcomes ≡ count) × Run old.service (advances (last_id old.names name) outcomes) new.service × (new.names ≡ old.names)
+    × (calls ≡ advances (last_id old.names name) outcomes) × (text ≡ outcomes_text outcomes)
 IsAnswered old (Operator ListAll) calls text new = (calls ≡ []) × (text ≡ list_text old.service old.names) × (new ≡ old)
 IsAnswered old (Session name Blank) calls text new = (calls ≡ []) × (text ≡ []) × (new ≡ old)
 IsAnswered old (Session name (Refused refusal)) calls text new = (calls ≡ []) × (text ≡ session_refusal_text refusal) × (new ≡ old)

@@ -5,9 +5,9 @@ use Rattle.std.specs.Char.{is_ascii_alphanumeric}
 use Rattle.std.specs.List.{list_all, position_or_len, before_first, after_first}
 use Rattle.std.specs.Str.{bytes_eq}
 use Rattle.tenant_slot.specs.declared.command.Command.{Command as TenantCommand}
-use Rattle.tenant_slot.specs.declared.command.Command.TheVariants.{Upload as UploadText, Change as ChangeText, Status, Withdraw}
+use Rattle.tenant_slot.specs.declared.command.Command.TheVariants.{Upload as UploadText, Change as ChangeText, Pack, Net, Status, Withdraw}
 use Rattle.fpgad_run.specs.declared.script.OperatorLine.{OperatorLine}
-use Rattle.fpgad_run.specs.declared.script.OperatorLine.TheVariants.{Admit, Evict, List as ListAll}
+use Rattle.fpgad_run.specs.declared.script.OperatorLine.TheVariants.{Admit, Evict, List as ListAll, Step}
 use Rattle.fpgad_run.specs.declared.script.SessionRefusal.TheVariants.{UnknownCommand, UnfinishedUpload}
 use Rattle.fpgad_run.specs.declared.script.SessionLine.{SessionLine}
 use Rattle.fpgad_run.specs.declared.script.SessionLine.TheVariants.{Blank, Command, Refused}
@@ -38,11 +38,18 @@ abbrev pub admission : List ℕ → Option ℕ → Form (List ℕ)
 admission name None = Faulty
 admission name (Some width) = Asks (Operator (Admit name width))
 
+-- `op step NAME N`
+abbrev pub stepping : List ℕ → Option ℕ → Form (List ℕ)
+stepping name None = Faulty
+stepping name (Some count) = Asks (Operator (Step name count))
+
 -- the words after `op`
 abbrev pub operator_form : List (List ℕ) → Form (List ℕ)
 operator_form (verb ∷ []) = if bytes_eq verb (codes "list") then Asks (Operator ListAll) else Faulty
 operator_form (verb ∷ name ∷ []) = if bytes_eq verb (codes "evict") && is_name name then Asks (Operator (Evict name)) else Faulty
-operator_form (verb ∷ name ∷ width ∷ []) = if bytes_eq verb (codes "admit") && is_name name then admission name (decimal_of 32 width) else Faulty
+operator_form (verb ∷ name ∷ number ∷ []) =
+    if bytes_eq verb (codes "admit") && is_name name then admission name (decimal_of 32 number) else
+    if bytes_eq verb (codes "step") && is_name name then stepping name (decimal_of 32 number) else Faulty
 operator_form words = Faulty
 
 -- a session line that is one word
@@ -51,6 +58,8 @@ verb_form name verb =
     if bytes_eq verb (codes "upload") then Begins name Upload else
     if bytes_eq verb (codes "change") then Begins name Change else
     if bytes_eq verb (codes "status") then Asks (Session name (Command Status)) else
+    if bytes_eq verb (codes "pack") then Asks (Session name (Command Pack)) else
+    if bytes_eq verb (codes "net") then Asks (Session name (Command Net)) else
     if bytes_eq verb (codes "withdraw") then Asks (Session name (Command Withdraw)) else
     Asks (Session name (Refused UnknownCommand))
 
@@ -127,6 +136,7 @@ abbrev pub named_operator : OperatorLine (Bor (List ℕ)) → OperatorLine (List
 named_operator (Admit name width) = Admit name.now width
 named_operator (Evict name) = Evict name.now
 named_operator ListAll = ListAll
+named_operator (Step name count) = Step name.now count
 
 abbrev pub named_act : Act (Bor (List ℕ)) → Act (List ℕ)
 named_act (Operator line) = Operator (named_operator line)

@@ -1,12 +1,14 @@
 -- The texts that a session is answered with.
-use Rattle.std.specs.Prelude.{ℕ, List, [], ◌∷◌, ◌++◌, codes, decimal, Option, Some, None, Result, Ok, Err}
+use Rattle.std.specs.Prelude.{ℕ, List, [], ◌∷◌, ◌++◌, length, codes, decimal, Option, Some, None, Result, Ok, Err}
 use Rattle.blif.specs.declared.fault.BlifFault.{BlifFault}
 use Rattle.blif.specs.Faults.{net_of, number_of}
 use Rattle.tenant_slot.specs.declared.reply.Reply.{Reply}
-use Rattle.tenant_slot.specs.declared.reply.Reply.TheVariants.{Accepted, Status, Refused}
+use Rattle.tenant_slot.specs.declared.reply.Reply.TheVariants.{Accepted, Status, File, Refused, Step}
 use Rattle.tenant_slot.specs.declared.reply.Refusal.{Refusal}
-use Rattle.tenant_slot.specs.declared.reply.Refusal.TheVariants.{WrongState, BadBlif}
-use Rattle.tenant_slot.specs.Names.{state_text, refusal_number, refusal_text}
+use Rattle.tenant_slot.specs.declared.reply.Refusal.TheVariants.{WrongState, BadBlif, CannotPack}
+use Rattle.tenant_slot.specs.Names.{file_text, state_text, refusal_number, refusal_text}
+use Rattle.tenant_slot.specs.declared.advance.StepReply.{StepReply}
+use Rattle.tenant_slot.specs.declared.advance.StepReply.TheVariants.{Advanced, Finished, Stale}
 use Rattle.service_core.specs.declared.not_served.NotServed.{NotServed}
 use Rattle.service_core.specs.declared.not_served.NotServed.TheVariants.{NoMemory, JournalFull, NoSuchTenancy}
 use Rattle.service_core.specs.Receipt.{Receipted}
@@ -29,15 +31,24 @@ fault_text fault = blank_word (decimal (number_of fault.kind)) ++ blank_word (de
 abbrev pub cause_text : Refusal → List ℕ
 cause_text (WrongState state) = blank_word (state_text state)
 cause_text (BadBlif fault) = fault_text fault
+cause_text (CannotPack ble) = blank_word (decimal ble)
 
 -- `WORD NUMBER NAME` and what follows, as a line
 abbrev pub numbered_line : List ℕ → ℕ → List ℕ → List ℕ → List ℕ
 numbered_line word number name more = word ++ blank_word (decimal number) ++ blank_word name ++ more ++ 10 ∷ []
 
--- a reply as a line
+-- the word for a step that was made
+abbrev pub step_text : StepReply → List ℕ
+step_text Advanced = codes "advanced"
+step_text Finished = codes "finished"
+step_text Stale = codes "stale"
+
+-- a reply as a line; a file follows its line as it is
 abbrev pub reply_text : Reply → List ℕ
 reply_text (Accepted state) = codes "ok" ++ blank_word (state_text state) ++ 10 ∷ []
 reply_text (Status status) = codes "status" ++ blank_word (state_text status.state) ++ blank_word (decimal status.steps) ++ 10 ∷ []
+reply_text (File kind text) = codes "text" ++ blank_word (file_text kind) ++ blank_word (decimal (length text)) ++ 10 ∷ text
+reply_text (Step reply) = step_text reply ++ 10 ∷ []
 reply_text (Refused refusal) = numbered_line (codes "refused") (refusal_number refusal) (refusal_text refusal) (cause_text refusal)
 
 abbrev pub session_refusal_number : SessionRefusal → ℕ

@@ -1,12 +1,16 @@
 ghost use Rattle.std.specs.Prelude.{◌≡◌, ◌+◌, ◌^◌, ◌<◌, ◌∷◌, ◌++◌, [], length, decimal, OnOk, Ok, Err};
-ghost use Rattle.fpgad_run.specs.OperatorText.{admitted_text, evicted_text, last_id, list_text, listed};
+ghost use Rattle.fpgad_run.specs.OperatorText.{admitted_text, evicted_text, last_id, list_text, listed, outcome_text};
+ghost use Rattle.fpgad_run.specs.Operators.{Steps};
 
 use crate::script::OperatorLine;
-use crate::session_text::{push_decimal, push_end, push_number, push_refused, push_word};
+use crate::session_text::{
+    push_decimal, push_end, push_number, push_refused, push_word, step_word,
+};
 use indexmap::IndexMap;
 use service_core::{Core, OpRefusal};
 use std::alloc::{AllocError, Global};
 use std::marker::Model;
+use tenant_slot::StepReply;
 
 /// The operator: names over ids, one live tenancy a name. Its value is the names of all ids, the newest first; the oldest
 /// has id 1.
@@ -66,6 +70,7 @@ impl<'t> Operator<'t> {
                 push_evicted(reply, &answer)
             }
             OperatorLine::List => self.list(core, reply),
+            OperatorLine::Step(name, count) => step(core, self.last_id(name), count, reply),
         }
     }
 
@@ -162,4 +167,30 @@ fn push_evicted(reply: &mut Vec<u8>, answer: &Result<(), OpRefusal>) -> Result<(
         }
         Err(refusal) => push_refused(reply, refusal.number(), refusal.name()),
     }
+}
+
+/// Makes the next step of a tenancy's job so many times, and appends the outcome of each as a line.
+fn step(core: &mut Core, id: u32, count: u32, reply: &mut Vec<u8>) -> Result<(), AllocError>
+    ensures { OnOk result (Steps core.old id count reply.old.items reply.new.items core.new) }
+{
+    for number in 0..count {
+        let outcome = core.advance(id);
+        push_outcome(reply, &outcome)?;
+    }
+    Ok(())
+}
+
+/// Appends the outcome of a step.
+fn push_outcome(
+    reply: &mut Vec<u8>,
+    outcome: &Result<Option<StepReply>, AllocError>,
+) -> Result<(), AllocError>
+    ensures { OnOk result (reply.new.items ≡ reply.old.items ++ outcome_text outcome.now) }
+{
+    match outcome {
+        Ok(Some(made)) => reply.extend_from_slice(step_word(*made))?,
+        Ok(None) => reply.extend_from_slice(b"none")?,
+        Err(_) => reply.extend_from_slice(b"nomemory")?,
+    }
+    push_end(reply)
 }

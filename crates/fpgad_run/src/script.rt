@@ -5,7 +5,7 @@ ghost use Rattle.fpgad_run.specs.Lines.{without_cr, is_point, kept};
 ghost use Rattle.line_text.specs.Words.{is_blank};
 ghost use Rattle.fpgad_run.specs.Program.{IsSplit, head_of};
 ghost use Rattle.fpgad_run.specs.declared.script.Act.TheVariants.{Session};
-ghost use Rattle.fpgad_run.specs.Script.{Gives, script_of, is_name, is_name_byte, without_blanks, named_form, form_in, form_by, session_form, verb_form, operator_form, admission, named_act, named_item, text_command, text_line};
+ghost use Rattle.fpgad_run.specs.Script.{Gives, script_of, is_name, is_name_byte, without_blanks, named_form, form_in, form_by, session_form, verb_form, operator_form, admission, stepping, named_act, named_item, text_command, text_line};
 
 use line_text::{Text, append_words, decimal_u32};
 use std::alloc::{AllocError, AllocFailed, Global};
@@ -24,6 +24,8 @@ pub enum OperatorLine<N> {
     Admit(N, u32),
     Evict(N),
     List,
+    /// So many steps of its running job.
+    Step(N, u32),
 }
 
 /// Why a session's line has no command.
@@ -476,6 +478,10 @@ fn verb_form<'t>(name: &'t [u8], verb: &[u8]) -> Form<&'t [u8]>
     }
     let line = if verb == b"status".as_slice() {
         SessionLine::Command(Command::Status)
+    } else if verb == b"pack".as_slice() {
+        SessionLine::Command(Command::Pack)
+    } else if verb == b"net".as_slice() {
+        SessionLine::Command(Command::Net)
     } else if verb == b"withdraw".as_slice() {
         SessionLine::Command(Command::Withdraw)
     } else {
@@ -502,9 +508,11 @@ fn operator_form<'t>(words: &[&'t [u8]]) -> Form<&'t [u8]>
                 Form::Faulty
             }
         }
-        [verb, name, width] => {
+        [verb, name, number] => {
             if *verb == b"admit".as_slice() && is_name(*name) {
-                admission(*name, decimal_u32(*width))
+                admission(*name, decimal_u32(*number))
+            } else if *verb == b"step".as_slice() && is_name(*name) {
+                stepping(*name, decimal_u32(*number))
             } else {
                 Form::Faulty
             }
@@ -518,6 +526,15 @@ fn admission<'t>(name: &'t [u8], width: Option<u32>) -> Form<&'t [u8]>
 {
     match width {
         Some(width) => Form::Asks(Act::Operator(OperatorLine::Admit(name, width))),
+        None => Form::Faulty,
+    }
+}
+
+fn stepping<'t>(name: &'t [u8], count: Option<u32>) -> Form<&'t [u8]>
+    ensures { named_form result ≡ stepping name.now count }
+{
+    match count {
+        Some(count) => Form::Asks(Act::Operator(OperatorLine::Step(name, count))),
         None => Form::Faulty,
     }
 }

@@ -1,12 +1,13 @@
-ghost use Rattle.std.specs.Prelude.{◌≡◌, ◌++◌, ◌∷◌, ◌<◌, ◌^◌, [], codes, decimal, OnOk};
-ghost use Rattle.fpgad_run.specs.SessionText.{answer_text, blank_word, cause_text, fault_text, numbered_line, reply_text, session_refusal_text, session_refusal_name, session_refusal_number};
+ghost use Rattle.std.specs.Prelude.{◌≡◌, ◌++◌, ◌∷◌, ◌<◌, ◌^◌, [], codes, decimal, length, OnOk};
+ghost use Rattle.tenant_slot.specs.Names.{file_text};
+ghost use Rattle.fpgad_run.specs.SessionText.{answer_text, blank_word, cause_text, fault_text, numbered_line, reply_text, session_refusal_text, session_refusal_name, session_refusal_number, step_text};
 
 use crate::script::SessionRefusal;
 use blif::BlifFault;
 use itoa::Buffer;
 use service_core::{NotServed, Receipt};
 use std::alloc::AllocError;
-use tenant_slot::{Refusal, Reply};
+use tenant_slot::{FileKind, Refusal, Reply, StepReply};
 
 /// Appends a blank and a word.
 pub(crate) fn push_word(text: &mut Vec<u8>, word: &[u8]) -> Result<(), AllocError>
@@ -106,7 +107,18 @@ pub fn push_answer(
     }
 }
 
-/// Appends the line of a reply.
+/// The word for a step that was made.
+pub(crate) fn step_word(reply: StepReply) -> &'static [u8]
+    ensures { result.now ≡ step_text reply }
+{
+    match reply {
+        StepReply::Advanced => b"advanced",
+        StepReply::Finished => b"finished",
+        StepReply::Stale => b"stale",
+    }
+}
+
+/// Appends the line of a reply. A file follows its line as it is.
 pub fn push_reply(text: &mut Vec<u8>, reply: &Reply) -> Result<(), AllocError>
     ensures { OnOk result (text.new.items ≡ text.old.items ++ reply_text reply.now) }
 {
@@ -120,12 +132,26 @@ pub fn push_reply(text: &mut Vec<u8>, reply: &Reply) -> Result<(), AllocError>
             push_word(text, status.state.name().as_bytes())?;
             push_number(text, status.steps)?;
         }
+        Reply::File { kind, text: file } => return push_file(text, *kind, file.as_bytes()),
+        Reply::Step(reply) => text.extend_from_slice(step_word(*reply))?,
         Reply::Refused(refusal) => {
             push_numbered(text, b"refused", refusal.number(), refusal.name())?;
             push_cause(text, refusal)?;
         }
     }
     push_end(text)
+}
+
+/// Appends a file: the line with its length, and its bytes.
+fn push_file(text: &mut Vec<u8>, kind: FileKind, file: &[u8]) -> Result<(), AllocError>
+    ensures { OnOk result (text.new.items ≡ text.old.items ++ codes "text" ++ blank_word (file_text kind) ++ blank_word (decimal (length file.now)) ++ 10 ∷ file.now) }
+{
+    let mut buffer = Buffer::new();
+    text.extend_from_slice(b"text")?;
+    push_word(text, kind.name().as_bytes())?;
+    push_word(text, buffer.format(file.len()).as_bytes())?;
+    push_end(text)?;
+    text.extend_from_slice(file)
 }
 
 /// Appends what follows a refusal's name.
@@ -135,6 +161,7 @@ fn push_cause(text: &mut Vec<u8>, refusal: &Refusal) -> Result<(), AllocError>
     match refusal {
         Refusal::WrongState(state) => push_word(text, state.name().as_bytes()),
         Refusal::BadBlif(fault) => push_fault(text, fault),
+        Refusal::CannotPack(ble) => push_number(text, *ble),
     }
 }
 

@@ -103,6 +103,67 @@ refused 5 NoSuchTenancy
 }
 
 #[test]
+fn a_netlist_is_packed(rt: HostRuntime) -> Result<(), Fail> {
+    let script = "op admit T 1
+op step T 1
+op step U 2
+@T upload
+.model t
+.inputs a b
+.outputs f
+.names a b f
+11 1
+.end
+.
+@T net
+@T pack
+op step T 2
+@T net
+";
+    let (outcome, bytes) = output(rt.alloc(), Architecture::Text(ARCH.as_bytes()), script)?;
+    assert_eq!(rt; outcome, Outcome::Done);
+    assert_eq!(rt;
+        bytes.as_slice(),
+        b"== op
+ok 1 0
+none
+none
+none
+finished
+none
+== T
+ok Loaded
+refused 3 WrongState Loaded
+ok Packing
+text net 119
+.input a
+pinlist: a
+
+.input b
+pinlist: b
+
+.output out:f
+pinlist: f
+
+.clb f
+pinlist: a b f open
+subblock: f 0 1 2 open
+
+"
+            .as_slice()
+    );
+    Ok(())
+}
+
+#[test]
+fn a_step_wants_a_number(rt: HostRuntime) -> Result<(), Fail> {
+    let script = "op step T 4294967296\n";
+    let (outcome, _) = output(rt.alloc(), Architecture::Text(ARCH.as_bytes()), script)?;
+    assert_eq!(rt; outcome, Outcome::ScriptFault(1));
+    Ok(())
+}
+
+#[test]
 fn repeats_and_ends(rt: HostRuntime) -> Result<(), Fail> {
     let script = "# a comment
 op admit T 1

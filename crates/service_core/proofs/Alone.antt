@@ -7,23 +7,24 @@ use Rattle.std.proofs.lemmas.List.Elements.{All-nil}
 use Rattle.grid.specs.declared.Strip.{Strip}
 use Rattle.tenant_slot.specs.declared.command.Command.{Command}
 use Rattle.tenant_slot.specs.declared.command.Event.{Event}
-use Rattle.tenant_slot.specs.declared.command.Event.TheVariants.{Command as Asked}
+use Rattle.tenant_slot.specs.declared.command.Event.TheVariants.{Command as Asked, Advance as AdvanceEvent}
 use Rattle.tenant_slot.specs.declared.reply.Reply.{Reply}
+use Rattle.tenant_slot.specs.declared.reply.Reply.TheVariants.{Step}
 use Rattle.tenant_slot.specs.SingleUser.{State, start, step, state_after, replies_to, run}
 use Rattle.tenant_slot.proofs.Runs.{state_after-append, replies_to-append, step-full}
 use Rattle.service_core.specs.declared.device.Device.{Device}
 use Rattle.service_core.specs.declared.entry.Entry.{Entry}
 use Rattle.service_core.specs.declared.not_served.NotServed.TheVariants.{NoMemory, JournalFull, NoSuchTenancy}
-use Rattle.service_core.specs.History.{History, IsReplayed, events_of, state_of, with_entry, closed}
+use Rattle.service_core.specs.History.{History, IsReplayed, StepMade, entry_of, events_of, state_of, with_entry, closed}
 use Rattle.service_core.specs.Receipt.{Receipted}
 use Rattle.service_core.specs.Service.{ServiceState, IsOn, IsService, admitted, empty, entries_in, history_of, journal_of, live_of, modified, strip_on, with_tenancy, without_tenancy, with_entry_of}
-use Rattle.service_core.specs.Calls.{IsServed}
-use Rattle.service_core.specs.Run.{Call, Admit, Evict, Tenant, Happens, Run}
+use Rattle.service_core.specs.Calls.{IsAdvanced, IsServed}
+use Rattle.service_core.specs.Run.{Call, Admit, Advance, Evict, Tenant, Happens, Run}
 use Rattle.service_core.specs.OwnEvents.{own_exchange, own_exchanges, own_events, own_replies}
 use Rattle.service_core.specs.Headline.{EachIsAlone}
 use Rattle.service_core.proofs.Lists.{history_of-past, history_of-modified, history_of-push, All-history_of}
 use Rattle.service_core.proofs.Histories.{state_after-push}
-use Rattle.service_core.proofs.Keeps.{IsService-after, Received, received, if_live_some}
+use Rattle.service_core.proofs.Keeps.{IsService-after, Received, received, Stepped, stepped, if_live_some}
 
 -- the journals after each call
 entries_in-closed : (o : Option History) → entries_in (option_map closed o) ≡ entries_in o
@@ -74,20 +75,28 @@ record Exchanged (first : State) (old new : ServiceState) (id : ℕ) (xs : List 
 same_journal : (first : State) (old new : ServiceState) (id : ℕ) → journal_of new id ≡ journal_of old id → Exchanged first old new id []
 same_journal first old new id same = record { replies = refl; state = ap (λ es. state_after first (events_of es)) same }
 
-own_served : (first : State) (old new : ServiceState) (id : ℕ) (command : Command) (r : Receipted) → IsServed old id command (Ok r) new → HasFirst first old id → Exchanged first old new id ((Asked command, Some r.reply) ∷ [])
-own_served first old new id command r served has =
-    let got : (h : History) × Received old id command r h = received old id command r served.0 in
-    let h : History = got.0 in
-    let here : history_of old.histories id ≡ Some h = got.1.here in
+-- an entry is what was asked and told
+own_entry : (first : State) (old new : ServiceState) (id : ℕ) (h : History) (e : Entry) → history_of old.histories id ≡ Some h → (step (state_of h) e.event).1 ≡ Some e.reply → new ≡ with_entry_of old id e → HasFirst first old id →
+    Exchanged first old new id ((e.event, Some e.reply) ∷ [])
+own_entry first old new id h e here said changes has =
     let its : first_of h ≡ first = rw here at has in
-    let e : Entry = record { event = Asked command; reply = r.reply } in
     let was : journal_of old id ≡ h.entries = ap entries_in here in
-    let is : journal_of new id ≡ h.entries ++ e ∷ [] = rw served.1 (journal_of-with_entry_of old id h e here) in
-    let reply : (step (state_after first (events_of h.entries)) (Asked command)).1 ≡ Some r.reply = rw its at got.1.reply in
+    let is : journal_of new id ≡ h.entries ++ e ∷ [] = rw changes (journal_of-with_entry_of old id h e here) in
+    let reply : (step (state_after first (events_of h.entries)) e.event).1 ≡ Some e.reply = rw its at said in
     record {
       replies = rw (was, reply) refl;
       state = rw (was, is) (state_after-push first h.entries e);
     }
+
+own_served : (first : State) (old new : ServiceState) (id : ℕ) (command : Command) (r : Receipted) → IsServed old id command (Ok r) new → HasFirst first old id → Exchanged first old new id ((Asked command, Some r.reply) ∷ [])
+own_served first old new id command r served has =
+    let got : (h : History) × Received old id command r h = received old id command r served.0 in
+    own_entry first old new id got.0 (record { event = Asked command; reply = r.reply }) got.1.here got.1.reply served.1 has
+
+own_advanced : (first : State) (old new : ServiceState) (id : ℕ) (made : StepMade) → IsAdvanced old id (Ok (Some made)) new → HasFirst first old id → Exchanged first old new id ((AdvanceEvent made.advance, Some (Step made.reply)) ∷ [])
+own_advanced first old new id made advanced has =
+    let got : (h : History) × Stepped old id made h = stepped old id made advanced.0 in
+    own_entry first old new id got.0 (entry_of made) got.1.here got.1.step.told advanced.1 has
 
 -- a full journal
 record AtLimit (old : ServiceState) (id : ℕ) (h : History) : Type 0 where
@@ -133,6 +142,13 @@ exchanged first old (Tenant t command (Err (JournalFull note))) new id happens r
     by_id : (b : Bool) → eqb t id ≡ b → Exchanged first old new id (if b then (Asked command, None) ∷ [] else [])
     by_id true e = rw happens.2 (own_full first old id command (subst (λ x. IsSomeAnd (live_of old.histories x) (λ h. length h.entries ≡ 65536)) ((Decides-eqb t id).0 e) happens.1) replayed has)
     by_id false e = same_journal first old new id (rw happens.2 refl)
+exchanged first old (Advance t (Ok None)) new id happens replayed has = same_journal first old new id (rw happens.1 refl)
+exchanged first old (Advance t (Err error)) new id happens replayed has = same_journal first old new id (rw happens.1 refl)
+exchanged first old (Advance t (Ok (Some made))) new id happens replayed has = by_id (eqb t id) refl
+  where
+    by_id : (b : Bool) → eqb t id ≡ b → Exchanged first old new id (if b then (AdvanceEvent made.advance, Some (Step made.reply)) ∷ [] else [])
+    by_id true e = own_advanced first old new id made (subst (λ x. IsAdvanced old x (Ok (Some made)) new) ((Decides-eqb t id).0 e) happens) has
+    by_id false e = same_journal first old new id (rw happens.1 (journal_of-with_entry_of_other old t id (entry_of made) e))
 
 -- a tenancy keeps its first state
 first_in-change : (first : State) (change : History → History) → ((h : History) → first_of (change h) ≡ first_of h) → (o : Option History) → IfSome (option_map change o) (λ h. first_of h ≡ first) → IfSome o (λ h. first_of h ≡ first)
@@ -162,6 +178,9 @@ back first old (Tenant t command (Ok r)) new id happens has = modified_back firs
 back first old (Tenant t command (Err NoMemory)) new id happens has = rw happens.1 at has
 back first old (Tenant t command (Err (JournalFull note))) new id happens has = rw happens.2 at has
 back first old (Tenant t command (Err (NoSuchTenancy note))) new id happens has = rw happens.2 at has
+back first old (Advance t (Ok (Some made))) new id happens has = modified_back first old.histories t id (with_entry (entry_of made)) (λ h. refl) (rw happens.1 at has)
+back first old (Advance t (Ok None)) new id happens has = rw happens.1 at has
+back first old (Advance t (Err error)) new id happens has = rw happens.1 at has
 
 -- the device stays
 device_after : (old : ServiceState) (call : Call) (new : ServiceState) → Happens old call new → new.device ≡ old.device
@@ -173,6 +192,9 @@ device_after old (Tenant t command (Ok r)) new happens = rw happens.1 refl
 device_after old (Tenant t command (Err NoMemory)) new happens = rw happens.1 refl
 device_after old (Tenant t command (Err (JournalFull note))) new happens = rw happens.2 refl
 device_after old (Tenant t command (Err (NoSuchTenancy note))) new happens = rw happens.2 refl
+device_after old (Advance t (Ok (Some made))) new happens = rw happens.1 refl
+device_after old (Advance t (Ok None)) new happens = rw happens.1 refl
+device_after old (Advance t (Err error)) new happens = rw happens.1 refl
 
 -- over a run
 pub run_device : (old : ServiceState) (calls : List Call) (new : ServiceState) → Run old calls new → new.device ≡ old.device

@@ -2,15 +2,15 @@
 use Rattle.std.proofs.Common.{◌≡◌, List, [], ◌∷◌, Ok, Err, Some, None, refl}
 use Rattle.tenant_slot.specs.declared.reply.StateName.TheVariants.{Empty}
 use Rattle.tenant_slot.specs.declared.command.Command.TheVariants.{Status, Withdraw}
-use Rattle.tenant_slot.specs.declared.command.Event.TheVariants.{Command as Asked}
-use Rattle.tenant_slot.specs.declared.reply.Reply.TheVariants.{Refused}
+use Rattle.tenant_slot.specs.declared.command.Event.TheVariants.{Command as Asked, Advance as Stepped}
+use Rattle.tenant_slot.specs.declared.reply.Reply.TheVariants.{Refused, Step}
 use Rattle.tenant_slot.specs.declared.reply.Refusal.TheVariants.{WrongState}
 use Rattle.service_core.specs.declared.device.Device.{Device}
 use Rattle.service_core.specs.declared.not_served.NoteCause.TheVariants as cause
 use Rattle.service_core.specs.declared.not_served.NotServed.TheVariants.{NoMemory, JournalFull, NoSuchTenancy}
-use Rattle.service_core.specs.History.{History, closed}
+use Rattle.service_core.specs.History.{History, StepMade, closed}
 use Rattle.service_core.specs.Service.{admitted, empty, history_of, live_of, modified, strip_on, with_tenancy, without_tenancy}
-use Rattle.service_core.specs.Run.{Call, Admit, Evict, Tenant}
+use Rattle.service_core.specs.Run.{Call, Admit, Advance, Evict, Tenant}
 use Rattle.service_core.specs.OwnEvents.{own_events, own_replies}
 
 -- the strip of a tenancy has its own width, and the device's rows and pads
@@ -60,3 +60,13 @@ own_replies_of_one = refl
 
 own_events_of_another : own_events 2 calls ≡ []
 own_events_of_another = refl
+
+-- and the steps of its job that were made
+abbrev steps : StepMade → StepMade → List Call
+steps first other = Advance 1 (Ok (Some first)) ∷ Advance 2 (Ok (Some other)) ∷ Advance 1 (Ok None) ∷ []
+
+own_steps : (first other : StepMade) → own_events 1 (steps first other) ≡ Stepped first.advance ∷ []
+own_steps first other = refl
+
+own_step_replies : (first other : StepMade) → own_replies 1 (steps first other) ≡ Some (Step first.reply) ∷ []
+own_step_replies first other = refl

@@ -1,6 +1,7 @@
 -- Each call keeps that just the live tenancies have strips, and that each journal is that of its tenancy alone.
 use Rattle.std.proofs.Common.{◌≡◌, ℕ, ◌+◌, ◌-◌, ◌<◌, List, [], ◌∷◌, ◌++◌, length, get_or, Result, Ok, Err, true, false, Option, Some, None, refl, sym, ap, ◌∙◌, arith, length-append}
-use Rattle.std.specs.Prelude.{IsOk, option_map, if◌then◌else◌}
+use Rattle.std.specs.Prelude.{IsOk, IsSomeAnd, option_map, if◌then◌else◌}
+use Rattle.std.specs.declared.alloc.AllocError.{AllocError}
 use Rattle.std.proofs.lemmas.Bool.Decides.{nat_tests}
 use Rattle.std.proofs.lemmas.List.Elements.{All-push}
 use Rattle.std.proofs.Math.ListN.{set}
@@ -12,6 +13,7 @@ use Rattle.strips.specs.Plan.{Plan, IsFirstFit, IsPlaced, is_bad_width, strip_of
 use Rattle.strips.proofs.Laid.{strip_of-without, strip_of-push}
 use Rattle.tenant_slot.specs.declared.command.Command.{Command}
 use Rattle.tenant_slot.specs.declared.command.Event.TheVariants.{Command as Asked}
+use Rattle.tenant_slot.specs.declared.advance.StepReply.{StepReply}
 use Rattle.tenant_slot.specs.declared.reply.Reply.{Reply}
 use Rattle.tenant_slot.specs.declared.not_served.NotServed.{NotServed}
 use Rattle.tenant_slot.specs.declared.not_served.NotServed.TheVariants.{NoMemory, JournalFull}
@@ -20,11 +22,11 @@ use Rattle.service_core.specs.declared.device.Device.{Device}
 use Rattle.service_core.specs.declared.entry.Entry.{Entry}
 use Rattle.service_core.specs.declared.not_served.NoteCause.TheVariants.{JournalFull as CauseJournalFull}
 use Rattle.service_core.specs.declared.not_served.NotServed.TheVariants.{NoMemory as NoMemoryToServe, JournalFull as JournalFullNote, NoSuchTenancy as NoSuchTenancyNote}
-use Rattle.service_core.specs.History.{History, IsReplayed, state_of, with_entry, closed, ServesHistory}
+use Rattle.service_core.specs.History.{History, IsReplayed, IsStep, StepMade, entry_of, state_of, with_entry, closed, AdvancesHistory, ServesHistory}
 use Rattle.service_core.specs.Service.{ServiceState, IsService, IsLiveIn, IsOn, admitted, history_of, modified, if_live, live_of, placed_width}
-use Rattle.service_core.specs.Calls.{CanAdmit, IsReceipt, IsServed}
+use Rattle.service_core.specs.Calls.{Advances, CanAdmit, IsReceipt, IsServed}
 use Rattle.service_core.specs.Receipt.{Receipted}
-use Rattle.service_core.specs.Run.{Call, Admit, Evict, Tenant, Happens}
+use Rattle.service_core.specs.Run.{Call, Admit, Advance, Evict, Tenant, Happens}
 use Rattle.service_core.proofs.Lists.{history_of-past, history_of-modified, history_of-push, length-modified, All-modified, set-modified}
 use Rattle.service_core.proofs.Histories.{IsReplayed-push}
 
@@ -115,6 +117,27 @@ IsServed-full old id here command new live is served = (refl, rw (live_is old.hi
 pub IsServed-no_memory : (old : ServiceState) (id : ℕ) (here : History) (command : Command) (new : History) → IsLiveIn old.histories id → here ≡ get_or old.histories (id - 1) here → ServesHistory here command (Err NoMemory) new → IsServed old id command (Err NoMemoryToServe) (record old { histories = set old.histories (id - 1) new })
 IsServed-no_memory old id here command new live is served = (rw (live_is old.histories id here live is) served.0, ap (λ hs. record old { histories = hs }) (set-kept old.histories id here new is served.1))
 
+-- a step that the live tenancy's job made, or didn't make
+pub IsService-advanced : (device : Device) (strips : List PlacedStrip) (hs : List History) (id : ℕ) (old : History) (answer : Result (Option StepReply) AllocError) (new : History) → IsService device strips hs → IsLiveIn hs id → old ≡ get_or hs (id - 1) old → AdvancesHistory old answer new → IsService device strips (set hs (id - 1) new)
+IsService-advanced device strips hs id old (Ok (Some reply)) new was live is advanced =
+    let e : Entry = entry_of advanced.0 in
+    rw (set-live hs id old (with_entry e) new live is advanced.3) (IsService-entry device strips hs id old e was (history-live hs id old live is) advanced.2.told)
+IsService-advanced device strips hs id old (Ok None) new was live is advanced = rw (set-kept hs id old new is advanced.1) was
+IsService-advanced device strips hs id old (Err error) new was live is advanced = rw (set-kept hs id old new is advanced.1) was
+
+-- what the core answers then
+pub Advances-live : (old : ServiceState) (id : ℕ) (here : History) (answer : Result (Option StepReply) AllocError) (new : History) → IsLiveIn old.histories id → here ≡ get_or old.histories (id - 1) here → AdvancesHistory here answer new → Advances old id answer (record old { histories = set old.histories (id - 1) new })
+Advances-live old id here (Ok (Some reply)) new live is advanced =
+    let e : Entry = entry_of advanced.0 in
+    (Ok (Some advanced.0), ap (λ r. Ok (Some r)) (sym advanced.1), (rw (live_is old.histories id here live is) advanced.2, ap (λ hs. record old { histories = hs }) (set-live old.histories id here (with_entry e) new live is advanced.3)))
+Advances-live old id here (Ok None) new live is advanced =
+    (Ok None, refl, (rw (live_is old.histories id here live is) advanced.0, ap (λ hs. record old { histories = hs }) (set-kept old.histories id here new is advanced.1)))
+Advances-live old id here (Err error) new live is advanced =
+    (Err error, refl, (rw (live_is old.histories id here live is) advanced.0, ap (λ hs. record old { histories = hs }) (set-kept old.histories id here new is advanced.1)))
+
+pub Advances-gone : (old : ServiceState) (id : ℕ) → live_of old.histories id ≡ None → Advances old id (Ok None) old
+Advances-gone old id none = (Ok None, refl, (rw none refl, refl))
+
 -- what can be admitted has a place
 pub is_placed : (state : ServiceState) (plan : Plan) (width id : ℕ) (answer : Result ℕ Refusal) (new : Plan) → state.plan ≡ plan → CanAdmit state width → IsPlaced plan id width answer new → IsOk answer
 is_placed state plan width id (Ok offset) new same can placed = refl
@@ -138,6 +161,18 @@ received old id command r is = at_option (live_of old.histories id) refl is
     at_option None e never = absurd never
     at_option (Some h) e said = (h, record { here = if_live_some (history_of old.histories id) h e; reply = said.3 })
 
+-- what a step that was made says
+pub record Stepped (old : ServiceState) (id : ℕ) (made : StepMade) (h : History) : Type 0 where
+  pub here : history_of old.histories id ≡ Some h
+  pub step : IsStep (state_of h) made
+
+pub stepped : (old : ServiceState) (id : ℕ) (made : StepMade) → IsSomeAnd (live_of old.histories id) (λ h. IsStep (state_of h) made) → (h : History) × Stepped old id made h
+stepped old id made is = at_option (live_of old.histories id) refl is
+  where
+    at_option : (o : Option History) → live_of old.histories id ≡ o → IsSomeAnd o (λ h. IsStep (state_of h) made) → (h : History) × Stepped old id made h
+    at_option None e never = absurd never
+    at_option (Some h) e said = (h, record { here = if_live_some (history_of old.histories id) h e; step = said })
+
 -- no call breaks it
 pub IsService-after : (old : ServiceState) (call : Call) (new : ServiceState) → Happens old call new → IsService old.device old.plan.strips old.histories → IsService new.device new.plan.strips new.histories
 IsService-after old (Admit width (Ok given)) new happens was = rw happens.3 (IsService-admitted old.device old.plan.strips old.histories width given.1 was happens.0.ids_left)
@@ -151,3 +186,8 @@ IsService-after old (Tenant id command (Ok r)) new happens was =
 IsService-after old (Tenant id command (Err NoMemoryToServe)) new happens was = rw happens.1 was
 IsService-after old (Tenant id command (Err (JournalFullNote note))) new happens was = rw happens.2 was
 IsService-after old (Tenant id command (Err (NoSuchTenancyNote note))) new happens was = rw happens.2 was
+IsService-after old (Advance id (Ok (Some made))) new happens was =
+    let got : (h : History) × Stepped old id made h = stepped old id made happens.0 in
+    rw happens.1 (IsService-entry old.device old.plan.strips old.histories id got.0 (entry_of made) was got.1.here got.1.step.told)
+IsService-after old (Advance id (Ok None)) new happens was = rw happens.1 was
+IsService-after old (Advance id (Err error)) new happens was = rw happens.1 was

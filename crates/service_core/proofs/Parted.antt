@@ -1,5 +1,5 @@
 -- The strips stay parted, over every run.
-use Rattle.std.proofs.Common.{◌≡◌, ◌+◌, ◌≤◌, ℕ, List, [], ◌∷◌, Bool, not, eqb, Ok, Err, refl, arith}
+use Rattle.std.proofs.Common.{◌≡◌, ◌+◌, ◌≤◌, ℕ, List, [], ◌∷◌, Bool, not, eqb, Ok, Err, Some, None, refl, arith}
 use Rattle.std.proofs.lemmas.List.Elements.{All-filter, All-nil}
 use Rattle.std.proofs.lemmas.List.Kept.{AllPairs-filter}
 use Rattle.strips.specs.declared.placed_strip.PlacedStrip.{PlacedStrip}
@@ -8,7 +8,7 @@ use Rattle.strips.proofs.Laid.{IsParted-with, IsParted-with-inside, IsParted-wit
 use Rattle.service_core.specs.declared.device.Device.{Device}
 use Rattle.service_core.specs.declared.not_served.NotServed.TheVariants.{NoMemory, JournalFull, NoSuchTenancy}
 use Rattle.service_core.specs.Service.{ServiceState, IsService, empty}
-use Rattle.service_core.specs.Run.{Call, Admit, Evict, Tenant, Happens, Run}
+use Rattle.service_core.specs.Run.{Call, Admit, Advance, Evict, Tenant, Happens, Run}
 use Rattle.service_core.specs.Headline.{AreParted}
 use Rattle.service_core.proofs.Alone.{IsService-empty, run_keeps}
 
@@ -37,6 +37,9 @@ parted_after columns old (Tenant id command (Ok r)) new happens was = rw happens
 parted_after columns old (Tenant id command (Err NoMemory)) new happens was = rw happens.1 was
 parted_after columns old (Tenant id command (Err (JournalFull note))) new happens was = rw happens.2 was
 parted_after columns old (Tenant id command (Err (NoSuchTenancy note))) new happens was = rw happens.2 was
+parted_after columns old (Advance id (Ok (Some made))) new happens was = rw happens.1 (record { same = was.same; parted = was.parted })
+parted_after columns old (Advance id (Ok None)) new happens was = rw happens.1 was
+parted_after columns old (Advance id (Err error)) new happens was = rw happens.1 was
 
 run_parted : (columns : ℕ) (old : ServiceState) (calls : List Call) (new : ServiceState) → Run old calls new → IsPartedOn columns old → IsPartedOn columns new
 run_parted columns old [] new run was = rw run was

@@ -1,14 +1,18 @@
 -- One tenancy's history: its journal, and what the replies in it have to be.
-use Rattle.std.specs.Prelude.{◌≡◌, ◌<◌, ◌≤◌, List, [], ◌∷◌, ◌++◌, length, map, Bool, false, Result, Ok, Err, Option, Some, IfSome}
+use Rattle.std.specs.Prelude.{◌≡◌, ◌<◌, ◌≤◌, List, [], ◌∷◌, ◌++◌, length, map, Bool, false, Result, Ok, Err, Option, Some, None, IfSome, IsSome}
+use Rattle.std.specs.declared.alloc.AllocError.{AllocError}
 use Rattle.arch_file.specs.declared.arch.Arch.{Arch}
 use Rattle.grid.specs.declared.Strip.{Strip}
 use Rattle.tenant_slot.specs.declared.command.Command.{Command}
 use Rattle.tenant_slot.specs.declared.command.Event.{Event}
-use Rattle.tenant_slot.specs.declared.command.Event.TheVariants.{Command as Asked}
+use Rattle.tenant_slot.specs.declared.command.Event.TheVariants.{Command as Asked, Advance as Stepped}
+use Rattle.tenant_slot.specs.declared.advance.Advance.{Advance}
+use Rattle.tenant_slot.specs.declared.advance.StepReply.{StepReply}
 use Rattle.tenant_slot.specs.declared.reply.Reply.{Reply}
+use Rattle.tenant_slot.specs.declared.reply.Reply.TheVariants.{Step}
 use Rattle.tenant_slot.specs.declared.not_served.NotServed.{NotServed}
 use Rattle.tenant_slot.specs.declared.not_served.NotServed.TheVariants.{NoMemory, JournalFull}
-use Rattle.tenant_slot.specs.SingleUser.{State, start, step, state_after, replies_to}
+use Rattle.tenant_slot.specs.SingleUser.{State, start, step, next_step, state_after, replies_to}
 use Rattle.tenant_slot.specs.Slot.{SlotState}
 use Rattle.service_core.specs.declared.entry.Entry.{Entry}
 
@@ -49,3 +53,23 @@ abbrev pub ServesHistory : History → Command → Result (Command × Reply) Not
 ServesHistory old command (Ok told) new = (told.0 ≡ command) × ((step (state_of old) (Asked command)).1 ≡ Some told.1) × (new ≡ with_entry (record { event = Asked command; reply = told.1 }) old)
 ServesHistory old command (Err JournalFull) new = (length old.entries ≡ 65536) × (new ≡ old)
 ServesHistory old command (Err NoMemory) new = (length old.entries < 65536) × (new ≡ old)
+
+-- a step that was made, and its reply
+pub record StepMade : Type 0 where
+  pub advance : Advance
+  pub reply : StepReply
+
+-- the step as an entry
+abbrev pub entry_of : StepMade → Entry
+entry_of made = record { event = Stepped made.advance; reply = Step made.reply }
+
+-- the step is the next of the running job, and its reply the one that the tenancy gets alone
+pub record IsStep (state : State) (made : StepMade) : Type 0 where
+  pub next : next_step state ≡ Some made.advance
+  pub told : (step state (Stepped made.advance)).1 ≡ Some (Step made.reply)
+
+-- what the making of a live tenancy's next step may lead to: it is one entry more
+abbrev pub AdvancesHistory : History → Result (Option StepReply) AllocError → History → Type 0
+AdvancesHistory old (Ok (Some reply)) new = (made : StepMade) × (made.reply ≡ reply) × IsStep (state_of old) made × (new ≡ with_entry (entry_of made) old)
+AdvancesHistory old (Ok None) new = (next_step (state_of old) ≡ None) × (new ≡ old)
+AdvancesHistory old (Err error) new = IsSome (next_step (state_of old)) × (new ≡ old)

@@ -1,6 +1,7 @@
 //! All tenancies on one device: who is admitted and where, and what each is answered.
 //!
-//! - `Core` is the machine. The operator's calls are `admit` and `evict`, a tenant's is `tenant`.
+//! - `Core` is the machine. The operator's calls are `admit` and `evict`, a tenant's is `tenant`, and `advance` makes a step of
+//!   a tenancy's running job.
 //! - A tenancy has a journal of its own, kept when it ends: each event that was served, with its reply.
 //! - Each tenancy is answered as if it were alone on a device of its strip's size (`headline`). `specs/`
 //!   says what one call does (`Calls`), and what any list of them does (`Run`, `Headline`).

@@ -3,7 +3,7 @@ ghost use Rattle.arch_file.specs.Arch.{IsArch};
 ghost use Rattle.strips.specs.Plan.{offset_of};
 ghost use Rattle.service_core.specs.History.{IsReplayed, state_of};
 ghost use Rattle.service_core.specs.Service.{IsLiveIn, empty, journal_of, live_of};
-ghost use Rattle.service_core.specs.Calls.{ChecksAdmission, IsAdmitted, IsEvicted, IsServed};
+ghost use Rattle.service_core.specs.Calls.{Advances, ChecksAdmission, IsAdmitted, IsEvicted, IsServed};
 ghost use Rattle.service_core.specs.Headline.{AreParted};
 
 use crate::device::Device;
@@ -17,7 +17,7 @@ use grid::Strip;
 use std::alloc::{AllocError, Global};
 use std::marker::Model;
 use strips::{Layout, MAX_STRIPS};
-use tenant_slot::{Command, StateName};
+use tenant_slot::{Command, StateName, StepReply};
 
 /// The most admissions: ids are 1 to 65,535, and no id is given twice.
 pub const MAX_ADMISSIONS: usize = 65_535;
@@ -191,6 +191,17 @@ impl Service {
                 Err(NotServed::JournalFull(Note { id, cause }))
             }
         }
+    }
+
+    /// Makes the next step of a live tenancy's running job, as if the tenancy were alone. None where the tenancy isn't
+    /// live, no job of it runs or its journal is full.
+    pub fn advance(&mut self, id: u32) -> Result<Option<StepReply>, AllocError>
+        ensures { Advances self.old id result self.new }
+    {
+        if !is_live(&self.tenancies, id) {
+            return Ok(None);
+        }
+        self.tenancies[id as usize - 1].advance()
     }
 }
 

@@ -1,12 +1,12 @@
 ghost use Rattle.std.specs.Prelude.{◌≡◌, ◌≤◌, [], true, IfOk, length, option_copied, slice_get};
-ghost use Rattle.service_core.specs.History.{ServesHistory, closed, state_of};
+ghost use Rattle.service_core.specs.History.{AdvancesHistory, ServesHistory, closed, state_of};
 
 use crate::entry::Entry;
 use arch_file::SharedArch;
 use grid::Strip;
 use std::alloc::{AllocError, Global};
 use std::marker::Model;
-use tenant_slot::{Command, Event, NotServed, Reply, Slot, StateName};
+use tenant_slot::{Command, Event, NotServed, Reply, Slot, StateName, StepReply};
 
 /// One tenancy with its journal, which is kept when the tenancy ends.
 #[derive(Drop)]
@@ -96,6 +96,27 @@ impl Tenancy {
         let event = Event::Command(command);
         self.journal.push(Entry { event, reply }).unwrap();
         Ok(told)
+    }
+
+    /// Makes the running job's next step, and keeps it with its reply; None where there is none to make.
+    pub(crate) fn advance(&mut self) -> Result<Option<StepReply>, AllocError>
+        requires { self.old.live ≡ true }
+        ensures { AdvancesHistory self.old result self.new }
+    {
+        let Some(slot) = &mut self.slot else {
+            unreachable!()
+        };
+        if !slot.has_step() {
+            return Ok(None);
+        }
+        self.journal.reserve(1)?;
+        let (advance, reply) = slot.advance()?;
+        let entry = Entry {
+            event: Event::Advance(advance),
+            reply: Reply::Step(reply),
+        };
+        self.journal.push(entry).unwrap();
+        Ok(Some(reply))
     }
 
     /// Ends the tenancy. Its journal stays.

@@ -5,7 +5,7 @@ use arch_file::read_arch;
 use line_text::Text;
 use std::alloc::Global;
 use std::test::Fail;
-use tenant_slot::{Command, Event, Reply, SharedText, StateName, Status};
+use tenant_slot::{Command, Event, Reply, SharedText, StateName, Status, StepReply};
 
 const ARCH: &[u8] = b"io_rat 2
 chan_width_io 1
@@ -127,6 +127,34 @@ fn a_netlist_is_uploaded(rt: HostRuntime) -> Result<(), Fail> {
     };
     assert_eq!(rt; told.as_bytes(), AND);
     assert_eq!(rt; core.state(1), Some(StateName::Loaded));
+    Ok(())
+}
+
+/// A core whose first tenancy is being packed.
+fn packing_core(alloc: Global) -> Option<Core> {
+    let mut core = new_core(alloc, 1)?;
+    core.admit(1).ok()?;
+    core.tenant(1, upload(alloc)?).ok()?;
+    core.tenant(1, Command::Pack).ok()?;
+    Some(core)
+}
+
+#[test]
+fn a_step_is_made_and_kept(rt: HostRuntime) -> Result<(), Fail> {
+    let mut core = packing_core(rt.alloc()).ok_or("no packing")?;
+    assert_eq!(rt; core.advance(1), Ok(Some(StepReply::Finished)));
+    let entry = core.entry(1, 2).ok_or("the step is kept")?;
+    assert!(rt; matches!(&entry.event, Event::Advance(_)));
+    assert!(rt; matches!(&entry.reply, Reply::Step(StepReply::Finished)));
+    Ok(())
+}
+
+#[test]
+fn no_step_is_made_for_no_one(rt: HostRuntime) -> Result<(), Fail> {
+    let mut core = packing_core(rt.alloc()).ok_or("no packing")?;
+    assert_eq!(rt; core.advance(2), Ok(None));
+    assert_eq!(rt; core.evict(1), Ok(()));
+    assert_eq!(rt; core.advance(1), Ok(None));
     Ok(())
 }
 

@@ -1,2 +1,5 @@
 mod Examples
 pub mod Runs
+pub mod SameSources
+pub mod NextSteps
+pub mod Stepping

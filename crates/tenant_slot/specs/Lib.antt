@@ -1,3 +1,4 @@
+pub mod Sources
 pub mod SingleUser
 pub mod Names
 pub mod Answer

@@ -2,12 +2,15 @@
 //! single user would, on a device of the strip's size.
 //!
 //! - `Slot` is the machine, `Command` what it is asked, `Reply` what it answers, `Refusal` why not.
-//! - `SingleUser` in `specs/` is the definition: `State`, `step` and its fold `run`.
+//! - A job is long work that a command begins. It goes on by steps that are made one after another, `Advance`.
+//! - `SingleUser` in `specs/` is the definition: `State`, `step` and its fold `run`. `believed` says which steps count.
 //! - An `Answer` is computed first and accepted later, so that all that takes memory comes before any change.
 #![tactic(auto)]
 
+mod advance;
 mod answer;
 mod command;
+mod law;
 mod not_served;
 mod phase;
 mod reply;
@@ -16,9 +19,11 @@ mod slot;
 #[cfg(test)]
 mod tests;
 
+pub use advance::{Advance, JobKind, Sources, StepReply};
 pub use answer::Answer;
 pub use command::{Command, Event};
+pub use law::believed;
 pub use not_served::NotServed;
-pub use reply::{Refusal, Reply, StateName, Status};
+pub use reply::{FileKind, Refusal, Reply, StateName, Status};
 pub use shared_text::SharedText;
 pub use slot::{MAX_ENTRIES, Slot};

@@ -1,15 +1,19 @@
 ghost use Rattle.std.specs.Prelude.{◌≡◌};
-ghost use Rattle.tenant_slot.specs.Phase.{name_of};
+ghost use Rattle.tenant_slot.specs.Phase.{Steps, name_of};
 
+use crate::advance::StepReply;
 use crate::reply::StateName;
 use crate::shared_text::SharedText;
-use blif::Circuit;
+use blif::SharedCircuit;
+use cluster::{PackEnd, Packed, Packing};
 
 /// A state with what is carried along in it, so that it is not computed again.
 #[derive(Drop)]
 pub(crate) enum Phase {
     Empty,
-    Loaded(SharedText, Circuit),
+    Loaded(SharedText, SharedCircuit),
+    Packing(SharedText, Packing),
+    Packed(SharedText, Packed),
 }
 
 impl Phase {
@@ -19,11 +23,24 @@ impl Phase {
         match self {
             Phase::Empty => StateName::Empty,
             Phase::Loaded(..) => StateName::Loaded,
+            Phase::Packing(..) => StateName::Packing,
+            Phase::Packed(..) => StateName::Packed,
         }
     }
 }
 
-/// The parts of a slot that an accepted command changes.
+/// Makes a step of a packing: the phase after it. Without memory the packing's phase comes back.
+pub(crate) fn pack_step(text: SharedText, packing: Packing) -> Result<(Phase, StepReply), Phase>
+    ensures { Steps text packing result }
+{
+    match packing.next() {
+        Ok(PackEnd::More(packing)) => Ok((Phase::Packing(text, packing), StepReply::Advanced)),
+        Ok(PackEnd::Last(packed)) => Ok((Phase::Packed(text, packed), StepReply::Finished)),
+        Err(packing) => Err(Phase::Packing(text, packing)),
+    }
+}
+
+/// The parts of a slot that an accepted command changes. No job has made a step yet.
 #[derive(Drop)]
 pub(crate) struct Change {
     pub(crate) phase: Phase,

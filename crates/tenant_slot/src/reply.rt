@@ -1,6 +1,8 @@
 ghost use Rattle.std.specs.Prelude.{◌≡◌};
-ghost use Rattle.tenant_slot.specs.Names.{refusal_number, refusal_text, state_text};
+ghost use Rattle.tenant_slot.specs.Names.{file_text, refusal_number, refusal_text, state_text};
 
+use crate::advance::StepReply;
+use crate::shared_text::SharedText;
 use blif::BlifFault;
 use std::alloc::AllocError;
 
@@ -9,6 +11,8 @@ use std::alloc::AllocError;
 pub enum StateName {
     Empty,
     Loaded,
+    Packing,
+    Packed,
 }
 
 impl StateName {
@@ -19,6 +23,8 @@ impl StateName {
         match self {
             StateName::Empty => "Empty",
             StateName::Loaded => "Loaded",
+            StateName::Packing => "Packing",
+            StateName::Packed => "Packed",
         }
     }
 }
@@ -37,6 +43,8 @@ pub enum Refusal {
     WrongState(StateName),
     /// The netlist has this fault.
     BadBlif(BlifFault),
+    /// The logic element of this number is the least that fits into no cluster.
+    CannotPack(u32),
 }
 
 impl Refusal {
@@ -47,6 +55,7 @@ impl Refusal {
         match self {
             Refusal::WrongState(_) => 3,
             Refusal::BadBlif(_) => 4,
+            Refusal::CannotPack(_) => 5,
         }
     }
 
@@ -57,6 +66,7 @@ impl Refusal {
         match self {
             Refusal::WrongState(_) => "WrongState",
             Refusal::BadBlif(_) => "BadBlif",
+            Refusal::CannotPack(_) => "CannotPack",
         }
     }
 }
@@ -68,17 +78,39 @@ impl Clone for Refusal {
         match self {
             Refusal::WrongState(state) => Ok(Refusal::WrongState(*state)),
             Refusal::BadBlif(fault) => Ok(Refusal::BadBlif(fault.clone()?)),
+            Refusal::CannotPack(ble) => Ok(Refusal::CannotPack(*ble)),
         }
     }
 }
 
-/// What a command is answered.
+/// What a result file is.
+#[derive(Clone, Copy, Debug, PartialEq, Eq)]
+pub enum FileKind {
+    /// The packed netlist.
+    Net,
+}
+
+impl FileKind {
+    /// The name in replies.
+    pub fn name(self) -> &'static str
+        ensures { result.now ≡ file_text self }
+    {
+        match self {
+            FileKind::Net => "net",
+        }
+    }
+}
+
+/// What a command or a step is answered.
 #[derive(Debug, Drop)]
 pub enum Reply {
     /// The command was accepted, and led to this state.
     Accepted(StateName),
     Status(Status),
+    /// A result file, whole.
+    File { kind: FileKind, text: SharedText },
     Refused(Refusal),
+    Step(StepReply),
 }
 
 impl Clone for Reply {
@@ -88,7 +120,12 @@ impl Clone for Reply {
         match self {
             Reply::Accepted(state) => Ok(Reply::Accepted(*state)),
             Reply::Status(status) => Ok(Reply::Status(*status)),
+            Reply::File { kind, text } => Ok(Reply::File {
+                kind: *kind,
+                text: text.clone()?,
+            }),
             Reply::Refused(refusal) => Ok(Reply::Refused(refusal.clone()?)),
+            Reply::Step(reply) => Ok(Reply::Step(*reply)),
         }
     }
 }

@@ -1,17 +1,19 @@
-ghost use Rattle.std.specs.Prelude.{◌≡◌};
-ghost use Rattle.tenant_slot.specs.SingleUser.{start};
+ghost use Rattle.std.specs.Prelude.{◌≡◌, IfOk, IsSome, Some, is_some};
+ghost use Rattle.tenant_slot.specs.SingleUser.{next_step, start};
 ghost use Rattle.tenant_slot.specs.Answer.{Answers, IsAnswerIn};
-ghost use Rattle.tenant_slot.specs.Slot.{Serves, accepted};
+ghost use Rattle.tenant_slot.specs.Slot.{Advances, Serves, accepted};
 
+use crate::advance::{Advance, JobKind, Sources, StepReply};
 use crate::answer::Answer;
 use crate::command::Command;
 use crate::not_served::NotServed;
-use crate::phase::{Change, Phase};
+use crate::phase::{Change, Phase, pack_step};
 use crate::reply::{Refusal, Reply, StateName, Status};
 use arch_file::SharedArch;
 use grid::Strip;
-use std::alloc::Global;
+use std::alloc::{AllocError, Global};
 use std::marker::Model;
+use std::mem;
 
 /// The most entries of one tenancy's journal.
 pub const MAX_ENTRIES: u32 = 65_536;
@@ -25,6 +27,8 @@ pub struct Slot {
     strip: Strip,
     phase: Phase,
     generation: u32,
+    /// How many steps of the running job are made, 0 where none runs.
+    steps: u32,
     entries: u32,
 }
 
@@ -36,10 +40,10 @@ impl Model for Slot {
 
     ghost view = { λ a. record {
       id = a.id;
-      state = record { arch = a.arch; strip = a.strip; name = name_of a.phase; text = text_of a.phase; generation = a.generation; entries = a.entries };
+      state = record { arch = a.arch; strip = a.strip; name = name_of a.phase; text = text_of a.phase; generation = a.generation; steps = a.steps; entries = a.entries };
     } };
 
-    ghost invariant = { λ a. IsSlot a.arch.lut_size a.phase a.generation a.entries };
+    ghost invariant = { λ a. IsSlot a.arch a.phase a.generation a.steps a.entries };
 }
 
 impl Slot {
@@ -54,6 +58,7 @@ impl Slot {
             strip,
             phase: Phase::Empty,
             generation: 0,
+            steps: 0,
             entries: 0,
         }
     }
@@ -83,10 +88,18 @@ impl Slot {
             (Phase::Empty, Command::Upload(text)) => {
                 Answer::load(self.alloc, lut_size, text, self.generation)
             }
-            (Phase::Loaded(..), Command::Change(text)) => {
+            (_, Command::Status) => {
+                let steps = self.steps;
+                Ok(Answer::unchanged(lut_size, Reply::Status(Status { state, steps })))
+            }
+            (Phase::Empty, _) => Ok(Answer::unchanged(
+                lut_size,
+                Reply::Refused(Refusal::WrongState(state)),
+            )),
+            (_, Command::Change(text)) => {
                 Answer::load(self.alloc, lut_size, text, self.generation + 1)
             }
-            (Phase::Loaded(..), Command::Withdraw) => Ok(Answer {
+            (_, Command::Withdraw) => Ok(Answer {
                 lut_size,
                 change: Some(Change {
                     phase: Phase::Empty,
@@ -94,10 +107,11 @@ impl Slot {
                 }),
                 reply: Reply::Accepted(StateName::Empty),
             }),
-            (_, Command::Status) => Ok(Answer::unchanged(
-                lut_size,
-                Reply::Status(Status { state, steps: 0 }),
-            )),
+            (Phase::Loaded(text, circuit), Command::Pack) => {
+                let generation = self.generation + 1;
+                Answer::pack(self.alloc, &self.arch, text, circuit, generation)
+            }
+            (Phase::Packed(_, packed), Command::Net) => Answer::net(self.alloc, lut_size, packed),
             _ => Ok(Answer::unchanged(lut_size, Reply::Refused(Refusal::WrongState(state)))),
         }
     }
@@ -112,6 +126,7 @@ impl Slot {
         if let Some(change) = change {
             self.phase = change.phase;
             self.generation = change.generation;
+            self.steps = 0;
         }
         self.entries += 1;
         reply
@@ -123,5 +138,59 @@ impl Slot {
     {
         let answer = self.answer(command)?;
         Ok(self.accept(answer))
+    }
+
+    /// Whether there is a step to make: a job runs, and the journal has room for an entry.
+    pub fn has_step(&self) -> bool
+        ensures { result ≡ is_some (next_step self.now.state) }
+    {
+        self.entries < MAX_ENTRIES && matches!(&self.phase, Phase::Packing(..))
+    }
+
+    /// Makes the running job's next step, exactly as the service for a single user does, and counts its entry.
+    /// Without memory nothing changes.
+    pub fn advance(&mut self) -> Result<(Advance, StepReply), AllocError>
+        requires { IsSome (next_step self.old.state) }
+        ensures { Advances self.old result self.new }
+    {
+        let advance = self.next_step()?;
+        let Phase::Packing(text, packing) = mem::replace(&mut self.phase, Phase::Empty) else {
+            unreachable!()
+        };
+        match pack_step(text, packing) {
+            Ok((phase, reply)) => {
+                self.phase = phase;
+                self.steps = match reply {
+                    StepReply::Advanced => self.steps + 1,
+                    _ => 0,
+                };
+                self.entries += 1;
+                Ok((advance, reply))
+            }
+            Err(phase) => {
+                self.phase = phase;
+                Err(AllocError)
+            }
+        }
+    }
+
+    /// The running job's next step, that isn't made yet.
+    fn next_step(&self) -> Result<Advance, AllocError>
+        requires { IsSome (next_step self.now.state) }
+        ensures { IfOk result (λ advance. next_step self.now.state ≡ Some advance) }
+    {
+        let Phase::Packing(text, _) = &self.phase else {
+            unreachable!()
+        };
+        Ok(Advance {
+            generation: self.generation,
+            number: self.steps + 1,
+            sources: Sources {
+                kind: JobKind::Packing,
+                arch: self.arch.clone()?,
+                strip: self.strip,
+                text: text.clone()?,
+            },
+        })
     }
 }

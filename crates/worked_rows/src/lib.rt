@@ -9,6 +9,8 @@
 //! - `refused_netlists`: netlists with a fault, which is told with its line.
 //! - `layouts`: where tenancies are admitted, and why not.
 //! - `sessions`: lines that are repeated, unknown, awkward or cut short.
+//! - `packing`: circuits that are packed, with their `.net` files.
+//! - `many_elements`: a circuit of forty logic elements.
 //! - `journals`: a full journal, beside a neighbour that goes on.
 //! - `faults`: inputs that end with a status and a message, and write nothing.
 //! - `devices`: readers and writers that fail.
@@ -35,6 +37,10 @@ mod graph_paths;
 mod journals;
 #[cfg(test)]
 mod layouts;
+#[cfg(test)]
+mod many_elements;
+#[cfg(test)]
+mod packing;
 #[cfg(test)]
 mod refused_netlists;
 #[cfg(test)]

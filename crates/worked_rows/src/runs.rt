@@ -38,7 +38,12 @@ pub(crate) const NETLIST: &str = "\
 
 /// A script with those lines below the architecture's text, of which the last is line 18.
 pub(crate) fn script_of(alloc: Global, lines: &str) -> Result<Vec<u8>, AllocError> {
-    let mut script = Vec::from_slice(alloc, ARCHITECTURE.as_bytes())?;
+    script_on(alloc, ARCHITECTURE, lines)
+}
+
+/// A script with those lines below that architecture's text.
+fn script_on(alloc: Global, architecture: &str, lines: &str) -> Result<Vec<u8>, AllocError> {
+    let mut script = Vec::from_slice(alloc, architecture.as_bytes())?;
     script.extend_from_slice(b".\n")?;
     script.extend_from_slice(lines.as_bytes())?;
     Ok(script)
@@ -74,7 +79,17 @@ pub(crate) fn written_by<H: Abort + AllocGlobal>(
     columns: u32,
     lines: &str,
 ) -> Result<Vec<u8>, Fail> {
-    let script = script_of(rt.alloc(), lines)?;
+    written_on(rt, ARCHITECTURE, columns, lines)
+}
+
+/// What those lines write on a device of that architecture, with so many columns.
+fn written_on<H: Abort + AllocGlobal>(
+    rt: &H,
+    architecture: &str,
+    columns: u32,
+    lines: &str,
+) -> Result<Vec<u8>, Fail> {
+    let script = script_on(rt.alloc(), architecture, lines)?;
     let mut source = MemorySource::new(script.as_slice());
     let mut sink = MemorySink::new(rt.alloc());
     let options = device_of(columns)?;
@@ -98,6 +113,19 @@ pub(crate) fn assert_writes<H: Abort + AllocGlobal>(
     expected: &str,
 ) -> Result<(), Fail> {
     let written = written_by(rt, columns, lines)?;
+    assert_eq!(rt; std::str::from_utf8(written.as_slice())?, expected);
+    Ok(())
+}
+
+/// Compares what those lines write on a device of that architecture, with so many columns.
+pub(crate) fn assert_writes_on<H: Abort + AllocGlobal>(
+    rt: &H,
+    architecture: &str,
+    columns: u32,
+    lines: &str,
+    expected: &str,
+) -> Result<(), Fail> {
+    let written = written_on(rt, architecture, columns, lines)?;
     assert_eq!(rt; std::str::from_utf8(written.as_slice())?, expected);
     Ok(())
 }
