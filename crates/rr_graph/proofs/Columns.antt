@@ -14,12 +14,13 @@ use Rattle.arch_file.specs.declared.arch.Pin.{Pin}
 use Rattle.arch_file.specs.declared.arch.PinClass.{PinClass}
 use Rattle.arch_file.specs.declared.arch.PinClass.TheVariants.{Input, Output, Clock}
 use Rattle.arch_file.specs.Arch.{IsArch, input_count, output_count, clock_count, is_input_class, is_output_class, is_clock_class}
+use Rattle.grid.specs.Sizes.{IsStripSize}
 use Rattle.grid.specs.declared.Strip.{Strip}
 use Rattle.rr_graph.specs.declared.node.NodeKind.{NodeKind}
 use Rattle.rr_graph.specs.declared.node.NodeKind.TheVariants.{Source, Sink, Opin, Ipin, ChanX, ChanY}
 use Rattle.rr_graph.specs.declared.node.Slot.{Slot}
 use Rattle.rr_graph.specs.Node.{rank_of}
-use Rattle.rr_graph.specs.Geometry.{IsStripSize, is_slot, is_terminal, is_pad_row, is_block_row, is_block_number, pin_passes}
+use Rattle.rr_graph.specs.Geometry.{is_slot, is_terminal, is_pad_row, is_block_row, is_block_number, pin_passes}
 use Rattle.rr_graph.specs.Column.{IsColumnBelow, Separates, most_of, slot_key, IsRising, AreSmall, is_earlier}
 
 -- a node of a column, by its parts

@@ -3,17 +3,11 @@ use Rattle.std.specs.Prelude.{ℕ, zero, suc, ◌+◌, ◌*◌, ◌/◌, ◌%◌
 use Rattle.arch_file.specs.declared.arch.Arch.{Arch}
 use Rattle.arch_file.specs.declared.arch.Pin.{Pin}
 use Rattle.arch_file.specs.declared.arch.Sides.{Sides}
-use Rattle.arch_file.specs.Arch.{is_input_class, is_output_class, input_count, output_count, IsWithin}
+use Rattle.arch_file.specs.Arch.{is_input_class, is_output_class, input_count, output_count}
 use Rattle.grid.specs.declared.Strip.{Strip}
 use Rattle.rr_graph.specs.declared.node.NodeKind.{NodeKind}
 use Rattle.rr_graph.specs.declared.node.NodeKind.TheVariants.{Source, Sink, Opin, Ipin, ChanX, ChanY}
 use Rattle.rr_graph.specs.declared.node.Node.{Node}
-
--- the strip keeps the limits
-pub record IsStripSize (strip : Strip) : Type 0 where
-  pub width : IsWithin 1 strip.width 256
-  pub rows : IsWithin 1 strip.rows 64
-  pub io_rat : IsWithin 1 strip.io_rat 8
 
 -- pads stand in row 0 and above the last row
 abbrev pub is_pad_row : Strip → ℕ → Bool

@@ -1,6 +1,7 @@
 ghost use Rattle.std.specs.Prelude.{◌≡◌, ◌<◌, ◌+◌, ◌*◌, IfOk, slice_get, map, true, ℕ};
 ghost use Rattle.arch_file.specs.Arch.{IsArch, input_count};
-ghost use Rattle.rr_graph.specs.Geometry.{IsStripSize, is_node, capacity_of};
+ghost use Rattle.grid.specs.Sizes.{IsStripSize};
+ghost use Rattle.rr_graph.specs.Geometry.{is_node, capacity_of};
 ghost use Rattle.rr_graph.specs.Graph.{Basis, graph_of};
 ghost use Rattle.rr_graph.specs.Numbering.{IsNumbering, column_count};
 ghost use Rattle.rr_graph.specs.Fabric.{basis_of, IsFabric, shift_of, base_of, ends_of};

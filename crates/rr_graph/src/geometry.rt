@@ -1,6 +1,7 @@
 ghost use Rattle.std.specs.Prelude.{◌≡◌};
 ghost use Rattle.arch_file.specs.Arch.{IsArch, input_count};
-ghost use Rattle.rr_graph.specs.Geometry.{IsStripSize, is_pad_row, is_block_row, is_block_number, is_slot, is_chan_y, is_node, capacity_of};
+ghost use Rattle.grid.specs.Sizes.{IsStripSize};
+ghost use Rattle.rr_graph.specs.Geometry.{is_pad_row, is_block_row, is_block_number, is_slot, is_chan_y, is_node, capacity_of};
 
 use crate::node::{Node, NodeKind};
 use arch_file::{Arch, PinClass};

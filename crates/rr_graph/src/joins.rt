@@ -1,6 +1,7 @@
 ghost use Rattle.std.specs.Prelude.{◌≡◌, ◌<◌, ◌≤◌, ◌^◌};
 ghost use Rattle.arch_file.specs.Arch.{IsArch};
-ghost use Rattle.rr_graph.specs.Geometry.{IsStripSize, meets_track, sides_at, runs_along, flexibility_of, meets, is_together, is_next, crosses, joins};
+ghost use Rattle.grid.specs.Sizes.{IsStripSize};
+ghost use Rattle.rr_graph.specs.Geometry.{meets_track, sides_at, runs_along, flexibility_of, meets, is_together, is_next, crosses, joins};
 
 use crate::geometry::{is_block_row, is_pad_row};
 use crate::node::{Node, NodeKind};
