@@ -5,10 +5,10 @@ use Rattle.tenant_slot.specs.declared.reply.Reply.TheVariants.{Accepted, File, R
 use Rattle.tenant_slot.specs.declared.reply.FileKind.TheVariants.{Net}
 use Rattle.tenant_slot.specs.declared.reply.Refusal.TheVariants.{CannotPack}
 use Rattle.tenant_slot.specs.declared.advance.StepReply.TheVariants.{Finished}
-use Rattle.fpgad_run.specs.declared.script.OperatorLine.TheVariants.{Admit, Step}
-use Rattle.fpgad_run.specs.declared.script.SessionRefusal.TheVariants.{UnfinishedUpload}
-use Rattle.fpgad_run.specs.declared.script.SessionLine.TheVariants.{Blank, Refused}
-use Rattle.fpgad_run.specs.declared.script.Act.TheVariants.{Operator, Session}
+use Rattle.fpgad_run.specs.declared.operator_line.OperatorLine.TheVariants.{Admit, Step}
+use Rattle.fpgad_run.specs.declared.session_line.SessionRefusal.TheVariants.{UnfinishedUpload}
+use Rattle.fpgad_run.specs.declared.session_line.SessionLine.TheVariants.{Blank, Refused}
+use Rattle.fpgad_run.specs.declared.item.Act.TheVariants.{Operator, Session}
 use Rattle.fpgad_run.specs.OperatorText.{last_id, outcome_text}
 use Rattle.fpgad_run.specs.Run.{written}
 use Rattle.fpgad_run.specs.Script.{form_in, script_of}

@@ -2,9 +2,9 @@
 use Rattle.std.proofs.Common.{◌≡◌, ℕ, ◌+◌, List, [], ◌∷◌, ◌++◌, length, true, false, Option, Some, None, Result, Ok, Err, refl, sym, ap, ◌∙◌, arith, append_assoc, append-nil}
 use Rattle.std.specs.Prelude.{option_map}
 use Rattle.std.specs.Borrow.{Bor}
-use Rattle.fpgad_run.specs.declared.script.Act.{Act}
-use Rattle.fpgad_run.specs.declared.script.Act.TheVariants.{Session}
-use Rattle.fpgad_run.specs.declared.script.Item.{Item}
+use Rattle.fpgad_run.specs.declared.item.Act.{Act}
+use Rattle.fpgad_run.specs.declared.item.Act.TheVariants.{Session}
+use Rattle.fpgad_run.specs.declared.item.Item.{Item}
 use Rattle.fpgad_run.specs.declared.script.PendingText.{PendingText}
 use Rattle.fpgad_run.specs.declared.script.Reading.{Reading}
 use Rattle.fpgad_run.specs.declared.script.ScriptError.{ScriptError}

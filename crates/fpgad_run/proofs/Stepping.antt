@@ -9,8 +9,8 @@ use Rattle.service_core.specs.History.{StepMade, entry_of, with_entry}
 use Rattle.service_core.specs.Run.{Call, Run}
 use Rattle.service_core.specs.Run.Call.{Advance as AdvanceCall}
 use Rattle.service_core.specs.Service.{ServiceState}
-use Rattle.fpgad_run.specs.declared.script.OperatorLine.TheVariants.{Step}
-use Rattle.fpgad_run.specs.declared.script.Act.TheVariants.{Operator}
+use Rattle.fpgad_run.specs.declared.operator_line.OperatorLine.TheVariants.{Step}
+use Rattle.fpgad_run.specs.declared.item.Act.TheVariants.{Operator}
 use Rattle.fpgad_run.specs.OperatorText.{last_id, outcome_text}
 use Rattle.fpgad_run.specs.Run.{IsAnswered, Outcomes, advances, outcomes_text}
 use Rattle.fpgad_run.specs.Operators.{Steps}

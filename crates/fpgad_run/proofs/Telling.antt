@@ -15,12 +15,12 @@ use Rattle.service_core.specs.Run.Call.{Tenant as TenantCall}
 use Rattle.service_core.specs.Calls.{IsServed}
 use Rattle.service_core.specs.Service.{ServiceState, empty, live_of}
 use Rattle.fpgad_run.specs.declared.program.Running.{Running}
-use Rattle.fpgad_run.specs.declared.script.OperatorLine.TheVariants.{Admit, Evict, List as ListAll, Step}
-use Rattle.fpgad_run.specs.declared.script.Item.{Item}
-use Rattle.fpgad_run.specs.declared.script.SessionLine.{SessionLine}
-use Rattle.fpgad_run.specs.declared.script.SessionLine.TheVariants.{Blank, Command, Refused}
-use Rattle.fpgad_run.specs.declared.script.Act.{Act}
-use Rattle.fpgad_run.specs.declared.script.Act.TheVariants.{Operator, Session}
+use Rattle.fpgad_run.specs.declared.operator_line.OperatorLine.TheVariants.{Admit, Evict, List as ListAll, Step}
+use Rattle.fpgad_run.specs.declared.item.Item.{Item}
+use Rattle.fpgad_run.specs.declared.session_line.SessionLine.{SessionLine}
+use Rattle.fpgad_run.specs.declared.session_line.SessionLine.TheVariants.{Blank, Command, Refused}
+use Rattle.fpgad_run.specs.declared.item.Act.{Act}
+use Rattle.fpgad_run.specs.declared.item.Act.TheVariants.{Operator, Session}
 use Rattle.fpgad_run.specs.OperatorText.{last_id}
 use Rattle.fpgad_run.specs.Script.{named_act, named_item}
 use Rattle.fpgad_run.specs.SessionAnswer.{IsSessionAnswer}

@@ -3,8 +3,8 @@ use Rattle.std.specs.Prelude.{ℕ, ◌≡◌, List, ◌++◌, length}
 use Rattle.std.specs.Borrow.{Bor}
 use Rattle.service_core.specs.Run.{Call, Run}
 use Rattle.service_core.specs.Service.{ServiceState, live_of}
-use Rattle.fpgad_run.specs.declared.script.OperatorLine.{OperatorLine}
-use Rattle.fpgad_run.specs.declared.script.Act.TheVariants.{Operator}
+use Rattle.fpgad_run.specs.declared.operator_line.OperatorLine.{OperatorLine}
+use Rattle.fpgad_run.specs.declared.item.Act.TheVariants.{Operator}
 use Rattle.fpgad_run.specs.Script.{named_operator}
 use Rattle.fpgad_run.specs.OperatorText.{last_id}
 use Rattle.fpgad_run.specs.Run.{IsAdmission, IsAnswered, Outcomes, advances, outcomes_text}

@@ -14,7 +14,7 @@ use Rattle.fpgad_run.specs.declared.outcome.Outcome.{Outcome}
 use Rattle.fpgad_run.specs.declared.outcome.Outcome.TheVariants.{Done, ArchUnreadable, ArchRefused, InputFailed, OutputFailed, ScriptFault, NoMemory}
 use Rattle.fpgad_run.specs.declared.program.Architecture.{Architecture}
 use Rattle.fpgad_run.specs.declared.program.Architecture.TheVariants.{InScript, Text, Unreadable}
-use Rattle.fpgad_run.specs.declared.script.Item.{Item}
+use Rattle.fpgad_run.specs.declared.item.Item.{Item}
 use Rattle.line_text.specs.Lines.{physical_lines}
 use Rattle.fpgad_run.specs.Lines.{ends_text}
 use Rattle.fpgad_run.specs.Script.{Items, items_from, script_of}

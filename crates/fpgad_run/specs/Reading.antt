@@ -1,8 +1,8 @@
 -- Private: a script that is being read, and what it comes to with the lines that are left.
 use Rattle.std.specs.Prelude.{ℕ, ◌≡◌, ◌+◌, List, [], ◌∷◌, ◌++◌, map, true, false, Option, Some, None, option_map, Result, Ok, Err, ⊤}
-use Rattle.fpgad_run.specs.declared.script.Act.{Act}
-use Rattle.fpgad_run.specs.declared.script.Act.TheVariants.{Session}
-use Rattle.fpgad_run.specs.declared.script.Item.{Item}
+use Rattle.fpgad_run.specs.declared.item.Act.{Act}
+use Rattle.fpgad_run.specs.declared.item.Act.TheVariants.{Session}
+use Rattle.fpgad_run.specs.declared.item.Item.{Item}
 use Rattle.fpgad_run.specs.declared.script.PendingText.{PendingText}
 use Rattle.fpgad_run.specs.declared.script.Reading.{Reading}
 use Rattle.fpgad_run.specs.declared.script.ScriptError.{ScriptError}

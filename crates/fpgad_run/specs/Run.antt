@@ -11,10 +11,10 @@ use Rattle.service_core.specs.Run.{Call, Run}
 use Rattle.service_core.specs.Run.Call.{Admit as AdmitCall, Advance as AdvanceCall, Evict as EvictCall, Tenant as TenantCall}
 use Rattle.service_core.specs.Calls.{IsAdmitted, IsEvicted, IsServed, told_of}
 use Rattle.service_core.specs.Service.{ServiceState, live_of}
-use Rattle.fpgad_run.specs.declared.script.OperatorLine.TheVariants.{Admit, Evict, List as ListAll, Step}
-use Rattle.fpgad_run.specs.declared.script.SessionLine.TheVariants.{Blank, Command, Refused}
-use Rattle.fpgad_run.specs.declared.script.Act.{Act}
-use Rattle.fpgad_run.specs.declared.script.Act.TheVariants.{Operator, Session}
+use Rattle.fpgad_run.specs.declared.operator_line.OperatorLine.TheVariants.{Admit, Evict, List as ListAll, Step}
+use Rattle.fpgad_run.specs.declared.session_line.SessionLine.TheVariants.{Blank, Command, Refused}
+use Rattle.fpgad_run.specs.declared.item.Act.{Act}
+use Rattle.fpgad_run.specs.declared.item.Act.TheVariants.{Operator, Session}
 use Rattle.fpgad_run.specs.SessionText.{answer_text, session_refusal_text}
 use Rattle.fpgad_run.specs.OperatorText.{admitted_text, evicted_text, last_id, list_text, names_after, outcome_text, refused_text}
 

@@ -6,18 +6,18 @@ use Rattle.std.specs.List.{list_all, position_or_len, before_first, after_first}
 use Rattle.std.specs.Str.{bytes_eq}
 use Rattle.tenant_slot.specs.declared.command.Command.{Command as TenantCommand}
 use Rattle.tenant_slot.specs.declared.command.Command.TheVariants.{Upload as UploadText, Change as ChangeText, Pack, Net, Status, Withdraw}
-use Rattle.fpgad_run.specs.declared.script.OperatorLine.{OperatorLine}
-use Rattle.fpgad_run.specs.declared.script.OperatorLine.TheVariants.{Admit, Evict, List as ListAll, Step}
-use Rattle.fpgad_run.specs.declared.script.SessionRefusal.TheVariants.{UnknownCommand, UnfinishedUpload}
-use Rattle.fpgad_run.specs.declared.script.SessionLine.{SessionLine}
-use Rattle.fpgad_run.specs.declared.script.SessionLine.TheVariants.{Blank, Command, Refused}
-use Rattle.fpgad_run.specs.declared.script.Act.{Act}
-use Rattle.fpgad_run.specs.declared.script.Act.TheVariants.{Operator, Session}
-use Rattle.fpgad_run.specs.declared.script.Item.{Item}
-use Rattle.fpgad_run.specs.declared.script.TextKind.{TextKind}
-use Rattle.fpgad_run.specs.declared.script.TextKind.TheVariants.{Upload, Change}
-use Rattle.fpgad_run.specs.declared.script.Form.{Form}
-use Rattle.fpgad_run.specs.declared.script.Form.TheVariants.{Skipped, Faulty, Asks, Begins}
+use Rattle.fpgad_run.specs.declared.operator_line.OperatorLine.{OperatorLine}
+use Rattle.fpgad_run.specs.declared.operator_line.OperatorLine.TheVariants.{Admit, Evict, List as ListAll, Step}
+use Rattle.fpgad_run.specs.declared.session_line.SessionRefusal.TheVariants.{UnknownCommand, UnfinishedUpload}
+use Rattle.fpgad_run.specs.declared.session_line.SessionLine.{SessionLine}
+use Rattle.fpgad_run.specs.declared.session_line.SessionLine.TheVariants.{Blank, Command, Refused}
+use Rattle.fpgad_run.specs.declared.item.Act.{Act}
+use Rattle.fpgad_run.specs.declared.item.Act.TheVariants.{Operator, Session}
+use Rattle.fpgad_run.specs.declared.item.Item.{Item}
+use Rattle.fpgad_run.specs.declared.session_line.TextKind.{TextKind}
+use Rattle.fpgad_run.specs.declared.session_line.TextKind.TheVariants.{Upload, Change}
+use Rattle.fpgad_run.specs.declared.form.Form.{Form}
+use Rattle.fpgad_run.specs.declared.form.Form.TheVariants.{Skipped, Faulty, Asks, Begins}
 use Rattle.fpgad_run.specs.declared.script.ScriptError.{ScriptError}
 use Rattle.fpgad_run.specs.declared.script.ScriptError.TheVariants.{NoMemory, Fault}
 use Rattle.line_text.specs.Lines.{physical_lines}

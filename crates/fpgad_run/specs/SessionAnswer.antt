@@ -4,8 +4,8 @@ use Rattle.service_core.specs.declared.not_served.NotServed.{NotServed}
 use Rattle.service_core.specs.Receipt.{Receipted}
 use Rattle.service_core.specs.Calls.{IsServed}
 use Rattle.service_core.specs.Service.{ServiceState}
-use Rattle.fpgad_run.specs.declared.script.SessionLine.{SessionLine}
-use Rattle.fpgad_run.specs.declared.script.SessionLine.TheVariants.{Blank, Command, Refused}
+use Rattle.fpgad_run.specs.declared.session_line.SessionLine.{SessionLine}
+use Rattle.fpgad_run.specs.declared.session_line.SessionLine.TheVariants.{Blank, Command, Refused}
 use Rattle.fpgad_run.specs.SessionText.{answer_text, session_refusal_text}
 
 abbrev pub IsSessionAnswer : ServiceState → ℕ → SessionLine → List ℕ → List ℕ → ServiceState → Type 0

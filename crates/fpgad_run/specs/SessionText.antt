@@ -12,8 +12,8 @@ use Rattle.tenant_slot.specs.declared.advance.StepReply.TheVariants.{Advanced, F
 use Rattle.service_core.specs.declared.not_served.NotServed.{NotServed}
 use Rattle.service_core.specs.declared.not_served.NotServed.TheVariants.{NoMemory, JournalFull, NoSuchTenancy}
 use Rattle.service_core.specs.Receipt.{Receipted}
-use Rattle.fpgad_run.specs.declared.script.SessionRefusal.{SessionRefusal}
-use Rattle.fpgad_run.specs.declared.script.SessionRefusal.TheVariants.{UnknownCommand, BadNumber, UnfinishedUpload, Evicted}
+use Rattle.fpgad_run.specs.declared.session_line.SessionRefusal.{SessionRefusal}
+use Rattle.fpgad_run.specs.declared.session_line.SessionRefusal.TheVariants.{UnknownCommand, BadNumber, UnfinishedUpload, Evicted}
 
 -- a blank and a word
 abbrev pub blank_word : List ℕ → List ℕ

@@ -3,7 +3,7 @@ use Rattle.std.specs.Prelude.{ℕ, ◌≡◌, List, [], ◌++◌, length}
 use Rattle.service_core.specs.Run.{Call}
 use Rattle.service_core.specs.Service.{ServiceState}
 use Rattle.fpgad_run.specs.declared.program.Running.{Running}
-use Rattle.fpgad_run.specs.declared.script.Act.{Act}
+use Rattle.fpgad_run.specs.declared.item.Act.{Act}
 use Rattle.fpgad_run.specs.Run.{Stage, Section, IsAnswered, output_of, told_operator, told_session}
 use Rattle.fpgad_run.specs.Zipped.{zipped}
 

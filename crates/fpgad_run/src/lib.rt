@@ -8,21 +8,28 @@
 //!   items of a script are answered, and `Program` what is written and how a run ends.
 #![tactic(auto)]
 
+mod form;
+mod item;
+mod lines;
 mod names;
 mod operator;
+mod operator_line;
 mod options;
 mod outcome;
 mod program;
 mod script;
 mod sections;
+mod session_line;
 mod session_text;
+mod words;
 
+pub use item::{Act, Item};
+pub use operator_line::OperatorLine;
 pub use options::{CommandLine, Options, read_options};
 pub use outcome::Outcome;
 pub use program::{Architecture, run, run_script};
-pub use script::{
-    Act, Item, OperatorLine, Script, ScriptError, SessionLine, SessionRefusal, read_script,
-};
+pub use script::{Script, ScriptError, read_script};
+pub use session_line::{SessionLine, SessionRefusal};
 pub use session_text::{push_answer, push_reply, push_session_refusal};
 
 #[cfg(test)]

@@ -2,7 +2,7 @@ ghost use Rattle.std.specs.Prelude.{◌≡◌, ◌+◌, ◌^◌, ◌<◌, ◌∷
 ghost use Rattle.fpgad_run.specs.OperatorText.{admitted_text, evicted_text, last_id, list_text, listed, outcome_text};
 ghost use Rattle.fpgad_run.specs.Operators.{Steps};
 
-use crate::script::OperatorLine;
+use crate::operator_line::OperatorLine;
 use crate::session_text::{
     push_decimal, push_end, push_number, push_refused, push_word, step_word,
 };

@@ -4,11 +4,14 @@ ghost use Rattle.fpgad_run.specs.Script.{named_act, script_of};
 ghost use Rattle.fpgad_run.specs.Program.{Decides, IsReplies, Replies, Writes, checked, start_of};
 ghost use Rattle.fpgad_run.specs.SessionAnswer.{IsSessionAnswer};
 
+use crate::item::{Act, Item};
+use crate::lines::split_architecture;
 use crate::operator::Operator;
 use crate::options::Options;
 use crate::outcome::Outcome;
-use crate::script::{Act, Item, Script, ScriptError, SessionLine, read_script, split_architecture};
+use crate::script::{Script, ScriptError, read_script};
 use crate::sections::{Sections, push_section};
+use crate::session_line::SessionLine;
 use crate::session_text::{push_answer, push_session_refusal};
 use arch_file::{Arch, ArchError, read_arch};
 use line_text::{ReadError, Sink, Source, read_all, write_all};

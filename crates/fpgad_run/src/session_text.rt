@@ -2,7 +2,7 @@ ghost use Rattle.std.specs.Prelude.{◌≡◌, ◌++◌, ◌∷◌, ◌<◌, ◌
 ghost use Rattle.tenant_slot.specs.Names.{file_text};
 ghost use Rattle.fpgad_run.specs.SessionText.{answer_text, blank_word, cause_text, fault_text, numbered_line, reply_text, session_refusal_text, session_refusal_name, session_refusal_number, step_text};
 
-use crate::script::SessionRefusal;
+use crate::session_line::SessionRefusal;
 use blif::BlifFault;
 use itoa::Buffer;
 use service_core::{NotServed, Receipt};

@@ -2,7 +2,7 @@ use Rattle.std.proofs.Common.{◌≡◌, ℕ, List, [], ◌∷◌, ◌++◌, ◌
 use Rattle.std.specs.Prelude.{map, reverse}
 use Rattle.std.proofs.lemmas.List.{reverse-reverse}
 use Rattle.service_core.specs.Service.{ServiceState, empty}
-use Rattle.fpgad_run.specs.declared.script.Item.{Item}
+use Rattle.fpgad_run.specs.declared.item.Item.{Item}
 use Rattle.fpgad_run.specs.Program.{device_of}
 use Rattle.fpgad_run.specs.Script.{named_act, named_item}
 use Rattle.fpgad_run.specs.Told.{Begins}

@@ -1,8 +1,8 @@
 use Rattle.std.proofs.Common.{◌≡◌, ◌++◌, [], List, ℕ, vec_len}
 use Rattle.std.specs.Prelude.{map, reverse}
 use Rattle.service_core.specs.Service.{empty}
-use Rattle.fpgad_run.specs.declared.script.Act.{Act}
-use Rattle.fpgad_run.specs.declared.script.Item.{Item}
+use Rattle.fpgad_run.specs.declared.item.Act.{Act}
+use Rattle.fpgad_run.specs.declared.item.Item.{Item}
 use Rattle.fpgad_run.specs.Program.{device_of}
 use Rattle.fpgad_run.specs.Script.{named_item}
 use Rattle.fpgad_run.proofs.Telling.{Progress}

@@ -1,6 +1,6 @@
 use Rattle.std.proofs.Common.{inl, rules}
 use Rattle.fpgad_run.proofs.LineLemmas.{lines-some, lines-none, whole-some}
-use Rattle.fpgad_run.proofs.script.split_line.Goals as goal
+use Rattle.fpgad_run.proofs.lines.split_line.Goals as goal
 
 pub returns-in-Some-clause-lines : goal.returns-in-Some-clause-lines
 returns-in-Some-clause-lines c = lines-some c.args.text.now c.in-Some.end (search rules)

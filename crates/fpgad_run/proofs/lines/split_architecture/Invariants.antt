@@ -1,6 +1,6 @@
 use Rattle.std.proofs.Common.{◌+◌, ◌≤◌, length}
 use Rattle.fpgad_run.proofs.Walked.{Walked}
-use Rattle.fpgad_run.proofs.script.split_architecture.Given as goal
+use Rattle.fpgad_run.proofs.lines.split_architecture.Given as goal
 
 abbrev pub invariant-loop-line : goal.invariant-loop-line
 invariant-loop-line l = record {

@@ -1,6 +1,6 @@
 use Rattle.std.proofs.Common.{rules, arith}
 use Rattle.fpgad_run.proofs.Walked.{walked_more}
-use Rattle.fpgad_run.proofs.script.split_architecture.Goals as goal
+use Rattle.fpgad_run.proofs.lines.split_architecture.Goals as goal
 
 pub loop-line-preserved : goal.loop-line-preserved
 loop-line-preserved c = record {
