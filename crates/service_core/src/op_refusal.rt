@@ -54,6 +54,6 @@ impl From<AllocError> for OpRefusal {
     ghost from_gives = { λ _ e. e ≡ NoMemory };
 
     fn from(_e: AllocError) -> OpRefusal {
-        OpRefusal::NoMemory
+        Self::NoMemory
     }
 }

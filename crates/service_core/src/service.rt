@@ -130,8 +130,8 @@ impl Service {
             rows: self.rows,
             io_rat: self.arch.arch().io_rat,
         };
-        let tenancy = Tenancy::new(self.alloc, id, &self.arch, strip)?;
         self.tenancies.reserve(1)?;
+        let tenancy = Tenancy::new(self.alloc, id, &self.arch, strip)?;
         let offset = self.layout.place(id, width).unwrap();
         self.tenancies.push(tenancy).unwrap();
         Ok((id, offset))

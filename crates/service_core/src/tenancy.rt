@@ -1,4 +1,5 @@
-ghost use Rattle.std.specs.Prelude.{◌≡◌, ◌≤◌, [], true, IfOk, length, option_copied, slice_get};
+ghost use Rattle.std.specs.Prelude.{◌≡◌, ◌≤◌, [], true, IfErr, IfOk, length, option_copied, slice_get};
+ghost use Rattle.tenant_slot.specs.Answer.{Answers};
 ghost use Rattle.service_core.specs.History.{AdvancesHistory, ServesHistory, closed, state_of};
 
 use crate::entry::Entry;
@@ -6,7 +7,9 @@ use arch_file::SharedArch;
 use grid::Strip;
 use std::alloc::{AllocError, Global};
 use std::marker::Model;
-use tenant_slot::{Command, Event, NotServed, Reply, Slot, StateName, StepReply};
+use tenant_slot::{
+    Answer, Command, Event, MAX_ENTRIES, NotServed, Reply, Slot, StateName, StepReply,
+};
 
 /// One tenancy with its journal, which is kept when the tenancy ends.
 #[derive(Drop)]
@@ -89,9 +92,11 @@ impl Tenancy {
         let Some(slot) = &mut self.slot else {
             unreachable!()
         };
-        let answer = slot.answer(&command)?;
-        let told = (command.clone()?, answer.reply().clone()?);
+        if self.journal.len() == MAX_ENTRIES as usize {
+            return Err(NotServed::JournalFull);
+        }
         self.journal.reserve(1)?;
+        let (answer, told) = answered(slot, &command)?;
         let reply = slot.accept(answer);
         let event = Event::Command(command);
         self.journal.push(Entry { event, reply }).unwrap();
@@ -125,4 +130,22 @@ impl Tenancy {
     {
         self.slot = None;
     }
+}
+
+/// The answer to a command, and what is told of it. Nothing changes yet.
+fn answered(slot: &Slot, command: &Command) -> Result<(Answer, (Command, Reply)), NotServed>
+    ensures ok { IfOk result (λ r. Answers slot.now.state command.now (Ok r.0) × (r.1.0 ≡ command.now) × (r.1.1 ≡ r.0.reply)) }
+    ensures err { IfErr result (λ e. Answers slot.now.state command.now (Err e)) }
+{
+    let answer = slot.answer(command)?;
+    let told = told(command, &answer)?;
+    Ok((answer, told))
+}
+
+/// A copy of a command and of its reply.
+fn told(command: &Command, answer: &Answer) -> Result<(Command, Reply), AllocError>
+    ensures { IfOk result (λ told. (told.0 ≡ command.now) × (told.1 ≡ answer.now.reply)) }
+{
+    let reply = answer.reply().clone()?;
+    Ok((command.clone()?, reply))
 }
