@@ -17,14 +17,6 @@ abbrev pub IsRising : List ℕ → Type 0
 IsRising [] = ⊤
 IsRising (number ∷ numbers) = IsBelow number numbers × IsRising numbers
 
-below_all : (low : ℕ) (numbers : List ℕ) → IsBelow low numbers → (number : ℕ) → has numbers number ≡ true → low < number
-below_all low [] b number h = absurd cc
-below_all low (other ∷ numbers) b number h = by (other == number) refl h (below_all low numbers b.1 number)
-  where
-    by : (a : Bool) → (other == number) ≡ a → a || has numbers number ≡ true → (has numbers number ≡ true → low < number) → low < number
-    by true e h next = let same = eqb-true other number e in omega (arith, same, b.0)
-    by false e h next = next h
-
 -- a number that is not the first is among the others
 not_first : (first number : ℕ) (others : Bool) → (first == number) || others ≡ true → (first ≡ number → ⊥) → others ≡ true
 not_first first number others h differs = by (first == number) refl h
@@ -94,10 +86,6 @@ first_most-is score (first ∷ numbers) number r h l = ap Some (leads score firs
 pub first_most-none : (score : ℕ → ℕ) (numbers : List ℕ) → ((other : ℕ) → has numbers other ≡ true → ⊥) → first_most score numbers ≡ None
 first_most-none score [] h = refl
 first_most-none score (first ∷ numbers) h = absurd (h first (itself first (has numbers first)))
-
-below-trans : (low high : ℕ) (numbers : List ℕ) → low < high → IsBelow high numbers → IsBelow low numbers
-below-trans low high [] l b = tt
-below-trans low high (number ∷ numbers) l b = (omega (arith, l, b.0), below-trans low high numbers l b.1)
 
 below-filter : (test : ℕ → Bool) (low : ℕ) (numbers : List ℕ) → IsBelow low numbers → IsBelow low (filter test numbers)
 below-filter test low [] b = tt

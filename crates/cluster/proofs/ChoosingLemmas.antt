@@ -143,7 +143,7 @@ touched_shares gains numbers place small t =
     let there = has_at numbers place small in
     grind (arith, nat_tests, listed, there)
 
-has-range : (start count number : ℕ) → has (range_with_len start count) number ≡ true → (start ≤ number) × (number < start + count)
+pub has-range : (start count number : ℕ) → has (range_with_len start count) number ≡ true → (start ≤ number) × (number < start + count)
 has-range start zero number h = absurd cc
 has-range start (suc count) number h = by (eqb_tells start number) (has-range (start + 1) count number)
   where
@@ -151,7 +151,7 @@ has-range start (suc count) number h = by (eqb_tells start number) (has-range (s
     by (inl same) ih = (omega (arith, same.1), omega (arith, same.1))
     by (inr differs) ih = let r = ih (grind (arith, h, differs.0)) in (omega (arith, r.0), omega (arith, r.1))
 
-in-range : (start count number : ℕ) → start ≤ number → number < start + count → has (range_with_len start count) number ≡ true
+pub in-range : (start count number : ℕ) → start ≤ number → number < start + count → has (range_with_len start count) number ≡ true
 in-range start zero number from to = absurd (omega (arith, from, to))
 in-range start (suc count) number from to = by (eqb_tells start number) (in-range (start + 1) count number)
   where

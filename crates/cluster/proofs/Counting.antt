@@ -64,15 +64,7 @@ read_other xs i j x is within =
     let inner : j < length (set xs i x) = omega (arith, length-set xs i x) in
     slice_get-get_or (set xs i x) j x inner ∙ ap Some (get_or-set_other xs i j x x (λ h. is (sym h))) ∙ sym (slice_get-get_or xs j x within)
 
-pub read_replicate : {X : Type 0} (n i : ℕ) (x : X) → i < length (replicate n x) → slice_get (replicate n x) i ≡ Some x
-read_replicate n i x within =
-    let inner : i < n = omega (arith, length-replicate n x) in
-    slice_get-get_or (replicate n x) i x within ∙ ap Some (get_or-replicate n i x x inner)
-
--- no latch, no table yet
-pub latches_none : (n : ℕ) → AreLatches [] (replicate n None)
-latches_none n net within = read_replicate n net None within
-
+-- what is there, or else nothing
 option_or-none : {X : Type 0} (o : Option X) → option_or o None ≡ o
 option_or-none None = refl
 option_or-none (Some x) = refl
@@ -101,9 +93,6 @@ latches_same latches behind latch other taken are net inside =
         old ∙ ap Some (some ∙ sym (found ∙ rw some refl))
     by (inr e) old found =
         old ∙ ap Some (sym (found ∙ rw e.0 (option_or-none (find (λ (stored : Latch). stored.input == net) latches))))
-
-pub driven_none : (n : ℕ) → AreDriven [] (replicate n false)
-driven_none n net within = read_replicate n net false within
 
 or-false : (b : Bool) → (b || false) ≡ b
 or-false true = refl

@@ -1,15 +1,10 @@
 -- BLEs whose inputs stand in one list that grows.
-use Rattle.std.proofs.Common.{◌≡◌, ℕ, ◌≤◌, List, [], ◌∷◌, ◌++◌, Option, length, map, refl, ap, ◌∙◌, arith}
+use Rattle.std.proofs.Common.{◌≡◌, ℕ, List, [], ◌∷◌, ◌++◌, Option, length, map, refl, ap, ◌∙◌}
 use Rattle.std.proofs.lemmas.List.{map_push}
 use Rattle.cluster.specs.declared.bles.BleSpan.{BleSpan}
 use Rattle.cluster.specs.Bles.{LogicElement}
 use Rattle.cluster.specs.FlatBles.{ble_at, AreBlesWithin}
 use Rattle.cluster.proofs.Growing.{part_of-append, part_of-added}
-
--- the spans stand within a longer list too
-pub within_longer : (count more : ℕ) (bles : List BleSpan) → count ≤ more → AreBlesWithin count bles → AreBlesWithin more bles
-within_longer count more [] longer within = tt
-within_longer count more (ble ∷ bles) longer within = ((within.0.0, omega (arith, longer, within.0.1)), within_longer count more bles longer within.1)
 
 -- the BLEs whose inputs are parts of the list stay
 bles-append : (xs ys : List ℕ) (bles : List BleSpan) → AreBlesWithin (length xs) bles → map (ble_at (xs ++ ys)) bles ≡ map (ble_at xs) bles

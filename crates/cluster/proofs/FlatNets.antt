@@ -1,5 +1,5 @@
 -- Block nets whose readers stand in one list that grows.
-use Rattle.std.proofs.Common.{◌≡◌, ℕ, ◌≤◌, Bool, List, [], ◌∷◌, ◌++◌, length, map, refl, ap, ◌∙◌, arith}
+use Rattle.std.proofs.Common.{◌≡◌, ℕ, Bool, List, [], ◌∷◌, ◌++◌, length, map, refl, ap, ◌∙◌}
 use Rattle.std.proofs.lemmas.List.{map_push}
 use Rattle.cluster.specs.declared.block_nets.NetSpan.{NetSpan}
 use Rattle.cluster.specs.Blocks.{BlockNet}
@@ -20,8 +20,3 @@ nets_push xs ys nets net driver start end global within starts ends =
     map_push (net_at (xs ++ ys)) nets (record { net = net; driver = driver; readers = record { start = start; end = end }; global = global })
     ∙ ap (λ (front : List BlockNet). front ++ net_at (xs ++ ys) (record { net = net; driver = driver; readers = record { start = start; end = end }; global = global }) ∷ []) (nets-append xs ys nets within)
     ∙ ap (λ (readers : List ℕ). map (net_at xs) nets ++ record { net = net; driver = driver; readers = readers; global = global } ∷ []) (part_of-added xs ys start end starts ends)
-
--- the readers stand among more
-pub nets_within_more : (count more : ℕ) (nets : List NetSpan) → count ≤ more → AreNetsWithin count nets → AreNetsWithin more nets
-nets_within_more count more [] h within = within
-nets_within_more count more (net ∷ nets) h within = ((within.0.0, let end = within.0.1 in omega arith), nets_within_more count more nets h within.1)

@@ -60,7 +60,7 @@ module _ (elements : List LogicElement) (nets : ℕ) (growth : Growth) (g : IsGr
   pub new_are : (element : LogicElement) → new_inputs_of growth.reads.nets growth.drives.nets element.output element.inputs ≡ gained members element
   new_are element = filter_agrees (is_new_input growth.reads.nets growth.drives.nets element.output) _ (λ net. let r = reads_are net in let d = drives_are net in grind (arith, r, d)) element.inputs
 
-  members_more : (number : ℕ) → elements_at elements (growth.members.items ++ number ∷ []) ≡ members ++ element_at elements number ∷ []
+  pub members_more : (number : ℕ) → elements_at elements (growth.members.items ++ number ∷ []) ≡ members ++ element_at elements number ∷ []
   members_more number = map-append (element_at elements) growth.members.items (number ∷ [])
 
   -- how many inputs from outside there are with one element more

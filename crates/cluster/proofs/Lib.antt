@@ -7,7 +7,6 @@ pub mod Members
 pub mod Outside
 pub mod Steps
 mod Within
-mod Leading
 mod Marking
 mod Choosing
 mod Fitting
@@ -33,3 +32,7 @@ pub mod Choice
 pub mod ElementLemmas
 pub mod GrowthLemmas
 pub mod ChoosingLemmas
+pub mod FreeNumbers
+pub mod KeyLemmas
+pub mod Untouched
+pub mod SeedLemmas

@@ -1,7 +1,7 @@
 -- The BLEs in the order of their lines, over one more table.
-use Rattle.std.proofs.Common.{◌≡◌, ℕ, ◌+◌, ◌<◌, ◌≤◌, List, [], ◌∷◌, ◌++◌, Option, Some, length, take, drop, map, slice_get, ap, ◌∙◌, append_assoc}
+use Rattle.std.proofs.Common.{◌≡◌, ℕ, ◌+◌, ◌<◌, List, [], ◌∷◌, ◌++◌, Option, Some, length, take, drop, map, slice_get, ap, ◌∙◌, append_assoc}
 use Rattle.std.specs.List.{take_while, prefix_len}
-use Rattle.std.proofs.lemmas.List.{drop_more, drop_all}
+use Rattle.std.proofs.lemmas.List.{drop_more}
 use Rattle.std.proofs.lemmas.List.Folds.{length-prefix_len}
 use Rattle.std.proofs.lemmas.Option.{get_or_from_slice_get}
 use Rattle.blif.specs.declared.circuit.Circuit.{Circuit}
@@ -29,7 +29,3 @@ table_added circuit bles tables latches place above table behind within at latch
     let element = element_of_table table (latch_behind circuit table.output) in
     let later = in_line_order circuit (drop (place + 1) tables) (drop (prefix_len test latches) latches) in
     rw (order, many, latch) (append_assoc (bles ++ lone) (element ∷ []) later ∙ append_assoc bles lone (element ∷ later))
-
--- without tables the latches are left
-pub tables_done : (circuit : Circuit) (tables : List LookupTable) (latches : List Latch) (place : ℕ) → length tables ≤ place → in_line_order circuit (drop place tables) latches ≡ map element_of_latch latches
-tables_done circuit tables latches place past = ap (λ ts. in_line_order circuit ts latches) (drop_all place tables past)

@@ -1,26 +1,12 @@
 -- Marks of nets and of BLEs that are taken.
-use Rattle.std.proofs.Common.{◌≡◌, ◌≢◌, ◌⊎◌, inl, inr, ℕ, ◌<◌, Bool, true, false, not, ◌||◌, ◌&&◌, ◌==◌, List, [], ◌∷◌, ◌++◌, Some, filter, length, get_or, set, refl, sym, ap, ◌∙◌, arith, slice_get, get_or-set_other, length-set, if◌then◌else◌}
-use Rattle.std.specs.List.{flat_map, range_with_len}
+use Rattle.std.proofs.Common.{◌≡◌, ◌≢◌, ◌⊎◌, inl, inr, ℕ, ◌<◌, Bool, true, false, not, ◌||◌, ◌&&◌, ◌==◌, List, [], ◌∷◌, ◌++◌, filter, length, get_or, set, refl, sym, ap, ◌∙◌, arith, get_or-set_other, length-set, if◌then◌else◌}
+use Rattle.std.specs.List.{range_with_len}
 use Rattle.std.proofs.lemmas.Grind.{get_or-set_at}
 use Rattle.std.proofs.lemmas.Bool.Decides.{eqb_tells, nat_tests}
-use Rattle.std.proofs.lemmas.List.Concat.{flat_map-cons}
 use Rattle.std.proofs.lemmas.List.Elements.{filter_agree}
 use Rattle.cluster.specs.Nets.{has}
-use Rattle.cluster.specs.Bles.{LogicElement}
-use Rattle.cluster.specs.Clusters.{inputs_of, outputs_of, nets_of}
-use Rattle.cluster.specs.Growing.{AreMarks, free_in}
-use Rattle.cluster.proofs.Counting.{read_other, read_same}
-use Rattle.cluster.proofs.Outside.{has-append, has-distinct}
-
--- one more net is marked
-pub marks_more : (marks : List Bool) (marked : List ℕ) (net : ℕ) → net < length marks → AreMarks marked marks → AreMarks (marked ++ net ∷ []) (set marks net true)
-marks_more marks marked net within are other inside =
-    let inner : other < length marks = omega (arith, inside, length-set marks net true) in
-    by (eqb_tells net other) inner (are other inner) (has-append marked (net ∷ []) other)
-  where
-    by : ((net == other) ≡ true) × (net ≡ other) ⊎ ((net == other) ≡ false) × (net ≢ other) → other < length marks → slice_get marks other ≡ Some (has marked other) → has (marked ++ net ∷ []) other ≡ (has marked other || has (net ∷ []) other) → slice_get (set marks net true) other ≡ Some (has (marked ++ net ∷ []) other)
-    by (inl e) inner old found = read_same marks net other true e.1 within ∙ ap Some (sym (let t = e.0 in grind (arith, nat_tests, found, t)))
-    by (inr e) inner old found = read_other marks net other true e.1 inner ∙ old ∙ ap Some (sym (let t = e.0 in grind (arith, nat_tests, found, t)))
+use Rattle.cluster.specs.Growing.{free_in}
+use Rattle.cluster.proofs.Outside.{has-append}
 
 -- two filters, one after the other
 pub filter_filter : {X : Type 0} (p q : X → Bool) (xs : List X) → filter q (filter p xs) ≡ filter (λ x. p x && q x) xs
@@ -68,23 +54,3 @@ free_more old new members number within is =
 pub free_same : (free : List ℕ) → free ≡ filter (λ other. not (has [] other)) free
 free_same [] = refl
 free_same (number ∷ free) = ap (λ ns. number ∷ ns) (free_same free)
-
--- the nets of members are what they read and drive
-pub has-nets_of : (members : List LogicElement) (net : ℕ) → has (flat_map nets_of members) net ≡ (has (inputs_of members) net || has (outputs_of members) net)
-has-nets_of [] net = refl
-has-nets_of (member ∷ members) net =
-    let front = ap (λ nets. has nets net) (flat_map-cons nets_of member members) ∙ has-append (nets_of member) (flat_map nets_of members) net in
-    let inputs = ap (λ nets. has nets net) (flat_map-cons (λ (e : LogicElement). e.inputs) member members) ∙ has-append member.inputs (inputs_of members) net in
-    let own = has-distinct (member.inputs ++ member.output ∷ []) net ∙ has-append member.inputs (member.output ∷ []) net in
-    by (has member.inputs net) (member.output == net) (has (inputs_of members) net) (has (outputs_of members) net) refl refl refl refl front inputs own (has-nets_of members net)
-  where
-    by : (a b i o : Bool) → has member.inputs net ≡ a → (member.output == net) ≡ b → has (inputs_of members) net ≡ i → has (outputs_of members) net ≡ o
-        → has (flat_map nets_of (member ∷ members)) net ≡ (has (nets_of member) net || has (flat_map nets_of members) net)
-        → has (inputs_of (member ∷ members)) net ≡ (has member.inputs net || has (inputs_of members) net)
-        → has (nets_of member) net ≡ (has member.inputs net || has (member.output ∷ []) net)
-        → has (flat_map nets_of members) net ≡ (has (inputs_of members) net || has (outputs_of members) net)
-        → has (flat_map nets_of (member ∷ members)) net ≡ (has (inputs_of (member ∷ members)) net || has (outputs_of (member ∷ members)) net)
-    by true b i o ea eb ei eo front inputs own ih = grind (arith, ea, front, inputs, own)
-    by false true i o ea eb ei eo front inputs own ih = grind (arith, nat_tests, ea, eb, ei, eo, front, inputs, own, ih)
-    by false false true o ea eb ei eo front inputs own ih = grind (arith, nat_tests, ea, eb, ei, eo, front, inputs, own, ih)
-    by false false false o ea eb ei eo front inputs own ih = grind (arith, nat_tests, ea, eb, ei, eo, front, inputs, own, ih)

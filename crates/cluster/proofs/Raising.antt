@@ -24,10 +24,6 @@ once_before (number ∷ numbers) (suc place) small once =
     let among = turned (get_or numbers place 0) number (not_at numbers place number (omega (arith, small)) once.0) in
     grind (arith, ih, among)
 
--- at first no count is raised
-pub raised_none : (gains : List ℕ) → AreRaised gains gains []
-raised_none gains = record { count = refl; raised = λ number small. omega arith }
-
 -- one element more
 pub raised_more : (old now numbers : List ℕ) (place : ℕ) → place < length numbers → get_or numbers place 0 < length old → IsOnce numbers → AreRaised old now (take place numbers)
     → AreRaised old (set now (get_or numbers place 0) (gain_at now (get_or numbers place 0) + 1)) (take (place + 1) numbers)

@@ -1,5 +1,5 @@
 -- The least BLE that doesn't fit alone.
-use Rattle.std.proofs.Common.{◌≡◌, ℕ, suc, ◌+◌, ◌-◌, ◌<◌, ◌≤◌, Bool, true, false, not, ◌==◌, nat_le, List, [], ◌∷◌, Option, Some, None, filter, length, slice_get, if◌then◌else◌, sym, ap, ◌∙◌, arith}
+use Rattle.std.proofs.Common.{◌≡◌, ℕ, suc, ◌+◌, ◌-◌, ◌<◌, ◌≤◌, Bool, true, false, not, ◌==◌, nat_le, List, [], ◌∷◌, Option, Some, filter, length, slice_get, if◌then◌else◌, sym, ap, ◌∙◌, arith}
 use Rattle.std.specs.List.{find, range_with_len}
 use Rattle.std.proofs.lemmas.Bool.Decides.{nat_tests}
 use Rattle.arch_file.specs.declared.arch.Arch.{Arch}
@@ -21,10 +21,6 @@ found_here test n count h passes = ap (find test) (range_first n count h) ∙ ap
 
 pub found_later : (test : ℕ → Bool) (n count : ℕ) → n < count → test n ≡ false → find test (range_with_len n (count - n)) ≡ find test (range_with_len (n + 1) (count - (n + 1)))
 found_later test n count h fails = ap (find test) (range_first n count h) ∙ ap (λ b. if b then Some n else find test (range_with_len (n + 1) (count - (n + 1)))) fails
-
--- none is left
-pub found_none : (test : ℕ → Bool) (n count : ℕ) → count ≤ n → None ≡ find test (range_with_len n (count - n))
-found_none test n count h = let e : count - n ≡ 0 = omega (arith, h) in ap (λ k. find test (range_with_len n k)) (sym e)
 
 -- more outside inputs than pins, or not
 pub unfit_wide : (arch : Arch) (nets : ℕ) (elements : List LogicElement) (n : ℕ) (element : LogicElement) (outside pins : ℕ) → IsArch arch → IsElement nets element → slice_get elements n ≡ Some element → outside ≡ length (filter (λ net. not (net == element.output)) element.inputs) → pins ≡ input_count arch.pins → pins < outside → not (fits_in_cluster arch (element_at elements n ∷ [])) ≡ true

@@ -1,8 +1,7 @@
 -- Private: a cluster under way, and the BLEs that are free.
-use Rattle.std.specs.Prelude.{ℕ, ◌≡◌, ◌<◌, Bool, true, not, List, All, filter, length, slice_get, slice_index_or, Some}
+use Rattle.std.specs.Prelude.{ℕ, ◌≡◌, ◌<◌, Bool, true, not, List, All, filter, length, slice_index_or}
 use Rattle.std.specs.List.{range_with_len}
-use Rattle.cluster.specs.declared.bles.Ble.{Ble}
-use Rattle.cluster.specs.Nets.{has, distinct}
+use Rattle.cluster.specs.Nets.{distinct}
 use Rattle.cluster.specs.Bles.{LogicElement}
 
 -- the nets of the element are below the count, and each of its inputs stands once
@@ -10,14 +9,6 @@ pub record IsElement (count : ℕ) (element : LogicElement) : Type 0 where
   pub inputs : All (λ net. net < count) element.inputs
   pub output : element.output < count
   pub once : distinct element.inputs ≡ element.inputs
-
--- the element that a BLE is
-abbrev pub element_of : Ble → LogicElement
-element_of ble = record { inputs = ble.inputs.now; output = ble.output; clock = ble.clock }
-
--- the nets are marked, and no others
-abbrev pub AreMarks : List ℕ → List Bool → Type 0
-AreMarks nets marks = (net : ℕ) → net < length marks → slice_get marks net ≡ Some (has nets net)
 
 -- the numbers that are not marked as taken
 abbrev pub free_in : List Bool → List ℕ

@@ -4,12 +4,15 @@ use Rattle.std.specs.List.{flat_map}
 use Rattle.std.specs.Option.{option_to_list}
 use Rattle.arch_file.specs.declared.arch.Arch.{Arch}
 use Rattle.arch_file.specs.Arch.{IsArch}
+use Rattle.cluster.specs.declared.first_free.FirstFree.{FirstFree}
 use Rattle.cluster.specs.declared.growth.Growth.{Growth}
 use Rattle.cluster.specs.Nets.{distinct, has}
 use Rattle.cluster.specs.Bles.{LogicElement, element_at}
-use Rattle.cluster.specs.Clusters.{clocks_of, elements_at, fits_in_cluster, inputs_of, nets_of, outputs_of, outside_inputs}
+use Rattle.cluster.specs.Clusters.{clocks_of, elements_at, first_most, fits_in_cluster, input_count_at, inputs_of, nets_of, outputs_of, outside_inputs}
 use Rattle.cluster.specs.ElementGains.{AreRaised, gain_at}
 use Rattle.cluster.specs.Elements.{AreHaving, ElementsOver}
+use Rattle.cluster.specs.FirstFree.{AreLacks, AreOutsideCounts, IsFirstFree}
+use Rattle.cluster.specs.Growing.{free_in}
 
 -- the net is an input from outside that is new, beside an element that drives that output
 abbrev pub is_new_input : List ℕ → List ℕ → ℕ → ℕ → Bool
@@ -86,3 +89,11 @@ pub record IsGrower (over : ElementsOver) (taken : List Bool) (growth : Growth) 
   pub few : length over.elements ≤ 8192
   pub members : All (λ number. number < length over.elements) growth.members.items
   pub room : IsRoomFor over growth
+
+-- where the free elements begin, and the seed of the next cluster
+pub record IsSeeded (elements : List LogicElement) (taken : List Bool) (by_lack by_outside : FirstFree) (seed : Option ℕ) : Type 0 where
+  pub lacks : AreLacks elements by_lack.keys.items
+  pub outside : AreOutsideCounts elements by_outside.keys.items
+  pub by_lack_free : IsFirstFree taken by_lack
+  pub by_outside_free : IsFirstFree taken by_outside
+  pub first : seed ≡ first_most (input_count_at elements) (free_in taken)

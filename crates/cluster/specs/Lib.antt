@@ -13,7 +13,7 @@ pub mod ElementGains
 pub mod Elements
 pub mod Growth
 pub mod Choosing
-pub mod Leaders
+pub mod FirstFree
 pub mod PackedTables
 pub mod UnderWay
 pub mod LawfulPackings

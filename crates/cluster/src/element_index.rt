@@ -50,7 +50,8 @@ impl Elements {
 
     /// How many elements there are.
     pub(crate) fn len(&self) -> usize
-        ensures { result ≡ length self.now.elements }
+        ensures count { result ≡ length self.now.elements }
+        ensures all { AreLawful self.now }
     {
         self.bles.len()
     }

@@ -4,12 +4,14 @@ ghost use Rattle.std.specs.List.{range_with_len};
 ghost use Rattle.arch_file.specs.Arch.{IsArch, input_count};
 ghost use Rattle.cluster.specs.Nets.{has};
 ghost use Rattle.cluster.specs.Clusters.{cluster_of, unfit_among};
+ghost use Rattle.cluster.specs.FirstFree.{IsKept};
 ghost use Rattle.cluster.specs.Growing.{IsElement, free_in};
 
 use crate::bles::Bles;
 use crate::element_index::Elements;
+use crate::first_free::FirstFree;
 use crate::growth::Growth;
-use crate::seeds::seed;
+use crate::keys::{lacks, most_inputs, outside_counts};
 use arch_file::Arch;
 use std::alloc::{AllocError, Global};
 use std::marker::Model;
@@ -19,18 +21,24 @@ use std::marker::Model;
 pub(crate) struct Grower {
     elements: Elements,
     taken: Vec<bool>,
+    /// The free BLEs by how many inputs they lack of the most.
+    by_lack: FirstFree,
+    /// The free BLEs by how many nets they read from outside.
+    by_outside: FirstFree,
+    /// The first free BLE with most inputs.
+    seed: Option<usize>,
     growth: Growth,
 }
 
 impl Model for Grower {
     ghost use Rattle.cluster.specs.Growing.{GrowerState, free_in};
-    ghost use Rattle.cluster.specs.Growth.{IsGrower};
+    ghost use Rattle.cluster.specs.Growth.{IsGrower, IsSeeded};
 
     ghost Value = { GrowerState };
 
     ghost view = { λ g. record { elements = g.elements.elements; free = free_in g.taken.items; members = g.growth.members.items } };
 
-    ghost invariant = { λ g. IsGrower g.elements g.taken.items g.growth };
+    ghost invariant = { λ g. IsGrower g.elements g.taken.items g.growth × IsSeeded g.elements.elements g.taken.items g.by_lack g.by_outside g.seed };
 }
 
 impl Grower {
@@ -42,11 +50,18 @@ impl Grower {
         ensures { IfOk result (λ grower. grower ≡ record { elements = bles; free = range_with_len 0 (length bles); members = [] }) }
     {
         let taken = vec![in alloc; false; bles.len()]?;
+        let most = most_inputs(&bles, count);
+        let mut by_lack = FirstFree::new(alloc, lacks(alloc, &bles, most)?, most)?;
+        let by_outside = FirstFree::new(alloc, outside_counts(alloc, &bles, most)?, most)?;
+        let seed = by_lack.lowest(taken.as_slice());
         let growth = Growth::new(alloc, bles.len(), count)?;
         let elements = Elements::new(alloc, bles, count)?;
         Ok(Grower {
             elements,
             taken,
+            by_lack,
+            by_outside,
+            seed,
             growth,
         })
     }
@@ -77,7 +92,7 @@ impl Grower {
     pub(crate) fn has_free(&self) -> bool
         ensures { IsTrue result ↔ (0 < length self.now.free) }
     {
-        seed(self.elements.bles(), self.taken.as_slice()).is_some()
+        self.seed.is_some()
     }
 
     /// Chooses the members of a cluster among the free BLEs.
@@ -88,8 +103,13 @@ impl Grower {
         ensures elements { self.new.elements ≡ self.old.elements }
         ensures free { self.new.free ≡ self.old.free }
     {
-        self.growth
-            .choose(arch, &self.elements, self.taken.as_slice())
+        self.growth.choose(
+            arch,
+            &self.elements,
+            self.taken.as_slice(),
+            &mut self.by_outside,
+            self.seed,
+        )
     }
 
     /// The members are no longer free.
@@ -98,13 +118,15 @@ impl Grower {
         ensures free { self.new.free ≡ filter (λ number. not (has self.old.members number)) self.old.free }
     {
         mark_taken(self.taken.as_mut_slice(), self.growth.members.as_slice());
+        self.seed = self.by_lack.lowest(self.taken.as_slice());
     }
 }
 
 /// Marks the members as taken.
 fn mark_taken(taken: &mut [bool], members: &[u32])
     requires { All (λ number. number < length taken.old) members.now }
-    ensures { free_in taken.new ≡ filter (λ number. not (has members.now number)) (free_in taken.old) }
+    ensures free { free_in taken.new ≡ filter (λ number. not (has members.now number)) (free_in taken.old) }
+    ensures kept { IsKept taken.old taken.new }
 {
     for number in members {
         taken[*number as usize] = true;

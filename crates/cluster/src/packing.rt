@@ -7,10 +7,11 @@ ghost use Rattle.cluster.specs.Clusters.{cluster_of, unfit_among, unfit_of, with
 ghost use Rattle.cluster.specs.Growing.{IsElement};
 ghost use Rattle.cluster.specs.Packing.{IsChecked, GoesOn};
 
-use crate::bles::{Ble, Bles};
+use crate::bles::Bles;
 use crate::clusters::Clusters;
 use crate::fault::{PackError, PackFault};
 use crate::grower::Grower;
+use crate::keys::outside_inputs;
 use crate::packed::Packed;
 use crate::packed_tables::PackedTables;
 use crate::pins::input_count;
@@ -46,13 +47,6 @@ fn unfit(bles: &Bles, count: usize, arch: &Arch) -> Option<u32>
         }
     }
     None
-}
-
-/// How many nets the BLE reads that it doesn't drive itself.
-fn outside_inputs(ble: Ble<'_>) -> usize
-    ensures { result ≡ length (filter (λ net. not (net == ble.entry.output)) ble.entry.inputs.now) }
-{
-    ble.inputs.iter().filter(|net| **net != ble.output).count()
 }
 
 /// A packing under way. Its value is the circuit, the architecture and how many steps are made.

@@ -1,5 +1,6 @@
 use Rattle.std.proofs.Common.{◌≡◌}
 use Rattle.cluster.specs.Clusters.{grown}
+use Rattle.cluster.specs.FirstFree.{IsFirstFree}
 use Rattle.cluster.specs.Growing.{free_in}
 use Rattle.cluster.specs.Growth.{IsGrowth, IsRoomFor}
 use Rattle.cluster.proofs.growth.Growth.grow.Given as goal
@@ -10,4 +11,6 @@ invariant-loop-added l = record {
   growth : IsGrowth l.elements.elements l.elements.nets l.self;
   members : l.self.members.items ≡ grown l.arch l.elements.elements (free_in l.is_taken) l.fn.self.members.items l.added;
   room : IsRoomFor l.elements l.self;
+  keys : l.by_outside.keys.items ≡ l.fn.by_outside.keys.items;
+  free : IsFirstFree l.is_taken l.by_outside;
 }
