@@ -10,6 +10,8 @@ use Rattle.service_core.specs.declared.not_served.NotServed.{NotServed}
 use Rattle.service_core.specs.declared.not_served.NotServed.TheVariants.{JournalFull, NoMemory, NoSuchTenancy}
 use Rattle.service_core.specs.History.{History}
 use Rattle.service_core.specs.Receipt.{Receipted}
+use Rattle.service_core.specs.declared.device.Device.{Device}
+use Rattle.service_core.specs.Headline.{AreParted, EachIsAlone}
 use Rattle.service_core.specs.Run.{Call, Run}
 use Rattle.service_core.specs.Run.Call.{Tenant as TenantCall}
 use Rattle.service_core.specs.Calls.{IsServed}
@@ -126,18 +128,28 @@ pub on_ok_value : {E A : Type 0} {P Q : A → Type 0} (r : Result A E) → ((a :
 on_ok_value (Ok a) f p = f a p
 on_ok_value (Err e) f p = tt
 
+-- what the core's main theorem says of every run from an empty device
+pub record IsHeadline : Type 0 where
+  pub alone : (device : Device) (calls : List Call) (state : ServiceState) → Run (empty device) calls state → EachIsAlone device calls state
+  pub parted : (device : Device) (calls : List Call) (state : ServiceState) → Run (empty device) calls state → AreParted device state
+
 -- all that was told is what is written
-pub replies_all : (options : Options) (arch : Arch) (items : List (Item (List ℕ))) (running : Running) (acts : List (Act (List ℕ))) (output : List ℕ) →
+pub replies_all : (options : Options) (arch : Arch) (items : List (Item (List ℕ))) (running : Running) (acts : List (Act (List ℕ))) (output : List ℕ) → IsHeadline →
     Progress (record { names = []; service = empty (device_of options arch) }) running acts → acts ≡ map (λ (i : Item (List ℕ)). i.act) items → output ≡ told_so_far running →
     IsReplies options (Ok (arch, items)) output
-replies_all options arch items running acts output p all is = record {
-  arch = arch;
-  items = items;
-  begins = refl;
-  tellings = p.tellings;
-  last = stage_of running;
-  all = p.all ∙ all;
-  told = p.told;
-  runs = told_runs (record { names = []; service = empty (device_of options arch) }) p.tellings (stage_of running) p.told;
-  output_is = is ∙ ap (λ o. output_of o (sections_of running)) p.operator_text ∙ ap (λ ss. output_of (operator_texts p.tellings) ss) p.sections;
-}
+replies_all options arch items running acts output headline p all is =
+    let runs : Run (empty (device_of options arch)) (calls_of p.tellings) running.core =
+        told_runs (record { names = []; service = empty (device_of options arch) }) p.tellings (stage_of running) p.told in
+    record {
+      arch = arch;
+      items = items;
+      begins = refl;
+      tellings = p.tellings;
+      last = stage_of running;
+      all = p.all ∙ all;
+      told = p.told;
+      runs = runs;
+      alone = headline.alone _ _ _ runs;
+      parted = headline.parted _ _ _ runs;
+      output_is = is ∙ ap (λ o. output_of o (sections_of running)) p.operator_text ∙ ap (λ ss. output_of (operator_texts p.tellings) ss) p.sections;
+    }

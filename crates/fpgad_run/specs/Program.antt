@@ -8,6 +8,7 @@ use Rattle.arch_file.specs.declared.fault.ArchFault.{ArchFault}
 use Rattle.arch_file.specs.Arch.{arch_of}
 use Rattle.service_core.specs.declared.device.Device.{Device}
 use Rattle.service_core.specs.Service.{empty}
+use Rattle.service_core.specs.Headline.{AreParted, EachIsAlone}
 use Rattle.service_core.specs.Run.{Run}
 use Rattle.fpgad_run.specs.declared.options.Options.{Options}
 use Rattle.fpgad_run.specs.declared.outcome.Outcome.{Outcome}
@@ -52,7 +53,8 @@ start_of tracks Unreadable input = Err ArchUnreadable
 abbrev pub device_of : Options → Arch → Device
 device_of options arch = record { arch = arch; columns = options.columns; rows = options.rows }
 
--- the bytes are what a run of the items from the empty device writes
+-- the bytes are what a run of the items from the empty device writes; of its calls each tenancy was told what it is told alone, and
+-- the strips are parted
 pub record IsReplies (options : Options) (start : Start) (output : List ℕ) : Type 0 where
   pub arch : Arch
   pub items : List (Item (List ℕ))
@@ -62,6 +64,8 @@ pub record IsReplies (options : Options) (start : Start) (output : List ℕ) : T
   pub all : map (λ t. t.act) tellings ≡ map (λ item. item.act) items
   pub told : Tells (record { names = []; service = empty (device_of options arch) }) tellings last
   pub runs : Run (empty (device_of options arch)) (calls_of tellings) last.service
+  pub alone : EachIsAlone (device_of options arch) (calls_of tellings) last.service
+  pub parted : AreParted (device_of options arch) last.service
   pub output_is : output ≡ written tellings
 
 -- a script may be answered so

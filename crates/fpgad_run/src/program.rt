@@ -15,7 +15,7 @@ use crate::session_line::SessionLine;
 use crate::session_text::{push_answer, push_session_refusal};
 use arch_file::{Arch, ArchError, read_arch};
 use line_text::{ReadError, Sink, Source, read_all, write_all};
-use service_core::{Core, Device};
+use service_core::{Core, Device, headline};
 use std::alloc::{AllocError, Global};
 
 /// Where the architecture's text is.
@@ -152,6 +152,7 @@ fn serve(
     while let Some(item) = items.pop() {
         running.serve(item)?;
     }
+    headline();
     running.output(alloc)
 }
 

@@ -34,4 +34,4 @@ returns c =
     let none : c.loop-item.items.items ≡ [] = search rules in
     let all : was.0 ≡ map (λ (i : Item (List ℕ)). i.act) c.args.script =
     sym (append-nil was.0) ∙ ap (λ items. was.0 ++ map (λ (i : Item (List ℕ)). i.act) (map named_item (reverse items))) (sym none) ∙ was.2 in
-    on_ok_value c.output.result (λ output is. replies_all c.args.options.now c.args.arch c.args.script c.loop-item.running was.0 output.items was.1 all is) c.output.ensures
+    on_ok_value c.output.result (λ output is. replies_all c.args.options.now c.args.arch c.args.script c.loop-item.running was.0 output.items (record { alone = c.headline.ensures.alone; parted = c.headline.ensures.parted }) was.1 all is) c.output.ensures
