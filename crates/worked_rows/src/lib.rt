@@ -1,8 +1,8 @@
 //! Worked rows: whole scripts, run over memory, and the exact bytes that they write; and rows over a few crates.
 //!
 //! A row is a test named after it, with its script and its bytes as text. Each is run by [`fpgad_run::run_script`] on a
-//! device of one row and two tracks, below the text of one architecture. The bytes follow from the formats, and were not
-//! taken from the service.
+//! device of one row and two tracks, with one architecture for all, that of `runs`, where a row brings none of its own. The
+//! bytes follow from the formats, and were not taken from the service.
 //!
 //! - `first_run`: two tenants that upload, ask and withdraw, on two devices.
 //! - `accepted_netlists`: netlists in the forms that tools and people write.
