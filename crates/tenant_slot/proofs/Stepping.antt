@@ -71,6 +71,11 @@ steps_after steps Advanced = steps + 1
 steps_after steps Finished = 0
 steps_after steps Stale = 0
 
+pub steps_after-other : (steps : ℕ) (reply : StepReply) → reply ≢ Advanced → steps_after steps reply ≡ 0
+steps_after-other steps Advanced other = absurd (other refl)
+steps_after-other steps Finished other = refl
+steps_after-other steps Stale other = refl
+
 pub advances : (id : ℕ) (arch : Arch) (strip : Strip) (text : List ℕ) (packing : PackingUnderWay) (generation steps entries : ℕ) (phase : Phase) (reply : StepReply) →
     IsSlot arch (Packing text packing) generation steps entries → entries < 65536 → StepsTo text packing phase reply →
     Advances (seen id arch strip (Packing text packing) generation steps entries) (Ok (next_of (seen id arch strip (Packing text packing) generation steps entries).state, reply)) (seen id arch strip phase generation (steps_after steps reply) (entries + 1))

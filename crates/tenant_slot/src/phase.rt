@@ -6,6 +6,7 @@ use crate::reply::StateName;
 use crate::shared_text::SharedText;
 use blif::SharedCircuit;
 use cluster::{PackEnd, Packed, Packing};
+use std::mem;
 
 /// A state with what is carried along in it, so that it is not computed again.
 #[derive(Drop)]
@@ -26,6 +27,13 @@ impl Phase {
             Phase::Packing(..) => StateName::Packing,
             Phase::Packed(..) => StateName::Packed,
         }
+    }
+
+    /// Becomes this phase. The old one is dropped by a call, since a drop in place is proved anew wherever it stands.
+    pub(crate) fn set(&mut self, phase: Phase)
+        ensures { self.new ≡ phase }
+    {
+        drop(mem::replace(self, phase));
     }
 }
 

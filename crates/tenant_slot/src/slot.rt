@@ -124,7 +124,7 @@ impl Slot {
     {
         let Answer { change, reply, .. } = answer;
         if let Some(change) = change {
-            self.phase = change.phase;
+            self.phase.set(change.phase);
             self.generation = change.generation;
             self.steps = 0;
         }
@@ -159,7 +159,7 @@ impl Slot {
         };
         match pack_step(text, packing) {
             Ok((phase, reply)) => {
-                self.phase = phase;
+                self.phase.set(phase);
                 self.steps = match reply {
                     StepReply::Advanced => self.steps + 1,
                     _ => 0,
@@ -168,7 +168,8 @@ impl Slot {
                 Ok((advance, reply))
             }
             Err(phase) => {
-                self.phase = phase;
+                self.phase.set(phase);
+                drop(advance);
                 Err(AllocError)
             }
         }
