@@ -29,6 +29,11 @@ const STORED: &str = ".model r\n.inputs a c\n.outputs q\n.names a f\n1 1\n.latch
 /// A table that another reads.
 const CHAIN: &str = ".model n\n.inputs a b\n.outputs g\n.names a b f\n11 1\n.names f g\n1 1\n";
 
+/// Two chains of two tables.
+const CHAINS: &str =
+    ".model w\n.inputs a b c d\n.outputs g k\n.names a b f\n11 1\n.names c d h\n11 1\n\
+.names f g\n1 1\n.names h k\n1 1\n";
+
 fn circuit(alloc: Global, text: &str) -> Result<SharedCircuit, Fail> {
     let circuit = read_blif(alloc, text.as_bytes(), 3)?;
     match SharedCircuit::new(alloc, circuit) {
@@ -56,6 +61,22 @@ fn packed(alloc: Global, pins: &str, text: &str) -> Result<Packed, Fail> {
             Ok(PackEnd::More(more)) => packing = more,
             Ok(PackEnd::Last(packed)) => return Ok(packed),
             Err(_) => return Err(AllocError.into()),
+        }
+    }
+    Err(AllocError.into())
+}
+
+/// The same, where a step that finds no memory is made again.
+fn packed_again(alloc: Global, pins: &str, text: &str) -> Result<Packed, Fail> {
+    let circuit = circuit(alloc, text)?;
+    let arch = arch(alloc, pins)?;
+    check(alloc, circuit.circuit(), arch.arch())?;
+    let mut packing = Packing::start(alloc, &circuit, &arch)?;
+    for _step in 0..8192 {
+        match packing.next() {
+            Ok(PackEnd::More(more)) => packing = more,
+            Ok(PackEnd::Last(packed)) => return Ok(packed),
+            Err(back) => packing = back,
         }
     }
     Err(AllocError.into())
@@ -111,5 +132,16 @@ fn pins_of_a_cluster(rt: HostRuntime) -> Result<(), Fail> {
     assert_eq!(rt; packed.arch().pins.as_slice().len(), 4);
     assert_eq!(rt; packed.pin(0, 1), None);
     assert_eq!(rt; packed.pin(0, 3), Some(1));
+    Ok(())
+}
+
+/// With one allocation that fails, whichever it is, a step that is made again ends as it would have.
+#[test]
+fn step_without_memory(rt: HostRuntime) -> Result<(), Fail> {
+    let packed = packed_again(rt.alloc(), PAIRS, CHAINS)?;
+    assert_eq!(rt; packed.cluster_count(), 2);
+    assert_eq!(rt; packed.cluster(0), [0, 2].as_slice());
+    assert_eq!(rt; packed.cluster(1), [1, 3].as_slice());
+    assert_eq!(rt; (packed.block_count(), packed.net_count()), (8, 6));
     Ok(())
 }
