@@ -1,6 +1,10 @@
 //! The program: a place-and-route service for one shared FPGA, over a script on standard input.
 #![tactic(auto)]
 
+ghost use Rattle.std.specs.Prelude.{◌≡◌, IfOk};
+ghost use Rattle.std.specs.Process.{exit_status};
+ghost use Rattle.fpgad_run.specs.Outcomes.{status_of};
+
 use clap::error::ErrorKind;
 use fpgad_run::{Architecture, CommandLine, Outcome, read_options, run};
 use line_text::{ReadError, StdSink, StdSource, read_all};
@@ -46,7 +50,9 @@ fn run_with(rt: &HostRuntime, line: CommandLine<'_>, architecture: Architecture<
 }
 
 /// Tells how the run ended: its message on standard error, and its status.
-fn ended(rt: &HostRuntime, outcome: Outcome) -> io::Result<ExitCode> {
+fn ended(rt: &HostRuntime, outcome: Outcome) -> io::Result<ExitCode>
+    ensures { IfOk result (λ code. exit_status code ≡ status_of outcome) }
+{
     let status = outcome.status();
     if status != 0 {
         rt.eprintln(outcome)?;
