@@ -139,7 +139,7 @@ pub replies_all : (options : Options) (arch : Arch) (items : List (Item (List â„
     IsReplies options (Ok (arch, items)) output
 replies_all options arch items running acts output headline p all is =
     let runs : Run (empty (device_of options arch)) (calls_of p.tellings) running.core =
-        told_runs (record { names = []; service = empty (device_of options arch) }) p.tellings (stage_of running) p.told in
+    told_runs (record { names = []; service = empty (device_of options arch) }) p.tellings (stage_of running) p.told in
     record {
       arch = arch;
       items = items;
