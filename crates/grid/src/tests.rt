@@ -111,6 +111,14 @@ fn place(x: u32, y: u32, subblock: u32) -> Place {
     Place { x, y, subblock }
 }
 
+/// How the packed circuit of a netlist fits. It is dropped by a call, since a drop in place would be proved anew.
+fn fit_of(alloc: Global, strip: &Strip, netlist: &str) -> Result<Fit, AllocError> {
+    let packed = packed(alloc, netlist)?;
+    let fit = strip.fits(&packed);
+    drop(packed);
+    Ok(fit)
+}
+
 #[test]
 fn blocks_at_the_boundary(rt: HostRuntime) -> Result<(), Fail> {
     let strip = Strip {
@@ -118,13 +126,11 @@ fn blocks_at_the_boundary(rt: HostRuntime) -> Result<(), Fail> {
         rows: 1,
         io_rat: 2,
     };
-    let two = packed(rt.alloc(), ".model m\n.names f\n1\n.names g\n1\n")?;
-    assert_eq!(rt; strip.fits(&two), Fit::Fits);
-    let three = packed(
-        rt.alloc(),
-        ".model m\n.names f\n1\n.names g\n1\n.names h\n1\n",
-    )?;
-    assert_eq!(rt; strip.fits(&three), Fit::TooManyBlocks { have: 2, need: 3 });
+    let two = ".model m\n.names f\n1\n.names g\n1\n";
+    assert_eq!(rt; fit_of(rt.alloc(), &strip, two)?, Fit::Fits);
+    let three = ".model m\n.names f\n1\n.names g\n1\n.names h\n1\n";
+    let fit = fit_of(rt.alloc(), &strip, three)?;
+    assert_eq!(rt; fit, Fit::TooManyBlocks { have: 2, need: 3 });
     Ok(())
 }
 
@@ -135,9 +141,10 @@ fn pads_at_the_boundary(rt: HostRuntime) -> Result<(), Fail> {
         rows: 1,
         io_rat: 2,
     };
-    let four = packed(rt.alloc(), ".model p\n.inputs a b c d\n")?;
-    assert_eq!(rt; strip.fits(&four), Fit::Fits);
-    let five = packed(rt.alloc(), ".model p\n.inputs a b c d e\n")?;
-    assert_eq!(rt; strip.fits(&five), Fit::TooManyPads { have: 4, need: 5 });
+    let four = ".model p\n.inputs a b c d\n";
+    assert_eq!(rt; fit_of(rt.alloc(), &strip, four)?, Fit::Fits);
+    let five = ".model p\n.inputs a b c d e\n";
+    let fit = fit_of(rt.alloc(), &strip, five)?;
+    assert_eq!(rt; fit, Fit::TooManyPads { have: 4, need: 5 });
     Ok(())
 }
