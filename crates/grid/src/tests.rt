@@ -1,3 +1,5 @@
+ghost use Rattle.grid.specs.Sizes.{IsStripSize};
+
 use crate::{Fit, Kind, Place, Strip};
 use arch_file::{SharedArch, read_arch};
 use blif::{SharedCircuit, read_blif};
@@ -112,7 +114,9 @@ fn place(x: u32, y: u32, subblock: u32) -> Place {
 }
 
 /// How the packed circuit of a netlist fits. It is dropped by a call, since a drop in place would be proved anew.
-fn fit_of(alloc: Global, strip: &Strip, netlist: &str) -> Result<Fit, AllocError> {
+fn fit_of(alloc: Global, strip: &Strip, netlist: &str) -> Result<Fit, AllocError>
+    requires { IsStripSize strip.now }
+{
     let packed = packed(alloc, netlist)?;
     let fit = strip.fits(&packed);
     drop(packed);
