@@ -18,8 +18,6 @@ mod pin_line;
 mod reader;
 mod segment;
 mod shared;
-#[cfg(test)]
-mod tests;
 mod values;
 mod words;
 

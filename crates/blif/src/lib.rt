@@ -41,6 +41,3 @@ pub use nets::Nets;
 pub use reader::read_blif;
 pub use shared::SharedCircuit;
 pub use tables::{Table, Tables};
-
-#[cfg(test)]
-mod tests;

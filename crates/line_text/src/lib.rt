@@ -34,6 +34,3 @@ pub use std_sink::StdSink;
 pub use std_source::StdSource;
 pub use text::Text;
 pub use words::append_words;
-
-#[cfg(test)]
-mod tests;

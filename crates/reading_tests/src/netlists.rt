@@ -1,8 +1,8 @@
-use crate::{BlifError, Latch, SharedCircuit, read_blif};
+//! Circuits with their nets, tables and latches, and the fault of each text that is no netlist.
+use blif::{Latch, SharedCircuit, read_blif};
+use fixtures::AND;
 use std::alloc::{AllocError, Global};
 use std::test::Fail;
-
-const WHOLE_CHAIN: &str = ".model t\n.inputs a b\n.outputs f\n.names a b f\n11 1\n.end\n";
 
 fn answer(alloc: Global, text: &str) -> Result<String, AllocError> {
     match read_blif(alloc, text.as_bytes(), 2) {
@@ -13,7 +13,7 @@ fn answer(alloc: Global, text: &str) -> Result<String, AllocError> {
 
 #[test]
 fn whole_chain(rt: HostRuntime) -> Result<(), Fail> {
-    let circuit = read_blif(rt.alloc(), WHOLE_CHAIN.as_bytes(), 2)?;
+    let circuit = read_blif(rt.alloc(), AND.as_bytes(), 2)?;
     assert_eq!(rt; circuit.model.as_bytes(), b"t".as_slice());
     assert_eq!(rt; circuit.nets.len(), 3);
     assert_eq!(rt; circuit.nets.name(0), b"a".as_slice());
@@ -32,7 +32,7 @@ fn whole_chain(rt: HostRuntime) -> Result<(), Fail> {
 
 #[test]
 fn a_circuit_is_shared(rt: HostRuntime) -> Result<(), Fail> {
-    let circuit = read_blif(rt.alloc(), WHOLE_CHAIN.as_bytes(), 2)?;
+    let circuit = read_blif(rt.alloc(), AND.as_bytes(), 2)?;
     match SharedCircuit::new(rt.alloc(), circuit) {
         Err(refused) => assert_eq!(rt; refused.value.nets.len(), 3),
         Ok(shared) => {
@@ -140,17 +140,6 @@ fn awkward_netlists(rt: HostRuntime) -> Result<(), Fail> {
         ),
     ] {
         assert_eq!(rt; answer(rt.alloc(), text)?.as_str(), want);
-    }
-    Ok(())
-}
-
-#[test]
-fn prefixes_are_answered(rt: HostRuntime) -> Result<(), Fail> {
-    let text = WHOLE_CHAIN.as_bytes();
-    for end in 0..=text.len() {
-        if let Err(BlifError::NoMemory) = read_blif(rt.alloc(), &text[..end], 2) {
-            panic!(rt; "{end}");
-        }
     }
     Ok(())
 }

@@ -1,4 +1,8 @@
-use crate::*;
+//! Joined lines, words and numbers.
+use line_text::{
+    LineError, LineFault, Text, append_words, decimal_u32, decimal_u64, logical_lines, millionths,
+    whole_number,
+};
 use std::alloc::{AllocError, Global};
 use std::test::Fail;
 

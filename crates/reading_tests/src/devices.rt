@@ -1,6 +1,10 @@
+//! Sources and sinks over memory and over the standard library's readers and writers, and devices that fail.
 ghost use Rattle.std.specs.Prelude.{◌≤◌, IfOk};
 
-use crate::*;
+use line_text::{
+    Failed, MemorySink, MemorySource, ReadError, Sink, Source, StdSink, StdSource, read_all,
+    write_all,
+};
 use std::io::{self, ErrorKind, Read, Write};
 use std::test::Fail;
 

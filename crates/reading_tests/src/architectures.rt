@@ -1,36 +1,19 @@
+//! An architecture that is read and shared, and the fault of each text that is none.
 ghost use Rattle.std.specs.Prelude.{◌≤◌};
 
-use crate::{Arch, ArchError, ArchFault, ArchFaultKind, Keyword, PinClass, SharedArch, read_arch};
+use arch_file::{
+    Arch, ArchError, ArchFault, ArchFaultKind, Keyword, PinClass, SharedArch, read_arch,
+};
+use fixtures::ARCHITECTURE;
 use line_text::{LineError, LineFault};
 use std::alloc::{AllocError, Global};
 use std::process::Abort;
 use std::test::Fail;
 
-/// The smallest architecture with all that one needs.
-const SMALL: [&str; 17] = [
-    "io_rat 2",
-    "chan_width_io 1",
-    "chan_width_x uniform 1",
-    "chan_width_y uniform 1",
-    "inpin class: 0 bottom",
-    "inpin class: 0 left",
-    "outpin class: 1 top",
-    "inpin class: 2 global top",
-    "subblocks_per_clb 1",
-    "subblock_lut_size 2",
-    "Fc_type fractional",
-    "Fc_output 1",
-    "Fc_input 1",
-    "Fc_pad 1",
-    "switch_block_type subset",
-    "segment frequency: 1 length: 1 wire_switch: 0 opin_switch: 0 Frac_cb: 1. Frac_sb: 1. Rmetal: 4.16 Cmetal: 81e-15",
-    "switch 0 buffered: yes R: 786.9 Cin: 7.512e-15 Cout: 10.762e-15 Tdel: 456e-12",
-];
-
-/// Its text with other lines in the place of those with these numbers.
+/// The smallest architecture's text with other lines in the place of those with these numbers.
 fn changed(alloc: Global, changes: &[(usize, &str)]) -> Result<String, AllocError> {
     let mut text = String::new(alloc);
-    for (place, own) in SMALL.iter().enumerate() {
+    for (place, own) in ARCHITECTURE.lines().enumerate() {
         let mut line: &str = own;
         for (number, other) in changes {
             if *number == place + 1 {
@@ -132,7 +115,8 @@ fn each_fault_is_told_at_its_line(rt: HostRuntime) -> Result<(), Fail> {
 
 #[test]
 fn a_second_segment_is_refused(rt: HostRuntime) -> Result<(), Fail> {
-    let text = changed(rt.alloc(), &[(17, SMALL[15])])?;
+    let segment = "segment frequency: 1 length: 1 Frac_cb: 1 Frac_sb: 1";
+    let text = changed(rt.alloc(), &[(17, segment)])?;
     assert_eq!(rt;
         told(rt.alloc(), text.as_str())?.as_str(),
         "5 NotProfile 17"

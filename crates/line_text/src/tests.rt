@@ -1,2 +1,0 @@
-mod devices;
-mod texts;
