@@ -29,6 +29,7 @@ mod pin_ranks;
 mod pins;
 mod readers;
 mod rows;
+mod shared;
 mod span;
 
 pub use bles::{Ble, Bles};
@@ -36,6 +37,4 @@ pub use block::{Block, BlockNet};
 pub use fault::{PackError, PackFault};
 pub use packed::Packed;
 pub use packing::{PackEnd, Packing, check};
-
-#[cfg(test)]
-mod tests;
+pub use shared::SharedPacked;

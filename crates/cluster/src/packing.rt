@@ -101,6 +101,31 @@ impl Packing {
         })
     }
 
+    /// The circuit that is packed.
+    pub fn circuit(&self) -> &SharedCircuit
+        ensures { result.now ≡ self.now.circuit }
+    {
+        &self.circuit
+    }
+
+    /// The circuit that was being packed, without the packing.
+    pub fn into_circuit(self) -> SharedCircuit
+        ensures { result ≡ self.circuit }
+    {
+        let Packing {
+            alloc: _,
+            circuit,
+            arch,
+            grower,
+            clusters,
+            made: _,
+        } = self;
+        drop(arch);
+        drop(grower);
+        drop(clusters);
+        circuit
+    }
+
     /// Makes one cluster. Without memory the packing comes back as it was.
     pub fn next(mut self) -> Result<PackEnd, Self>
         ensures { GoesOn self result }

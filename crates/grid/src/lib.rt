@@ -8,8 +8,6 @@
 mod fit;
 mod place;
 mod places;
-#[cfg(test)]
-mod tests;
 
 pub use fit::Fit;
 pub use place::{Kind, Place, Places};
