@@ -1,9 +1,10 @@
 mod Edges
 mod Exact
 mod Agrees
+mod Bounds
 mod Examples
 mod Labels
 mod Settles
 mod Choices
-mod Trails
-mod Street
+mod Stacks
+mod Raising

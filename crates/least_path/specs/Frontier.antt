@@ -1,4 +1,4 @@
--- What a search keeps true while it labels nodes. Cited by private functions alone.
+-- Private: what a search keeps true while it labels nodes.
 use Rattle.std.proofs.Common.{◌≡◌, ◌≢◌, ℕ, ◌+◌, ◌*◌, ◌^◌, ◌<◌, ◌≤◌, ◌⊎◌, List, [], ◌∷◌, length, get_or, set}
 use Rattle.std.specs.List.{sum_by, All, Contains}
 use Rattle.std.specs.Prelude.{if◌then◌else◌, ◌==◌}
@@ -14,7 +14,7 @@ use Rattle.least_path.specs.declared.search.Waiting.{Waiting}
 use Rattle.least_path.specs.declared.search.Search.{Search}
 
 abbrev pub waiting_cmp : Waiting → Waiting → Ordering
-waiting_cmp a b = ordering_then (ordering_then (nat_cmp a.at_least b.at_least) (nat_cmp a.cost b.cost)) (nat_cmp a.node b.node)
+waiting_cmp a b = ordering_then (ordering_then (nat_cmp a.at_least b.at_least) (nat_cmp b.cost.0 a.cost.0)) (nat_cmp a.node b.node)
 
 -- the greatest comes out of the heap first
 abbrev pub entry_cmp : Reverse Waiting → Reverse Waiting → Ordering
@@ -75,22 +75,23 @@ IsClosed g goal epoch labels node = (node ≢ goal) × All (λ end. IsServed g g
 pub record IsEntry (g : Graph) (goal epoch : ℕ) (labels : List Label) (entry : Reverse Waiting) : Type 0 where
   pub within : entry.0.node < g.count
   pub labelled : IsLabelledIn epoch labels entry.0.node
-  pub cheaper : cost_in labels entry.0.node ≤ entry.0.cost
-  pub from : entry.0.cost ≤ entry.0.at_least
-  pub to : (rest : List ℕ) → Leads g goal entry.0.node rest → entry.0.at_least ≤ entry.0.cost + sum_by g.cost rest
+  pub cheaper : cost_in labels entry.0.node ≤ entry.0.cost.0
+  pub from : entry.0.cost.0 ≤ entry.0.at_least
+  pub to : (rest : List ℕ) → Leads g goal entry.0.node rest → entry.0.at_least ≤ entry.0.cost.0 + sum_by g.cost rest
 
 -- The node's label is in the heap.
 pub record Waits (labels : List Label) (heap : List (Reverse Waiting)) (node : ℕ) : Type 0 where
   pub entry : Reverse Waiting
   pub contained : Contains heap entry
   pub its_node : entry.0.node ≡ node
-  pub its_cost : entry.0.cost ≡ cost_in labels node
+  pub its_cost : entry.0.cost.0 ≡ cost_in labels node
 
 -- Each node that has a label is closed or waits, but for the one that is being looked at.
 pub record Frontier (g : Graph) (starts : List ℕ) (goal except epoch : ℕ) (labels : List Label) (heap : List (Reverse Waiting)) : Type 0 where
   pub room : g.count ≤ length labels
   pub few : length labels ≤ 2 ^ 23
   pub begun : 1 ≤ epoch
+  pub more : epoch + 1 < 2 ^ 32
   pub cheap : (v : ℕ) → v < g.count → IsLabelledIn epoch labels v → cost_in labels v + fresh epoch labels * 2 ^ 36 ≤ length labels * 2 ^ 36
   pub reached : (v : ℕ) → v < g.count → IsLabelledIn epoch labels v → Reached g starts v (cost_in labels v)
   pub cared_for : (v : ℕ) → v < g.count → IsLabelledIn epoch labels v → (v ≡ except) ⊎ (IsClosed g goal epoch labels v ⊎ Waits labels heap v)
@@ -105,6 +106,7 @@ pub record IsBegun (s : Search) (count : ℕ) : Type 0 where
   pub room : count ≤ length s.labels.items
   pub few : length s.labels.items ≤ 2 ^ 23
   pub begun : 1 ≤ s.epoch
+  pub more : s.epoch + 1 < 2 ^ 32
   pub none_labelled : All (λ label. label.epoch < s.epoch) s.labels.items
   pub no_heap : heap_items s.heap ≡ []
   pub heap_order : IsHeap entry_cmp (heap_items s.heap)
@@ -122,7 +124,7 @@ pub record AddsLabel (g : Graph) (goal : ℕ) (s t : Search) (node cost : ℕ) :
   pub cheaper : IsLabelled s node → cost < cost_at s node
   pub from : cost ≤ at_least
   pub to : (rest : List ℕ) → Leads g goal node rest → at_least ≤ cost + sum_by g.cost rest
-  pub pushed : IsPermutation (record { 0 = record { at_least = at_least; cost = cost; node = node } } ∷ heap_items s.heap) (heap_items t.heap)
+  pub pushed : IsPermutation (record { 0 = record { at_least = at_least; cost = record { 0 = cost }; node = node } } ∷ heap_items s.heap) (heap_items t.heap)
   pub heap_order : IsHeap entry_cmp (heap_items s.heap) → IsHeap entry_cmp (heap_items t.heap)
 
 -- what an offer changes
@@ -153,4 +155,3 @@ pub record IsSettled (g : Graph) (starts : List ℕ) (goal : ℕ) (s : Search) :
   pub entered : All (λ start. IsServed g goal s.epoch s.labels.items start 0) starts
   pub goal_labelled : IsLabelled s goal
   pub no_less : All (λ entry. cost_at s goal ≤ entry.0.at_least) (heap_items s.heap)
-  pub no_nearer : All (λ entry. entry.0.at_least ≤ cost_at s goal → cost_at s goal ≤ entry.0.cost) (heap_items s.heap)

@@ -1,30 +1,119 @@
--- What the second pass keeps true. Cited by private functions alone.
-use Rattle.std.proofs.Common.{◌≡◌, ℕ, ◌+◌, ◌≤◌, Option, Some, None, List, [], ◌∷◌, set}
-use Rattle.std.specs.List.{All, Contains}
+-- Private: what the second pass keeps true.
+use Rattle.std.proofs.Common.{◌≡◌, ℕ, ◌+◌, ◌<◌, ◌≤◌, Option, Some, None, List, [], ◌∷◌, ◌++◌, length, map, reverse, set}
+use Rattle.std.specs.List.{All, Contains, sum_by}
+use Rattle.std.specs.Option.{option_to_list}
+use Rattle.std.specs.List.Sorted.{IsPermutation, IsNonDecreasing}
 use Rattle.least_path.specs.Graph.{Graph}
-use Rattle.least_path.specs.Frontier.{IsLabelled, cost_at}
+use Rattle.least_path.specs.Path.{Leads}
+use Rattle.least_path.specs.Frontier.{cost_in, epoch_in}
+use Rattle.least_path.specs.declared.search.Label.{Label}
 use Rattle.least_path.specs.declared.search.Search.{Search}
+use Rattle.least_path.specs.declared.search.Stop.{Stop}
+use Rattle.least_path.specs.declared.search.Turn.{Turn}
+use Rattle.least_path.specs.declared.search.Turn.TheVariants.{Ahead, Entered}
 
--- the least of the list of which P holds, and none where it holds of none
-abbrev pub IsLeastWhere : (ℕ → Type 0) → List ℕ → Option ℕ → Type 0
-IsLeastWhere P xs None = All (λ x. P x → ⊥) xs
-IsLeastWhere P xs (Some least) = Contains xs least × P least × All (λ x. P x → least ≤ x) xs
+-- what may come next: the starts, or after a node the ends of its edges
+abbrev pub ends_of : Graph → List ℕ → Option Stop → List ℕ
+ends_of g starts None = starts
+ends_of g starts (Some stop) = g.ends stop.node
 
--- The path over the node is a cheapest one to the end of its edge.
-abbrev pub IsNext : Graph → Search → ℕ → ℕ → Type 0
-IsNext g s node end = IsLabelled s end × (cost_at s end ≡ cost_at s node + g.cost end)
+-- what the path to it then costs
+abbrev pub after : Graph → Option Stop → ℕ → ℕ
+after g None node = 0
+after g (Some stop) node = stop.cost + g.cost node
 
--- the least next node after the last
-abbrev pub IsLeastFrom : Graph → Search → ℕ → List ℕ → Option ℕ → Type 0
-IsLeastFrom g s node [] next = IsLeastWhere (IsNext g s node) (g.ends node) next
-IsLeastFrom g s node (x ∷ rest) next = IsLeastFrom g s x rest next
+-- the way from the node to the goal with which the whole path costs just so much
+pub record IsShortWay (g : Graph) (goal best node cost : ℕ) (rest : List ℕ) : Type 0 where
+  pub leads : Leads g goal node rest
+  pub tight : cost + sum_by g.cost rest ≡ best
 
--- and the least start after none
-abbrev pub IsLeastAfter : Graph → Search → List ℕ → List ℕ → Option ℕ → Type 0
-IsLeastAfter g s starts [] next = IsLeastWhere (IsLabelled s) starts next
-IsLeastAfter g s starts (x ∷ rest) next = IsLeastFrom g s x rest next
+-- The first pass found no cheaper path to the node, and the second has not entered it at that cost or a lower one.
+pub record MayLead (epoch : ℕ) (labels : List Label) (node cost : ℕ) : Type 0 where
+  pub labelled : epoch_in labels node + 1 ≡ epoch → cost ≤ cost_in labels node
+  pub entered : epoch_in labels node ≡ epoch → cost < cost_in labels node
 
--- The node loses its label.
-pub record Forgets (s t : Search) (node : ℕ) : Type 0 where
+-- A path of the least cost leads over the node at that cost, for all that is known.
+pub record Needs (g : Graph) (goal best epoch : ℕ) (labels : List Label) (node cost : ℕ) : Type 0 where
+  pub may : MayLead epoch labels node cost
+  pub rest : List ℕ
+  pub way : IsShortWay g goal best node cost rest
+
+-- some of a list: all that P holds of are allowed, and all that Q holds of are wanted
+pub record Selects (P Q : ℕ → Type 0) (xs ys : List ℕ) : Type 0 where
+  pub sound : All (λ y. Contains xs y × P y) ys
+  pub complete : All (λ x. Q x → Contains ys x) xs
+  pub few : length ys ≤ length xs
+
+-- The frame is what may come next of a list.
+pub record Lists (g : Graph) (goal best : ℕ) (parent : Option Stop) (xs : List ℕ) (s t : Search) : Type 0 where
   pub epoch : t.epoch ≡ s.epoch
-  pub labels : t.labels.items ≡ set s.labels.items node (record { cost = cost_at s node; epoch = 0 })
+  pub labels : t.labels.items ≡ s.labels.items
+  pub turns : t.turns.items ≡ s.turns.items
+  pub listed : Selects (λ y. after g parent y ≤ best) (λ y. Needs g goal best s.epoch s.labels.items y (after g parent y)) xs t.frame.items
+
+abbrev pub ahead_of : Graph → Option Stop → ℕ → Turn
+ahead_of g parent node = Ahead (record { node = node; cost = after g parent node })
+
+-- The frame goes onto the stack, the least node on top.
+pub record Raises (g : Graph) (parent : Option Stop) (s t : Search) : Type 0 where
+  pub nodes : List ℕ
+  pub epoch : t.epoch ≡ s.epoch
+  pub labels : t.labels.items ≡ s.labels.items
+  pub same : IsPermutation s.frame.items nodes
+  pub rising : IsNonDecreasing nodes
+  pub turns : reverse t.turns.items ≡ map (ahead_of g parent) nodes ++ reverse s.turns.items
+
+-- The frame is put in order.
+pub record Sorts (s t : Search) : Type 0 where
+  pub epoch : t.epoch ≡ s.epoch
+  pub labels : t.labels.items ≡ s.labels.items
+  pub turns : t.turns.items ≡ s.turns.items
+  pub same : IsPermutation s.frame.items t.frame.items
+  pub rising : IsNonDecreasing t.frame.items
+
+-- The last of the frame leaves it, if there is one.
+pub record TakesListed (s t : Search) (node : Option ℕ) : Type 0 where
+  pub epoch : t.epoch ≡ s.epoch
+  pub labels : t.labels.items ≡ s.labels.items
+  pub turns : t.turns.items ≡ s.turns.items
+  pub frame : s.frame.items ≡ t.frame.items ++ option_to_list node
+
+-- The top of the stack leaves it.
+pub record TakesTurn (s t : Search) (turn : Turn) : Type 0 where
+  pub epoch : t.epoch ≡ s.epoch
+  pub labels : t.labels.items ≡ s.labels.items
+  pub turns : s.turns.items ≡ t.turns.items ++ turn ∷ []
+
+-- The node stands on the stack, and its label says at which cost.
+pub record Enters (s t : Search) (stop : Stop) : Type 0 where
+  pub epoch : t.epoch ≡ s.epoch
+  pub labels : t.labels.items ≡ set s.labels.items stop.node (record { cost = stop.cost; epoch = s.epoch })
+  pub turns : t.turns.items ≡ s.turns.items ++ Entered stop ∷ []
+
+-- A pass begins: with an empty stack, and labels that are not its own.
+pub record Renews (s t : Search) : Type 0 where
+  pub epoch : t.epoch ≡ s.epoch + 1
+  pub labels : t.labels.items ≡ s.labels.items
+  pub turns : t.turns.items ≡ []
+
+-- The starts that may come first are raised.
+pub record Begins (g : Graph) (starts : List ℕ) (goal best : ℕ) (s v : Search) : Type 0 where
+  pub t : Search
+  pub u : Search
+  pub renews : Renews s t
+  pub lists : Lists g goal best None starts t u
+  pub raises : Raises g None u v
+
+-- The node is entered, and what may come after it is raised.
+pub record GoesOn (g : Graph) (goal best : ℕ) (s v : Search) (stop : Stop) : Type 0 where
+  pub t : Search
+  pub u : Search
+  pub enters : Enters s t stop
+  pub lists : Lists g goal best (Some stop) (g.ends stop.node) t u
+  pub raises : Raises g (Some stop) u v
+
+-- the nodes that were entered, in order
+abbrev pub nodes_in : List Turn → List ℕ
+nodes_in [] = []
+nodes_in (Ahead stop ∷ rest) = nodes_in rest
+nodes_in (Entered stop ∷ rest) = stop.node ∷ nodes_in rest

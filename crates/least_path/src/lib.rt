@@ -4,20 +4,19 @@
 //! can tell, at least how much the way from a node to a goal costs. Among all paths from some
 //! starts to a goal, [`least`] finds the one that is least by the sum of its costs without the
 //! start's, and then by its nodes, as a dictionary orders words. A [`Search`] does so again and
-//! again in the same room: 16 bytes for each node of the largest graph, and a heap.
+//! again in the same room: 16 bytes for each node of the largest graph, a heap and a stack.
 //!
 //! A search has two passes. The first labels nodes with what the cheapest path to them costs, the
 //! nearest first by that cost and the bound on the rest (A*, and Dijkstra's algorithm where the
-//! bound is 0). The second goes from the starts to the goal along edges whose end's label is
-//! dearer by just the end's cost, to the least node each time, and back where that leads nowhere.
+//! bound is 0), until the goal's label is final. The second goes from the starts to the goal along
+//! edges on which a path of that cost may lie, to the least node each time, and back where that
+//! leads nowhere. Where the bounds agree along edges, each looks at an edge at most once.
 #![tactic(auto)]
 
 mod path;
 mod roads;
 mod search;
-#[cfg(test)]
-mod tests;
 
 pub use path::{Path, least, least_path_law};
-pub use roads::Roads;
+pub use roads::{Ends, Roads, lower_bound_law};
 pub use search::Search;

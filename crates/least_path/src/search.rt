@@ -1,4 +1,5 @@
-ghost use Rattle.std.specs.Prelude.{◌≡◌, ◌^◌, ◌<◌, ◌≤◌, All, OnOk, IfOk, IfSome, IfNone, vec_len};
+//! A searcher that keeps its room.
+ghost use Rattle.std.specs.Prelude.{◌≡◌, ◌^◌, ◌<◌, ◌≤◌, true, false, All, OnOk, IfOk, IfSome, IfNone, vec_len, if◌then◌else◌};
 ghost use Rattle.least_path.specs.Graph.{AreNodes};
 ghost use Rattle.least_path.specs.LeastPath.{least_path, TellsLeastPath, HasNoPath, nodes_of};
 
@@ -24,9 +25,26 @@ struct Label {
 struct Waiting {
     /// At least what any path over the node to the goal costs.
     at_least: u64,
-    /// The cost of the node's label when the entry was made.
-    cost: u64,
+    /// The cost of the node's label when the entry was made. Of two that may be as near, the one
+    /// comes first that has more of its way behind it.
+    cost: Reverse<u64>,
     node: usize,
+}
+
+/// A node, and what a path to it costs.
+#[derive(Clone, Copy)]
+struct Stop {
+    node: usize,
+    cost: u64,
+}
+
+/// What stands on the stack of the second pass.
+#[derive(Clone, Copy)]
+enum Turn {
+    /// A node that may come after the nearest entered one below it.
+    Ahead(Stop),
+    /// A node of the path that is being tried.
+    Entered(Stop),
 }
 
 /// A searcher that keeps its room from one search to the next, and clears none of it.
@@ -35,6 +53,9 @@ pub struct Search {
     epoch: u32,
     labels: Vec<Label>,
     heap: BinaryHeap<Reverse<Waiting>>,
+    turns: Vec<Turn>,
+    /// The nodes that come next to the stack.
+    frame: Vec<usize>,
     ghost past: { All (λ label. label.epoch ≤ epoch) labels.items },
     ghost few: { vec_len labels ≤ 2 ^ 23 },
 }
@@ -48,6 +69,8 @@ impl Search {
             epoch: 0,
             labels: Vec::new(alloc),
             heap: BinaryHeap::new(alloc),
+            turns: Vec::new(alloc),
+            frame: Vec::new(alloc),
         }
     }
 
@@ -70,13 +93,38 @@ impl Search {
         ensures exact { IfOk result (λ answer.
             nodes_of answer ≡ least_path (R.graph roads.now) starts.now goal) }
     {
+        let nodes = Vec::new(alloc);
+        let mut path = Path { nodes, cost: 0 };
+        if self.least_into(roads, starts, goal, &mut path)? {
+            Ok(Some(path))
+        } else {
+            Ok(None)
+        }
+    }
+
+    /// Writes the least path from one of `starts` to `goal` in place of what `path` held, and tells
+    /// whether there is one, as `least` does. Where all has room enough already, no memory is taken.
+    pub fn least_into<R: Roads>(
+        &mut self,
+        roads: &R,
+        starts: &[usize],
+        goal: usize,
+        path: &mut Path,
+    ) -> Result<bool, AllocError>
+        requires starts { AreNodes (R.graph roads.now) starts.now }
+        requires goal { goal < (R.graph roads.now).count }
+        ensures found { result ≡ Ok true → TellsLeastPath (R.graph roads.now) starts.now goal path.new }
+        ensures none { result ≡ Ok false → HasNoPath (R.graph roads.now) starts.now goal }
+        ensures exact { IfOk result (λ found.
+            least_path (R.graph roads.now) starts.now goal ≡ (if found then Some path.new.nodes.items else None)) }
+    {
         self.begin(roads.count())?;
         if !self.settle(roads, starts, goal)? {
-            return Ok(None);
+            return Ok(false);
         }
-        let cost = self.labels[goal].cost;
-        let nodes = self.walk(alloc, roads, starts, goal)?;
-        Ok(Some(Path { nodes, cost }))
+        path.cost = self.labels[goal].cost;
+        self.walk(roads, starts, goal, &mut path.nodes)?;
+        Ok(true)
     }
 
     /// Makes room for the labels of `count` nodes, and forgets those of the searches before.
@@ -85,7 +133,7 @@ impl Search {
         ensures { OnOk result (IsBegun self.new count) }
     {
         const NONE: Label = Label { cost: 0, epoch: 0 };
-        if self.epoch == u32::MAX {
+        if self.epoch >= u32::MAX - 1 {
             self.labels.clear();
             self.epoch = 0;
         }

@@ -20,12 +20,12 @@ mod joins;
 mod laws;
 mod node;
 mod numbering;
+mod reads;
 mod table;
-#[cfg(test)]
-mod tests;
 
 pub use edges::Edges;
 pub use fabric::Fabric;
-pub use graph::{StripGraph, one_graph};
+pub use graph::{Ends, StripGraph, one_graph};
 pub use laws::laws_of_geometry;
 pub use node::{Node, NodeKind};
+pub use reads::is_read;

@@ -3,7 +3,7 @@ use Rattle.std.proofs.lemmas.List.{get_or_read}
 use Rattle.least_path.specs.Frontier.{no_label}
 use Rattle.least_path.specs.declared.search.Label.{Label}
 use Rattle.least_path.proofs.Labels.{meets, expanding_none, expanding_more, expanded}
-use Rattle.least_path.proofs.Edges.{past_end}
+use Rattle.least_path.proofs.Edges.{past_listed}
 use Rattle.least_path.proofs.search.Search.expand.Goals as goal
 
 pub loop-end-init : goal.loop-end-init
@@ -12,20 +12,36 @@ loop-end-init g c =
     let r = get_or_read c.args.self.now.labels.items c.args.node c.index.result.now (omega (arith, f.room, c.requires.within)) c.index.ensures no_label in
     expanding_none (ap (λ (y : Label). y.cost) (sym r)) c.requires.labelled
 
+pub overflow_add-end : goal.overflow_add-end
+overflow_add-end g c =
+    let m = meets c.loop-end.invariant c.requires.lawful c.requires.within c.requires.frontier c.ends-ends.result.list.now c.ends-ends.result.base c.ends-ends.ensures c.loop-end-test.true in
+    omega (arith, m.within, c.requires.lawful.few)
+
+pub cost-requires : goal.cost-requires
+cost-requires g c =
+    (meets c.loop-end.invariant c.requires.lawful c.requires.within c.requires.frontier c.ends-ends.result.list.now c.ends-ends.result.base c.ends-ends.ensures c.loop-end-test.true).within
+
+pub overflow_add-cost : goal.overflow_add-cost
+overflow_add-cost g c =
+    let m = meets c.loop-end.invariant c.requires.lawful c.requires.within c.requires.frontier c.ends-ends.result.list.now c.ends-ends.result.base c.ends-ends.ensures c.loop-end-test.true in
+    omega (arith, m.small, c.cost.ensures)
+
+pub offer-requires-clause-within : goal.offer-requires-clause-within
+offer-requires-clause-within g c =
+    (meets c.loop-end.invariant c.requires.lawful c.requires.within c.requires.frontier c.ends-ends.result.list.now c.ends-ends.result.base c.ends-ends.ensures c.loop-end-test.true).within
+
 pub offer-requires-clause-room : goal.offer-requires-clause-room
 offer-requires-clause-room g c =
-    let m = meets c.loop-end.invariant c.requires.lawful c.requires.within c.requires.frontier c.in-Some.end c.edge.result c.edge.ensures c.in-Some.is in
+    let m = meets c.loop-end.invariant c.requires.lawful c.requires.within c.requires.frontier c.ends-ends.result.list.now c.ends-ends.result.base c.ends-ends.ensures c.loop-end-test.true in
     omega (arith, m.room, c.loop-end.self.labels.ok.0)
-
-pub loop-end-smaller : goal.loop-end-smaller
-loop-end-smaller g c =
-    let m = meets c.loop-end.invariant c.requires.lawful c.requires.within c.requires.frontier c.in-Some.end c.edge.result c.edge.ensures c.in-Some.is in
-    omega (arith, m.place)
 
 pub loop-end-preserved : goal.loop-end-preserved
 loop-end-preserved g c =
-    let m = meets c.loop-end.invariant c.requires.lawful c.requires.within c.requires.frontier c.in-Some.end c.edge.result c.edge.ensures c.in-Some.is in
+    let m = meets c.loop-end.invariant c.requires.lawful c.requires.within c.requires.frontier c.ends-ends.result.list.now c.ends-ends.result.base c.ends-ends.ensures c.loop-end-test.true in
     expanding_more c.offer.new.self _ c.loop-end.invariant m c.requires.lawful c.requires.within (ap (λ x. c.index.result.now.cost + x) c.cost.ensures) c.in_ok-offer.ensures
 
 pub returns-clause-frontier : goal.returns-clause-frontier
-returns-clause-frontier g c = expanded c.loop-end.invariant c.requires.other (past_end _ _ _ c.edge.ensures c.in_default.is)
+returns-clause-frontier g c = expanded c.loop-end.invariant c.requires.other (past_listed _ _ _ _ c.ends-ends.ensures c.loop-end-test.false)
+
+pub returns-clause-falls : goal.returns-clause-falls
+returns-clause-falls g c = c.loop-end.invariant.falls

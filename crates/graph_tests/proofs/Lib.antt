@@ -1,0 +1,4 @@
+mod Rising
+mod UnitGraph
+mod Street
+mod Pairs

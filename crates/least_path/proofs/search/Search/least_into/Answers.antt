@@ -1,0 +1,23 @@
+use Rattle.std.proofs.Common.{ap, ◌∙◌, arith}
+use Rattle.std.proofs.lemmas.List.{get_or_read}
+use Rattle.least_path.specs.Frontier.{no_label}
+use Rattle.least_path.specs.declared.search.Label.{Label}
+use Rattle.least_path.proofs.Exact.{least_path-is, least_path-none, path_within}
+use Rattle.least_path.proofs.search.Search.least_into.Goals as goal
+
+pub returns-clause-exact : goal.returns-clause-exact
+returns-clause-exact g c = least_path-is _ _ _ _ c.count.ensures.lawful c.requires.starts c.in_ok-walk.ensures.least
+
+pub returns-then-not-branch-clause-exact : goal.returns-then-not-branch-clause-exact
+returns-then-not-branch-clause-exact g c = least_path-none _ _ _ (c.in_ok-settle.ensures.none (cc))
+
+pub returns-clause-found : goal.returns-clause-found
+returns-clause-found g c =
+    let z = c.in_ok-settle.ensures.found (cc) in
+    let r = get_or_read c.settle.new.self.labels.items c.args.goal c.index.result.now (omega (arith, z.frontier.room, c.requires.goal)) c.index.ensures no_label in
+    let found = c.in_ok-walk.ensures in
+    λ _. record {
+      least = found.least;
+      within = path_within _ _ _ c.count.ensures.lawful c.requires.starts _ found.least.found;
+      cost = ap (λ (y : Label). y.cost) r ∙ found.cost;
+    }
