@@ -21,7 +21,8 @@ use Rattle.cluster.specs.Clusters.{PackedCircuit, outputs_of}
 use Rattle.cluster.specs.Blocks.{block_name, blocks_of, elements_in, is_same_class, net_name, pins_of, seed_name}
 use Rattle.cluster.specs.declared.block.Block.{Block}
 use Rattle.cluster.specs.declared.block.Block.TheVariants.{InputPad, OutputPad, Cluster}
-use Rattle.vpr_files.specs.NetFile.{HasCluster, is_on}
+use Rattle.vpr_files.specs.BlockClusters.{HasCluster}
+use Rattle.vpr_files.specs.NetFile.{is_on}
 
 -- a BLE by its parts
 abbrev pub element : List ℕ → ℕ → Option ℕ → LogicElement

@@ -1,3 +1,4 @@
 pub mod TextLines
 pub mod Writing
 pub mod NetFile
+pub mod BlockClusters

@@ -1,5 +1,5 @@
 -- The `.net` file of a packed circuit: its global nets, and its blocks with what their pins carry.
-use Rattle.std.specs.Prelude.{ℕ, ◌<◌, length, ⊤, Bool, false, ◌&&◌, ◌==◌, List, [], ◌∷◌, ◌++◌, map, filter, codes, decimal, position, option_and_then, slice_get, Option, Some, None}
+use Rattle.std.specs.Prelude.{ℕ, Bool, false, ◌&&◌, ◌==◌, List, [], ◌∷◌, ◌++◌, map, filter, codes, decimal, position, option_and_then, slice_get, Option, Some, None}
 use Rattle.std.specs.List.{flat_map, range_with_len, zip}
 use Rattle.arch_file.specs.declared.arch.PinClass.{PinClass}
 use Rattle.arch_file.specs.declared.arch.PinClass.TheVariants.{Input, Output, Clock}
@@ -72,11 +72,6 @@ block_lines packed (Cluster cluster) =
     ∷ (codes "pinlist:" ∷ map (net_word packed.circuit) (pins_of packed cluster))
     ∷ map (element_line packed cluster) (elements_in packed cluster)
     ++ [] ∷ []
-
--- a block that is a cluster is one of the packing's
-abbrev pub HasCluster : PackedCircuit → Block → Type 0
-HasCluster packed (Cluster cluster) = cluster < length packed.clusters
-HasCluster packed block = ⊤
 
 -- the line of a global net
 abbrev pub global_line : Circuit → BlockNet → List (List ℕ)

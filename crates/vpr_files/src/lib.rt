@@ -1,4 +1,4 @@
-//! The files that VPR writes of a circuit, byte by byte.
+//! The result files of a circuit, byte by byte: the `.net` file as T-VPack writes it, the others as VPR does.
 //!
 //! Lines are words with one space between them, each line ended by LF. A file goes straight to a [`line_text::Sink`], in
 //! small pieces and without memory, so the sink should have a buffer. A sink that fails has taken a beginning of the file.
@@ -8,8 +8,6 @@
 
 mod net_file;
 mod pin_words;
-#[cfg(test)]
-mod tests;
 mod writing;
 
 pub use net_file::net_text;

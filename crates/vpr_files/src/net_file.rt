@@ -5,7 +5,8 @@ ghost use Rattle.cluster.specs.declared.block.Block.TheVariants.{Cluster};
 ghost use Rattle.cluster.specs.Bles.{bles_of};
 ghost use Rattle.cluster.specs.Blocks.{block_name, blocks_of, elements_in, net_name, pins_of};
 ghost use Rattle.cluster.specs.Packing.{IsPacked};
-ghost use Rattle.vpr_files.specs.NetFile.{HasCluster, block_lines, element_line, global_lines, net_text_of, net_word};
+ghost use Rattle.vpr_files.specs.BlockClusters.{HasCluster};
+ghost use Rattle.vpr_files.specs.NetFile.{block_lines, element_line, global_lines, net_text_of, net_word};
 ghost use Rattle.vpr_files.specs.TextLines.{line_of, spaced, text_of};
 ghost use Rattle.vpr_files.specs.Writing.{Writes};
 

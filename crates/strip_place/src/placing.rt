@@ -1,0 +1,119 @@
+//! Placing, pass by pass.
+ghost use Rattle.std.specs.Prelude.{◌≡◌, ◌*◌, ◌<◌, ◌≤◌, length, IfOk, slice_get, Some};
+ghost use Rattle.grid.specs.declared.fit.Fit.TheVariants.{Fits};
+ghost use Rattle.grid.specs.Fits.{fit_of};
+ghost use Rattle.grid.specs.Sizes.{IsStripSize};
+ghost use Rattle.strip_place.specs.Task.{task_of};
+ghost use Rattle.strip_place.specs.Anneal.{one_more, end_of, after_words, draw_of, places_by_block, sites_by_block};
+ghost use Rattle.strip_place.specs.Sites.{AreOneToOne};
+ghost use Rattle.strip_place.specs.Pass.{pass_of};
+
+use crate::board::{Board, Words};
+use crate::start::start_board;
+use cluster::Packed;
+use grid::{Place, Strip};
+use rand_core::utils::NextWord;
+use rand_pcg::Pcg32;
+use std::alloc::{AllocError, Global};
+use std::marker::Model;
+
+/// What a pass answers.
+#[derive(Clone, Copy, Debug, PartialEq, Eq)]
+pub enum PassEnd {
+    /// There are more.
+    More,
+    /// It was the last.
+    Last,
+}
+
+/// The blocks of a packed circuit on a strip, after so many passes.
+#[derive(Drop)]
+pub struct Placing {
+    board: Board,
+    seed: u64,
+    effort: u32,
+    passes: u32,
+    words: Pcg32,
+    temperature: u32,
+    finished: bool,
+}
+
+impl Model for Placing {
+    ghost use Rattle.strip_place.specs.Anneal.{PlacingUnderWay};
+    ghost use Rattle.strip_place.specs.UnderWay.{IsUnderWay};
+
+    ghost Value = { PlacingUnderWay };
+
+    ghost view = { λ p. record { strip = p.board.strip; task = p.board.task; seed = p.seed; effort = p.effort; passes = p.passes } };
+
+    ghost invariant = { λ p. IsUnderWay p.board p.seed p.effort p.passes p.words p.temperature p.finished };
+}
+
+impl Placing {
+    /// The packed circuit with each block at the start: on the next place of its kind.
+    pub fn start(
+        alloc: Global,
+        packed: &Packed,
+        strip: Strip,
+        seed: u64,
+        effort: u32,
+    ) -> Result<Self, AllocError>
+        requires size { IsStripSize strip }
+        requires fits { fit_of strip packed.now ≡ Fits }
+        requires effort { effort ≤ 100 }
+        ensures { IfOk result (λ placing. placing ≡ record { strip = strip; task = task_of packed.now; seed = seed; effort = effort; passes = 0 }) }
+    {
+        let board = start_board(alloc, packed, strip)?;
+        Ok(Placing {
+            board,
+            seed,
+            effort,
+            passes: 0,
+            words: Pcg32::new(seed, 54),
+            temperature: strip.width + strip.rows,
+            finished: false,
+        })
+    }
+
+    /// Makes a pass, and tells whether it was the last; after that one it changes nothing. Takes no memory.
+    pub fn pass(&mut self) -> PassEnd
+        ensures new { self.new ≡ one_more self.old }
+        ensures end { result ≡ end_of self.new }
+    {
+        if self.finished {
+            return PassEnd::Last;
+        }
+        let draws = self.effort as usize * self.board.len();
+        make_draws(&mut self.board, &mut self.words, self.temperature, draws);
+        self.passes += 1;
+        if self.temperature == 0 {
+            self.finished = true;
+            return PassEnd::Last;
+        }
+        self.temperature = 9 * self.temperature / 10;
+        PassEnd::More
+    }
+
+    /// The place of a block.
+    pub fn place_of(&self, block: usize) -> Place
+        requires { block < length self.now.task.kinds }
+        ensures value { slice_get (places_by_block self.now) block ≡ Some result }
+        ensures one_to_one { AreOneToOne self.now.strip self.now.task.kinds (sites_by_block self.now) }
+    {
+        self.board.place(block)
+    }
+}
+
+/// Makes so many draws.
+fn make_draws(board: &mut Board, words: &mut Pcg32, temperature: u32, draws: usize)
+    requires { 0 < draws → 0 < length board.old.task.kinds }
+    ensures board { board.new ≡ record board.old { sites = pass_of board.old.strip board.old.task temperature (draw_of words.old) draws board.old.sites } }
+    ensures words { words.new ≡ after_words words.old (3 * draws) }
+{
+    for _ in 0..draws {
+        let u = words.next_word();
+        let v = words.next_word();
+        let a = words.next_word();
+        board.draw(temperature, Words { u, v, a });
+    }
+}
