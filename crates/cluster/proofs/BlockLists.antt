@@ -43,7 +43,7 @@ flat_map_same {A} f g (suc count) same =
     subst (λ (n : ℕ). flat_map f (range_with_len 0 n) ≡ flat_map g (range_with_len 0 n)) (sym one) (flat_map-range_more f count ∙ ap (λ (front : List A). front ++ f count) rest ∙ ap (λ (end : List A). flat_map g (range_with_len 0 count) ++ end) last ∙ sym (flat_map-range_more g count))
 
 -- a function that gives nothing
-flat_map_none : {A : Type 0} (f : ℕ → List A) (count : ℕ) → ((k : ℕ) → f k ≡ []) → flat_map f (range_with_len 0 count) ≡ []
+pub flat_map_none : {A : Type 0} (f : ℕ → List A) (count : ℕ) → ((k : ℕ) → f k ≡ []) → flat_map f (range_with_len 0 count) ≡ []
 flat_map_none {A} f count none = flat_map_same f (λ k. []) count (λ k lt. none k) ∙ nothing (range_with_len 0 count)
   where
     nothing : (xs : List ℕ) → flat_map (λ (k : ℕ). let end : List A = [] in end) xs ≡ []
@@ -58,7 +58,7 @@ by_place g start count blocks f long same =
     ∙ flat_map-map g f (range_with_len 0 count)
 
 -- the blocks, kind by kind
-by_kind : {A : Type 0} (g : ℕ × Block → List A) (packed : PackedCircuit) → flat_map g (enumerate_from 0 (blocks_of packed)) ≡ flat_map (λ k. g (k, InputPad (slice_index packed.circuit.inputs k))) (range_with_len 0 (length packed.circuit.inputs)) ++ (flat_map (λ k. g (length packed.circuit.inputs + k, OutputPad (slice_index packed.circuit.outputs k))) (range_with_len 0 (length packed.circuit.outputs)) ++ flat_map (λ k. g (length packed.circuit.inputs + length packed.circuit.outputs + k, Cluster k)) (range_with_len 0 (length packed.clusters)))
+pub by_kind : {A : Type 0} (g : ℕ × Block → List A) (packed : PackedCircuit) → flat_map g (enumerate_from 0 (blocks_of packed)) ≡ flat_map (λ k. g (k, InputPad (slice_index packed.circuit.inputs k))) (range_with_len 0 (length packed.circuit.inputs)) ++ (flat_map (λ k. g (length packed.circuit.inputs + k, OutputPad (slice_index packed.circuit.outputs k))) (range_with_len 0 (length packed.circuit.outputs)) ++ flat_map (λ k. g (length packed.circuit.inputs + length packed.circuit.outputs + k, Cluster k)) (range_with_len 0 (length packed.clusters)))
 by_kind {A} g packed =
     let inputs = packed.circuit.inputs in
     let outputs = packed.circuit.outputs in
@@ -171,7 +171,7 @@ driven_by packed uses driver (net ∷ outputs) are within =
     by false false same head rest = rest
 
 -- what the members of a cluster drive
-outputs_within : (elements : List LogicElement) (members : List ℕ) (count : ℕ) → All (IsElementWithin count) elements → All (λ number. number < length elements) members → All (λ net. net < count) (outputs_of (elements_at elements members))
+pub outputs_within : (elements : List LogicElement) (members : List ℕ) (count : ℕ) → All (IsElementWithin count) elements → All (λ number. number < length elements) members → All (λ net. net < count) (outputs_of (elements_at elements members))
 outputs_within elements members count within are =
     let none : LogicElement = record { inputs = []; output = 0; clock = None } in
     All-map (λ net. net < count) (λ (element : LogicElement). element.output) (elements_at elements members)

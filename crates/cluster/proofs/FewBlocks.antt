@@ -28,7 +28,7 @@ found P (other ∷ numbers) h number e = by (eqb_tells number other) (found P nu
     by (inr differs) next = next (rw differs.0 at e)
 
 -- numbers below a bound, each once, are no more than the bound
-few_distinct : (numbers : List ℕ) (bound : ℕ) → AllPairs (λ number other. number ≢ other) numbers → All (λ number. number < bound) numbers → length numbers ≤ bound
+pub few_distinct : (numbers : List ℕ) (bound : ℕ) → AllPairs (λ number other. number ≢ other) numbers → All (λ number. number < bound) numbers → length numbers ≤ bound
 few_distinct numbers bound apart below = length-le_from_distinct_below numbers bound (IsDistinct-from_AllPairs Decides-eqb numbers apart) (found (λ number. number < bound) numbers below)
 
 -- each step makes one cluster at most
@@ -36,7 +36,7 @@ one_more : (clusters : List (List ℕ)) (cluster : List ℕ) → length (with_cl
 one_more clusters [] = omega arith
 one_more clusters (seed ∷ others) = omega (arith, length-append clusters ((seed ∷ others) ∷ []))
 
-few_clusters : (arch : Arch) (elements : List LogicElement) (steps : ℕ) → length (clusters_after arch elements steps) ≤ steps
+pub few_clusters : (arch : Arch) (elements : List LogicElement) (steps : ℕ) → length (clusters_after arch elements steps) ≤ steps
 unfolding clusters_after
 few_clusters arch elements zero = omega arith
 few_clusters arch elements (suc steps) =

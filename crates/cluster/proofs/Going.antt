@@ -124,8 +124,8 @@ ends circuit arch growth clusters made s none =
     }
 
 -- what is packed is lawful
-pub ends_lawful : (circuit : Circuit) (arch : Arch) (clusters : List (List ℕ)) → IsCircuit circuit → IsArch arch → packed_of circuit arch ≡ record { circuit = circuit; arch = arch; clusters = clusters } → IsPacked (record { circuit = circuit; arch = arch; clusters = clusters })
-ends_lawful circuit arch clusters lawful profile is = subst IsPacked is (packed_lawful circuit arch lawful profile)
+pub ends_lawful : (circuit : Circuit) (arch : Arch) (clusters : List (List ℕ)) → IsCircuit circuit → IsArch arch → unfit_of circuit arch ≡ None → packed_of circuit arch ≡ record { circuit = circuit; arch = arch; clusters = clusters } → IsPacked (record { circuit = circuit; arch = arch; clusters = clusters })
+ends_lawful circuit arch clusters lawful profile fit is = subst IsPacked is (packed_lawful circuit arch lawful profile fit)
 
 -- at first
 begins_exact : (arch : Arch) (elements : List LogicElement) (free : List ℕ) → free ≡ free_of elements [] → [] ≡ clusters_after arch elements (steps_reached free 0)

@@ -36,3 +36,7 @@ pub mod FreeNumbers
 pub mod KeyLemmas
 pub mod Untouched
 pub mod SeedLemmas
+mod Legal
+mod Partition
+mod BlockNetLaws
+mod PackingLaws

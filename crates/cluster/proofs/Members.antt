@@ -1,5 +1,5 @@
 -- What every packing keeps: clusters have members, and these are elements, of which there are few.
-use Rattle.std.proofs.Common.{◌≡◌, ◌≢◌, ℕ, suc, zero, ◌+◌, ◌<◌, ◌≤◌, Bool, true, false, List, [], ◌∷◌, ◌++◌, All, filter, length, map, drop, if◌then◌else◌, sym, refl, ◌∙◌, arith, nat_lt, length-append, ap, eqb, ◌⊎◌, inl, inr}
+use Rattle.std.proofs.Common.{◌≡◌, ◌≢◌, ℕ, suc, zero, ◌+◌, ◌<◌, ◌≤◌, Bool, true, false, List, [], ◌∷◌, ◌++◌, All, filter, length, map, drop, if◌then◌else◌, sym, refl, ◌∙◌, arith, None, nat_lt, length-append, ap, eqb, ◌⊎◌, inl, inr}
 use Rattle.std.proofs.lemmas.List.{length-map, take-append-drop}
 use Rattle.std.specs.List.{list_any, range_with_len, take_while, prefix_len}
 use Rattle.std.proofs.lemmas.Bool.Decides.{Decides-eqb, eqb_tells}
@@ -14,7 +14,7 @@ use Rattle.blif.specs.declared.latches.Latch.{Latch}
 use Rattle.blif.specs.LookupTables.{LookupTable}
 use Rattle.blif.specs.LawfulCircuits.{IsCircuit, drivers_of}
 use Rattle.cluster.specs.Bles.{LogicElement, bles_of, element_of_latch, element_of_table, in_line_order, is_above, latch_behind, stands_alone}
-use Rattle.cluster.specs.Clusters.{cluster_of, clusters_after, first_most, free_of, grown, input_count_at, leading, may_join, packed_of, seed_of, shared_nets, with_cluster, with_member}
+use Rattle.cluster.specs.Clusters.{cluster_of, clusters_after, first_most, free_of, grown, input_count_at, leading, may_join, packed_of, seed_of, shared_nets, unfit_of, with_cluster, with_member}
 use Rattle.cluster.specs.Packing.{IsPacked}
 
 -- what is chosen among lawful numbers is lawful
@@ -46,11 +46,11 @@ module _ (arch : Arch) (elements : List LogicElement) where
   unfolding cluster_of
   cluster_lawful free f = grown_lawful free (seed_of elements free) arch.cluster_size f (with_lawful IsElement (input_count_at elements) [] free (All-nil IsElement) f)
 
-  ranged : (start count bound : ℕ) → start + count ≤ bound → All (λ number. number < bound) (range_with_len start count)
+  pub ranged : (start count bound : ℕ) → start + count ≤ bound → All (λ number. number < bound) (range_with_len start count)
   ranged start zero bound h = All-nil _
   ranged start (suc count) bound h = All-cons (λ number. number < bound) start _ (omega (arith, h)) (ranged (start + 1) count bound (omega (arith, h)))
 
-  free_lawful : (clusters : List (List ℕ)) → All IsElement (free_of elements clusters)
+  pub free_lawful : (clusters : List (List ℕ)) → All IsElement (free_of elements clusters)
   free_lawful clusters = All-filter _ IsElement (range_with_len 0 (length elements)) (ranged 0 (length elements) (length elements) (omega arith))
 
   -- a lawful cluster
@@ -108,9 +108,10 @@ module _ (circuit : Circuit) where
       (All-map (λ net. net < length circuit.nets) (λ table. table.output) circuit.tables (λ k d small. (c.tables k d small).output))
       (All-map (λ net. net < length circuit.nets) (λ latch. latch.output) circuit.latches (λ k d small. (c.latches k d small).output)))
 
-  pub few_bles : IsCircuit circuit → length (bles_of circuit) ≤ 8192
+  -- what is driven: inputs, and each BLE's output
+  pub few_driven : IsCircuit circuit → length circuit.inputs + length (bles_of circuit) ≤ 8192
   unfolding bles_of
-  few_bles c =
+  few_driven c =
       let kept = filter (stands_alone circuit) circuit.latches in
       let distinct = IsDistinct-from_AllPairs Decides-eqb (drivers_of circuit) c.driven_once in
       let few = length-le_from_distinct_below (drivers_of circuit) (length circuit.nets) distinct (found (λ net. net < length circuit.nets) (drivers_of circuit) (within c)) in
@@ -118,12 +119,16 @@ module _ (circuit : Circuit) where
       let more = length-append (map (λ table. table.output) circuit.tables) (map (λ latch. latch.output) circuit.latches) in
       omega (arith, in_order_few circuit.tables kept, kept_few circuit.latches, few, c.few, sums, more, length-map circuit.tables (λ table. table.output), length-map circuit.latches (λ latch. latch.output))
 
+  pub few_bles : IsCircuit circuit → length (bles_of circuit) ≤ 8192
+  few_bles c = omega (arith, few_driven c)
+
 -- the packing of a lawful circuit keeps all of it
-pub packed_lawful : (circuit : Circuit) (arch : Arch) → IsCircuit circuit → IsArch arch → IsPacked (packed_of circuit arch)
+pub packed_lawful : (circuit : Circuit) (arch : Arch) → IsCircuit circuit → IsArch arch → unfit_of circuit arch ≡ None → IsPacked (packed_of circuit arch)
 unfolding packed_of
-packed_lawful circuit arch c a = record {
+packed_lawful circuit arch c a fit = record {
   circuit = c;
   arch = a;
+  fit = fit;
   members = all_members arch (bles_of circuit) (length (bles_of circuit));
   seeds = all_seeded arch (bles_of circuit) (length (bles_of circuit));
   few_elements = few_bles circuit c;

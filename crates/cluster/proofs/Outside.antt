@@ -58,7 +58,7 @@ with_nets-new seen (net ∷ nets) once = by (has seen net) refl (with_nets-new s
     by true e same more = same
     by false e same more = more ∙ append_assoc seen (net ∷ []) (new_nets (seen ++ net ∷ []) nets) ∙ ap (λ later. seen ++ net ∷ later) (new_unseen seen net nets once.0)
 
-once-push : (nets : List ℕ) (net : ℕ) → IsOnce nets → has nets net ≡ false → IsOnce (nets ++ net ∷ [])
+pub once-push : (nets : List ℕ) (net : ℕ) → IsOnce nets → has nets net ≡ false → IsOnce (nets ++ net ∷ [])
 once-push [] net once h = (refl, tt)
 once-push (other ∷ nets) net once h =
     let more = has-append nets (net ∷ []) other in

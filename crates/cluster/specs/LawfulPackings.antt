@@ -1,14 +1,15 @@
 -- What every packed circuit keeps.
-use Rattle.std.specs.Prelude.{◌≡◌, ◌<◌, ◌≤◌, All, length}
+use Rattle.std.specs.Prelude.{◌≡◌, ◌<◌, ◌≤◌, None, All, length}
 use Rattle.arch_file.specs.Arch.{IsArch}
 use Rattle.blif.specs.LawfulCircuits.{IsCircuit}
 use Rattle.cluster.specs.Bles.{bles_of}
-use Rattle.cluster.specs.Clusters.{PackedCircuit, packed_of}
+use Rattle.cluster.specs.Clusters.{PackedCircuit, packed_of, unfit_of}
 
--- a packed circuit keeps the limits; its clusters have a seed, and their members are its elements
+-- a packed circuit keeps the limits, and each of its BLEs fits alone; its clusters have a seed, and their members are its BLEs
 pub record IsPacked (packed : PackedCircuit) : Type 0 where
   pub circuit : IsCircuit packed.circuit
   pub arch : IsArch packed.arch
+  pub fit : unfit_of packed.circuit packed.arch ≡ None
   pub members : All (λ cluster. All (λ number. number < length (bles_of packed.circuit)) cluster) packed.clusters
   pub seeds : All (λ cluster. 0 < length cluster) packed.clusters
   pub few_elements : length (bles_of packed.circuit) ≤ 8192

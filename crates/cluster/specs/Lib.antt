@@ -22,3 +22,4 @@ pub mod NetSets
 pub mod ClusterPins
 pub mod NetUses
 pub mod FlatNets
+pub mod PackingLaws

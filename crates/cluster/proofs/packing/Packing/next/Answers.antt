@@ -22,7 +22,7 @@ new-tables-requires-clause-packed c =
     let old = c.self.inside in
     let step = stepped old.circuit old.arch old.grower c.add_cluster.new.grower old.clusters c.add_cluster.new.clusters old.made c.self.invariant c.in-Ok.ensures.elements (rw c.arch.ensures.value at c.in-Ok.ensures.added) (rw c.arch.ensures.value at c.in-Ok.ensures.free) in
     let end = ends old.circuit old.arch c.add_cluster.new.grower c.add_cluster.new.clusters old.made step (none_left c.add_cluster.new.grower.free c.has_free.result c.has_free.ensures.1 c.if-has_free.false) in
-    rw (c.circuit.ensures.value, c.arch-2.ensures.value) (ends_lawful old.circuit old.arch c.add_cluster.new.clusters c.circuit.ensures.lawful c.arch.ensures.lawful end.packed)
+    rw (c.circuit.ensures.value, c.arch-2.ensures.value) (ends_lawful old.circuit old.arch c.add_cluster.new.clusters c.circuit.ensures.lawful c.arch.ensures.lawful c.self.invariant.fit end.packed)
 
 pub invariant_of-self-in-Err-tables : goal.invariant_of-self-in-Err-tables
 invariant_of-self-in-Err-tables c =
@@ -36,7 +36,7 @@ new-requires-clause-packed c =
     let old = c.self.inside in
     let step = stepped old.circuit old.arch old.grower c.add_cluster.new.grower old.clusters c.add_cluster.new.clusters old.made c.self.invariant c.in-Ok.ensures.elements (rw c.arch.ensures.value at c.in-Ok.ensures.added) (rw c.arch.ensures.value at c.in-Ok.ensures.free) in
     let end = ends old.circuit old.arch c.add_cluster.new.grower c.add_cluster.new.clusters old.made step (none_left c.add_cluster.new.grower.free c.has_free.result c.has_free.ensures.1 c.if-has_free.false) in
-    ends_lawful old.circuit old.arch c.add_cluster.new.clusters c.circuit.ensures.lawful c.arch.ensures.lawful end.packed
+    ends_lawful old.circuit old.arch c.add_cluster.new.clusters c.circuit.ensures.lawful c.arch.ensures.lawful c.self.invariant.fit end.packed
 
 pub returns-in-Ok-tables : goal.returns-in-Ok-tables
 returns-in-Ok-tables c =

@@ -1,0 +1,67 @@
+-- Each cluster fits, and no element stands in it twice.
+use Rattle.std.proofs.Common.{◌≡◌, ℕ, suc, zero, ◌<◌, Bool, true, false, not, ◌&&◌, List, [], ◌∷◌, ◌++◌, All, Option, None, Some, filter, length, refl, subst, arith}
+use Rattle.std.specs.Option.{ForSome}
+use Rattle.std.proofs.lemmas.List.Elements.{All-nil, All-cons, All-head, All-tail, All-append, All-filter, filter_passes}
+use Rattle.std.proofs.lemmas.Bool.Decides.{nat_tests}
+use Rattle.arch_file.specs.declared.arch.Arch.{Arch}
+use Rattle.cluster.specs.Nets.{IsOnce, has}
+use Rattle.cluster.specs.Bles.{LogicElement}
+use Rattle.cluster.specs.Clusters.{cluster_of, elements_at, first_most, fits_in_cluster, grown, input_count_at, leading, may_join, next_member, seed_of, shared_nets, unfit_among, with_member}
+use Rattle.cluster.proofs.Fitting.{fits_alone}
+use Rattle.cluster.proofs.Members.{leading_lawful}
+use Rattle.cluster.proofs.Outside.{once-push}
+
+-- what holds of all numbers holds of one that is chosen among them
+pub chosen : (P : ℕ → Type 0) (score : ℕ → ℕ) (numbers : List ℕ) → All P numbers → ForSome (first_most score numbers) P
+chosen P score [] all = λ number is. absurd cc
+chosen P score (number ∷ numbers) all = λ found is.
+    let same : leading score number numbers ≡ found = cc in
+    subst P same (leading_lawful P score number numbers (All-head P number numbers all) (All-tail P number numbers all))
+
+-- a cluster that fits, of elements that keep something, each once
+pub record IsLegal (arch : Arch) (elements : List LogicElement) (P : ℕ → Type 0) (members : List ℕ) : Type 0 where
+  pub once : IsOnce members
+  pub all : All P members
+  pub fits : fits_in_cluster arch (elements_at elements members) ≡ true
+
+-- the two tests of one that may be added
+joins : (arch : Arch) (elements : List LogicElement) (members : List ℕ) (number : ℕ) → may_join arch elements members number ≡ true → (has members number ≡ false) × (fits_in_cluster arch (elements_at elements (members ++ number ∷ [])) ≡ true)
+joins arch elements members number may = by (has members number) refl (fits_in_cluster arch (elements_at elements (members ++ number ∷ []))) refl
+  where
+    by : (a : Bool) → has members number ≡ a → (b : Bool) → fits_in_cluster arch (elements_at elements (members ++ number ∷ [])) ≡ b → (has members number ≡ false) × (fits_in_cluster arch (elements_at elements (members ++ number ∷ [])) ≡ true)
+    by false e true f = (e, f)
+    by true e b f = absurd (grind (arith, may, e, f))
+    by false e false f = absurd (grind (arith, may, e, f))
+
+module _ (arch : Arch) (elements : List LogicElement) (P : ℕ → Type 0) (free : List ℕ) (all : All P free) where
+  added : (members : List ℕ) → IsLegal arch elements P members → (found : Option ℕ) → next_member arch elements free members ≡ found → IsLegal arch elements P (with_member members found)
+  added members legal None is = legal
+  added members legal (Some number) is =
+      let can = filter (may_join arch elements members) free in
+      let score = shared_nets elements members in
+      let passes = chosen (λ n. may_join arch elements members n ≡ true) score can (filter_passes (may_join arch elements members) free) number is in
+      let j = joins arch elements members number passes in
+      record {
+        once = once-push members number legal.once j.0;
+        all = All-append P members (number ∷ []) legal.all (All-cons P number [] (chosen P score can (All-filter (may_join arch elements members) P free all) number is) (All-nil P));
+        fits = j.1;
+      }
+
+  legal_grown : (seed : List ℕ) (additions : ℕ) → IsLegal arch elements P seed → IsLegal arch elements P (grown arch elements free seed additions)
+  legal_grown seed zero legal = legal
+  legal_grown seed (suc additions) legal =
+      let members = grown arch elements free seed additions in
+      added members (legal_grown seed additions legal) (next_member arch elements free members) refl
+
+  -- the cluster made of free elements is one, where each fits alone
+  pub cluster_legal : unfit_among arch elements ≡ None → All (λ number. number < length elements) free → IsLegal arch elements P (cluster_of arch elements free)
+  unfolding cluster_of
+  cluster_legal fit within = legal_grown (seed_of elements free) arch.cluster_size (by (first_most (input_count_at elements) free) refl)
+    where
+      by : (found : Option ℕ) → first_most (input_count_at elements) free ≡ found → IsLegal arch elements P (with_member [] found)
+      by None is = record { once = tt; all = All-nil P; fits = grind (arith, nat_tests) }
+      by (Some number) is = record {
+        once = (refl, tt);
+        all = All-cons P number [] (chosen P (input_count_at elements) free all number is) (All-nil P);
+        fits = fits_alone arch elements number fit (chosen (λ n. n < length elements) (input_count_at elements) free within number is);
+      }

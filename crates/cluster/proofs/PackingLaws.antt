@@ -1,0 +1,75 @@
+-- The laws of each packing.
+use Rattle.std.proofs.Common.{◌≡◌, ◌≢◌, ℕ, ◌+◌, ◌<◌, ◌≤◌, true, cond, None, List, [], ◌∷◌, ◌++◌, All, length, get_or, map, refl, sym, ap, subst, ◌∙◌, arith, length-append}
+use Rattle.std.specs.Prelude.{AllPairs}
+use Rattle.std.specs.List.{concat}
+use Rattle.std.proofs.lemmas.List.{get_or_append_left}
+use Rattle.std.proofs.lemmas.List.Sums.{sum_by-cons}
+use Rattle.arch_file.specs.declared.arch.Arch.{Arch}
+use Rattle.arch_file.specs.declared.arch.Pin.{Pin}
+use Rattle.arch_file.specs.declared.arch.PinClass.{PinClass}
+use Rattle.arch_file.specs.declared.arch.PinClass.TheVariants.{Input, Output, Clock}
+use Rattle.arch_file.specs.Arch.{IsArch, input_count, output_count, clock_count, is_input_class, is_output_class, is_clock_class}
+use Rattle.blif.specs.declared.latches.Latch.{Latch}
+use Rattle.blif.specs.LookupTables.{LookupTable}
+use Rattle.blif.specs.LawfulCircuits.{IsCircuit, drivers_of}
+use Rattle.cluster.specs.Bles.{bles_of}
+use Rattle.cluster.specs.Blocks.{blocks_of}
+use Rattle.cluster.specs.Clusters.{PackedCircuit, clusters_after, packed_of}
+use Rattle.cluster.specs.LawfulPackings.{IsPacked}
+use Rattle.cluster.specs.PackingLaws.{IsLawfulPacking}
+use Rattle.cluster.proofs.BlockNetLaws.{apart, contained, few_nets, nets_lawful}
+use Rattle.cluster.proofs.FewBlocks.{few_clusters, few_distinct}
+use Rattle.cluster.proofs.Going.{fit_among}
+use Rattle.cluster.proofs.Members.{few_driven}
+use Rattle.cluster.proofs.PackedLaws.{length-blocks_of}
+use Rattle.cluster.proofs.Partition.{ArePacked, all_in, all_packed}
+
+one_class : (class : PinClass) → cond (is_input_class class) 1 0 + (cond (is_output_class class) 1 0 + cond (is_clock_class class) 1 0) ≡ 1
+one_class Input = refl
+one_class Output = refl
+one_class Clock = refl
+
+-- each pin has one class
+count_classes : (pins : List Pin) → length pins ≡ input_count pins + (output_count pins + clock_count pins)
+count_classes [] = refl
+count_classes (pin ∷ pins) =
+    let inputs : Pin → ℕ = λ p. cond (is_input_class p.class) 1 0 in
+    let outputs : Pin → ℕ = λ p. cond (is_output_class p.class) 1 0 in
+    let clocks : Pin → ℕ = λ p. cond (is_clock_class p.class) 1 0 in
+    omega (arith, count_classes pins, sum_by-cons inputs pin pins, sum_by-cons outputs pin pins, sum_by-cons clocks pin pins, one_class pin.class)
+
+few_pins : (arch : Arch) → IsArch arch → length arch.pins ≤ 145
+few_pins arch lawful = omega (arith, count_classes arch.pins, lawful.inputs.1, lawful.outputs, lawful.cluster_size.1, lawful.clocks)
+
+-- the front of a list keeps what all its pairs keep
+pairs_front : (R : ℕ → ℕ → Type 0) (xs ys : List ℕ) → AllPairs R (xs ++ ys) → AllPairs R xs
+pairs_front R xs ys pairs i j d before small =
+    let whole : j < length (xs ++ ys) = omega (arith, small, length-append xs ys) in
+    let first : get_or (xs ++ ys) i d ≡ get_or xs i d = get_or_append_left xs ys d i (omega (arith, before, small)) in
+    let second : get_or (xs ++ ys) j d ≡ get_or xs j d = get_or_append_left xs ys d j small in
+    rw (← first, ← second) (pairs i j d before whole)
+
+-- each packed circuit keeps the laws
+pub packing_lawful : (packed : PackedCircuit) → IsPacked packed → IsLawfulPacking packed
+unfolding packed_of
+packing_lawful packed lawful =
+    let circuit = packed.circuit in
+    let bles = bles_of circuit in
+    let are : packed.clusters ≡ clusters_after packed.arch bles (length bles) = ap (λ (p : PackedCircuit). p.clusters) lawful.exact in
+    let made : ArePacked packed.arch bles packed.clusters = subst (λ (clusters : List (List ℕ)). ArePacked packed.arch bles clusters) (sym are) (all_packed packed.arch bles (fit_among circuit packed.arch bles lawful.fit refl) (length bles)) in
+    let once = apart (concat packed.clusters) made.once in
+    let members = few_distinct (concat packed.clusters) (length bles) once made.within in
+    let driven = few_driven circuit lawful.circuit in
+    let shown = few_distinct circuit.outputs (length circuit.nets) lawful.circuit.shown_once lawful.circuit.outputs in
+    let clusters : length packed.clusters ≤ length bles = (let count = ap (λ (lists : List (List ℕ)). length lists) are in omega (arith, count, few_clusters packed.arch bles (length bles))) in
+    record {
+      whole = λ number small. contained (concat packed.clusters) number (rw are (all_in packed.arch bles number small));
+      once = once;
+      fit = made.fit;
+      nets = nets_lawful packed lawful;
+      input_pads = pairs_front (λ net other. net ≢ other) circuit.inputs (map (λ (table : LookupTable). table.output) circuit.tables ++ map (λ (latch : Latch). latch.output) circuit.latches) lawful.circuit.driven_once;
+      output_pads = lawful.circuit.shown_once;
+      few_blocks = omega (arith, driven, shown, clusters, lawful.circuit.few, length-blocks_of packed);
+      few_nets = omega (arith, driven, members, few_nets packed);
+      few_pins = few_pins packed.arch lawful.arch;
+    }

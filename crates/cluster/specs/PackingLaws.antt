@@ -1,0 +1,35 @@
+-- What each packing keeps: the laws by which a placer and a router index.
+use Rattle.std.specs.Prelude.{ℕ, ◌≡◌, ◌≢◌, ◌<◌, ◌≤◌, ◌↔◌, true, IsTrue, List, All, AllPairs, Contains, length}
+use Rattle.std.specs.List.{concat, flat_map}
+use Rattle.std.specs.Option.{option_to_list}
+use Rattle.blif.specs.declared.circuit.Circuit.{Circuit}
+use Rattle.cluster.specs.Bles.{bles_of}
+use Rattle.cluster.specs.Clusters.{PackedCircuit, elements_at, fits_in_cluster}
+use Rattle.cluster.specs.Blocks.{BlockNet, block_nets, blocks_of}
+
+-- the net controls a latch
+abbrev pub ControlsLatch : Circuit → ℕ → Type 0
+ControlsLatch circuit net = Contains (flat_map (λ latch. option_to_list latch.control) circuit.latches) net
+
+-- A net between blocks is a net of the circuit, and its driver and readers are blocks. Readers rise, so that none stands
+-- twice, and none is the driver. Global is what controls a latch.
+pub record IsBlockNet (packed : PackedCircuit) (between : BlockNet) : Type 0 where
+  pub named : between.net < length packed.circuit.nets
+  pub driver : between.driver < length (blocks_of packed)
+  pub readers : All (λ reader. reader < length (blocks_of packed)) between.readers
+  pub rise : AllPairs (λ reader later. reader < later) between.readers
+  pub others : All (λ reader. reader ≢ between.driver) between.readers
+  pub controls : IsTrue between.global ↔ ControlsLatch packed.circuit between.net
+
+-- Each BLE stands in one cluster, once, and what stands in a cluster fits there. Nets are few enough to be counted by the
+-- circuit's, pads of a kind have nets of their own, and the bounds hold for all circuits and architectures.
+pub record IsLawfulPacking (packed : PackedCircuit) : Type 0 where
+  pub whole : (number : ℕ) → number < length (bles_of packed.circuit) → Contains (concat packed.clusters) number
+  pub once : AllPairs (λ number other. number ≢ other) (concat packed.clusters)
+  pub fit : All (λ members. fits_in_cluster packed.arch (elements_at (bles_of packed.circuit) members) ≡ true) packed.clusters
+  pub nets : All (IsBlockNet packed) (block_nets packed)
+  pub input_pads : AllPairs (λ net other. net ≢ other) packed.circuit.inputs
+  pub output_pads : AllPairs (λ net other. net ≢ other) packed.circuit.outputs
+  pub few_blocks : length (blocks_of packed) ≤ 16384
+  pub few_nets : length (block_nets packed) ≤ 8192
+  pub few_pins : length packed.arch.pins ≤ 145
