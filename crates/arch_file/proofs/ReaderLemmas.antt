@@ -4,6 +4,7 @@ use Rattle.std.proofs.Math.Seq.{drop-cons}
 use Rattle.std.proofs.lemmas.Bool.Decides.{nat_tests}
 use Rattle.std.proofs.lemmas.List.{append-nil, take_more, drop_all, take_all}
 use Rattle.std.proofs.lemmas.Option.{get_or_from_slice_get, slice_get_within}
+use Rattle.line_text.specs.declared.lines.TheConstants.{MAX_TEXT}
 use Rattle.line_text.specs.Lines.{JoinedLine, lines_of}
 use Rattle.arch_file.specs.declared.draft.Draft.{Draft}
 use Rattle.arch_file.specs.declared.draft.Refusal.{Refusal}
@@ -134,8 +135,8 @@ reads_fault lines place line (refusals.Fault kind) draft found reads rest =
     ap least_fault (sym rest) ∙ faults_behind-fault lines place line kind found reads
 
 -- a text whose lines are fine, and whose end isn't
-pub arch_of-end : (text : List ℕ) (tracks : ℕ) (lines : List JoinedLine) (kind : ArchFaultKind) → length text ≤ 1048576 → lines_of text ≡ Ok lines → faults_behind [] lines ≡ found_at (length lines) 0 (end_faults lines) → least_kind (end_faults lines) ≡ Some kind → arch_of text tracks ≡ Err (record { line = 0; kind = kind })
+pub arch_of-end : (text : List ℕ) (tracks : ℕ) (lines : List JoinedLine) (kind : ArchFaultKind) → length text ≤ MAX_TEXT → lines_of text ≡ Ok lines → faults_behind [] lines ≡ found_at (length lines) 0 (end_faults lines) → least_kind (end_faults lines) ≡ Some kind → arch_of text tracks ≡ Err (record { line = 0; kind = kind })
 unfolding arch_of
 arch_of-end text tracks lines kind short is ends least =
-    let fits : nat_lt 1048576 (length text) ≡ false = grind (arith, nat_tests) in
+    let fits : nat_lt MAX_TEXT (length text) ≡ false = grind (arith, nat_tests) in
     rw (fits, is) (ap (λ o. arch_unless o lines tracks) (ap least_fault ends ∙ least_end lines kind least))

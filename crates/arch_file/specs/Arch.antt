@@ -2,6 +2,7 @@
 use Rattle.std.specs.Prelude.{ℕ, ◌≡◌, ◌≤◌, List, [], true, All, Result, Ok, Err, ⊤, Option, Some, None, length, nat_lt, if◌then◌else◌}
 use Rattle.line_text.specs.Lines.{JoinedLine, lines_of}
 use Rattle.line_text.specs.declared.fault.LineFault.{LineFault}
+use Rattle.line_text.specs.declared.lines.TheConstants.{MAX_TEXT}
 use Rattle.arch_file.specs.declared.arch.Arch.{Arch}
 use Rattle.arch_file.specs.declared.fault.ArchFault.{ArchFault}
 use Rattle.arch_file.specs.declared.fault.ArchFaultKind.TheVariants.{OverLimit}
@@ -55,14 +56,10 @@ abbrev pub arch_of_lines : Result (List JoinedLine) LineFault → ℕ → Result
 arch_of_lines (Err fault) tracks = Err (fault_of_lines fault)
 arch_of_lines (Ok lines) tracks = arch_unless (least_fault (faults_behind [] lines)) lines tracks
 
--- a text has at most 1,048,576 bytes
-abbrev pub max_text : ℕ
-max_text = 1048576
-
 -- the architecture of a text for that many tracks, or its least fault
 unfoldable pub arch_of : List ℕ → ℕ → Result Arch ArchFault
 arch_of text tracks =
-    if nat_lt max_text (length text) then Err (record { line = 0; kind = OverLimit }) else arch_of_lines (lines_of text) tracks
+    if nat_lt MAX_TEXT (length text) then Err (record { line = 0; kind = OverLimit }) else arch_of_lines (lines_of text) tracks
 
 -- a reader of that text may answer this
 abbrev pub Gives : Result Arch ArchFault → Result Arch ArchError → Type 0

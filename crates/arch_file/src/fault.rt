@@ -2,8 +2,8 @@ ghost use Rattle.std.specs.Prelude.{◌≡◌};
 ghost use Rattle.arch_file.specs.Faults.{name_of, number_of};
 
 use line_text::{LineError, LineFault};
-use std::error::Error;
 use std::fmt;
+use thiserror::Error;
 
 /// A keyword of the architecture file, as `io_rat` or `chan_width_io`.
 #[derive(Clone, Copy, Debug, PartialEq, Eq)]
@@ -88,7 +88,7 @@ impl ArchFaultKind {
 }
 
 /// A fault, with the number of its line from 1, or 0 where it is the text's.
-#[derive(Clone, Copy, Debug, PartialEq, Eq)]
+#[derive(Clone, Copy, Debug, PartialEq, Eq, Error)]
 pub struct ArchFault {
     pub line: u32,
     pub kind: ArchFaultKind,
@@ -124,10 +124,8 @@ impl fmt::Display for ArchFault {
     }
 }
 
-impl Error for ArchFault {}
-
 /// Why a text has no architecture.
-#[derive(Clone, Copy, Debug, PartialEq, Eq)]
+#[derive(Clone, Copy, Debug, PartialEq, Eq, Error)]
 pub enum ArchError {
     NoMemory,
     Fault(ArchFault),
@@ -146,8 +144,6 @@ impl fmt::Display for ArchError {
         }
     }
 }
-
-impl Error for ArchError {}
 
 impl From<LineError> for ArchError {
     ghost use Rattle.std.specs.Prelude.{◌≡◌};

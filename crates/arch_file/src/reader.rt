@@ -5,11 +5,8 @@ ghost use Rattle.arch_file.specs.Draft.{ReadsAll};
 use crate::arch::Arch;
 use crate::draft::Draft;
 use crate::fault::{ArchError, ArchFault, ArchFaultKind};
-use line_text::{Lines, logical_lines};
+use line_text::{Lines, MAX_TEXT, logical_lines};
 use std::alloc::Global;
-
-/// How many bytes a text may have.
-const MAX_TEXT: usize = 1_048_576;
 
 /// What all lines say, or the least fault of the first line that has one.
 fn read_lines(alloc: Global, lines: &Lines<'_>) -> Result<Draft, ArchError>

@@ -15,8 +15,9 @@ use Rattle.blif.specs.LineOrder.{RisesFrom}
 use Rattle.blif.specs.Names.{first}
 use Rattle.blif.specs.Sights.{Sights, sights_of}
 use Rattle.blif.specs.Circuits.{circuit_from}
-use Rattle.blif.specs.CircuitOf.{Fails, Gives, circuit_of, circuit_of_lines, circuit_of_read, declared_in, final_faults, line_faults, text_limit, unless_fault}
-use Rattle.blif.specs.BlifFaults.{net_limit}
+use Rattle.blif.specs.CircuitOf.{Fails, Gives, circuit_of, circuit_of_lines, circuit_of_read, declared_in, final_faults, line_faults, unless_fault}
+use Rattle.blif.specs.declared.circuit.TheConstants.{MAX_NETS}
+use Rattle.line_text.specs.declared.lines.TheConstants.{MAX_TEXT}
 use Rattle.blif.proofs.Places.{first_append, first_append_none}
 use Rattle.blif.proofs.Faultless.{nil_from_first}
 use Rattle.blif.proofs.Lawful.{is_circuit, is_narrow}
@@ -36,7 +37,7 @@ gives_line_fault lut_size lines declared (Fault fault) is fails =
     (ap (λ d. first (line_faults lut_size d [] lines)) (sym is) ∙ fails))
 
 -- without one the end decides
-pub gives_built : (lut_size : ℕ) (lines : List JoinedLine) (declared : List (List ℕ)) (result : Result Circuit BlifError) → RisesFrom 1 lines → length (sights_of declared lines).nets ≤ net_limit → declared ≡ declared_in lines → first (line_faults lut_size declared [] lines) ≡ None → MatchResult result (λ circuit. (first (final_faults declared lines) ≡ None) × (circuit ≡ circuit_from declared lines)) (Fails (first (final_faults declared lines))) → Gives lut_size (circuit_of_lines lut_size lines) result
+pub gives_built : (lut_size : ℕ) (lines : List JoinedLine) (declared : List (List ℕ)) (result : Result Circuit BlifError) → RisesFrom 1 lines → length (sights_of declared lines).nets ≤ MAX_NETS → declared ≡ declared_in lines → first (line_faults lut_size declared [] lines) ≡ None → MatchResult result (λ circuit. (first (final_faults declared lines) ≡ None) × (circuit ≡ circuit_from declared lines)) (Fails (first (final_faults declared lines))) → Gives lut_size (circuit_of_lines lut_size lines) result
 unfolding circuit_of_lines
 gives_built lut_size lines declared (Err NoMemory) rises few is none built = tt
 gives_built lut_size lines declared (Err (Fault fault)) rises few is none built =
@@ -53,18 +54,18 @@ gives_built lut_size lines declared (Ok circuit) rises few is none built = (
 )
 
 -- a text above the limit
-pub circuit_of-long : (text : List ℕ) (lut_size : ℕ) → text_limit < length text → circuit_of text lut_size ≡ Err (record { line = 0; kind = OverLimit })
+pub circuit_of-long : (text : List ℕ) (lut_size : ℕ) → MAX_TEXT < length text → circuit_of text lut_size ≡ Err (record { line = 0; kind = OverLimit })
 unfolding circuit_of
 circuit_of-long text lut_size long =
-    ap (λ b. if b then Err (record { line = 0; kind = OverLimit }) else circuit_of_read lut_size (lines_of text)) ((Decides-ltb text_limit (length text)).1 long)
+    ap (λ b. if b then Err (record { line = 0; kind = OverLimit }) else circuit_of_read lut_size (lines_of text)) ((Decides-ltb MAX_TEXT (length text)).1 long)
 
-pub circuit_of-short : (text : List ℕ) (lut_size : ℕ) (read : Result (List JoinedLine) LineFault) → length text ≤ text_limit → lines_of text ≡ read → circuit_of text lut_size ≡ circuit_of_read lut_size read
+pub circuit_of-short : (text : List ℕ) (lut_size : ℕ) (read : Result (List JoinedLine) LineFault) → length text ≤ MAX_TEXT → lines_of text ≡ read → circuit_of text lut_size ≡ circuit_of_read lut_size read
 unfolding circuit_of
 circuit_of-short text lut_size read short is =
-    ap (λ b. if b then Err (record { line = 0; kind = OverLimit }) else circuit_of_read lut_size (lines_of text)) (le-ltb text_limit (length text) short)
+    ap (λ b. if b then Err (record { line = 0; kind = OverLimit }) else circuit_of_read lut_size (lines_of text)) (le-ltb MAX_TEXT (length text) short)
     ∙ ap (circuit_of_read lut_size) is
 
 -- a fault of lines is the least
-pub gives_error_of_lines : (text : List ℕ) (lut_size : ℕ) (error : LineError) → length text ≤ text_limit → LinesGive (lines_of text) (Err error) → Gives lut_size (circuit_of text lut_size) (Err (error_of_lines error))
+pub gives_error_of_lines : (text : List ℕ) (lut_size : ℕ) (error : LineError) → length text ≤ MAX_TEXT → LinesGive (lines_of text) (Err error) → Gives lut_size (circuit_of text lut_size) (Err (error_of_lines error))
 gives_error_of_lines text lut_size LineNoMemory short is = tt
 gives_error_of_lines text lut_size (LineFaultError fault) short is = circuit_of-short text lut_size (Err fault) short is

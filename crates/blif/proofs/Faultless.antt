@@ -10,7 +10,8 @@ use Rattle.blif.specs.Names.{first, has_name, repeats, with_names}
 use Rattle.blif.specs.LineNets.{latch_output, names_in, output_of, reads_in}
 use Rattle.blif.specs.LatchLines.{is_latch}
 use Rattle.blif.specs.Sights.{Sights, sights_of, sights_after, kind_of}
-use Rattle.blif.specs.BlifFaults.{driven, driver_faults, fault_where, faults_in, is_model, kind_faults, net_limit, latch_faults, table_faults}
+use Rattle.blif.specs.declared.circuit.TheConstants.{MAX_NETS}
+use Rattle.blif.specs.BlifFaults.{driven, driver_faults, fault_where, faults_in, is_model, kind_faults, latch_faults, table_faults}
 use Rattle.blif.specs.CircuitOf.{final_faults, line_faults, undriven, undriven_faults}
 use Rattle.blif.proofs.Sightings.{sights_push}
 
@@ -34,7 +35,7 @@ nil_from_map f (x ∷ xs) h = absurd cc
 kind_faultless : (lut_size : ℕ) (above : Sights) (keyword : Keyword) (words : List (List ℕ)) → faults_in lut_size above keyword words ≡ [] → kind_faults lut_size above keyword words ≡ []
 kind_faultless lut_size above keyword words h = by above.ended h
   where
-    by : (b : Bool) → (if b then Unknown ∷ [] else kind_faults lut_size above keyword words ++ (fault_where (not (above.begun || is_model keyword)) NoModel ++ fault_where (nat_lt net_limit (length (with_names above.nets (names_in keyword words)))) OverLimit)) ≡ [] → kind_faults lut_size above keyword words ≡ []
+    by : (b : Bool) → (if b then Unknown ∷ [] else kind_faults lut_size above keyword words ++ (fault_where (not (above.begun || is_model keyword)) NoModel ++ fault_where (nat_lt MAX_NETS (length (with_names above.nets (names_in keyword words)))) OverLimit)) ≡ [] → kind_faults lut_size above keyword words ≡ []
     by true none = absurd cc
     by false none = nil_left _ _ none
 

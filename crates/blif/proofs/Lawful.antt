@@ -11,11 +11,12 @@ use Rattle.blif.specs.Names.{has_name, number_of, with_names}
 use Rattle.blif.specs.LineNets.{reads_in}
 use Rattle.blif.specs.LineOrder.{RisesFrom}
 use Rattle.blif.specs.Sights.{Sights, kind_of, names_of, inputs_of, clocks_of, drives_of, outputs_of, sights_of, undeclared}
-use Rattle.blif.specs.BlifFaults.{net_limit}
+use Rattle.blif.specs.declared.circuit.TheConstants.{MAX_NETS}
 use Rattle.blif.specs.Circuits.{circuit_from, latches_in, parts_of, tables_in}
 use Rattle.blif.specs.CircuitOf.{final_faults, line_faults}
 use Rattle.blif.specs.LawfulCircuits.{IsCircuit, IsLatchDriven, IsLatchWithin, IsNarrow, IsTableWithin, drivers_of, has_net}
 use Rattle.blif.proofs.Named.{all_named}
+use Rattle.blif.proofs.Different.{names_differ}
 use Rattle.blif.proofs.Counts.{count_of, different, numbers_counted}
 use Rattle.blif.proofs.Faultless.{end_faultless, kept_by_sights, reads_driven}
 use Rattle.blif.proofs.Drivers.{DrivenOnce, ShownOnce, drivers_counted, driven_once_after, shown_once_after, drives_named, is_among, is_once, latches_driven, numbers_driven, outputs_driven, tables_driven}
@@ -23,7 +24,7 @@ use Rattle.blif.proofs.LawfulNets.{clocks_named, each_line, inputs_named, latche
 use Rattle.blif.proofs.LineParts.{all_narrow, apart, latches_at, one_part, rising, tables_at}
 
 -- the circuit of lines that name few nets is lawful
-pub is_circuit : (lut_size : ℕ) (declared : List (List ℕ)) (lines : List JoinedLine) → RisesFrom 1 lines → length (sights_of declared lines).nets ≤ net_limit → line_faults lut_size declared [] lines ≡ [] → final_faults declared lines ≡ [] → IsCircuit (circuit_from declared lines)
+pub is_circuit : (lut_size : ℕ) (declared : List (List ℕ)) (lines : List JoinedLine) → RisesFrom 1 lines → length (sights_of declared lines).nets ≤ MAX_NETS → line_faults lut_size declared [] lines ≡ [] → final_faults declared lines ≡ [] → IsCircuit (circuit_from declared lines)
 unfolding circuit_from parts_of sights_of
 is_circuit lut_size declared lines rises few line_faultless faultless =
     let sights : Sights = sights_of declared lines in
@@ -55,6 +56,7 @@ is_circuit lut_size declared lines rises few line_faultless faultless =
     let few_latches : (line : JoinedLine) → length (latches line) ≤ 1 = λ line. omega (arith, one line) in
     record {
       few = few;
+      named_once = names_differ [] (flat_map names_of lines) (λ i j d before within. absurd (omega arith));
       inputs =
           All-append (λ net. net < count) (map (number_of nets) (flat_map inputs_of lines)) _ (numbers_within nets _ inputs)
           (numbers_within nets _ clocks_are_nets);

@@ -1,6 +1,7 @@
 mod Answering
 mod Building
 mod Counts
+mod Different
 mod Drivers
 mod Examples
 mod Faultless

@@ -1,5 +1,6 @@
 -- The faults of a line of a netlist, the least number first, and of one kind the first word's.
 use Rattle.std.specs.Prelude.{ℕ, Bool, true, false, not, ◌&&◌, ◌||◌, List, [], ◌∷◌, ◌++◌, Option, None, Some, filter, map, length, nat_lt, if◌then◌else◌}
+use Rattle.blif.specs.declared.circuit.TheConstants.{MAX_NETS}
 use Rattle.blif.specs.declared.cover.Cover.{Cover}
 use Rattle.blif.specs.declared.keyword.Keyword.{Keyword}
 use Rattle.blif.specs.declared.keyword.Keyword.TheVariants.{Model, Inputs, Outputs, Clock, Names, Latch, End, Skipped, Other, Row}
@@ -69,10 +70,6 @@ is_model Skipped = false
 is_model Other = false
 is_model Row = false
 
--- the most nets of a circuit
-abbrev pub net_limit : ℕ
-net_limit = 8192
-
 -- all faults of a line of this kind: no line may come after the end, the first line begins the model, and the nets of the
 -- lines so far are not more than the most
 abbrev pub faults_in : ℕ → Sights → Keyword → List (List ℕ) → List BlifFaultKind
@@ -80,4 +77,4 @@ faults_in lut_size above keyword words =
     if above.ended then Unknown ∷ [] else
     kind_faults lut_size above keyword words
     ++ (fault_where (not (above.begun || is_model keyword)) NoModel
-    ++ fault_where (nat_lt net_limit (length (with_names above.nets (names_in keyword words)))) OverLimit)
+    ++ fault_where (nat_lt MAX_NETS (length (with_names above.nets (names_in keyword words)))) OverLimit)

@@ -3,6 +3,7 @@ use Rattle.std.specs.Prelude.{ℕ, ◌≡◌, not, List, [], ◌∷◌, ◌++◌
 use Rattle.std.specs.List.{flat_map}
 use Rattle.line_text.specs.Lines.{JoinedLine, lines_of}
 use Rattle.line_text.specs.declared.fault.LineFault.{LineFault}
+use Rattle.line_text.specs.declared.lines.TheConstants.{MAX_TEXT}
 use Rattle.blif.specs.declared.circuit.Circuit.{Circuit}
 use Rattle.blif.specs.declared.fault.BlifFault.{BlifFault}
 use Rattle.blif.specs.declared.fault.BlifFaultKind.{BlifFaultKind}
@@ -68,14 +69,10 @@ abbrev pub circuit_of_read : ℕ → Result (List JoinedLine) LineFault → Resu
 circuit_of_read lut_size (Ok lines) = circuit_of_lines lut_size lines
 circuit_of_read lut_size (Err fault) = Err (fault_of_lines fault)
 
--- the most bytes of a text
-abbrev pub text_limit : ℕ
-text_limit = 1048576
-
 -- the circuit, or the least fault: first the text's size, then its lines
 unfoldable pub circuit_of : List ℕ → ℕ → Result Circuit BlifFault
 circuit_of text lut_size =
-    if nat_lt text_limit (length text) then Err (record { line = 0; kind = OverLimit }) else circuit_of_read lut_size (lines_of text)
+    if nat_lt MAX_TEXT (length text) then Err (record { line = 0; kind = OverLimit }) else circuit_of_read lut_size (lines_of text)
 
 -- a reader that found this fault may answer this error
 abbrev pub Fails : Option BlifFault → BlifError → Type 0

@@ -1,5 +1,6 @@
 -- The nets of a whole text, and those that are driven.
 use Rattle.std.specs.Prelude.{ℕ, ◌≡◌, ◌≤◌, Bool, List, ◌++◌, length, map}
+use Rattle.blif.specs.declared.circuit.TheConstants.{MAX_NETS}
 use Rattle.blif.specs.Names.{has_name}
 
 -- the nets, the clocks among them that are inputs, and those that other inputs, tables and latches drive
@@ -10,5 +11,5 @@ pub record DrivenNets : Type 0 where
 
 -- private: each net, of few, is marked by whether it is driven
 pub record AreMarked (nets clocks drivers : List (List ℕ)) (marks : List Bool) : Type 0 where
-  pub few : length nets ≤ 8192
+  pub few : length nets ≤ MAX_NETS
   pub marks_are : marks ≡ map (has_name (clocks ++ drivers)) nets

@@ -4,6 +4,7 @@ use Rattle.std.specs.List.{AllPass, list_any}
 use Rattle.std.specs.Option.{ForSome}
 use Rattle.blif.specs.declared.circuit.Circuit.{Circuit}
 use Rattle.blif.specs.declared.latches.Latch.{Latch}
+use Rattle.blif.specs.declared.circuit.TheConstants.{MAX_NETS}
 use Rattle.blif.specs.LookupTables.{LookupTable}
 
 -- the table reads and drives nets below the count
@@ -30,11 +31,12 @@ pub record IsLatchDriven (drivers : List ℕ) (latch : Latch) : Type 0 where
   pub input : has_net drivers latch.input ≡ true
   pub control : ForSome latch.control (λ net. has_net drivers net ≡ true)
 
--- the circuit has at most 8,192 nets, and each number that it holds is that of a net; no net is driven twice, none is
--- shown twice, and each that is read is driven; tables and latches stand in the order of their lines, none on a line of
--- another
+-- the circuit has few nets, no two of one name, and each number that it holds is that of a net; no net is driven twice,
+-- none is shown twice, and each that is read is driven; tables and latches stand in the order of their lines, none on a
+-- line of another
 pub record IsCircuit (circuit : Circuit) : Type 0 where
-  pub few : length circuit.nets ≤ 8192
+  pub few : length circuit.nets ≤ MAX_NETS
+  pub named_once : AllPairs (λ name other. name ≢ other) circuit.nets
   pub inputs : All (λ net. net < length circuit.nets) circuit.inputs
   pub outputs : All (λ net. net < length circuit.nets) circuit.outputs
   pub tables : All (IsTableWithin (length circuit.nets)) circuit.tables

@@ -8,6 +8,7 @@ ghost use Rattle.blif.specs.Sights.{sights_after, sights_of, undeclared};
 ghost use Rattle.blif.specs.BlifFaults.{clock_faults, driver_faults, faults_in, kind_faults, row_faults, table_faults, latch_faults};
 ghost use Rattle.blif.specs.declared.fault.BlifFaultKind.TheVariants.{RepeatedOutput};
 
+use crate::circuit::MAX_NETS;
 use crate::cover::{Cover, cover_after, is_mixed, is_row};
 use crate::driven::Driven;
 use crate::fault::BlifFaultKind;
@@ -17,9 +18,6 @@ use crate::names::NameSet;
 use line_text::Text;
 use std::alloc::{AllocError, Global};
 use std::marker::Model;
-
-/// The most nets of a circuit.
-pub const NET_LIMIT: usize = 8192;
 
 /// What the lines so far have brought. Its value is the record of it.
 #[derive(Drop)]
@@ -62,7 +60,7 @@ impl<'t> Checker<'t> {
 
     /// The nets of the lines that have come, and which of them are driven.
     pub fn into_driven(self, alloc: Global) -> Result<Driven<'t>, AllocError>
-        requires { length self.nets ≤ NET_LIMIT }
+        requires { length self.nets ≤ MAX_NETS }
         ensures { IfOk result (λ driven. driven ≡ record { nets = self.entry.nets; clocks = self.entry.clocks; drivers = self.entry.drivers }) }
     {
         Driven::new(alloc, self.nets, self.clocks, self.drivers)
@@ -77,7 +75,7 @@ impl<'t> Checker<'t> {
     ) -> Result<Option<BlifFaultKind>, AllocError>
         ensures least { IfOk result (λ fault. fault ≡ first (faults_in lut_size self.old (keyword_of (texts words.now)) (texts words.now))) }
         ensures sights { IfOk result (λ fault. IfNone fault (self.new ≡ sights_after (keyword_of (texts words.now)) (texts words.now) self.old)) }
-        ensures few { IfOk result (λ fault. IfNone fault (length self.new.nets ≤ NET_LIMIT)) }
+        ensures few { IfOk result (λ fault. IfNone fault (length self.new.nets ≤ MAX_NETS)) }
     {
         if self.ended {
             return Ok(Some(BlifFaultKind::Unknown));
@@ -91,7 +89,7 @@ impl<'t> Checker<'t> {
             return Ok(Some(BlifFaultKind::NoModel));
         }
         self.begun = true;
-        if self.nets.len() > NET_LIMIT {
+        if self.nets.len() > MAX_NETS {
             return Ok(Some(BlifFaultKind::OverLimit));
         }
         Ok(None)

@@ -6,6 +6,9 @@ use crate::nets::Nets;
 use crate::tables::Tables;
 use line_text::Text;
 
+/// The most nets of a circuit.
+pub const MAX_NETS: usize = 8192;
+
 /// A circuit of lookup tables and latches (Berkeley Logic Interchange Format). Nets are numbered from 0 in the order of
 /// first sight; tables and latches stand in the order of their lines.
 #[derive(Debug, Drop)]

@@ -4,6 +4,7 @@ ghost use Rattle.std.specs.List.{list_all};
 ghost use Rattle.blif.specs.Names.{first, has_name, number_of, texts};
 ghost use Rattle.blif.specs.CircuitOf.{undriven};
 
+use crate::circuit::MAX_NETS;
 use crate::names::NameSet;
 use crate::nets::Nets;
 use std::alloc::{AllocError, Global};
@@ -30,14 +31,14 @@ impl<'t> Model for Driven<'t> {
 }
 
 impl<'t> Driven<'t> {
-    /// These nets, at most 8,192.
+    /// These nets, at most [`MAX_NETS`].
     pub fn new(
         alloc: Global,
         nets: NameSet<'t>,
         clocks: NameSet<'t>,
         drivers: NameSet<'t>,
     ) -> Result<Self, AllocError>
-        requires { length nets ≤ 8192 }
+        requires { length nets ≤ MAX_NETS }
         ensures { IfOk result (λ driven. driven ≡ record { nets = nets.entry; clocks = clocks.entry; drivers = drivers.entry }) }
     {
         let is_driven = marks(alloc, &nets, &clocks, &drivers)?;

@@ -5,8 +5,8 @@ ghost use Rattle.blif.specs.Faults.{name_of, net_of, number_of};
 
 use line_text::{LineError, LineFault, Text};
 use std::alloc::AllocError;
-use std::error::Error;
 use std::fmt;
+use thiserror::Error;
 
 /// What is wrong with a netlist. Three faults name their net.
 #[derive(Debug, Drop)]
@@ -101,7 +101,7 @@ impl Clone for BlifFaultKind {
 }
 
 /// A fault, with the number of its line from 1, or 0 where it is the text's.
-#[derive(Debug, Drop)]
+#[derive(Debug, Drop, Error)]
 pub struct BlifFault {
     pub line: u32,
     pub kind: BlifFaultKind,
@@ -160,8 +160,6 @@ fn write_net<W: fmt::Write>(net: &[u8], f: &mut fmt::Formatter<W>) -> fmt::Resul
     Ok(())
 }
 
-impl Error for BlifFault {}
-
 impl Clone for BlifFault {
     ghost is_clone = { λ fault copy. copy ≡ fault };
 
@@ -174,7 +172,7 @@ impl Clone for BlifFault {
 }
 
 /// Why a text has no circuit.
-#[derive(Debug, Drop)]
+#[derive(Debug, Drop, Error)]
 pub enum BlifError {
     NoMemory,
     Fault(BlifFault),
@@ -193,8 +191,6 @@ impl fmt::Display for BlifError {
         }
     }
 }
-
-impl Error for BlifError {}
 
 impl From<AllocError> for BlifError {
     ghost use Rattle.std.specs.Prelude.{◌≡◌};

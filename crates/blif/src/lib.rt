@@ -33,7 +33,7 @@ mod shared;
 mod span;
 mod tables;
 
-pub use circuit::Circuit;
+pub use circuit::{Circuit, MAX_NETS};
 pub use fault::{BlifError, BlifFault, BlifFaultKind};
 pub use latches::{Latch, Latches};
 pub use net_names::NetNames;

@@ -7,25 +7,22 @@ ghost use Rattle.blif.specs.Sights.{names_of, sights_of};
 ghost use Rattle.blif.specs.Circuits.{circuit_from, circuit_with, model_of, parts_of};
 ghost use Rattle.blif.specs.CircuitOf.{Fails, Gives, circuit_of, circuit_of_lines, declared_in, final_faults, line_faults, undriven_faults};
 
-use crate::checker::{Checker, NET_LIMIT};
-use crate::circuit::Circuit;
+use crate::checker::Checker;
+use crate::circuit::{Circuit, MAX_NETS};
 use crate::driven::Driven;
 use crate::fault::{BlifError, BlifFault, BlifFaultKind};
 use crate::keyword::{args_of, inputs_in, is_end, keyword_of};
 use crate::names::NameSet;
 use crate::net_names::NetNames;
 use crate::parts::CircuitParts;
-use line_text::{Lines, Text, logical_lines};
+use line_text::{Lines, MAX_TEXT, Text, logical_lines};
 use std::alloc::{AllocError, Global};
-
-/// The most bytes of a text.
-const TEXT_LIMIT: usize = 1_048_576;
 
 /// The circuit of a text whose tables have at most that many inputs, or its least fault.
 pub fn read_blif(alloc: Global, text: &[u8], lut_size: u32) -> Result<Circuit, BlifError>
     ensures { Gives lut_size (circuit_of text.now lut_size) result }
 {
-    if text.len() > TEXT_LIMIT {
+    if text.len() > MAX_TEXT {
         return Err(BlifError::Fault(BlifFault {
             line: 0,
             kind: BlifFaultKind::OverLimit,
@@ -69,7 +66,7 @@ fn check_lines<'t>(
     declared: NameSet<'t>,
 ) -> Result<Checker<'t>, BlifError>
     ensures { MatchResult result
-        (λ checker. (first (line_faults lut_size declared.entry [] lines.now) ≡ None) × (checker ≡ sights_of declared.entry lines.now) × (length checker.nets ≤ NET_LIMIT))
+        (λ checker. (first (line_faults lut_size declared.entry [] lines.now) ≡ None) × (checker ≡ sights_of declared.entry lines.now) × (length checker.nets ≤ MAX_NETS))
         (Fails (first (line_faults lut_size declared.entry [] lines.now))) }
 {
     let mut checker = Checker::new(alloc, declared);
@@ -88,7 +85,7 @@ fn check_lines<'t>(
 /// The circuit of lines without a fault of their own, or the first net that is read and not driven.
 fn build<'t>(alloc: Global, lines: &Lines<'t>, checker: Checker<'t>) -> Result<Circuit, BlifError>
     requires sights { checker ≡ sights_of checker.declared lines.now }
-    requires few { length checker.nets ≤ NET_LIMIT }
+    requires few { length checker.nets ≤ MAX_NETS }
     ensures { MatchResult result
         (λ circuit. (first (final_faults checker.entry.declared lines.now) ≡ None) × (circuit ≡ circuit_from checker.entry.declared lines.now))
         (Fails (first (final_faults checker.entry.declared lines.now))) }

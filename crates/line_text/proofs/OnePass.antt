@@ -6,7 +6,8 @@ use Rattle.std.specs.List.{slice_split, onto_first, flat_map, enumerate_from, fi
 use Rattle.line_text.specs.declared.fault.LineFault.{LineFault}
 use Rattle.line_text.specs.declared.fault.LineFault.TheVariants.{NotAscii, LineTooLong}
 use Rattle.line_text.specs.Words.{is_blank, is_filled, words_of}
-use Rattle.line_text.specs.Lines.{JoinedLine, physical_lines, trimmed, without_comment, without_last, kept, is_continued, is_not_ascii, runs, unless_fault, most_bytes, joined_bytes, joined, fault_of, fault_at, lines_of_runs, lines_of}
+use Rattle.line_text.specs.declared.lines.TheConstants.{MAX_LINE}
+use Rattle.line_text.specs.Lines.{JoinedLine, physical_lines, trimmed, without_comment, without_last, kept, is_continued, is_not_ascii, runs, unless_fault, joined_bytes, joined, fault_of, fault_at, lines_of_runs, lines_of}
 use Rattle.line_text.specs.Reading.{OpenLine, Reading, begun, extended, ended, settled, continued_or_ended, after, finished}
 
 slice_split-filled : {X : Type 0} (p : X → Bool) (xs : List X) → is_filled (slice_split p xs) ≡ true
@@ -149,8 +150,8 @@ ended-run done (first ∷ run) line all o w a =
     let whole : OpenLine = record { number = first.0; words = words_within (first ∷ run); count = length bytes } in
     let same : whole ≡ line = cc in
     ap (λ found. onto done (unless_fault (cons_option (fault_at found (first ∷ run)) faults) (cond (is_filled (words_of bytes)) (joined (first ∷ run) ∷ lines) lines))) (find-none (first ∷ run) a)
-    ∙ (ap (λ words. onto done (unless_fault (cons_option (cond (is_filled words && nat_lt most_bytes (length bytes)) (Some (LineTooLong first.0)) None) faults) (cond (is_filled words) (record { number = first.0; words = words } ∷ lines) lines))) w
-    ∙ (ended_by_cases done lines faults first.0 (record { number = first.0; words = whole.words }) (is_filled whole.words) (nat_lt most_bytes (length bytes))
+    ∙ (ap (λ words. onto done (unless_fault (cons_option (cond (is_filled words && nat_lt MAX_LINE (length bytes)) (Some (LineTooLong first.0)) None) faults) (cond (is_filled words) (record { number = first.0; words = words } ∷ lines) lines))) w
+    ∙ (ended_by_cases done lines faults first.0 (record { number = first.0; words = whole.words }) (is_filled whole.words) (nat_lt MAX_LINE (length bytes))
     ∙ ap (λ (l : OpenLine). and_then (ended done l) (λ more. onto more (lines_of_runs all))) same))
 
 AreAscii-push : (run : List (ℕ × List ℕ)) (line : ℕ × List ℕ) → AreAscii run → is_not_ascii line.1 ≡ false → AreAscii (run ++ line ∷ [])

@@ -7,7 +7,8 @@ use Rattle.line_text.specs.declared.fault.LineFault.TheVariants.{NotAscii, LineT
 use Rattle.line_text.specs.declared.fault.LineError.{LineError}
 use Rattle.line_text.specs.declared.fault.LineError.TheVariants.{NoMemory, Fault}
 use Rattle.line_text.specs.Words.{is_filled, words_of}
-use Rattle.line_text.specs.Lines.{JoinedLine, most_bytes, ends_in_backslash, without_last, without_comment, trimmed, is_continued, is_not_ascii, blanked}
+use Rattle.line_text.specs.declared.lines.TheConstants.{MAX_LINE}
+use Rattle.line_text.specs.Lines.{JoinedLine, ends_in_backslash, without_last, without_comment, trimmed, is_continued, is_not_ascii, blanked}
 use Rattle.line_text.specs.Reading.{OpenLine, Reading, begun, ended, extended, after, continued_or_ended}
 use Rattle.line_text.specs.Spans.{AreWithin, seen_line, seen_lines}
 use Rattle.line_text.specs.Reader.{IsReadOn}
@@ -37,10 +38,10 @@ is_filled-drop (suc n) [] h = absurd (omega arith)
 is_filled-drop (suc n) (x ∷ xs) h = is_filled-drop n xs (omega arith)
 
 -- an open line with words and too many bytes
-pub ended-too_long : (done : List JoinedLine) (words : List (List ℕ)) (n start count : ℕ) → start < length words → most_bytes < count → ended done (record { number = n; words = drop start words; count = count }) ≡ Err (LineTooLong n)
+pub ended-too_long : (done : List JoinedLine) (words : List (List ℕ)) (n start count : ℕ) → start < length words → MAX_LINE < count → ended done (record { number = n; words = drop start words; count = count }) ≡ Err (LineTooLong n)
 ended-too_long done words n start count h l =
-    let long : nat_lt most_bytes count ≡ true = grind (arith, nat_tests) in
-    ap (λ b. cond b (cond (nat_lt most_bytes count) (Err (LineTooLong n)) (Ok (done ++ record { number = n; words = drop start words } ∷ []))) (Ok done)) (is_filled-drop start words h)
+    let long : nat_lt MAX_LINE count ≡ true = grind (arith, nat_tests) in
+    ap (λ b. cond b (cond (nat_lt MAX_LINE count) (Err (LineTooLong n)) (Ok (done ++ record { number = n; words = drop start words } ∷ []))) (Ok done)) (is_filled-drop start words h)
     ∙ ap (λ b. cond b (Err (LineTooLong n)) (Ok (done ++ record { number = n; words = drop start words } ∷ []))) long
 
 pub started_within : {X Y : Type 0} (f : X → Y) (xs : List X) (n m : ℕ) → n ≤ length xs → (n ≡ m → ⊥) → m ≡ length xs → n < length (map f xs)

@@ -5,6 +5,7 @@ use Rattle.line_text.specs.declared.fault.LineFault.{LineFault}
 use Rattle.line_text.specs.declared.fault.LineFault.TheVariants.{NotAscii, LineTooLong}
 use Rattle.line_text.specs.declared.fault.LineError.{LineError}
 use Rattle.line_text.specs.declared.fault.LineError.TheVariants.{NoMemory, Fault}
+use Rattle.line_text.specs.declared.lines.TheConstants.{MAX_LINE}
 use Rattle.line_text.specs.Words.{is_blank, is_filled, words_of}
 
 -- a joined line: the number of its first physical line, from 1, and its words
@@ -72,13 +73,9 @@ joined_bytes run = flat_map (λ line. kept line.1) run
 abbrev pub joined : List (ℕ × List ℕ) → JoinedLine
 joined run = record { number = first_number run; words = words_of (joined_bytes run) }
 
--- the bytes that a joined line may have
-abbrev pub most_bytes : ℕ
-most_bytes = 262144
-
 -- whether the joined line of a run has words and too many bytes
 abbrev pub is_too_long : List (ℕ × List ℕ) → Bool
-is_too_long run = is_filled (words_of (joined_bytes run)) && nat_lt most_bytes (length (joined_bytes run))
+is_too_long run = is_filled (words_of (joined_bytes run)) && nat_lt MAX_LINE (length (joined_bytes run))
 
 -- a line that is not ASCII is named before the whole run's length
 abbrev pub fault_at : Option (ℕ × List ℕ) → List (ℕ × List ℕ) → Option LineFault

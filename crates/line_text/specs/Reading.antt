@@ -3,7 +3,8 @@ use Rattle.std.specs.Prelude.{ℕ, ◌+◌, Bool, true, false, nat_lt, if◌then
 use Rattle.line_text.specs.declared.fault.LineFault.{LineFault}
 use Rattle.line_text.specs.declared.fault.LineFault.TheVariants.{NotAscii, LineTooLong}
 use Rattle.line_text.specs.Words.{is_filled, words_of}
-use Rattle.line_text.specs.Lines.{JoinedLine, is_not_ascii, is_continued, kept, most_bytes}
+use Rattle.line_text.specs.declared.lines.TheConstants.{MAX_LINE}
+use Rattle.line_text.specs.Lines.{JoinedLine, is_not_ascii, is_continued, kept}
 
 -- a joined line so far: its number, its words and how many bytes it has
 pub record OpenLine : Type 0 where
@@ -28,7 +29,7 @@ extended line physical = record { number = line.number; words = line.words ++ wo
 -- the lines once this one has ended, too
 abbrev pub ended : List JoinedLine → OpenLine → Result (List JoinedLine) LineFault
 ended done line =
-    if is_filled line.words then (if nat_lt most_bytes line.count then Err (LineTooLong line.number) else Ok (done ++ record { number = line.number; words = line.words } ∷ [])) else Ok done
+    if is_filled line.words then (if nat_lt MAX_LINE line.count then Err (LineTooLong line.number) else Ok (done ++ record { number = line.number; words = line.words } ∷ [])) else Ok done
 
 -- the lines with none to be continued
 abbrev pub settled : Result (List JoinedLine) LineFault → Result Reading LineFault

@@ -3,7 +3,7 @@
 pub enum LineFault {
     /// A byte outside comments is neither blank nor a printing ASCII character.
     NotAscii(u32),
-    /// A joined line has more than 262,144 bytes.
+    /// A joined line has more than [`MAX_LINE`](crate::MAX_LINE) bytes.
     LineTooLong(u32),
 }
 

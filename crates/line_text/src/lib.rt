@@ -4,7 +4,7 @@
 //! end: spaces, tabs and CRs. If it then ends in `\`, that becomes a blank and the next physical line is joined to it. A joined
 //! line has the number of its first physical line, from 1; its words stand between blanks. [`logical_lines`] gives the joined
 //! lines that have words, as slices of the text, or the least fault: another byte than a blank or a printing ASCII character
-//! outside comments, or a joined line of more than 262,144 bytes. Netlists in BLIF and architecture files are read by it.
+//! outside comments, or a joined line of more than [`MAX_LINE`] bytes. Netlists in BLIF and architecture files are read by it.
 //!
 //! A [`Source`] gives bytes and a [`Sink`] takes them. Both answer [`Failed`] from their first failure on.
 #![tactic(auto)]
@@ -25,7 +25,7 @@ mod words;
 
 pub use decimal::{decimal_u32, decimal_u64, millionths, whole_number};
 pub use fault::{LineError, LineFault};
-pub use lines::{Line, Lines, logical_lines};
+pub use lines::{Line, Lines, MAX_LINE, MAX_TEXT, logical_lines};
 pub use memory_sink::MemorySink;
 pub use memory_source::MemorySource;
 pub use sink::{Sink, write_all};

@@ -7,6 +7,12 @@ use crate::reader::Reader;
 use std::alloc::Global;
 use std::marker::Model;
 
+/// The most bytes of a text of lines: an architecture or a netlist.
+pub const MAX_TEXT: usize = 1_048_576;
+
+/// The most bytes of a joined line.
+pub const MAX_LINE: usize = 262_144;
+
 /// A joined line: the number of its first physical line, from 1, and its words, slices of the text.
 #[derive(Clone, Copy)]
 pub struct Line<'a, 't> {

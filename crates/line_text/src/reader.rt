@@ -5,12 +5,9 @@ ghost use Rattle.line_text.specs.Spans.{AreWithin, bytes_of, seen_lines};
 ghost use Rattle.line_text.specs.Words.{is_blank as is_blank_byte, words_of};
 
 use crate::fault::{LineError, LineFault};
-use crate::lines::{Lines, Span};
+use crate::lines::{Lines, MAX_LINE, Span};
 use crate::words::{append_words, is_blank};
 use std::alloc::Global;
-
-/// The bytes that a joined line with words may have.
-const MOST_BYTES: usize = 262_144;
 
 /// The bytes without the blanks at their end.
 fn trimmed(bytes: &[u8]) -> &[u8]
@@ -78,7 +75,7 @@ impl<'t> Reader<'t> {
         if self.start == end {
             return Ok(());
         }
-        if self.count > MOST_BYTES {
+        if self.count > MAX_LINE {
             return Err(LineError::Fault(LineFault::LineTooLong(self.number)));
         }
         let span = Span {
