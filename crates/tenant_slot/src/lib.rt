@@ -16,8 +16,6 @@ mod phase;
 mod reply;
 mod shared_text;
 mod slot;
-#[cfg(test)]
-mod tests;
 
 pub use advance::{Advance, JobKind, Sources, StepReply};
 pub use answer::Answer;
