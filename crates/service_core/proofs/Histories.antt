@@ -8,7 +8,8 @@ use Rattle.tenant_slot.specs.SingleUser.{State, start, step, state_after, replie
 use Rattle.tenant_slot.specs.Slot.{SlotState}
 use Rattle.tenant_slot.proofs.Runs.{state_after-append, replies_to-append, step-served}
 use Rattle.service_core.specs.declared.entry.Entry.{Entry}
-use Rattle.service_core.specs.History.{IsReplayed, IsHistory, events_of}
+use Rattle.service_core.specs.History.{IsReplayed, events_of}
+use Rattle.service_core.specs.Tenancy.{IsHistory}
 
 pub state_after-push : (first : State) (es : List Entry) (e : Entry) → state_after first (events_of (es ++ e ∷ [])) ≡ (step (state_after first (events_of es)) e.event).0
 state_after-push first es e =

@@ -1,15 +1,13 @@
 -- Each call keeps that just the live tenancies have strips, and that each journal is that of its tenancy alone.
 use Rattle.std.proofs.Common.{◌≡◌, ℕ, ◌+◌, ◌-◌, ◌<◌, List, [], ◌∷◌, ◌++◌, length, get_or, Result, Ok, Err, true, false, Option, Some, None, refl, sym, ap, ◌∙◌, arith, length-append}
-use Rattle.std.specs.Prelude.{IsOk, IsSomeAnd, option_map, if◌then◌else◌}
+use Rattle.std.specs.Prelude.{IsSomeAnd, option_map, if◌then◌else◌}
 use Rattle.std.specs.declared.alloc.AllocError.{AllocError}
 use Rattle.std.proofs.lemmas.Bool.Decides.{nat_tests}
 use Rattle.std.proofs.lemmas.List.Elements.{All-push}
 use Rattle.std.proofs.Math.ListN.{set}
 use Rattle.std.proofs.lemmas.List.{set-get_or}
 use Rattle.strips.specs.declared.placed_strip.PlacedStrip.{PlacedStrip}
-use Rattle.strips.specs.declared.refusal.Refusal.{Refusal}
-use Rattle.strips.specs.declared.refusal.Refusal.TheVariants.{NoRoom, TooManyStrips, BadWidth}
-use Rattle.strips.specs.Plan.{Plan, IsFirstFit, IsPlaced, is_bad_width, strip_of, without}
+use Rattle.strips.specs.Plan.{strip_of, without}
 use Rattle.strips.proofs.Laid.{strip_of-without, strip_of-push}
 use Rattle.tenant_slot.specs.declared.command.Command.{Command}
 use Rattle.tenant_slot.specs.declared.command.Event.TheVariants.{Command as Asked}
@@ -22,9 +20,11 @@ use Rattle.service_core.specs.declared.device.Device.{Device}
 use Rattle.service_core.specs.declared.entry.Entry.{Entry}
 use Rattle.service_core.specs.declared.not_served.NoteCause.TheVariants.{JournalFull as CauseJournalFull}
 use Rattle.service_core.specs.declared.not_served.NotServed.TheVariants.{NoMemory as NoMemoryToServe, JournalFull as JournalFullNote, NoSuchTenancy as NoSuchTenancyNote}
-use Rattle.service_core.specs.History.{History, IsReplayed, IsStep, StepMade, entry_of, state_of, with_entry, closed, AdvancesHistory, ServesHistory}
-use Rattle.service_core.specs.Service.{ServiceState, IsService, IsLiveIn, IsOn, admitted, history_of, modified, if_live, live_of, placed_width}
-use Rattle.service_core.specs.Calls.{Advances, CanAdmit, IsReceipt, IsServed}
+use Rattle.service_core.specs.History.{History, IsReplayed, IsStep, StepMade, entry_of, state_of, with_entry, closed}
+use Rattle.service_core.specs.Service.{ServiceState, admitted, history_of, modified, if_live, live_of, placed_width}
+use Rattle.service_core.specs.Tenancy.{AdvancesHistory, ServesHistory}
+use Rattle.service_core.specs.Kept.{IsService, IsLiveIn, IsOn}
+use Rattle.service_core.specs.Calls.{Advances, IsReceipt, IsServed}
 use Rattle.service_core.specs.Receipt.{Receipted}
 use Rattle.service_core.specs.Run.{Call, Admit, Advance, Evict, Tenant, Happens}
 use Rattle.service_core.proofs.Lists.{history_of-past, history_of-modified, history_of-push, length-modified, All-modified, set-modified}
@@ -138,13 +138,6 @@ Advances-live old id here (Err error) new live is advanced =
 pub Advances-gone : (old : ServiceState) (id : ℕ) → live_of old.histories id ≡ None → Advances old id (Ok None) old
 Advances-gone old id none = (Ok None, refl, (rw none refl, refl))
 
--- what can be admitted has a place
-pub is_placed : (state : ServiceState) (plan : Plan) (width id : ℕ) (answer : Result ℕ Refusal) (new : Plan) → state.plan ≡ plan → CanAdmit state width → IsPlaced plan id width answer new → IsOk answer
-is_placed state plan width id (Ok offset) new same can placed = refl
-is_placed state plan width id (Err BadWidth) new same can placed = let good : is_bad_width plan width ≡ false = rw same at can.good_width in cc
-is_placed state plan width id (Err TooManyStrips) new same can placed = let few : length plan.strips < 64 = rw same at can.few_strips in absurd (omega arith)
-is_placed state plan width id (Err NoRoom) new same can placed = let room : (offset : ℕ) × IsFirstFit plan width (Some offset) = rw same at can.room in absurd (placed.2 room.0 room.1.0)
-
 pub if_live_some : (o : Option History) (h : History) → if_live o ≡ Some h → o ≡ Some h
 if_live_some None h is = is
 if_live_some (Some g) h is = grind arith
@@ -175,7 +168,7 @@ stepped old id made is = at_option (live_of old.histories id) refl is
 
 -- no call breaks it
 pub IsService-after : (old : ServiceState) (call : Call) (new : ServiceState) → Happens old call new → IsService old.device old.plan.strips old.histories → IsService new.device new.plan.strips new.histories
-IsService-after old (Admit width (Ok given)) new happens was = rw happens.3 (IsService-admitted old.device old.plan.strips old.histories width given.1 was happens.0.ids_left)
+IsService-after old (Admit width (Ok given)) new happens was = rw happens.2 (IsService-admitted old.device old.plan.strips old.histories width given.1 was happens.0.ids_left)
 IsService-after old (Admit width (Err refusal)) new happens was = rw happens.1 was
 IsService-after old (Evict id (Ok nothing)) new happens was = rw happens.1 (IsService-evicted old.device old.plan.strips old.histories id was)
 IsService-after old (Evict id (Err refusal)) new happens was = rw happens.2 was

@@ -16,12 +16,12 @@ use Rattle.service_core.specs.History.{History, IsStep, StepMade, entry_of, stat
 use Rattle.service_core.specs.Receipt.{Receipted}
 use Rattle.service_core.specs.Service.{ServiceState, live_of, with_tenancy, without_tenancy, with_entry_of}
 
--- a tenancy of that width is admitted, if there is memory
-pub record CanAdmit (state : ServiceState) (width : ℕ) : Type 0 where
+-- a tenancy of that width is admitted at the least offset that parts the strips, if there is memory
+pub record CanAdmit (state : ServiceState) (width offset : ℕ) : Type 0 where
   pub good_width : is_bad_width state.plan width ≡ false
   pub few_strips : length state.plan.strips < 64
   pub ids_left : length state.histories < 65535
-  pub room : (offset : ℕ) × IsFirstFit state.plan width (Some offset)
+  pub room : IsFirstFit state.plan width (Some offset)
 
 -- why a tenancy of that width isn't admitted: each refusal where none of those before it holds, in the order BadWidth,
 -- TooManyStrips, IdsSpent, NoRoom, NoMemory
@@ -30,17 +30,12 @@ RefusesAdmission state width BadWidth = is_bad_width state.plan width ≡ true
 RefusesAdmission state width TooManyStrips = (is_bad_width state.plan width ≡ false) × (length state.plan.strips ≡ 64)
 RefusesAdmission state width IdsSpent = (is_bad_width state.plan width ≡ false) × (length state.plan.strips < 64) × (length state.histories ≡ 65535)
 RefusesAdmission state width NoRoom = (is_bad_width state.plan width ≡ false) × (length state.plan.strips < 64) × (length state.histories < 65535) × IsFirstFit state.plan width None
-RefusesAdmission state width NoMemory = CanAdmit state width
+RefusesAdmission state width NoMemory = (offset : ℕ) × CanAdmit state width offset
 RefusesAdmission state width NoSuchTenancy = ⊥
 
--- private: the look at the refusals that need no memory
-abbrev pub ChecksAdmission : ServiceState → ℕ → Result (Unit {0}) OpRefusal → Type 0
-ChecksAdmission state width (Ok nothing) = CanAdmit state width
-ChecksAdmission state width (Err refusal) = RefusesAdmission state width refusal
-
--- an admission gives the next id and the least offset that parts the strips
+-- an admission gives the next id and the least offset
 abbrev pub IsAdmitted : ServiceState → ℕ → Result (ℕ × ℕ) OpRefusal → ServiceState → Type 0
-IsAdmitted old width (Ok given) new = CanAdmit old width × (given.0 ≡ length old.histories + 1) × IsFirstFit old.plan width (Some given.1) × (new ≡ with_tenancy old width given.1)
+IsAdmitted old width (Ok given) new = CanAdmit old width given.1 × (given.0 ≡ length old.histories + 1) × (new ≡ with_tenancy old width given.1)
 IsAdmitted old width (Err refusal) new = RefusesAdmission old width refusal × (new ≡ old)
 
 -- an eviction is refused just where the tenancy isn't live

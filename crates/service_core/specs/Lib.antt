@@ -6,3 +6,5 @@ pub mod Calls
 pub mod Run
 pub mod OwnEvents
 pub mod Headline
+pub mod Tenancy
+pub mod Kept

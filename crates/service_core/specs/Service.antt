@@ -1,12 +1,11 @@
 -- All tenancies on one device.
-use Rattle.std.specs.Prelude.{ℕ, ◌≡◌, ◌+◌, ◌-◌, ◌<◌, ◌≤◌, List, [], ◌∷◌, ◌++◌, length, true, Option, Some, None, option_map, All, slice_index_or, ◌==◌, if◌then◌else◌}
-use Rattle.arch_file.specs.Arch.{IsArch, IsWithin}
+use Rattle.std.specs.Prelude.{ℕ, ◌+◌, ◌-◌, List, [], ◌∷◌, ◌++◌, length, true, Option, Some, None, option_map, ◌==◌, if◌then◌else◌}
 use Rattle.grid.specs.declared.Strip.{Strip}
 use Rattle.strips.specs.declared.placed_strip.PlacedStrip.{PlacedStrip}
 use Rattle.strips.specs.Plan.{Plan, strip_of, with_strip, without}
 use Rattle.service_core.specs.declared.device.Device.{Device}
 use Rattle.service_core.specs.declared.entry.Entry.{Entry}
-use Rattle.service_core.specs.History.{History, IsReplayed, with_entry, closed}
+use Rattle.service_core.specs.History.{History, with_entry, closed}
 
 -- the device, where the live tenancies' strips stand, and the history of each id from 1 on
 pub record ServiceState : Type 0 where
@@ -70,39 +69,9 @@ without_tenancy state id = record state {
 abbrev pub with_entry_of : ServiceState → ℕ → Entry → ServiceState
 with_entry_of state id entry = record state { histories = modified state.histories id (with_entry entry) }
 
--- a live tenancy is at its place in the list
-pub record IsLiveIn (histories : List History) (id : ℕ) : Type 0 where
-  pub positive : 0 < id
-  pub within : id ≤ length histories
-  pub flag : (d : History) → (slice_index_or histories (id - 1) d).live ≡ true
-  pub history : (d : History) → history_of histories id ≡ Some (slice_index_or histories (id - 1) d)
-
 -- the width of that id's strip, as it is placed and as its tenancy has it
 abbrev pub placed_width : List PlacedStrip → ℕ → Option ℕ
 placed_width strips id = option_map (λ s. s.width) (strip_of strips id)
 
 abbrev pub live_width : List History → ℕ → Option ℕ
 live_width histories id = option_map (λ h. h.strip.width) (live_of histories id)
-
--- the device keeps the limits
-pub record IsDevice (device : Device) : Type 0 where
-  pub arch : IsArch device.arch
-  pub columns : IsWithin 1 device.columns 256
-  pub rows : IsWithin 1 device.rows 64
-
--- the tenancy is one of that device
-pub record IsOn (device : Device) (h : History) : Type 0 where
-  pub arch : h.arch ≡ device.arch
-  pub strip : h.strip ≡ strip_on device h.strip.width
-
--- just the live tenancies have strips, each of its width, and each journal is that of its tenancy alone
-pub record IsService (device : Device) (strips : List PlacedStrip) (histories : List History) : Type 0 where
-  pub linked : (id : ℕ) → placed_width strips id ≡ live_width histories id
-  pub few : length histories ≤ 65535
-  pub on_device : All (IsOn device) histories
-  pub replayed : All (λ h. IsReplayed h.arch h.strip h.entries) histories
-
--- and the device keeps the limits
-pub record IsSound (device : Device) (strips : List PlacedStrip) (histories : List History) : Type 0 where
-  pub lawful : IsDevice device
-  pub kept : IsService device strips histories

@@ -15,8 +15,6 @@ mod op_refusal;
 mod receipt;
 mod service;
 mod tenancy;
-#[cfg(test)]
-mod tests;
 
 pub use device::Device;
 pub use entry::Entry;

@@ -2,8 +2,9 @@ ghost use Rattle.std.specs.Prelude.{◌≡◌, ◌≤◌, ◌+◌, IfOk, None, A
 ghost use Rattle.arch_file.specs.Arch.{IsArch};
 ghost use Rattle.strips.specs.Plan.{offset_of};
 ghost use Rattle.service_core.specs.History.{IsReplayed, state_of};
-ghost use Rattle.service_core.specs.Service.{IsLiveIn, empty, journal_of, live_of};
-ghost use Rattle.service_core.specs.Calls.{Advances, ChecksAdmission, IsAdmitted, IsEvicted, IsServed};
+ghost use Rattle.service_core.specs.Service.{empty, journal_of, live_of};
+ghost use Rattle.service_core.specs.Calls.{Advances, IsAdmitted, IsEvicted, IsServed};
+ghost use Rattle.service_core.specs.Kept.{ChecksAdmission, IsLiveIn};
 ghost use Rattle.service_core.specs.Headline.{AreParted};
 
 use crate::device::Device;
@@ -16,7 +17,7 @@ use arch_file::SharedArch;
 use grid::Strip;
 use std::alloc::{AllocError, Global};
 use std::marker::Model;
-use strips::{Layout, MAX_STRIPS};
+use strips::{Layout, PlacedStrip};
 use tenant_slot::{Command, StateName, StepReply};
 
 /// The most admissions: ids are 1 to 65,535, and no id is given twice.
@@ -34,7 +35,8 @@ pub struct Service {
 }
 
 impl Model for Service {
-    ghost use Rattle.service_core.specs.Service.{IsSound, ServiceState};
+    ghost use Rattle.service_core.specs.Kept.{IsSound};
+    ghost use Rattle.service_core.specs.Service.{ServiceState};
 
     ghost Value = { ServiceState };
 
@@ -123,7 +125,7 @@ impl Service {
     pub fn admit(&mut self, width: u32) -> Result<(u32, u32), OpRefusal>
         ensures { IsAdmitted self.old width result self.new }
     {
-        self.check_admission(width)?;
+        let offset = self.check_admission(width)?;
         let id = self.tenancies.len() as u32 + 1;
         let strip = Strip {
             width,
@@ -132,26 +134,26 @@ impl Service {
         };
         self.tenancies.reserve(1)?;
         let tenancy = Tenancy::new(self.alloc, id, &self.arch, strip)?;
-        let offset = self.layout.place(id, width).unwrap();
+        self.layout.place(PlacedStrip { id, offset, width });
         self.tenancies.push(tenancy).unwrap();
         Ok((id, offset))
     }
 
-    /// Whether a tenancy of that width may be admitted, if there is memory.
-    fn check_admission(&self, width: u32) -> Result<(), OpRefusal>
+    /// Where a tenancy of that width is admitted, if there is memory.
+    fn check_admission(&self, width: u32) -> Result<u32, OpRefusal>
         ensures { ChecksAdmission self.now width result }
     {
         if self.layout.is_bad_width(width) {
             return Err(OpRefusal::BadWidth);
         }
-        if self.layout.len() == MAX_STRIPS {
+        if self.layout.is_full() {
             return Err(OpRefusal::TooManyStrips);
         }
         if self.tenancies.len() == MAX_ADMISSIONS {
             return Err(OpRefusal::IdsSpent);
         }
         match self.layout.first_fit(width) {
-            Some(_) => Ok(()),
+            Some(offset) => Ok(offset),
             None => Err(OpRefusal::NoRoom),
         }
     }

@@ -1,6 +1,7 @@
 ghost use Rattle.std.specs.Prelude.{◌≡◌, ◌≤◌, [], true, IfErr, IfOk, length, option_copied, slice_get};
 ghost use Rattle.tenant_slot.specs.Answer.{Answers};
-ghost use Rattle.service_core.specs.History.{AdvancesHistory, ServesHistory, closed, state_of};
+ghost use Rattle.service_core.specs.History.{closed, state_of};
+ghost use Rattle.service_core.specs.Tenancy.{AdvancesHistory, ServesHistory};
 
 use crate::entry::Entry;
 use arch_file::SharedArch;
@@ -22,7 +23,8 @@ pub(crate) struct Tenancy {
 
 impl Model for Tenancy {
     ghost use Rattle.std.specs.Prelude.{is_some};
-    ghost use Rattle.service_core.specs.History.{History, IsHistory};
+    ghost use Rattle.service_core.specs.History.{History};
+    ghost use Rattle.service_core.specs.Tenancy.{IsHistory};
 
     ghost Value = { History };
 

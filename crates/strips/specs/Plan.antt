@@ -1,9 +1,7 @@
 -- Where strips stand on a device.
-use Rattle.std.specs.Prelude.{ℕ, ◌≡◌, ◌≢◌, ◌+◌, ◌<◌, ◌≤◌, ◌⊎◌, List, [], ◌∷◌, ◌++◌, length, filter, All, AllPairs, Bool, true, false, not, ◌||◌, ◌==◌, nat_lt, Option, Some, None, option_map, find, Result, Ok, Err}
+use Rattle.std.specs.Prelude.{ℕ, ◌≢◌, ◌+◌, ◌<◌, ◌≤◌, ◌⊎◌, List, [], ◌∷◌, ◌++◌, length, filter, All, AllPairs, Bool, not, ◌||◌, ◌==◌, nat_lt, Option, Some, None, option_map, find}
 use Rattle.strips.specs.declared.placed_strip.PlacedStrip.{PlacedStrip}
 use Rattle.strips.specs.declared.layout.TheConstants.{MAX_STRIPS}
-use Rattle.strips.specs.declared.refusal.Refusal.{Refusal}
-use Rattle.strips.specs.declared.refusal.Refusal.TheVariants.{NoRoom, TooManyStrips, BadWidth}
 
 -- a device of so many columns, and the strips on it
 pub record Plan : Type 0 where
@@ -55,10 +53,3 @@ pub record IsLaidOut (plan : Plan) : Type 0 where
 -- no strip of that width can stand on that device
 abbrev pub is_bad_width : Plan → ℕ → Bool
 is_bad_width plan width = width == 0 || nat_lt plan.columns width
-
--- a strip is placed at the first fit, or refused by the last refusal that holds
-abbrev pub IsPlaced : Plan → ℕ → ℕ → Result ℕ Refusal → Plan → Type 0
-IsPlaced old id width (Ok offset) new = (is_bad_width old width ≡ false) × (length old.strips < MAX_STRIPS) × IsFirstFit old width (Some offset) × (new ≡ with_strip old (record { id = id; offset = offset; width = width }))
-IsPlaced old id width (Err NoRoom) new = (is_bad_width old width ≡ false) × (length old.strips < MAX_STRIPS) × IsFirstFit old width None × (new ≡ old)
-IsPlaced old id width (Err TooManyStrips) new = (is_bad_width old width ≡ false) × (length old.strips ≡ MAX_STRIPS) × (new ≡ old)
-IsPlaced old id width (Err BadWidth) new = (is_bad_width old width ≡ true) × (new ≡ old)

@@ -1,10 +1,9 @@
 //! The strips on a device.
 
 ghost use Rattle.std.specs.Prelude.{◌≡◌, ◌↔◌, ◌<◌, ◌≤◌, ◌+◌, ◌^◌, ◌==◌, [], length, All, IsTrue, None};
-ghost use Rattle.strips.specs.Plan.{AreApart, IsFirstFit, IsLaidOut, IsPlaced, is_bad_width, offset_of, without};
+ghost use Rattle.strips.specs.Plan.{AreApart, FitsAt, IsFirstFit, IsLaidOut, is_bad_width, offset_of, with_strip, without};
 
 use crate::placed_strip::PlacedStrip;
-use crate::refusal::Refusal;
 use arrayvec::ArrayVec;
 use std::marker::Model;
 
@@ -39,31 +38,10 @@ impl Layout {
         }
     }
 
-    /// The columns of the device.
-    pub fn columns(&self) -> u32
-        ensures { result ≡ self.now.columns }
-    {
-        self.columns
-    }
-
-    /// How many strips there are.
-    pub fn len(&self) -> usize
-        ensures value { result ≡ length self.now.strips }
-        ensures few { result ≤ MAX_STRIPS }
-    {
-        self.strips.len()
-    }
-
-    /// Whether there is no strip.
-    pub fn is_empty(&self) -> bool
-        ensures { result ≡ (length self.now.strips == 0) }
-    {
-        self.strips.is_empty()
-    }
-
     /// Whether there is room for no further strip.
     pub fn is_full(&self) -> bool
-        ensures { IsTrue result ↔ (length self.now.strips ≡ MAX_STRIPS) }
+        ensures value { result ≡ (length self.now.strips == MAX_STRIPS) }
+        ensures few { length self.now.strips ≤ MAX_STRIPS }
     {
         self.strips.is_full()
     }
@@ -106,22 +84,14 @@ impl Layout {
             .map(|strip| strip.offset)
     }
 
-    /// Places a strip at the least offset at which it is parted from all others.
-    pub fn place(&mut self, id: u32, width: u32) -> Result<u32, Refusal>
-        requires { offset_of self.old.strips id ≡ None }
-        ensures { IsPlaced self.old id width result self.new }
+    /// Places a strip of a new id where it fits, as at the offset of [`Layout::first_fit`].
+    pub fn place(&mut self, strip: PlacedStrip)
+        requires few { length self.old.strips < MAX_STRIPS }
+        requires fits { FitsAt self.old strip.width strip.offset }
+        requires new { offset_of self.old.strips strip.id ≡ None }
+        ensures { self.new ≡ with_strip self.old strip }
     {
-        if self.is_bad_width(width) {
-            return Err(Refusal::BadWidth);
-        }
-        if self.is_full() {
-            return Err(Refusal::TooManyStrips);
-        }
-        let Some(offset) = self.first_fit(width) else {
-            return Err(Refusal::NoRoom);
-        };
-        self.strips.push(PlacedStrip { id, offset, width });
-        Ok(offset)
+        self.strips.push(strip);
     }
 
     /// Takes the strip of that id away, if there is one.

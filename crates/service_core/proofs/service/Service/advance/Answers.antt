@@ -1,5 +1,5 @@
 use Rattle.std.proofs.Common.{◌≡◌, ◌-◌, get_or, rules}
-use Rattle.service_core.specs.Service.{IsLiveIn}
+use Rattle.service_core.specs.Kept.{IsLiveIn}
 use Rattle.service_core.proofs.Keeps.{IsService-advanced, Advances-live, Advances-gone}
 use Rattle.service_core.proofs.service.Service.advance.Goals as goal
 

@@ -1,6 +1,6 @@
 use Rattle.std.proofs.Common.{◌≡◌, ◌-◌, get_or, rules, refl}
 use Rattle.service_core.specs.History.{closed}
-use Rattle.service_core.specs.Service.{IsLiveIn}
+use Rattle.service_core.specs.Kept.{IsLiveIn}
 use Rattle.service_core.proofs.Keeps.{IsService-evicted, live_is, set-live}
 use Rattle.service_core.proofs.service.Service.evict.Goals as goal
 

@@ -1,0 +1,64 @@
+//! What a tenant asks, and what its journal keeps.
+use crate::cores::{new_core, served, upload};
+use fixtures::AND;
+use service_core::{Core, NotServed, Note, NoteCause};
+use std::alloc::Global;
+use std::test::Fail;
+use tenant_slot::{Command, Event, Reply, StateName, Status};
+
+const EMPTY: Status = Status {
+    state: StateName::Empty,
+    steps: 0,
+};
+
+/// A core with two tenancies.
+fn shared_core(alloc: Global) -> Option<Core> {
+    let mut core = new_core(alloc, 3)?;
+    core.admit(1).ok()?;
+    core.admit(1).ok()?;
+    Some(core)
+}
+
+#[test]
+fn a_netlist_is_uploaded(rt: HostRuntime) -> Result<(), Fail> {
+    let mut core = shared_core(rt.alloc()).ok_or("no core")?;
+    served(&mut core, 2, Command::Withdraw).ok_or("not served")?;
+    let upload = upload(rt.alloc()).ok_or("no text")?;
+    let receipt = served(&mut core, 2, upload).ok_or("not served")?;
+    assert_eq!(rt; receipt.id(), 2);
+    assert_eq!(rt; receipt.place(), 1);
+    assert!(rt; matches!(receipt.reply(), Reply::Accepted(StateName::Loaded)));
+    let Command::Upload(text) = receipt.command() else {
+        return Err("another command is told".into());
+    };
+    assert_eq!(rt; text.as_bytes(), AND.as_bytes());
+    Ok(())
+}
+
+/// The note that a tenancy isn't live, with the refusal's number and name.
+fn gone(core: &mut Core, id: u32) -> Option<(Note, u32, &'static str)> {
+    let Err(refusal) = core.tenant(id, Command::Status) else {
+        return None;
+    };
+    let (number, name) = (refusal.number(), refusal.name());
+    match refusal {
+        NotServed::NoSuchTenancy(note) => Some((note, number, name)),
+        _ => None,
+    }
+}
+
+#[test]
+fn a_journal_is_kept_when_its_tenancy_ends(rt: HostRuntime) -> Result<(), Fail> {
+    let mut core = shared_core(rt.alloc()).ok_or("no core")?;
+    served(&mut core, 2, Command::Status).ok_or("not served")?;
+    assert!(rt; core.evict(2).is_ok());
+    let (note, number, name) = gone(&mut core, 2).ok_or("it is served")?;
+    assert_eq!(rt; note.id(), 2);
+    assert_eq!(rt; note.cause(), NoteCause::NoSuchTenancy);
+    assert_eq!(rt; number, 5);
+    assert_eq!(rt; name, "NoSuchTenancy");
+    let entry = core.entry(2, 0).ok_or("the journal is lost")?;
+    assert!(rt; matches!(entry.event, Event::Command(Command::Status)));
+    assert!(rt; matches!(entry.reply, Reply::Status(EMPTY)));
+    Ok(())
+}
