@@ -1,61 +1,53 @@
 //! The program: a place-and-route service for one shared FPGA, over a script on standard input.
 #![tactic(auto)]
 
-ghost use Rattle.std.specs.Prelude.{◌≡◌, IfOk};
+ghost use Rattle.std.specs.Prelude.{◌≡◌};
 ghost use Rattle.std.specs.Process.{exit_status};
 ghost use Rattle.fpgad_run.specs.Outcomes.{status_of};
 
-use clap::error::ErrorKind;
-use fpgad_run::{Architecture, CommandLine, Outcome, read_options, run};
-use line_text::{ReadError, StdSink, StdSource, read_all};
-use std::fs::File;
+use fpgad_run::{Outcome, run_words};
+use line_text::{StdSink, StdSource};
+use std::fmt::Display;
+use std::io::ErrorKind;
 use std::process::ExitCode;
 use std::{env, io};
 
-fn main(rt: HostRuntime) -> io::Result<ExitCode> {
-    let words: Vec<String> = env::args(&rt)?.collect(rt.alloc())?;
-    let line = match read_options(rt.alloc(), words.as_slice()) {
-        Ok(line) => line,
+fn main(rt: HostRuntime) -> ExitCode {
+    let words = match words(&rt) {
+        Ok(words) => words,
         Err(error) if error.kind() == ErrorKind::OutOfMemory => {
             return ended(&rt, Outcome::NoMemory);
         }
-        Err(error) => {
-            rt.eprint(error)?;
-            return Ok(ExitCode::from(2));
-        }
+        Err(_) => return refused(&rt, "error: an argument is no text\n"),
     };
-    let outcome = served(&rt, line);
-    ended(&rt, outcome)
-}
-
-/// Reads the architecture's file, if there is one, and runs the script.
-fn served(rt: &HostRuntime, line: CommandLine<'_>) -> Outcome {
-    let Some(path) = line.arch else {
-        return run_with(rt, line, Architecture::InScript);
-    };
-    let Ok(file) = File::open(rt, path) else {
-        return run_with(rt, line, Architecture::Unreadable);
-    };
-    match read_all(rt.alloc(), &mut StdSource::new(file)) {
-        Ok(text) => run_with(rt, line, Architecture::Text(text.as_slice())),
-        Err(ReadError::Failed) => run_with(rt, line, Architecture::Unreadable),
-        Err(ReadError::NoMemory) => Outcome::NoMemory,
+    let mut reader = StdSource::new(rt.reader());
+    let mut writer = StdSink::new(io::writer(&rt));
+    match run_words(&rt, words.as_slice(), &mut reader, &mut writer) {
+        Ok(outcome) => ended(&rt, outcome),
+        Err(error) => refused(&rt, error),
     }
 }
 
-fn run_with(rt: &HostRuntime, line: CommandLine<'_>, architecture: Architecture<'_>) -> Outcome {
-    let mut reader = StdSource::new(rt.reader());
-    let mut writer = StdSink::new(io::writer(rt));
-    run(rt, &line.options, architecture, &mut reader, &mut writer)
+/// The words that the program was called with, the first being its name.
+fn words(rt: &HostRuntime) -> io::Result<Vec<String>> {
+    Ok(env::args(rt)?.collect(rt.alloc())?)
 }
 
-/// Tells how the run ended: its message on standard error, and its status.
-fn ended(rt: &HostRuntime, outcome: Outcome) -> io::Result<ExitCode>
-    ensures { IfOk result (λ code. exit_status code ≡ status_of outcome) }
+/// Tells how the run ended: its message on standard error, if that can be written, and its status.
+fn ended(rt: &HostRuntime, outcome: Outcome) -> ExitCode
+    ensures { exit_status result ≡ status_of outcome }
 {
     let status = outcome.status();
     if status != 0 {
-        rt.eprintln(outcome)?;
+        let _ = rt.eprintln(outcome);
     }
-    Ok(ExitCode::from(status))
+    ExitCode::from(status)
+}
+
+/// Tells why the words are refused.
+fn refused<M: Display + Drop>(rt: &HostRuntime, message: M) -> ExitCode
+    ensures { exit_status result ≡ 2 }
+{
+    let _ = rt.eprint(message);
+    ExitCode::from(2)
 }

@@ -1,3 +1,4 @@
+pub mod Commands
 pub mod Ids
 pub mod Limits
 pub mod Lines

@@ -8,6 +8,7 @@
 //!   items of a script are answered, and `Program` what is written and how a run ends.
 #![tactic(auto)]
 
+mod command;
 mod form;
 mod item;
 mod lines;
@@ -23,6 +24,7 @@ mod session_line;
 mod session_text;
 mod words;
 
+pub use command::{run_line, run_words};
 pub use item::{Act, Item};
 pub use operator_line::OperatorLine;
 pub use options::{CommandLine, Options, read_options};
@@ -31,6 +33,3 @@ pub use program::{Architecture, run, run_script};
 pub use script::{Script, ScriptError, read_script};
 pub use session_line::{SessionLine, SessionRefusal};
 pub use session_text::{push_answer, push_reply, push_session_refusal};
-
-#[cfg(test)]
-mod tests;

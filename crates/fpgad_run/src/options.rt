@@ -6,6 +6,13 @@ use line_text::decimal_u32;
 use std::alloc::{AllocError, Global};
 use std::convert::AsStr;
 
+const ABOUT: &str = "Place and route for one shared FPGA: serves the script on standard input";
+
+const ARCH_HELP: &str =
+    "The architecture; without it the script's lines up to a line that is `.` alone";
+
+const EXAMPLE: &str = "Example: fpgad --arch my.arch --tracks 8 --columns 20 --rows 10 < my.script";
+
 /// The size of the device and of its channels, within their limits.
 #[derive(Clone, Copy, Debug, PartialEq, Eq)]
 pub struct Options {
@@ -61,12 +68,21 @@ pub fn read_options<'a, S: AsStr>(alloc: Global, words: &'a [S]) -> Result<Comma
 
 /// What the program takes.
 fn command<'a>(alloc: Global) -> Result<Command<'a>, AllocError> {
-    let arch = Arg::new(alloc, "arch").long("arch").value_name("FILE");
-    let command = Command::new(alloc, "fpgad").arg(arch)?;
-    let command = command.arg(number(alloc, "tracks", "W", "2", 1, 64))?;
-    let command = command.arg(number(alloc, "columns", "NX", "9", 1, 256))?;
-    let command = command.arg(number(alloc, "rows", "NY", "1", 1, 64))?;
-    command.arg(number(alloc, "workers", "K", "0", 0, 0))
+    let arch = Arg::new(alloc, "arch")
+        .long("arch")
+        .value_name("FILE")
+        .help(ARCH_HELP);
+    let tracks = number(alloc, "tracks", "W", "2", 1, 64).help("Tracks of each channel, 1 to 64");
+    let columns = number(alloc, "columns", "NX", "9", 1, 256).help(
+        "Columns of the device, 1 to 256",
+    );
+    let rows = number(alloc, "rows", "NY", "1", 1, 64).help("Rows of the device, 1 to 64");
+    let workers = number(alloc, "workers", "K", "0", 0, 0).help("Threads that work, 0");
+    let command = Command::new(alloc, "fpgad")
+        .about(ABOUT)
+        .after_help(EXAMPLE);
+    let command = command.arg(arch)?.arg(tracks)?.arg(columns)?;
+    command.arg(rows)?.arg(workers)
 }
 
 /// An option that is a number.

@@ -1,6 +1,6 @@
 //! Each beginning of a netlist.
-use crate::runs::NETLIST;
 use blif::read_blif;
+use fixtures::AND;
 use std::alloc::{AllocError, Global};
 use std::process::Abort;
 use std::test::Fail;
@@ -57,9 +57,9 @@ fn assert_beginnings<H: Abort + AllocGlobal>(
 fn each_beginning_is_answered(rt: HostRuntime) -> Result<(), Fail> {
     let mut first = 0usize;
     for (last, want) in BEGINNINGS {
-        assert_beginnings(&rt, NETLIST.as_bytes(), first, last, want)?;
+        assert_beginnings(&rt, AND.as_bytes(), first, last, want)?;
         first = last.saturating_add(1);
     }
-    assert_eq!(rt; first.saturating_sub(1), NETLIST.len());
+    assert_eq!(rt; first.saturating_sub(1), AND.len());
     Ok(())
 }

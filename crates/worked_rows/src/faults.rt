@@ -1,5 +1,6 @@
 //! Inputs that end with a status and a message.
-use crate::runs::{ARCHITECTURE, assert_ends, changed, script_of};
+use crate::runs::{assert_ends, changed, script_of};
+use fixtures::ARCHITECTURE;
 use fpgad_run::Architecture;
 use std::test::Fail;
 

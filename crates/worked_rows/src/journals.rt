@@ -1,5 +1,6 @@
 //! A journal that has all its entries.
-use crate::runs::{NETLIST, written_by};
+use crate::runs::written_by;
+use fixtures::AND;
 use std::test::Fail;
 
 /// The most entries of a journal.
@@ -16,7 +17,7 @@ fn full_journal(rt: HostRuntime) -> Result<(), Fail> {
         expected.push_str("status Empty 0\n")?;
     }
     lines.push_str("@T status\n@T withdraw\n@U upload\n")?;
-    lines.push_str(NETLIST)?;
+    lines.push_str(AND)?;
     lines.push_str(".\n@T status\n@U status\n")?;
     expected.push_str("refused 2 JournalFull\nrefused 2 JournalFull\nrefused 2 JournalFull\n")?;
     expected.push_str("== U\nok Loaded\nstatus Loaded 0\n")?;

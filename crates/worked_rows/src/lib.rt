@@ -1,7 +1,7 @@
 //! Worked rows: whole scripts, run over memory, and the exact bytes that they write; and rows over a few crates.
 //!
 //! A row is a test named after it, with its script and its bytes as text. Each is run by [`fpgad_run::run_script`] on a
-//! device of one row and two tracks, with one architecture for all, that of `runs`, where a row brings none of its own. The
+//! device of one row and two tracks, of the smallest architecture where a row brings none of its own. The
 //! bytes follow from the formats, and were not taken from the service.
 //!
 //! - `first_run`: two tenants that upload, ask and withdraw, on two devices.
@@ -17,8 +17,8 @@
 //!
 //! Rows that are no script:
 //!
+//! - `options`: option lines, and the text that a call for help is answered.
 //! - `beginnings`: what the reader tells of each beginning of a netlist.
-//! - `graph_paths`: least paths over the routing graph of a strip.
 #![tactic(auto)]
 
 #[cfg(test)]
@@ -32,13 +32,13 @@ mod faults;
 #[cfg(test)]
 mod first_run;
 #[cfg(test)]
-mod graph_paths;
-#[cfg(test)]
 mod journals;
 #[cfg(test)]
 mod layouts;
 #[cfg(test)]
 mod many_elements;
+#[cfg(test)]
+mod options;
 #[cfg(test)]
 mod packing;
 #[cfg(test)]

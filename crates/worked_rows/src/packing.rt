@@ -1,49 +1,7 @@
 //! Packing: the lines of `pack`, `net` and the steps between, with the `.net` files that come of them.
 use crate::runs::{assert_writes, assert_writes_on};
+use fixtures::{THREE_INPUT_TABLES, TWO_BLES_A_CLUSTER};
 use std::test::Fail;
-
-/// Two logic elements a block, with two outputs.
-const TWO_ELEMENTS_A_BLOCK: &str = "\
-io_rat 2
-chan_width_io 1
-chan_width_x uniform 1
-chan_width_y uniform 1
-inpin class: 0 bottom
-inpin class: 0 left
-outpin class: 1 top
-outpin class: 1 right
-inpin class: 2 global top
-subblocks_per_clb 2
-subblock_lut_size 2
-Fc_type fractional
-Fc_output 1
-Fc_input 1
-Fc_pad 1
-switch_block_type subset
-segment frequency: 1 length: 1 wire_switch: 0 opin_switch: 0 Frac_cb: 1. Frac_sb: 1. Rmetal: 4.16 Cmetal: 81e-15
-switch 0 buffered: yes R: 786.9 Cin: 7.512e-15 Cout: 10.762e-15 Tdel: 456e-12
-";
-
-/// Tables of three inputs, of which a block has pins for two.
-const THREE_INPUT_TABLES: &str = "\
-io_rat 2
-chan_width_io 1
-chan_width_x uniform 1
-chan_width_y uniform 1
-inpin class: 0 bottom
-inpin class: 0 left
-outpin class: 1 top
-inpin class: 2 global top
-subblocks_per_clb 1
-subblock_lut_size 3
-Fc_type fractional
-Fc_output 1
-Fc_input 1
-Fc_pad 1
-switch_block_type subset
-segment frequency: 1 length: 1 wire_switch: 0 opin_switch: 0 Frac_cb: 1. Frac_sb: 1. Rmetal: 4.16 Cmetal: 81e-15
-switch 0 buffered: yes R: 786.9 Cin: 7.512e-15 Cout: 10.762e-15 Tdel: 456e-12
-";
 
 const EMPTY_CIRCUIT: &str = "\
 op admit T 1
@@ -444,7 +402,7 @@ fn latch_without_clock_or_init(rt: HostRuntime) -> Result<(), Fail> {
 fn two_bles_in_a_cluster(rt: HostRuntime) -> Result<(), Fail> {
     assert_writes_on(
         &rt,
-        TWO_ELEMENTS_A_BLOCK,
+        TWO_BLES_A_CLUSTER,
         1,
         TWO_ELEMENTS,
         TWO_ELEMENTS_REPLIES,

@@ -1,40 +1,10 @@
 //! The device of all rows, and how a row is run.
+use fixtures::ARCHITECTURE;
 use fpgad_run::{Architecture, Options, Outcome, run_script};
 use line_text::{MemorySink, MemorySource};
 use std::alloc::{AllocError, Global};
 use std::process::Abort;
 use std::test::Fail;
-
-/// One logic element with two inputs a block, two pads at each end of a column, every pin at every track.
-pub(crate) const ARCHITECTURE: &str = "\
-io_rat 2
-chan_width_io 1
-chan_width_x uniform 1
-chan_width_y uniform 1
-inpin class: 0 bottom
-inpin class: 0 left
-outpin class: 1 top
-inpin class: 2 global top
-subblocks_per_clb 1
-subblock_lut_size 2
-Fc_type fractional
-Fc_output 1
-Fc_input 1
-Fc_pad 1
-switch_block_type subset
-segment frequency: 1 length: 1 wire_switch: 0 opin_switch: 0 Frac_cb: 1. Frac_sb: 1. Rmetal: 4.16 Cmetal: 81e-15
-switch 0 buffered: yes R: 786.9 Cin: 7.512e-15 Cout: 10.762e-15 Tdel: 456e-12
-";
-
-/// The tenants' netlist: f is a and b.
-pub(crate) const NETLIST: &str = "\
-.model t
-.inputs a b
-.outputs f
-.names a b f
-11 1
-.end
-";
 
 /// A script with those lines below the architecture's text, of which the last is line 18.
 pub(crate) fn script_of(alloc: Global, lines: &str) -> Result<Vec<u8>, AllocError> {

@@ -1,0 +1,19 @@
+-- What a command line makes of a run.
+use Rattle.std.specs.Prelude.{ℕ, ◌≡◌, ◌≢◌, List, Option, Some, None, IfSome}
+use Rattle.std.specs.Borrow.{Bor}
+use Rattle.fpgad_run.specs.declared.options.CommandLine.{CommandLine}
+use Rattle.fpgad_run.specs.declared.outcome.Outcome.{Outcome}
+use Rattle.fpgad_run.specs.declared.program.Architecture.{Architecture}
+use Rattle.fpgad_run.specs.declared.program.Architecture.TheVariants.{InScript}
+use Rattle.fpgad_run.specs.Program.{Decides, Writes, start_of}
+
+-- the architecture is at the script's head exactly where the command line names no file
+abbrev pub IsGiven : Option (Bor (List ℕ)) → Architecture → Type 0
+IsGiven None architecture = architecture ≡ InScript
+IsGiven (Some path) architecture = architecture ≢ InScript
+
+-- a run with the sizes of the command line, and the architecture that its file holds
+abbrev pub Runs : CommandLine → Option (List ℕ) → Outcome → Option (List ℕ) → Option (List ℕ) → Type 0
+Runs line input outcome old new = (architecture : Architecture) × IsGiven line.arch architecture
+    × IfSome input (λ text. Decides (start_of line.options.tracks architecture text) outcome)
+    × Writes line.options architecture input outcome old new

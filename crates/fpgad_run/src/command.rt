@@ -1,0 +1,55 @@
+ghost use Rattle.fpgad_run.specs.Commands.{Runs};
+
+use crate::options::{CommandLine, read_options};
+use crate::outcome::Outcome;
+use crate::program::{Architecture, run};
+use clap::Error;
+use clap::error::ErrorKind;
+use line_text::{ReadError, Sink, Source, StdSource, read_all};
+use std::convert::AsStr;
+use std::fs::File;
+use std::rt::Files;
+
+/// What the program does with its words, the first being its name: reads the options, the architecture's file if there
+/// is one, and the script, and serves it. An error is clap's: the option line is refused, or asks for help.
+pub fn run_words<H: Files + AllocGlobal, S: AsStr, R: Source, W: Sink>(
+    rt: &H,
+    words: &[S],
+    reader: &mut R,
+    writer: &mut W,
+) -> Result<Outcome, Error> {
+    match read_options(rt.alloc(), words) {
+        Ok(line) => Ok(run_line(rt, &line, reader, writer)),
+        Err(error) if error.kind() == ErrorKind::OutOfMemory => Ok(Outcome::NoMemory),
+        Err(error) => Err(error),
+    }
+}
+
+/// Runs a script as the command line says.
+pub fn run_line<H: Files + AllocGlobal, R: Source, W: Sink>(
+    rt: &H,
+    line: &CommandLine<'_>,
+    reader: &mut R,
+    writer: &mut W,
+) -> Outcome
+    ensures { Runs line.now (R.remaining reader.old) result (W.contents writer.old) (W.contents writer.new) }
+{
+    let options = &line.options;
+    let Some(path) = line.arch else {
+        return run(rt, options, Architecture::InScript, reader, writer);
+    };
+    let Ok(file) = File::open(rt, path) else {
+        return run(rt, options, Architecture::Unreadable, reader, writer);
+    };
+    match read_all(rt.alloc(), &mut StdSource::new(file)) {
+        Ok(text) => run(
+            rt,
+            options,
+            Architecture::Text(text.as_slice()),
+            reader,
+            writer,
+        ),
+        Err(ReadError::Failed) => run(rt, options, Architecture::Unreadable, reader, writer),
+        Err(ReadError::NoMemory) => Outcome::NoMemory,
+    }
+}
