@@ -1,7 +1,7 @@
 -- Whether a packed circuit fits a strip.
 use Rattle.std.specs.Prelude.{ℕ, Bool, true, false, length, count_by, nat_lt, if◌then◌else◌}
 use Rattle.cluster.specs.declared.block.Block.{Block}
-use Rattle.cluster.specs.declared.block.Block.TheVariants.{Cluster}
+use Rattle.cluster.specs.declared.block.Block.TheVariants.{InputPad, OutputPad, Cluster}
 use Rattle.cluster.specs.Clusters.{PackedCircuit}
 use Rattle.cluster.specs.Blocks.{blocks_of}
 use Rattle.grid.specs.declared.Strip.{Strip}
@@ -11,12 +11,22 @@ use Rattle.grid.specs.declared.fit.Fit.{Fit}
 use Rattle.grid.specs.declared.fit.Fit.TheVariants.{Fits, TooManyBlocks, TooManyPads}
 use Rattle.grid.specs.Places.{places_of}
 
+-- the kind of places that a block goes to
+abbrev pub kind_of : Block → Kind
+kind_of (InputPad net) = Pad
+kind_of (OutputPad net) = Pad
+kind_of (Cluster cluster) = Logic
+
+-- the two kinds are the same
+abbrev pub is_same_kind : Kind → Kind → Bool
+is_same_kind Logic Logic = true
+is_same_kind Logic Pad = false
+is_same_kind Pad Logic = false
+is_same_kind Pad Pad = true
+
 -- a block goes to a place of that kind
 abbrev pub is_for : Kind → Block → Bool
-is_for Logic (Cluster cluster) = true
-is_for Logic block = false
-is_for Pad (Cluster cluster) = false
-is_for Pad block = true
+is_for kind block = is_same_kind kind (kind_of block)
 
 -- how many blocks are for places of that kind
 abbrev pub block_count : PackedCircuit → Kind → ℕ

@@ -1,4 +1,6 @@
 pub mod Sizes
 pub mod Places
 pub mod Listed
+pub mod PlaceLaws
+pub mod Numbers
 pub mod Fits

@@ -6,10 +6,12 @@
 #![tactic(auto)]
 
 mod fit;
+mod laws;
 mod place;
 mod places;
 
 pub use fit::Fit;
+pub use laws::laws_of_places;
 pub use place::{Kind, Place, Places};
 
 /// The size of a strip: what a tenancy has of the device, wherever it stands.

@@ -1,7 +1,10 @@
 //! A place, what it is for, and all places for it.
+ghost use Rattle.std.specs.Prelude.{◌≡◌};
 ghost use Rattle.grid.specs.Sizes.{IsStripSize};
+ghost use Rattle.grid.specs.Fits.{kind_of};
 
 use crate::Strip;
+use cluster::Block;
 
 /// What a place is for.
 #[derive(Clone, Copy, Debug, PartialEq, Eq)]
@@ -10,6 +13,18 @@ pub enum Kind {
     Logic,
     /// A pad, by which a net comes in or goes out.
     Pad,
+}
+
+impl Kind {
+    /// The kind of places that the block goes to.
+    pub fn of(block: Block) -> Self
+        ensures { result ≡ kind_of block }
+    {
+        match block {
+            Block::InputPad(_) | Block::OutputPad(_) => Kind::Pad,
+            Block::Cluster(_) => Kind::Logic,
+        }
+    }
 }
 
 /// A place of a strip.

@@ -1,8 +1,10 @@
 //! Places in order.
-ghost use Rattle.std.specs.Prelude.{◌≡◌, ◌<◌, ◌≤◌, length, slice_get, Some};
+ghost use Rattle.std.specs.Prelude.{◌≡◌, ◌<◌, ◌≤◌, Contains, length, slice_get, Some};
 ghost use Rattle.grid.specs.Sizes.{IsStripSize};
 ghost use Rattle.grid.specs.Places.{column_len, place_in, places_of};
 ghost use Rattle.grid.specs.Listed.{listed};
+ghost use Rattle.grid.specs.Numbers.{number_in_column};
+ghost use Rattle.grid.specs.PlaceLaws.{IsInRow};
 
 use crate::Strip;
 use crate::place::{Kind, Place, Places};
@@ -35,6 +37,14 @@ impl Places {
             (number / column_len) as u32 + 1,
             (number % column_len) as u32,
         )
+    }
+
+    /// The number of a place, by arithmetic.
+    pub fn number_of(self, place: Place) -> usize
+        requires { Contains (listed self) place }
+        ensures { slice_get (listed self) result ≡ Some place }
+    {
+        (place.x as usize - 1) * self.column_len() as usize + self.number_in_column(place) as usize
     }
 
     /// How many places each column has.
@@ -71,6 +81,18 @@ impl Places {
                 y: rows + 1,
                 subblock: number - io_rat,
             },
+        }
+    }
+
+    /// The number of a place in its column.
+    fn number_in_column(self, place: Place) -> u32
+        requires { IsInRow self.strip self.kind place }
+        ensures { result ≡ number_in_column self.strip self.kind place }
+    {
+        match self.kind {
+            Kind::Logic => place.y - 1,
+            Kind::Pad if place.y == 0 => place.subblock,
+            Kind::Pad => self.strip.io_rat + place.subblock,
         }
     }
 }

@@ -1,0 +1,17 @@
+-- Which places a strip has.
+use Rattle.std.specs.Prelude.{ℕ, ◌≡◌, ◌+◌, ◌<◌, ◌⊎◌}
+use Rattle.arch_file.specs.Arch.{IsWithin}
+use Rattle.grid.specs.declared.Strip.{Strip}
+use Rattle.grid.specs.declared.place.Kind.{Kind}
+use Rattle.grid.specs.declared.place.Kind.TheVariants.{Logic, Pad}
+use Rattle.grid.specs.declared.place.Place.{Place}
+
+-- a logic block stands in a row from 1 on and has no number; a pad stands below the first row or above the last, and has one
+abbrev pub IsInRow : Strip → Kind → Place → Type 0
+IsInRow strip Logic place = IsWithin 1 place.y strip.rows × (place.subblock ≡ 0)
+IsInRow strip Pad place = ((place.y ≡ 0) ⊎ (place.y ≡ strip.rows + 1)) × (place.subblock < strip.io_rat)
+
+-- the place is in a column of the strip, and there in a row for its kind
+pub record IsPlaceIn (strip : Strip) (kind : Kind) (place : Place) : Type 0 where
+  pub column : IsWithin 1 place.x strip.width
+  pub row : IsInRow strip kind place
