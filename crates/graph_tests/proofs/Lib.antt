@@ -1,4 +1,3 @@
-mod Rising
 mod UnitGraph
 mod Street
 mod Pairs

@@ -60,6 +60,32 @@ fn smallest_graph(rt: HostRuntime) -> Result<(), Fail> {
     assert_eq!(rt; edges.next(), None);
     assert_eq!(rt; fabric.capacity(wire), 1);
     assert_eq!(rt; fabric.capacity(node(NodeKind::Sink, 1, 1, 0)), 2);
+    assert!(rt; node(NodeKind::ChanX, 1, 0, 1).is_before(node(NodeKind::ChanX, 1, 1, 0)));
+    Ok(())
+}
+
+/// The block in column 5 is met by wires around it; a wire three columns away is followed by three wires, a pin and the sink.
+#[test]
+fn towards_a_sink(rt: HostRuntime) -> Result<(), Fail> {
+    let strip = Strip {
+        width: 5,
+        rows: 1,
+        io_rat: 2,
+    };
+    let fabric = fabric_of(rt.alloc(), ARCHITECTURE, 2, strip)?;
+    let sink = node(NodeKind::Sink, 5, 1, 0);
+    assert!(rt; fabric.number(sink).is_some());
+    let away = fabric
+        .number(node(NodeKind::ChanX, 2, 0, 0))
+        .ok_or("no wire")?;
+    assert_eq!(rt; fabric.further_to(away, sink), Some(5));
+    assert_eq!(rt; fabric.ends(away).list.len(), 7);
+    assert_eq!(rt; fabric.ends_towards(away, sink).list.len(), 4);
+    let beside = fabric
+        .number(node(NodeKind::ChanX, 5, 0, 0))
+        .ok_or("no wire")?;
+    assert_eq!(rt; fabric.further_to(beside, sink), Some(2));
+    assert_eq!(rt; fabric.ends_towards(beside, sink).list.len(), 6);
     Ok(())
 }
 

@@ -18,14 +18,14 @@ mod geometry;
 mod graph;
 mod joins;
 mod laws;
+mod met;
 mod node;
 mod numbering;
-mod reads;
 mod table;
+mod ways;
 
 pub use edges::Edges;
 pub use fabric::Fabric;
 pub use graph::{Ends, StripGraph, one_graph};
-pub use laws::laws_of_geometry;
+pub use laws::{laws_of_geometry, laws_of_ways};
 pub use node::{Node, NodeKind};
-pub use reads::is_read;

@@ -1,0 +1,35 @@
+-- Lemmas on the table of tracks that are met.
+use Rattle.std.proofs.Common.{ℕ, ◌≡◌, ◌+◌, ◌-◌, ◌*◌, ◌/◌, ◌%◌, ◌<◌, List, [], ◌∷◌, ◌++◌, length, get_or, ap, ◌∙◌, inl, inr, arith, Bool, false}
+use Rattle.std.specs.Prelude.{◌==◌}
+use Rattle.std.proofs.lemmas.Bool.{cases_lt, cond-false}
+use Rattle.std.proofs.lemmas.Bool.Decides.{nat_tests}
+use Rattle.std.proofs.lemmas.Nat.{div-mul-add, mod-mul-add}
+use Rattle.std.proofs.lemmas.List.{get_or_append_left, get_or_push, length_push}
+use Rattle.arch_file.specs.declared.arch.Arch.{Arch}
+use Rattle.rr_graph.specs.Geometry.{is_read, meets_track}
+use Rattle.rr_graph.specs.Met.{met_by, IsMetTable}
+
+pub met_none : (arch : Arch) → IsMetTable arch []
+met_none arch k d within = absurd (omega arith)
+
+pub met_push : (arch : Arch) (table : List Bool) (k : ℕ) (met : Bool) → length table ≡ k → IsMetTable arch table → met ≡ met_by arch (k / 64) (k % 64) → IsMetTable arch (table ++ met ∷ [])
+met_push arch table k met long old is i d within = elim (cases_lt i (length table)) [
+  | inl lt ↦ get_or_append_left table (met ∷ []) d i lt ∙ old i d lt
+  | inr ge ↦ (let e : k ≡ i = omega (arith, length_push table met) in
+      get_or_push table met d i (long ∙ e) ∙ (is ∙ ap (λ j. met_by arch (j / 64) (j % 64)) e))
+]
+
+-- the entry of a row and a track
+pub met_entry : (arch : Arch) (table : List Bool) (row track : ℕ) (d : Bool) → IsMetTable arch table → track < 64 → row * 64 + track < length table → get_or table (row * 64 + track) d ≡ met_by arch row track
+met_entry arch table row track d is few within =
+    is (row * 64 + track) d within
+    ∙ (ap (λ r. met_by arch r ((row * 64 + track) % 64)) (div-mul-add row 64 track few)
+    ∙ ap (met_by arch row) (mod-mul-add row 64 track few))
+
+-- a pad's row
+pub met_pad : (arch : Arch) (pad track : ℕ) → met_by arch (pad + 1) track ≡ meets_track arch.fc_pad arch.tracks pad track
+met_pad arch pad track =
+    let some : (pad + 1 == 0) ≡ false = grind (arith, nat_tests) in
+    let less : pad + 1 - 1 ≡ pad = omega arith in
+    cond-false (pad + 1 == 0) (is_read arch track) (meets_track arch.fc_pad arch.tracks (pad + 1 - 1) track) some
+    ∙ ap (λ p. meets_track arch.fc_pad arch.tracks p track) less

@@ -1,0 +1,12 @@
+-- Private: the table of the tracks that inputs of a logic block meet, and each pad.
+use Rattle.std.specs.Prelude.{ℕ, ◌≡◌, ◌-◌, ◌/◌, ◌%◌, ◌<◌, ◌==◌, Bool, List, length, slice_index_or, if◌then◌else◌}
+use Rattle.arch_file.specs.declared.arch.Arch.{Arch}
+use Rattle.rr_graph.specs.Geometry.{is_read, meets_track}
+
+-- row 0 is for logic blocks, row p + 1 for pad p
+abbrev pub met_by : Arch → ℕ → ℕ → Bool
+met_by arch row track = if row == 0 then is_read arch track else meets_track arch.fc_pad arch.tracks (row - 1) track
+
+-- each row has 64 tracks
+abbrev pub IsMetTable : Arch → List Bool → Type 0
+IsMetTable arch table = (k : ℕ) (d : Bool) → k < length table → slice_index_or table k d ≡ met_by arch (k / 64) (k % 64)

@@ -1,0 +1,83 @@
+//! Which tracks the inputs of a logic block meet, and those of each pad, in a table.
+ghost use Rattle.std.specs.Prelude.{◌≡◌, ◌≤◌, ◌<◌, IfOk};
+ghost use Rattle.arch_file.specs.Arch.{IsArch};
+ghost use Rattle.rr_graph.specs.Geometry.{is_read};
+ghost use Rattle.rr_graph.specs.Met.{met_by, IsMetTable};
+ghost use Rattle.rr_graph.specs.Ways.{is_met};
+
+use crate::geometry::{is_block_number, is_block_row};
+use crate::joins::meets_track;
+use crate::node::{Node, NodeKind};
+use arch_file::Arch;
+use grid::Strip;
+use std::alloc::{AllocError, Global};
+
+/// Whether an input of a logic block meets the track.
+fn is_read(arch: &Arch, track: u32) -> bool
+    requires { IsArch arch.now }
+    ensures { result ≡ is_read arch.now track }
+{
+    for p in 0..arch.pins.as_slice().len() as u32 {
+        if is_block_number(arch, NodeKind::Ipin, p)
+            && meets_track(arch.fc_input, arch.tracks, p, track)
+        {
+            return true;
+        }
+    }
+    false
+}
+
+/// Whether what the row is for meets the track.
+fn met_by(arch: &Arch, row: u32, track: u32) -> bool
+    requires arch { IsArch arch.now }
+    requires row { row ≤ 145 }
+    ensures { result ≡ met_by arch.now row track }
+{
+    if row == 0 {
+        return is_read(arch, track);
+    }
+    meets_track(arch.fc_pad, arch.tracks, row - 1, track)
+}
+
+/// The table of an architecture, with a row of 64 tracks for logic blocks and for each pad.
+pub(crate) fn met_table(alloc: Global, arch: &Arch, pads: u32) -> Result<Vec<bool>, AllocError>
+    requires arch { IsArch arch.now }
+    requires pads { pads ≤ 8 }
+    ensures { IfOk result (λ table. IsMetTable arch.now table.items) }
+{
+    let mut table = Vec::new(alloc);
+    for k in 0..64 * (pads + 1) {
+        table.push(met_by(arch, k / 64, k % 64))?;
+    }
+    Ok(table)
+}
+
+/// Whether what the row is for meets the track, by the table where it has the track.
+fn met_in(table: &[bool], arch: &Arch, row: u32, track: u32) -> bool
+    requires arch { IsArch arch.now }
+    requires table { IsMetTable arch.now table.now }
+    requires row { row ≤ 145 }
+    ensures { result ≡ met_by arch.now row track }
+{
+    if track < 64 {
+        let k = row as usize * 64 + track as usize;
+        if k < table.len() {
+            return table[k];
+        }
+    }
+    met_by(arch, row, track)
+}
+
+/// Whether an input of the sink's block, or its pad, meets the track.
+pub(crate) fn is_met(table: &[bool], arch: &Arch, strip: Strip, sink: Node, track: u32) -> bool
+    requires arch { IsArch arch.now }
+    requires table { IsMetTable arch.now table.now }
+    requires sink { sink.n < 145 }
+    ensures { result ≡ is_met arch.now strip sink track }
+{
+    if is_block_row(strip, sink.y) {
+        met_in(table, arch, 0, track)
+    } else {
+        met_in(table, arch, sink.n + 1, track)
+    }
+}

@@ -1,0 +1,88 @@
+//! Ways to a sink: how many nodes at least follow a node, and whether its ends that are no wires matter.
+ghost use Rattle.std.specs.Prelude.{◌≡◌, ◌+◌, ◌*◌};
+ghost use Rattle.rr_graph.specs.Geometry.{is_wire, gap, across_of, up_of};
+ghost use Rattle.rr_graph.specs.Ways.{is_own, from_sink, wire_further, further_by, is_passing};
+
+use crate::node::{Node, NodeKind};
+
+/// How far two numbers lie apart.
+fn gap(a: u64, b: u64) -> u64
+    ensures { result ≡ gap a b }
+{
+    if a < b { b - a } else { a - b }
+}
+
+/// Where the middle of a wire is along the rows, in half steps.
+fn across_of(kind: NodeKind, x: u32) -> u64
+    ensures { result ≡ across_of kind x }
+{
+    match kind {
+        NodeKind::ChanY => 2 * x as u64 + 1,
+        _ => 2 * x as u64,
+    }
+}
+
+/// Where the middle of a wire is along the columns, in half steps.
+fn up_of(kind: NodeKind, y: u32) -> u64
+    ensures { result ≡ up_of kind y }
+{
+    match kind {
+        NodeKind::ChanX => 2 * y as u64 + 1,
+        _ => 2 * y as u64,
+    }
+}
+
+/// How far the middle of a wire lies from that of the sink's block or pad, in half steps.
+fn from_sink(sink: Node, wire: Node) -> u64
+    ensures { result ≡ from_sink sink wire.kind wire.x wire.y }
+{
+    gap(across_of(wire.kind, wire.x), 2 * sink.x as u64)
+        + gap(up_of(wire.kind, wire.y), 2 * sink.y as u64)
+}
+
+/// Whether the kind is that of a wire.
+pub(crate) fn is_wire(kind: NodeKind) -> bool
+    ensures { result ≡ is_wire kind }
+{
+    match kind {
+        NodeKind::ChanX | NodeKind::ChanY => true,
+        _ => false,
+    }
+}
+
+/// Whether a pin or a sink is of the sink's block, or of its pad.
+fn is_own(is_block: bool, sink: Node, node: Node) -> bool
+    ensures { result ≡ is_own is_block sink node }
+{
+    node.x == sink.x && node.y == sink.y && (is_block || node.n == sink.n)
+}
+
+/// How many nodes at least follow a wire, by whether its track is met.
+fn wire_further(met: bool, sink: Node, wire: Node) -> Option<u64>
+    ensures { result ≡ wire_further met (from_sink sink wire.kind wire.x wire.y) }
+{
+    if !met {
+        return None;
+    }
+    Some((from_sink(sink, wire) + 3) / 2)
+}
+
+/// How many nodes at least follow a node on any way to the sink, by whether a wire's track is met there.
+pub(crate) fn further(met: bool, is_block: bool, sink: Node, node: Node) -> Option<u64>
+    ensures { result ≡ further_by met is_block sink node.kind node }
+{
+    match node.kind {
+        NodeKind::ChanX | NodeKind::ChanY => wire_further(met, sink, node),
+        NodeKind::Ipin if is_own(is_block, sink, node) => Some(1),
+        NodeKind::Sink if is_own(is_block, sink, node) => Some(0),
+        NodeKind::Ipin | NodeKind::Sink => None,
+        NodeKind::Source | NodeKind::Opin => Some(0),
+    }
+}
+
+/// Whether the node is a wire that does not lie beside the sink's block or pad.
+pub(crate) fn is_passing(sink: Node, node: Node) -> bool
+    ensures { result ≡ is_passing sink node }
+{
+    is_wire(node.kind) && from_sink(sink, node) != 1
+}
