@@ -36,6 +36,7 @@ pub mod FreeNumbers
 pub mod KeyLemmas
 pub mod Untouched
 pub mod SeedLemmas
+mod Filling
 mod Legal
 mod Partition
 mod BlockNetLaws

@@ -204,6 +204,9 @@ impl Growth {
         for added in 0..arch.cluster_size {
             match self.next_member(arch, pins, elements, is_taken, by_outside) {
                 None => return Ok(()),
+                Some(number) if self.members.len() + 1 == arch.cluster_size as usize => {
+                    return self.fill(number);
+                }
                 Some(number) => self.add(elements, number)?,
             }
         }
@@ -237,7 +240,11 @@ impl Growth {
         match seed {
             None => Ok(()),
             Some(seed) => {
-                self.add(elements, seed as u32)?;
+                let seed = seed as u32;
+                if arch.cluster_size == 1 {
+                    return self.fill(seed);
+                }
+                self.add(elements, seed)?;
                 self.grow(arch, elements, is_taken, by_outside)
             }
         }

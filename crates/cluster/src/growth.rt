@@ -1,5 +1,5 @@
 //! A cluster under way.
-ghost use Rattle.std.specs.Prelude.{◌≡◌, ◌<◌, ◌≤◌, ◌+◌, ◌++◌, [], ◌∷◌, ℕ, List, All, length, IfOk, OnErr, not, ◌&&◌, ◌||◌};
+ghost use Rattle.std.specs.Prelude.{◌≡◌, ◌<◌, ◌≤◌, ◌+◌, ◌++◌, [], ◌∷◌, ℕ, List, All, length, IfOk, OnErr, not, ◌&&◌, ◌||◌, is_ok, if◌then◌else◌};
 ghost use Rattle.arch_file.specs.Arch.{input_count};
 ghost use Rattle.cluster.specs.Nets.{has, with_net, with_nets};
 ghost use Rattle.cluster.specs.Bles.{LogicElement, element_at};
@@ -231,6 +231,16 @@ impl Growth {
         self.members.push(number)?;
         self.outside = outside;
         self.clock = ble.clock.or(self.clock);
+        Ok(())
+    }
+
+    /// Adds the last member of a cluster. What others share with it isn't asked any more, so it isn't told.
+    pub(crate) fn fill(&mut self, number: u32) -> Result<(), AllocError>
+        ensures same { self.new ≡ record self.old { members = self.new.members } }
+        ensures added { IfOk result (λ _. self.new.members.items ≡ self.old.members.items ++ number ∷ []) }
+        ensures members { self.new.members.items ≡ (if is_ok result then self.old.members.items ++ number ∷ [] else self.old.members.items) }
+    {
+        self.members.push(number)?;
         Ok(())
     }
 }

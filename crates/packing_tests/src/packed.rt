@@ -21,16 +21,25 @@ fn architecture(alloc: Global, text: &str) -> Result<SharedArch, Fail> {
     }
 }
 
+/// The packing of a netlist, with no step made.
+pub(crate) fn started(
+    alloc: Global,
+    architecture_text: &str,
+    netlist: &str,
+) -> Result<Packing, Fail> {
+    let circuit = circuit(alloc, netlist)?;
+    let arch = architecture(alloc, architecture_text)?;
+    check(alloc, circuit.circuit(), arch.arch())?;
+    Ok(Packing::start(alloc, &circuit, &arch)?)
+}
+
 /// The packed circuit of a netlist. A step that finds no memory is made again.
 pub(crate) fn packed(
     alloc: Global,
     architecture_text: &str,
     netlist: &str,
 ) -> Result<Packed, Fail> {
-    let circuit = circuit(alloc, netlist)?;
-    let arch = architecture(alloc, architecture_text)?;
-    check(alloc, circuit.circuit(), arch.arch())?;
-    let mut packing = Packing::start(alloc, &circuit, &arch)?;
+    let mut packing = started(alloc, architecture_text, netlist)?;
     for _step in 0..100 {
         match packing.next() {
             Ok(PackEnd::More(more)) => packing = more,

@@ -1,7 +1,8 @@
 //! Circuits as BLEs and clusters, and what stands between blocks.
-use crate::packed::{circuit, packed};
-use cluster::{Bles, Block};
+use crate::packed::{circuit, packed, started};
+use cluster::{Bles, Block, SharedPacked};
 use fixtures::{ARCHITECTURE, TWO_BLES_A_CLUSTER};
+use std::alloc::AllocError;
 use std::test::Fail;
 
 /// A table and a latch behind it, which an output shows.
@@ -68,5 +69,31 @@ fn blocks_nets_and_pins(rt: HostRuntime) -> Result<(), Fail> {
     assert_eq!(rt; packed.arch().pins.as_slice().len(), 4);
     assert_eq!(rt; packed.pin(0, 1), None);
     assert_eq!(rt; packed.pin(0, 3), Some(1));
+    Ok(())
+}
+
+/// A packed circuit has the same blocks for each of its owners.
+#[test]
+fn packed_with_two_owners(rt: HostRuntime) -> Result<(), Fail> {
+    let packed = packed(rt.alloc(), ARCHITECTURE, STORED)?;
+    let Ok(shared) = SharedPacked::new(rt.alloc(), packed) else {
+        return Err(AllocError.into());
+    };
+    let other = shared.clone()?;
+    drop(shared);
+    assert_eq!(rt; other.packed().block_count(), 4);
+    Ok(())
+}
+
+/// A packing that is given up leaves its circuit.
+#[test]
+fn circuit_of_a_packing(rt: HostRuntime) -> Result<(), Fail> {
+    let packing = started(rt.alloc(), ARCHITECTURE, STORED)?;
+    assert_eq!(rt;
+        packing.circuit().circuit().inputs.as_slice(),
+        [0, 1].as_slice()
+    );
+    let circuit = packing.into_circuit();
+    assert_eq!(rt; circuit.circuit().inputs.as_slice(), [0, 1].as_slice());
     Ok(())
 }

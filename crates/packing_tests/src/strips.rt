@@ -2,6 +2,7 @@
 ghost use Rattle.grid.specs.Sizes.{IsStripSize};
 
 use crate::packed::packed;
+use cluster::Block;
 use fixtures::ARCHITECTURE;
 use grid::{Fit, Kind, Place, Strip};
 use std::alloc::Global;
@@ -27,6 +28,11 @@ fn places_in_order(rt: HostRuntime) -> Result<(), Fail> {
     assert_eq!(rt; pads.len(), 8);
     assert_eq!(rt; pads.place(2), place(1, 4, 0));
     assert_eq!(rt; pads.place(7), place(2, 4, 1));
+    for number in 0..pads.len() {
+        assert_eq!(rt; pads.number_of(pads.place(number)), number);
+    }
+    assert_eq!(rt; Kind::of(Block::OutputPad(0)), Kind::Pad);
+    assert_eq!(rt; Kind::of(Block::Cluster(0)), Kind::Logic);
     Ok(())
 }
 

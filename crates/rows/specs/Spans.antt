@@ -1,0 +1,12 @@
+-- Parts of a flat list.
+use Rattle.std.specs.Prelude.{ℕ, ◌-◌, ◌≤◌, List, take, drop}
+use Rattle.std.specs.List.{AllByRecursion}
+use Rattle.rows.specs.declared.span.Span.{Span}
+
+-- the part of the list at a span
+abbrev pub part_of : {A : Type 0} → List A → Span → List A
+part_of items span = take (span.end - span.start) (drop span.start items)
+
+-- the spans stand within so many items
+abbrev pub AreWithin : ℕ → List Span → Type 0
+AreWithin count spans = AllByRecursion (λ span. (span.start ≤ span.end) × (span.end ≤ count)) spans

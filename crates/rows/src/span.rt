@@ -1,0 +1,8 @@
+//! A part of a flat list.
+
+/// Where a part begins, and where what follows it begins.
+#[derive(Clone, Copy, Debug)]
+pub struct Span {
+    pub start: usize,
+    pub end: usize,
+}
