@@ -1,7 +1,7 @@
 mod Edges
 mod Exact
-mod Agrees
-mod Bounds
+pub mod Agrees
+pub mod Bounds
 mod Examples
 mod Labels
 mod Settles

@@ -1,0 +1,7 @@
+use Rattle.std.proofs.Common.{◌+◌, ◌*◌}
+use Rattle.rr_graph.specs.Node.{rank_of}
+use Rattle.rr_graph.specs.Column.{AreFirsts}
+use Rattle.rr_graph.proofs.column.add_firsts.Given as goal
+
+abbrev pub invariant-loop-y : goal.invariant-loop-y
+invariant-loop-y l = AreFirsts l.slots l.firsts.items (rank_of l.kind * 68 + l.y)
