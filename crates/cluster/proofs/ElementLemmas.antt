@@ -5,52 +5,53 @@ use Rattle.std.proofs.lemmas.Bool.Decides.{nat_tests, eqb_tells}
 use Rattle.std.proofs.lemmas.List.{append-nil, append_assoc, length-map, map-append}
 use Rattle.std.proofs.lemmas.List.Elements.{All-nil, All-cons, All-tail, All-append, All-map, filter-append}
 use Rattle.std.proofs.lemmas.List.FromFn.{get_or-map-range_with_len, length-range_with_len}
-use Rattle.cluster.specs.declared.by_net.NetItem.{NetItem}
-use Rattle.cluster.specs.ByNet.{items_by_net, items_with}
+use Rattle.rows.specs.declared.by_key.Keyed.{Keyed}
+use Rattle.rows.specs.ByKey.{items_by_key, items_with}
 use Rattle.cluster.specs.Nets.{IsOnce, distinct, has, with_net, with_nets}
 use Rattle.cluster.specs.Bles.{LogicElement, element_at}
 use Rattle.cluster.specs.Clusters.{nets_of}
-use Rattle.cluster.specs.Elements.{AreElements, AreHaving, pairs_from, pairs_of, row_at}
+use Rattle.cluster.specs.Elements.{AreElements, AreHaving, pairs_from, row_at}
+use Rattle.rows.specs.ByKey.{pairs_with}
 use Rattle.cluster.specs.Growing.{IsElement}
 use Rattle.cluster.proofs.Outside.{distinct-more, once-distinct}
 
 -- the pairs of an element, once its inputs are there
-pub all_pushed : (old now : List NetItem) (number output : ℕ) (inputs : List ℕ) (reads_own : Bool) → IsOnce inputs → now ≡ old ++ pairs_of number inputs → reads_own ≡ has inputs output → reads_own ≡ true
-    → now ≡ old ++ pairs_of number (distinct (inputs ++ output ∷ []))
+pub all_pushed : (old now : List Keyed) (number output : ℕ) (inputs : List ℕ) (reads_own : Bool) → IsOnce inputs → now ≡ old ++ pairs_with number inputs → reads_own ≡ has inputs output → reads_own ≡ true
+    → now ≡ old ++ pairs_with number (distinct (inputs ++ output ∷ []))
 all_pushed old now number output inputs reads_own once e own is =
     let own_input : has inputs output ≡ true = sym own ∙ is in
-    e ∙ ap (λ nets. old ++ pairs_of number nets) (sym (distinct-more inputs output once ∙ ap (λ test. if test then inputs else inputs ++ output ∷ []) own_input))
+    e ∙ ap (λ nets. old ++ pairs_with number nets) (sym (distinct-more inputs output once ∙ ap (λ test. if test then inputs else inputs ++ output ∷ []) own_input))
 
-pub last_pushed : (old now : List NetItem) (number output : ℕ) (inputs : List ℕ) (reads_own : Bool) → IsOnce inputs → now ≡ old ++ pairs_of number inputs → reads_own ≡ has inputs output → reads_own ≡ false
-    → now ++ record { net = output; item = number } ∷ [] ≡ old ++ pairs_of number (distinct (inputs ++ output ∷ []))
+pub last_pushed : (old now : List Keyed) (number output : ℕ) (inputs : List ℕ) (reads_own : Bool) → IsOnce inputs → now ≡ old ++ pairs_with number inputs → reads_own ≡ has inputs output → reads_own ≡ false
+    → now ++ record { key = output; item = number } ∷ [] ≡ old ++ pairs_with number (distinct (inputs ++ output ∷ []))
 last_pushed old now number output inputs reads_own once e own is =
     let no_input : has inputs output ≡ false = sym own ∙ is in
     let nets : distinct (inputs ++ output ∷ []) ≡ inputs ++ output ∷ [] = distinct-more inputs output once ∙ ap (λ test. if test then inputs else inputs ++ output ∷ []) no_input in
-    ap (λ front. front ++ record { net = output; item = number } ∷ []) e ∙ append_assoc old (pairs_of number inputs) _
-    ∙ ap (λ last. old ++ last) (sym (map-append (λ net. record { net = net; item = number }) inputs (output ∷ [])))
-    ∙ ap (λ list. old ++ pairs_of number list) (sym nets)
+    ap (λ front. front ++ record { key = output; item = number } ∷ []) e ∙ append_assoc old (pairs_with number inputs) _
+    ∙ ap (λ last. old ++ last) (sym (map-append (λ net. record { key = net; item = number }) inputs (output ∷ [])))
+    ∙ ap (λ list. old ++ pairs_with number list) (sym nets)
 
 -- one element more
-pub pairs_more : (number : ℕ) (elements : List LogicElement) (element : LogicElement) → pairs_from number (elements ++ element ∷ []) ≡ pairs_from number elements ++ pairs_of (number + length elements) (nets_of element)
-pairs_more number [] element = let at : number + 0 ≡ number = omega arith in rw at (append-nil (pairs_of number (nets_of element)))
+pub pairs_more : (number : ℕ) (elements : List LogicElement) (element : LogicElement) → pairs_from number (elements ++ element ∷ []) ≡ pairs_from number elements ++ pairs_with (number + length elements) (nets_of element)
+pairs_more number [] element = let at : number + 0 ≡ number = omega arith in rw at (append-nil (pairs_with number (nets_of element)))
 pairs_more number (first ∷ elements) element =
     let ih = pairs_more (number + 1) elements element in
     let at : number + 1 + length elements ≡ number + suc (length elements) = omega arith in
-    ap (λ rest. pairs_of number (nets_of first) ++ rest) (rw at at ih) ∙ sym (append_assoc (pairs_of number (nets_of first)) (pairs_from (number + 1) elements) _)
+    ap (λ rest. pairs_with number (nets_of first) ++ rest) (rw at at ih) ∙ sym (append_assoc (pairs_with number (nets_of first)) (pairs_from (number + 1) elements) _)
 
 -- what of an element's nets stands with a net: the element, if it has the net
-own_items : (number net : ℕ) (nets : List ℕ) → IsOnce nets → items_with (pairs_of number nets) net ≡ (if has nets net then number ∷ [] else [])
+own_items : (number net : ℕ) (nets : List ℕ) → IsOnce nets → items_with (pairs_with number nets) net ≡ (if has nets net then number ∷ [] else [])
 own_items number net [] once = refl
 own_items number net (other ∷ nets) once = by (eqb_tells other net) (own_items number net nets once.1)
   where
-    by : ((eqb other net ≡ true) × (other ≡ net)) ⊎ ((eqb other net ≡ false) × (other ≢ net)) → items_with (pairs_of number nets) net ≡ (if has nets net then number ∷ [] else []) → items_with (pairs_of number (other ∷ nets)) net ≡ (if has (other ∷ nets) net then number ∷ [] else [])
+    by : ((eqb other net ≡ true) × (other ≡ net)) ⊎ ((eqb other net ≡ false) × (other ≢ net)) → items_with (pairs_with number nets) net ≡ (if has nets net then number ∷ [] else []) → items_with (pairs_with number (other ∷ nets)) net ≡ (if has (other ∷ nets) net then number ∷ [] else [])
     by (inl same) ih = let none : has nets net ≡ false = rw same.1 at once.0 in grind (arith, same.0, none, ih)
     by (inr differs) ih = grind (arith, differs.0, ih)
 
-items-append : (pairs others : List NetItem) (net : ℕ) → items_with (pairs ++ others) net ≡ items_with pairs net ++ items_with others net
+items-append : (pairs others : List Keyed) (net : ℕ) → items_with (pairs ++ others) net ≡ items_with pairs net ++ items_with others net
 items-append pairs others net =
-    ap (map (λ (pair : NetItem). pair.item)) (filter-append (λ pair. eqb pair.net net) pairs others)
-    ∙ map-append (λ (pair : NetItem). pair.item) (filter (λ pair. eqb pair.net net) pairs) (filter (λ pair. eqb pair.net net) others)
+    ap (map (λ (pair : Keyed). pair.item)) (filter-append (λ pair. eqb pair.key net) pairs others)
+    ∙ map-append (λ (pair : Keyed). pair.item) (filter (λ pair. eqb pair.key net) pairs) (filter (λ pair. eqb pair.key net) others)
 
 -- what stands with a net, element by element
 abbrev numbers_from : ℕ → ℕ → List LogicElement → List ℕ
@@ -60,7 +61,7 @@ numbers_from net number (element ∷ elements) = (if has (nets_of element) net t
 items_are : (net number : ℕ) (elements : List LogicElement) → items_with (pairs_from number elements) net ≡ numbers_from net number elements
 items_are net number [] = refl
 items_are net number (element ∷ elements) =
-    items-append (pairs_of number (nets_of element)) (pairs_from (number + 1) elements) net
+    items-append (pairs_with number (nets_of element)) (pairs_from (number + 1) elements) net
     ∙ ap (λ front. front ++ items_with (pairs_from (number + 1) elements) net) (own_items number net (nets_of element) (once-distinct (element.inputs ++ element.output ∷ [])))
     ∙ ap (λ last. (if has (nets_of element) net then number ∷ [] else []) ++ last) (items_are net (number + 1) elements)
 
@@ -117,21 +118,21 @@ having_are elements net = rw (items_are net 0 elements) (record {
 })
 
 -- the rows made of all pairs hold the elements
-pub elements_are : (elements : List LogicElement) (nets : ℕ) → nets ≤ 8192 → All (IsElement nets) elements → AreElements elements (items_by_net (pairs_from 0 elements) nets)
+pub elements_are : (elements : List LogicElement) (nets : ℕ) → nets ≤ 8192 → All (IsElement nets) elements → AreElements elements (items_by_key (pairs_from 0 elements) nets)
 elements_are elements nets few lawful = record {
   few = rw count few;
   lawful = rw count lawful;
   having = λ net small. rw (row net (omega (arith, small, count))) (having_are elements net);
 }
   where
-    count : length (items_by_net (pairs_from 0 elements) nets) ≡ nets
+    count : length (items_by_key (pairs_from 0 elements) nets) ≡ nets
     count = length-map (range_with_len 0 nets) (items_with (pairs_from 0 elements)) ∙ length-range_with_len 0 nets
 
-    row : (net : ℕ) → net < nets → row_at (items_by_net (pairs_from 0 elements) nets) net ≡ items_with (pairs_from 0 elements) net
+    row : (net : ℕ) → net < nets → row_at (items_by_key (pairs_from 0 elements) nets) net ≡ items_with (pairs_from 0 elements) net
     row net small = get_or-map-range_with_len (items_with (pairs_from 0 elements)) 0 nets net net [] small (omega arith)
 
-own_within : (number nets : ℕ) (list : List ℕ) → All (λ net. net < nets) list → All (λ (pair : NetItem). pair.net < nets) (pairs_of number list)
-own_within number nets list h = All-map (λ (pair : NetItem). pair.net < nets) (λ net. record { net = net; item = number }) list h
+own_within : (number nets : ℕ) (list : List ℕ) → All (λ net. net < nets) list → All (λ (pair : Keyed). pair.key < nets) (pairs_with number list)
+own_within number nets list h = All-map (λ (pair : Keyed). pair.key < nets) (λ net. record { key = net; item = number }) list h
 
 with_within : (nets : ℕ) (seen list : List ℕ) → All (λ net. net < nets) seen → All (λ net. net < nets) list → All (λ net. net < nets) (with_nets seen list)
 with_within nets seen [] s h = s
@@ -148,10 +149,10 @@ nets_within nets element e =
     (All-append (λ n. n < nets) element.inputs (element.output ∷ []) e.inputs (All-cons (λ n. n < nets) element.output [] e.output (All-nil _)))
 
 -- each pair has a lawful net
-pub pairs_within : (number nets : ℕ) (elements : List LogicElement) → All (IsElement nets) elements → All (λ (pair : NetItem). pair.net < nets) (pairs_from number elements)
+pub pairs_within : (number nets : ℕ) (elements : List LogicElement) → All (IsElement nets) elements → All (λ (pair : Keyed). pair.key < nets) (pairs_from number elements)
 pairs_within number nets [] lawful = All-nil _
 pairs_within number nets (element ∷ elements) lawful =
-    All-append (λ (pair : NetItem). pair.net < nets) (pairs_of number (nets_of element)) (pairs_from (number + 1) elements)
+    All-append (λ (pair : Keyed). pair.key < nets) (pairs_with number (nets_of element)) (pairs_from (number + 1) elements)
     (own_within number nets (nets_of element) (nets_within nets element (lawful 0 element (omega arith))))
     (pairs_within (number + 1) nets elements (All-tail (IsElement nets) element elements lawful))
 

@@ -4,7 +4,7 @@ use Rattle.std.proofs.lemmas.List.{map_push}
 use Rattle.cluster.specs.declared.bles.BleSpan.{BleSpan}
 use Rattle.cluster.specs.Bles.{LogicElement}
 use Rattle.cluster.specs.FlatBles.{ble_at, AreBlesWithin}
-use Rattle.cluster.proofs.Growing.{part_of-append, part_of-added}
+use Rattle.rows.proofs.Growing.{part_of-append, part_of-added}
 
 -- the BLEs whose inputs are parts of the list stay
 bles-append : (xs ys : List ℕ) (bles : List BleSpan) → AreBlesWithin (length xs) bles → map (ble_at (xs ++ ys)) bles ≡ map (ble_at xs) bles

@@ -4,7 +4,7 @@ use Rattle.std.proofs.lemmas.List.{map_push}
 use Rattle.cluster.specs.declared.block_nets.NetSpan.{NetSpan}
 use Rattle.cluster.specs.Blocks.{BlockNet}
 use Rattle.cluster.specs.FlatNets.{net_at, AreNetsWithin}
-use Rattle.cluster.proofs.Growing.{part_of-append, part_of-added}
+use Rattle.rows.proofs.Growing.{part_of-append, part_of-added}
 
 -- the nets whose readers are parts of the list stay
 nets-append : (xs ys : List ℕ) (nets : List NetSpan) → AreNetsWithin (length xs) nets → map (net_at (xs ++ ys)) nets ≡ map (net_at xs) nets

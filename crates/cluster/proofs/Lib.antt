@@ -1,7 +1,6 @@
 mod Counting
 mod FirstSights
 mod FlatElements
-mod Growing
 mod LineOrder
 pub mod Members
 pub mod Outside
@@ -13,8 +12,6 @@ mod Fitting
 mod Elements
 mod Going
 mod Unfit
-mod Parts
-mod CountingSort
 mod Marks
 mod NetLists
 mod ReaderLists

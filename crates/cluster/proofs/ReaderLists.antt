@@ -8,19 +8,20 @@ use Rattle.std.proofs.lemmas.List.Elements.{All-append, All-map, All-push, All-n
 use Rattle.std.proofs.lemmas.List.FromFn.{map-range_with_len_more}
 use Rattle.std.proofs.lemmas.Option.{get_or_from_slice_get}
 use Rattle.blif.specs.declared.circuit.Circuit.{Circuit}
-use Rattle.cluster.specs.declared.by_net.NetItem.{NetItem}
+use Rattle.rows.specs.declared.by_key.Keyed.{Keyed}
 use Rattle.cluster.specs.declared.cluster_sets.ClusterSets.{ClusterSets}
 use Rattle.cluster.specs.Nets.{has, with_nets}
 use Rattle.cluster.specs.NetSets.{NetsAmong}
 use Rattle.cluster.specs.Bles.{LogicElement}
 use Rattle.cluster.specs.Clusters.{elements_at, inputs_of, outputs_of, outside_inputs, clocks_of}
-use Rattle.cluster.specs.ByNet.{items_with, items_by_net}
-use Rattle.cluster.specs.ClusterPins.{TellReaders, inputs_of_clusters, clocks_of_clusters, pairs_with, pads_with, clusters_with, nets_read, members_of, readers_by_net}
-use Rattle.cluster.proofs.CountingSort.{items_with-append}
+use Rattle.rows.specs.ByKey.{items_with, items_by_key}
+use Rattle.cluster.specs.ClusterPins.{TellReaders, inputs_of_clusters, clocks_of_clusters, pads_with, clusters_with, nets_read, members_of, readers_by_net}
+use Rattle.rows.specs.ByKey.{pairs_with}
+use Rattle.rows.proofs.CountingSort.{items_with-append}
 use Rattle.cluster.proofs.NetLists.{StandsOnce, once_with_nets, filter-with_nets}
 
 -- what is gathered of the first so many clusters
-pub record AreGathered (circuit : Circuit) (elements : List LogicElement) (clusters : List (List ℕ)) (count : ℕ) (inputs clocks : List (List ℕ)) (pairs : List NetItem) (sets : ClusterSets) : Type 0 where
+pub record AreGathered (circuit : Circuit) (elements : List LogicElement) (clusters : List (List ℕ)) (count : ℕ) (inputs clocks : List (List ℕ)) (pairs : List Keyed) (sets : ClusterSets) : Type 0 where
   pub inputs_are : inputs ≡ inputs_of_clusters elements (take count clusters)
   pub clocks_are : clocks ≡ clocks_of_clusters elements (take count clusters)
   pub pairs_tell : TellReaders circuit elements clusters (length circuit.outputs) count pairs
@@ -37,24 +38,24 @@ flat_map-range_more {A} f count =
     ap (flat_map f) more ∙ flat_map-append f (range_with_len 0 count) (count ∷ []) ∙ ap (λ (last : List A). flat_map f (range_with_len 0 count) ++ last) (append-nil (f count))
 
 -- the items of one pair
-items_with_one : (b : Bool) (pair : NetItem) → map (λ (pair : NetItem). pair.item) (cond b (pair ∷ []) []) ≡ cond b (pair.item ∷ []) []
+items_with_one : (b : Bool) (pair : Keyed) → map (λ (pair : Keyed). pair.item) (cond b (pair ∷ []) []) ≡ cond b (pair.item ∷ []) []
 items_with_one true pair = refl
 items_with_one false pair = refl
 
 -- nothing is told of no pads and no clusters
-pub tell_none : (circuit : Circuit) (elements : List LogicElement) (clusters : List (List ℕ)) (pairs : List NetItem) → pairs ≡ [] → TellReaders circuit elements clusters 0 0 pairs
-tell_none circuit elements clusters pairs none = subst (TellReaders circuit elements clusters 0 0) (sym none) (record { within = All-nil (λ (pair : NetItem). pair.net < length circuit.nets); tell = λ net. refl })
+pub tell_none : (circuit : Circuit) (elements : List LogicElement) (clusters : List (List ℕ)) (pairs : List Keyed) → pairs ≡ [] → TellReaders circuit elements clusters 0 0 pairs
+tell_none circuit elements clusters pairs none = subst (TellReaders circuit elements clusters 0 0) (sym none) (record { within = All-nil (λ (pair : Keyed). pair.key < length circuit.nets); tell = λ net. refl })
 
 -- one pad more
-pub tell_pad : (circuit : Circuit) (elements : List LogicElement) (clusters : List (List ℕ)) (pad : ℕ) (old new : List NetItem) → slice_index circuit.outputs pad < length circuit.nets → TellReaders circuit elements clusters pad 0 old → new ≡ old ++ record { net = slice_index circuit.outputs pad; item = length circuit.inputs + pad } ∷ [] → TellReaders circuit elements clusters (pad + 1) 0 new
+pub tell_pad : (circuit : Circuit) (elements : List LogicElement) (clusters : List (List ℕ)) (pad : ℕ) (old new : List Keyed) → slice_index circuit.outputs pad < length circuit.nets → TellReaders circuit elements clusters pad 0 old → new ≡ old ++ record { key = slice_index circuit.outputs pad; item = length circuit.inputs + pad } ∷ [] → TellReaders circuit elements clusters (pad + 1) 0 new
 tell_pad circuit elements clusters pad old new net_within before more =
-    let last : NetItem = record { net = slice_index circuit.outputs pad; item = length circuit.inputs + pad } in
+    let last : Keyed = record { key = slice_index circuit.outputs pad; item = length circuit.inputs + pad } in
     subst (TellReaders circuit elements clusters (pad + 1) 0) (sym more) (record {
-      within = All-push (λ (pair : NetItem). pair.net < length circuit.nets) old last before.within net_within;
+      within = All-push (λ (pair : Keyed). pair.key < length circuit.nets) old last before.within net_within;
       tell = λ net.
           items_with-append old (last ∷ []) net
-          ∙ ap (λ (items : List ℕ). items_with old net ++ items) (items_with_one (eqb last.net net) last)
-          ∙ ap (λ (items : List ℕ). items ++ cond (eqb last.net net) (last.item ∷ []) []) (before.tell net ∙ append-nil (pads_with circuit net pad))
+          ∙ ap (λ (items : List ℕ). items_with old net ++ items) (items_with_one (eqb last.key net) last)
+          ∙ ap (λ (items : List ℕ). items ++ cond (eqb last.key net) (last.item ∷ []) []) (before.tell net ∙ append-nil (pads_with circuit net pad))
           ∙ sym (flat_map-range_more (λ pad. if slice_index circuit.outputs pad == net then (length circuit.inputs + pad) ∷ [] else []) pad)
           ∙ sym (append-nil (pads_with circuit net (pad + 1)));
     })
@@ -70,7 +71,7 @@ items_of_pairs : (item : ℕ) (nets : List ℕ) (net : ℕ) → items_with (pair
 items_of_pairs item [] net = refl
 items_of_pairs item (other ∷ nets) net = by (eqb other net) (items_of_pairs item nets net)
   where
-    by : (b : Bool) → items_with (pairs_with item nets) net ≡ map (λ (other : ℕ). item) (filter (λ other. eqb other net) nets) → map (λ (pair : NetItem). pair.item) (cond b (record { net = other; item = item } ∷ filter (λ (pair : NetItem). eqb pair.net net) (pairs_with item nets)) (filter (λ (pair : NetItem). eqb pair.net net) (pairs_with item nets))) ≡ map (λ (other : ℕ). item) (cond b (other ∷ filter (λ other. eqb other net) nets) (filter (λ other. eqb other net) nets))
+    by : (b : Bool) → items_with (pairs_with item nets) net ≡ map (λ (other : ℕ). item) (filter (λ other. eqb other net) nets) → map (λ (pair : Keyed). pair.item) (cond b (record { key = other; item = item } ∷ filter (λ (pair : Keyed). eqb pair.key net) (pairs_with item nets)) (filter (λ (pair : Keyed). eqb pair.key net) (pairs_with item nets))) ≡ map (λ (other : ℕ). item) (cond b (other ∷ filter (λ other. eqb other net) nets) (filter (λ other. eqb other net) nets))
     by true rest = ap (λ (items : List ℕ). item ∷ items) rest
     by false rest = rest
 
@@ -79,12 +80,12 @@ one_item true item net = refl
 one_item false item net = refl
 
 -- one cluster more
-pub tell_cluster : (circuit : Circuit) (elements : List LogicElement) (clusters : List (List ℕ)) (cluster : ℕ) (nets : List ℕ) (old new : List NetItem) → All (λ net. net < length circuit.nets) nets → nets ≡ nets_read (members_of elements clusters cluster) → TellReaders circuit elements clusters (length circuit.outputs) cluster old → new ≡ old ++ pairs_with (length circuit.inputs + length circuit.outputs + cluster) nets → TellReaders circuit elements clusters (length circuit.outputs) (cluster + 1) new
+pub tell_cluster : (circuit : Circuit) (elements : List LogicElement) (clusters : List (List ℕ)) (cluster : ℕ) (nets : List ℕ) (old new : List Keyed) → All (λ net. net < length circuit.nets) nets → nets ≡ nets_read (members_of elements clusters cluster) → TellReaders circuit elements clusters (length circuit.outputs) cluster old → new ≡ old ++ pairs_with (length circuit.inputs + length circuit.outputs + cluster) nets → TellReaders circuit elements clusters (length circuit.outputs) (cluster + 1) new
 tell_cluster circuit elements clusters cluster nets old new nets_within nets_are before more =
     let item = length circuit.inputs + length circuit.outputs + cluster in
     let members = members_of elements clusters cluster in
     subst (TellReaders circuit elements clusters (length circuit.outputs) (cluster + 1)) (sym more) (record {
-      within = All-append (λ (pair : NetItem). pair.net < length circuit.nets) old (pairs_with item nets) before.within (All-map (λ (pair : NetItem). pair.net < length circuit.nets) (λ net. record { net = net; item = item }) nets nets_within);
+      within = All-append (λ (pair : Keyed). pair.key < length circuit.nets) old (pairs_with item nets) before.within (All-map (λ (pair : Keyed). pair.key < length circuit.nets) (λ net. record { key = net; item = item }) nets nets_within);
       tell = λ net.
           let once : StandsOnce (nets_read members) net = once_with_nets (outside_inputs members) (clocks_of members) net (once_outside members net) in
           let one : items_with (pairs_with item nets) net ≡ cond (has (nets_read members) net) (item ∷ []) [] =
@@ -97,7 +98,7 @@ tell_cluster circuit elements clusters cluster nets old new nets_within nets_are
     })
 
 -- the readers of all nets, once all pads and clusters are told
-pub told_all : (circuit : Circuit) (elements : List LogicElement) (clusters : List (List ℕ)) (pairs : List NetItem) → TellReaders circuit elements clusters (length circuit.outputs) (length clusters) pairs → items_by_net pairs (length circuit.nets) ≡ readers_by_net circuit elements clusters
+pub told_all : (circuit : Circuit) (elements : List LogicElement) (clusters : List (List ℕ)) (pairs : List Keyed) → TellReaders circuit elements clusters (length circuit.outputs) (length clusters) pairs → items_by_key pairs (length circuit.nets) ≡ readers_by_net circuit elements clusters
 told_all circuit elements clusters pairs told = go 0 (length circuit.nets)
   where
     go : (start count : ℕ) → map (items_with pairs) (range_with_len start count) ≡ map (λ net. pads_with circuit net (length circuit.outputs) ++ clusters_with circuit elements clusters net (length clusters)) (range_with_len start count)
@@ -105,7 +106,7 @@ told_all circuit elements clusters pairs told = go 0 (length circuit.nets)
     go start (suc count) = let head = told.tell start in let tail = go (start + 1) count in cc
 
 -- one cluster more is gathered
-pub gathered_more : (circuit : Circuit) (elements : List LogicElement) (clusters : List (List ℕ)) (k : ℕ) (members : List ℕ) (old_inputs old_clocks new_inputs new_clocks : List (List ℕ)) (old_pairs new_pairs : List NetItem) (sets gathered : ClusterSets) (read : NetsAmong) → k < length clusters → slice_get clusters k ≡ Some members → AreGathered circuit elements clusters k old_inputs old_clocks old_pairs sets
+pub gathered_more : (circuit : Circuit) (elements : List LogicElement) (clusters : List (List ℕ)) (k : ℕ) (members : List ℕ) (old_inputs old_clocks new_inputs new_clocks : List (List ℕ)) (old_pairs new_pairs : List Keyed) (sets gathered : ClusterSets) (read : NetsAmong) → k < length clusters → slice_get clusters k ≡ Some members → AreGathered circuit elements clusters k old_inputs old_clocks old_pairs sets
     → gathered.inputs ≡ record { count = sets.inputs.count; nets = outside_inputs (elements_at elements members) } → gathered.clocks ≡ record { count = sets.inputs.count; nets = clocks_of (elements_at elements members) } → gathered.outputs.count ≡ sets.inputs.count
     → new_inputs ≡ old_inputs ++ gathered.inputs.nets ∷ [] → new_clocks ≡ old_clocks ++ gathered.clocks.nets ∷ [] → read ≡ record { count = gathered.inputs.count; nets = with_nets gathered.inputs.nets gathered.clocks.nets } → All (λ net. net < read.count) read.nets
     → new_pairs ≡ old_pairs ++ pairs_with (length circuit.inputs + length circuit.outputs + k) read.nets → AreGathered circuit elements clusters (k + 1) new_inputs new_clocks new_pairs (record { outputs = gathered.outputs; inputs = read; clocks = gathered.clocks })

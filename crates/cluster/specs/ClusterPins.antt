@@ -4,12 +4,12 @@ use Rattle.std.specs.List.{enumerate_from, flat_map, range_with_len, slice_index
 use Rattle.std.specs.Option.{ForSome, option_to_list}
 use Rattle.arch_file.specs.declared.arch.Pin.{Pin}
 use Rattle.blif.specs.declared.circuit.Circuit.{Circuit}
-use Rattle.cluster.specs.declared.by_net.NetItem.{NetItem}
+use Rattle.rows.specs.declared.by_key.Keyed.{Keyed}
 use Rattle.cluster.specs.Nets.{has, with_nets}
 use Rattle.cluster.specs.Bles.{LogicElement}
 use Rattle.cluster.specs.Clusters.{elements_at, clocks_of, outside_inputs}
 use Rattle.cluster.specs.Blocks.{rank_of}
-use Rattle.cluster.specs.ByNet.{items_with}
+use Rattle.rows.specs.ByKey.{items_with}
 
 -- the element's nets are among so many
 pub record IsElementWithin (count : ℕ) (element : LogicElement) : Type 0 where
@@ -29,10 +29,6 @@ inputs_of_clusters elements clusters = map (λ members. outside_inputs (elements
 abbrev pub clocks_of_clusters : List LogicElement → List (List ℕ) → List (List ℕ)
 clocks_of_clusters elements clusters = map (λ members. clocks_of (elements_at elements members)) clusters
 
--- each net with the item
-abbrev pub pairs_with : ℕ → List ℕ → List NetItem
-pairs_with item nets = map (λ net. record { net = net; item = item }) nets
-
 -- the nets on the pins of a cluster with these elements, but for the output pins
 abbrev pub nets_read : List LogicElement → List ℕ
 nets_read elements = with_nets (outside_inputs elements) (clocks_of elements)
@@ -50,8 +46,8 @@ abbrev pub clusters_with : Circuit → List LogicElement → List (List ℕ) →
 clusters_with circuit elements clusters net count = flat_map (λ cluster. if has (nets_read (members_of elements clusters cluster)) net then (length circuit.inputs + length circuit.outputs + cluster) ∷ [] else []) (range_with_len 0 count)
 
 -- the pairs are of the circuit's nets, and tell of each the first so many output pads and clusters that have it
-pub record TellReaders (circuit : Circuit) (elements : List LogicElement) (clusters : List (List ℕ)) (pads count : ℕ) (pairs : List NetItem) : Type 0 where
-  pub within : All (λ pair. pair.net < length circuit.nets) pairs
+pub record TellReaders (circuit : Circuit) (elements : List LogicElement) (clusters : List (List ℕ)) (pads count : ℕ) (pairs : List Keyed) : Type 0 where
+  pub within : All (λ pair. pair.key < length circuit.nets) pairs
   pub tell : (net : ℕ) → items_with pairs net ≡ pads_with circuit net pads ++ clusters_with circuit elements clusters net count
 
 -- for each net the blocks that have it on a pin other than one that drives it

@@ -1,6 +1,7 @@
 -- Private: the elements of a circuit, by number and by net.
 use Rattle.std.specs.Prelude.{ℕ, ◌+◌, ◌≡◌, ◌<◌, ◌≤◌, List, [], ◌∷◌, ◌++◌, All, map, length, slice_index_or}
-use Rattle.cluster.specs.declared.by_net.NetItem.{NetItem}
+use Rattle.rows.specs.declared.by_key.Keyed.{Keyed}
+use Rattle.rows.specs.ByKey.{pairs_with}
 use Rattle.cluster.specs.Nets.{IsOnce, has}
 use Rattle.cluster.specs.Bles.{LogicElement, element_at}
 use Rattle.cluster.specs.Clusters.{nets_of}
@@ -32,11 +33,7 @@ pub record AreElements (elements : List LogicElement) (rows : List (List ℕ)) :
   pub lawful : All (IsElement (length rows)) elements
   pub having : (net : ℕ) → net < length rows → AreHaving elements net (row_at rows net)
 
--- an element's number with each of its nets
-abbrev pub pairs_of : ℕ → List ℕ → List NetItem
-pairs_of number nets = map (λ net. record { net = net; item = number }) nets
-
--- the same for elements, numbered from there on
-abbrev pub pairs_from : ℕ → List LogicElement → List NetItem
+-- each of the nets of elements with the element's number, from that number on
+abbrev pub pairs_from : ℕ → List LogicElement → List Keyed
 pairs_from number [] = []
-pairs_from number (element ∷ elements) = pairs_of number (nets_of element) ++ pairs_from (number + 1) elements
+pairs_from number (element ∷ elements) = pairs_with number (nets_of element) ++ pairs_from (number + 1) elements

@@ -3,7 +3,7 @@ use Rattle.std.specs.Prelude.{ℕ, ◌≤◌, List}
 use Rattle.std.specs.List.{AllByRecursion}
 use Rattle.cluster.specs.declared.bles.BleSpan.{BleSpan}
 use Rattle.cluster.specs.Bles.{LogicElement}
-use Rattle.cluster.specs.Spans.{part_of}
+use Rattle.rows.specs.Spans.{part_of}
 
 -- the BLE whose inputs stand at that part of the inputs of all
 abbrev pub ble_at : List ℕ → BleSpan → LogicElement

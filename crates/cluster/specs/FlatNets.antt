@@ -2,7 +2,7 @@
 use Rattle.std.specs.Prelude.{ℕ, ◌≤◌, List}
 use Rattle.std.specs.List.{AllByRecursion}
 use Rattle.cluster.specs.declared.block_nets.NetSpan.{NetSpan}
-use Rattle.cluster.specs.Spans.{part_of}
+use Rattle.rows.specs.Spans.{part_of}
 use Rattle.cluster.specs.Blocks.{BlockNet}
 
 -- the net whose readers stand at that part of all readers

@@ -3,7 +3,6 @@ pub mod Bles
 pub mod Clusters
 pub mod Blocks
 pub mod Packing
-pub mod Spans
 pub mod FlatBles
 pub mod Reads
 pub mod CircuitReaders
@@ -17,7 +16,6 @@ pub mod FirstFree
 pub mod PackedTables
 pub mod UnderWay
 pub mod LawfulPackings
-pub mod ByNet
 pub mod NetSets
 pub mod ClusterPins
 pub mod NetUses

@@ -6,8 +6,8 @@ ghost use Rattle.cluster.specs.Nets.{distinct};
 ghost use Rattle.cluster.specs.Bles.{bles_of, element_of_latch, in_line_order, is_above};
 
 use crate::readers::Readers;
-use crate::span::Span;
 use blif::{Circuit, Latch};
+use rows::Span;
 use std::alloc::{AllocError, Global};
 use std::marker::Model;
 

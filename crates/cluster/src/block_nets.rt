@@ -3,7 +3,7 @@ ghost use Rattle.std.specs.Prelude.{◌≡◌, ◌<◌, ◌≤◌, ◌++◌, [],
 ghost use Rattle.cluster.specs.NetUses.{others};
 
 use crate::block::BlockNet;
-use crate::span::Span;
+use rows::Span;
 use std::alloc::{AllocError, Global};
 use std::marker::Model;
 

@@ -7,9 +7,9 @@ ghost use Rattle.cluster.specs.NetUses.{input_nets, driven_nets, cluster_nets};
 use crate::bles::Bles;
 use crate::block::BlockNet;
 use crate::block_nets::BlockNets;
-use crate::clusters::Clusters;
 use crate::net_uses::NetUses;
 use blif::Circuit;
+use rows::Rows;
 use std::alloc::AllocError;
 
 /// Adds the nets that the input pads drive.
@@ -40,7 +40,7 @@ pub(crate) fn add_cluster_nets(
     circuit: &Circuit,
     uses: &NetUses,
     bles: &Bles,
-    clusters: &Clusters,
+    clusters: &Rows,
 ) -> Result<(), AllocError>
     requires elements { All (IsElementWithin uses.now.globals.count) bles.now }
     requires same_count { length uses.now.readers ≡ uses.now.globals.count }
@@ -50,7 +50,7 @@ pub(crate) fn add_cluster_nets(
 {
     let first = circuit.inputs.as_slice().len() + circuit.outputs.as_slice().len();
     for cluster in 0..clusters.len() {
-        let members = clusters.cluster(cluster);
+        let members = clusters.row(cluster);
         add_driven(nets, (first + cluster) as u32, uses, bles, members)?;
     }
     Ok(())

@@ -1,11 +1,12 @@
 //! The elements of a circuit, by number and by net.
 ghost use Rattle.std.specs.Prelude.{◌≡◌, ◌<◌, ◌≤◌, ◌++◌, [], ◌∷◌, ℕ, All, length, IfOk, slice_get, Some};
 ghost use Rattle.cluster.specs.Nets.{IsOnce, distinct};
-ghost use Rattle.cluster.specs.Elements.{AreHaving, AreLawful, pairs_from, pairs_of};
+ghost use Rattle.cluster.specs.Elements.{AreHaving, AreLawful, pairs_from};
+ghost use Rattle.rows.specs.ByKey.{pairs_with};
 ghost use Rattle.cluster.specs.Growing.{IsElement};
 
 use crate::bles::{Ble, Bles};
-use crate::by_net::{ByNet, NetItem};
+use rows::{Keyed, Rows};
 use std::alloc::{AllocError, Global};
 use std::marker::Model;
 
@@ -14,7 +15,7 @@ use std::marker::Model;
 #[derive(Drop)]
 pub(crate) struct Elements {
     bles: Bles,
-    by_net: ByNet,
+    by_net: Rows,
 }
 
 impl Model for Elements {
@@ -37,7 +38,7 @@ impl Elements {
         ensures { IfOk result (λ elements. elements ≡ record { elements = bles; nets = nets }) }
     {
         let pairs = nets_with_elements(alloc, &bles)?;
-        let by_net = ByNet::new(alloc, nets, pairs.as_slice())?;
+        let by_net = Rows::by_key(alloc, nets, pairs.as_slice())?;
         Ok(Elements { bles, by_net })
     }
 
@@ -72,7 +73,7 @@ impl Elements {
         requires { net < self.now.nets }
         ensures { AreHaving self.now.elements net result.now }
     {
-        self.by_net.of(net as usize)
+        self.by_net.row(net as usize)
     }
 
     /// The elements alone.
@@ -85,7 +86,7 @@ impl Elements {
 }
 
 /// Each element's number with each of its nets.
-fn nets_with_elements(alloc: Global, bles: &Bles) -> Result<Vec<NetItem>, AllocError>
+fn nets_with_elements(alloc: Global, bles: &Bles) -> Result<Vec<Keyed>, AllocError>
     requires lawful { (nets : ℕ) × All (IsElement nets) bles.now }
     requires few { length bles.now ≤ 8192 }
     ensures { IfOk result (λ pairs. pairs.items ≡ pairs_from 0 bles.now) }
@@ -100,25 +101,25 @@ fn nets_with_elements(alloc: Global, bles: &Bles) -> Result<Vec<NetItem>, AllocE
 
 /// Adds the element's number with each of its nets.
 fn push_nets(
-    pairs: &mut Vec<NetItem>,
+    pairs: &mut Vec<Keyed>,
     number: u32,
     inputs: &[u32],
     output: u32,
 ) -> Result<(), AllocError>
     requires { IsOnce inputs.now }
-    ensures { IfOk result (λ _. pairs.new.items ≡ pairs.old.items ++ pairs_of number (distinct (inputs.now ++ output ∷ []))) }
+    ensures { IfOk result (λ _. pairs.new.items ≡ pairs.old.items ++ pairs_with number (distinct (inputs.now ++ output ∷ []))) }
 {
     let mut reads_own = false;
     for net in inputs {
-        pairs.push(NetItem {
-            net: *net,
+        pairs.push(Keyed {
+            key: *net,
             item: number,
         })?;
         reads_own |= *net == output;
     }
     if !reads_own {
-        pairs.push(NetItem {
-            net: output,
+        pairs.push(Keyed {
+            key: output,
             item: number,
         })?;
     }

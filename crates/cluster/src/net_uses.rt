@@ -5,9 +5,9 @@ ghost use Rattle.blif.specs.LawfulCircuits.{IsCircuit};
 ghost use Rattle.cluster.specs.Nets.{has, distinct};
 ghost use Rattle.cluster.specs.NetUses.{controls_of, leaves_by};
 
-use crate::by_net::ByNet;
 use crate::net_set::NetSet;
 use blif::Circuit;
+use rows::Rows;
 use std::alloc::{AllocError, Global};
 
 /// The nets that control latches, which are global, and for each net the blocks that have it on a pin other than one
@@ -15,12 +15,12 @@ use std::alloc::{AllocError, Global};
 #[derive(Debug, Drop)]
 pub(crate) struct NetUses {
     pub(crate) globals: NetSet,
-    pub(crate) readers: ByNet,
+    pub(crate) readers: Rows,
 }
 
 impl NetUses {
     /// The uses of the circuit's nets, which these blocks read.
-    pub(crate) fn new(alloc: Global, circuit: &Circuit, readers: ByNet) -> Result<Self, AllocError>
+    pub(crate) fn new(alloc: Global, circuit: &Circuit, readers: Rows) -> Result<Self, AllocError>
         requires { IsCircuit circuit.now }
         ensures globals { IfOk result (λ uses. uses.globals ≡ record { count = length circuit.now.nets; nets = distinct (controls_of circuit.now.latches) }) }
         ensures readers { IfOk result (λ uses. uses.readers ≡ readers) }
@@ -47,7 +47,7 @@ impl NetUses {
         requires { net < length self.now.readers }
         ensures { result.now ≡ slice_index_or self.now.readers net [] }
     {
-        self.readers.of(net as usize)
+        self.readers.row(net as usize)
     }
 
     /// Whether the net leaves the block that drives it.

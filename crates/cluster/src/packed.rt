@@ -7,10 +7,10 @@ ghost use Rattle.cluster.specs.PackedTables.{AreTablesOf};
 
 use crate::bles::{Ble, Bles};
 use crate::block::{Block, BlockNet};
-use crate::clusters::Clusters;
 use crate::packed_tables::PackedTables;
 use arch_file::{Arch, PinClass, SharedArch};
 use blif::{Circuit, SharedCircuit};
+use rows::Rows;
 use std::marker::Model;
 
 /// A packed circuit: its BLEs in clusters, with the blocks, nets and pins that follow.
@@ -19,7 +19,7 @@ pub struct Packed {
     circuit: SharedCircuit,
     arch: SharedArch,
     bles: Bles,
-    clusters: Clusters,
+    clusters: Rows,
     tables: PackedTables,
 }
 
@@ -40,7 +40,7 @@ impl Packed {
         circuit: SharedCircuit,
         arch: SharedArch,
         bles: Bles,
-        clusters: Clusters,
+        clusters: Rows,
         tables: PackedTables,
     ) -> Self
         requires bles { bles ≡ bles_of circuit }
@@ -100,7 +100,7 @@ impl Packed {
         requires { number < length self.now.clusters }
         ensures { slice_get self.now.clusters number ≡ Some result.now }
     {
-        self.clusters.cluster(number)
+        self.clusters.row(number)
     }
 
     /// How many blocks there are: pads for inputs, pads for outputs, and clusters.
@@ -168,7 +168,7 @@ impl Packed {
         requires { cluster < length self.now.clusters }
         ensures { result ≡ carried (nets_of_cluster self.now cluster) PinClass.Output place }
     {
-        let members = self.clusters.cluster(cluster);
+        let members = self.clusters.row(cluster);
         if place >= members.len() {
             return None;
         }

@@ -6,14 +6,13 @@ ghost use Rattle.cluster.specs.PackedTables.{AreTablesOf};
 
 use crate::bles::Bles;
 use crate::block_nets::BlockNets;
-use crate::clusters::Clusters;
 use crate::driven_nets::{add_cluster_nets, add_input_nets};
 use crate::net_uses::NetUses;
 use crate::pin_nets::PinNets;
 use crate::pin_ranks::ranks_of;
-use crate::rows::Rows;
 use arch_file::Arch;
 use blif::Circuit;
+use rows::Rows;
 use std::alloc::{AllocError, Global};
 
 /// The outside inputs and the clocks of each cluster, who uses which nets, the nets between blocks, and the ranks of
@@ -34,7 +33,7 @@ impl PackedTables {
         circuit: &Circuit,
         arch: &Arch,
         bles: &Bles,
-        clusters: &Clusters,
+        clusters: &Rows,
     ) -> Result<Self, AllocError>
         requires bles { bles.now ≡ bles_of circuit.now }
         requires packed { IsPacked (record { circuit = circuit.now; arch = arch.now; clusters = clusters.now }) }

@@ -8,7 +8,6 @@ ghost use Rattle.cluster.specs.Growing.{IsElement};
 ghost use Rattle.cluster.specs.Packing.{IsChecked, GoesOn};
 
 use crate::bles::Bles;
-use crate::clusters::Clusters;
 use crate::fault::{PackError, PackFault};
 use crate::grower::Grower;
 use crate::keys::outside_inputs;
@@ -17,6 +16,7 @@ use crate::packed_tables::PackedTables;
 use crate::pins::input_count;
 use arch_file::{Arch, SharedArch};
 use blif::{Circuit, SharedCircuit};
+use rows::Rows;
 use std::alloc::{AllocError, Global};
 use std::marker::Model;
 
@@ -56,7 +56,7 @@ pub struct Packing {
     circuit: SharedCircuit,
     arch: SharedArch,
     grower: Grower,
-    clusters: Clusters,
+    clusters: Rows,
     made: usize,
 }
 
@@ -90,7 +90,7 @@ impl Packing {
     {
         let bles = Bles::new(alloc, circuit.circuit())?;
         let grower = Grower::new(alloc, bles, circuit.circuit().nets.len())?;
-        let clusters = Clusters::new(alloc);
+        let clusters = Rows::new(alloc);
         Ok(Packing {
             alloc,
             circuit: circuit.clone()?,
@@ -159,7 +159,7 @@ impl Packing {
 }
 
 /// Adds one cluster of free BLEs, if there are any. Without memory nothing is added.
-fn add_cluster(grower: &mut Grower, clusters: &mut Clusters, arch: &Arch) -> Result<(), AllocError>
+fn add_cluster(grower: &mut Grower, clusters: &mut Rows, arch: &Arch) -> Result<(), AllocError>
     requires arch { IsArch arch.now }
     requires fit { unfit_among arch.now grower.old.elements ≡ None }
     ensures elements { grower.new.elements ≡ grower.old.elements }

@@ -2,14 +2,13 @@
 ghost use Rattle.std.specs.Prelude.{◌≡◌, ℕ, ◌+◌, ◌^◌, ◌<◌, List, ◌++◌, All, IfOk, length};
 ghost use Rattle.blif.specs.LawfulCircuits.{IsCircuit};
 ghost use Rattle.cluster.specs.Bles.{LogicElement};
-ghost use Rattle.cluster.specs.ClusterPins.{IsElementWithin, inputs_of_clusters, clocks_of_clusters, readers_by_net, pairs_with, TellReaders};
+ghost use Rattle.cluster.specs.ClusterPins.{IsElementWithin, inputs_of_clusters, clocks_of_clusters, readers_by_net, TellReaders};
+ghost use Rattle.rows.specs.ByKey.{pairs_with};
 
 use crate::bles::Bles;
-use crate::by_net::{ByNet, NetItem};
 use crate::cluster_sets::ClusterSets;
-use crate::clusters::Clusters;
-use crate::rows::Rows;
 use blif::Circuit;
+use rows::{Keyed, Rows};
 use std::alloc::{AllocError, Global};
 
 /// The outside inputs and the clocks of each cluster, and for each net of the circuit the blocks that have it on a pin
@@ -18,7 +17,7 @@ use std::alloc::{AllocError, Global};
 pub(crate) struct PinNets {
     pub(crate) inputs: Rows,
     pub(crate) clocks: Rows,
-    pub(crate) readers: ByNet,
+    pub(crate) readers: Rows,
 }
 
 impl PinNets {
@@ -26,7 +25,7 @@ impl PinNets {
         alloc: Global,
         circuit: &Circuit,
         bles: &Bles,
-        clusters: &Clusters,
+        clusters: &Rows,
     ) -> Result<Self, AllocError>
         requires circuit { IsCircuit circuit.now }
         requires elements { All (IsElementWithin (length circuit.now.nets)) bles.now }
@@ -43,13 +42,13 @@ impl PinNets {
         let mut clocks = Rows::new(alloc);
         let mut pairs = pad_pairs(alloc, circuit)?;
         for cluster in 0..clusters.len() {
-            sets.gather(bles, clusters.cluster(cluster))?;
+            sets.gather(bles, clusters.row(cluster))?;
             inputs.push(sets.inputs.nets())?;
             clocks.push(sets.clocks.nets())?;
             sets.inputs.insert_all(sets.clocks.nets())?;
             add_pairs(&mut pairs, sets.inputs.nets(), (first + cluster) as u32)?;
         }
-        let readers = ByNet::new(alloc, count, pairs.as_slice())?;
+        let readers = Rows::by_key(alloc, count, pairs.as_slice())?;
         Ok(PinNets {
             inputs,
             clocks,
@@ -59,7 +58,7 @@ impl PinNets {
 }
 
 /// Each output with its pad's number.
-fn pad_pairs(alloc: Global, circuit: &Circuit) -> Result<Vec<NetItem>, AllocError>
+fn pad_pairs(alloc: Global, circuit: &Circuit) -> Result<Vec<Keyed>, AllocError>
     requires circuit { IsCircuit circuit.now }
     requires few { length circuit.now.inputs + length circuit.now.outputs < 2 ^ 32 }
     ensures { IfOk result (λ pairs. (elements : List LogicElement) (clusters : List (List ℕ)) → TellReaders circuit.now elements clusters (length circuit.now.outputs) 0 pairs.items) }
@@ -67,8 +66,8 @@ fn pad_pairs(alloc: Global, circuit: &Circuit) -> Result<Vec<NetItem>, AllocErro
     let inputs = circuit.inputs.as_slice().len();
     let mut pairs = Vec::new(alloc);
     for (pad, net) in circuit.outputs.as_slice().iter().enumerate() {
-        pairs.push(NetItem {
-            net: *net,
+        pairs.push(Keyed {
+            key: *net,
             item: (inputs + pad) as u32,
         })?;
     }
@@ -76,11 +75,11 @@ fn pad_pairs(alloc: Global, circuit: &Circuit) -> Result<Vec<NetItem>, AllocErro
 }
 
 /// Adds each of the nets with the item.
-fn add_pairs(pairs: &mut Vec<NetItem>, nets: &[u32], item: u32) -> Result<(), AllocError>
+fn add_pairs(pairs: &mut Vec<Keyed>, nets: &[u32], item: u32) -> Result<(), AllocError>
     ensures { IfOk result (λ _. pairs.new.items ≡ pairs.old.items ++ pairs_with item nets.now) }
 {
     for net in nets {
-        pairs.push(NetItem { net: *net, item })?;
+        pairs.push(Keyed { key: *net, item })?;
     }
     Ok(())
 }

@@ -3,7 +3,8 @@ use Rattle.std.proofs.lemmas.List.{take_more}
 use Rattle.std.proofs.lemmas.Option.{get_or_from_slice_get}
 use Rattle.cluster.specs.Bles.{LogicElement}
 use Rattle.cluster.specs.Clusters.{nets_of}
-use Rattle.cluster.specs.Elements.{pairs_from, pairs_of}
+use Rattle.cluster.specs.Elements.{pairs_from}
+use Rattle.rows.specs.ByKey.{pairs_with}
 use Rattle.cluster.proofs.ElementLemmas.{inputs_once, pairs_more}
 use Rattle.cluster.proofs.element_index.nets_with_elements.Goals as goal
 
@@ -21,5 +22,5 @@ loop-number-preserved c =
     let here = get_or_from_slice_get bles number element element c.ble-ble.ensures in
     let front = take_more bles number element (omega arith) ∙ ap (λ last. take number bles ++ last ∷ []) here in
     let so_many : length (take number bles) ≡ number = omega (arith, length-take number bles) in
-    rw front (c.in_ok-push_nets.ensures ∙ ap (λ old. old ++ pairs_of number (nets_of element)) c.loop-number.invariant
-    ∙ sym (pairs_more 0 (take number bles) element ∙ ap (λ n. pairs_from 0 (take number bles) ++ pairs_of n (nets_of element)) (omega (arith, so_many))))
+    rw front (c.in_ok-push_nets.ensures ∙ ap (λ old. old ++ pairs_with number (nets_of element)) c.loop-number.invariant
+    ∙ sym (pairs_more 0 (take number bles) element ∙ ap (λ n. pairs_from 0 (take number bles) ++ pairs_with n (nets_of element)) (omega (arith, so_many))))

@@ -1,5 +1,5 @@
 use Rattle.std.proofs.Common.{◌≡◌, ◌++◌, take}
-use Rattle.cluster.specs.ClusterPins.{pairs_with}
+use Rattle.rows.specs.ByKey.{pairs_with}
 use Rattle.cluster.proofs.pin_nets.add_pairs.Given as goal
 
 abbrev pub invariant-loop-net : goal.invariant-loop-net

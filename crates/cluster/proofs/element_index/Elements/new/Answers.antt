@@ -2,12 +2,12 @@ use Rattle.std.proofs.Common.{◌≡◌, length, ap, ◌∙◌}
 use Rattle.std.proofs.lemmas.List.{length-map}
 use Rattle.std.proofs.lemmas.List.FromFn.{length-range_with_len}
 use Rattle.std.specs.List.{range_with_len}
-use Rattle.cluster.specs.ByNet.{items_with}
+use Rattle.rows.specs.ByKey.{items_with}
 use Rattle.cluster.proofs.ElementLemmas.{elements_are, pairs_within}
 use Rattle.cluster.proofs.element_index.Elements.new.Goals as goal
 
-pub new-requires : goal.new-requires
-new-requires c = rw (c.as_slice.ensures.value, c.in_ok-pairs.ensures) (pairs_within 0 c.args.nets c.args.bles c.requires.lawful)
+pub by_key-requires : goal.by_key-requires
+by_key-requires c = rw (c.as_slice.ensures.value, c.in_ok-pairs.ensures) (pairs_within 0 c.args.nets c.args.bles c.requires.lawful)
 
 pub invariant_of-result : goal.invariant_of-result
 invariant_of-result c = rw (c.in_ok-by_net.ensures, c.as_slice.ensures.value, c.in_ok-pairs.ensures) (elements_are c.args.bles c.args.nets c.requires.few c.requires.lawful)

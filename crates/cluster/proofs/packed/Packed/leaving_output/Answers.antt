@@ -32,7 +32,7 @@ returns-then-leaves c =
     let pads = ap (λ (packed : PackedCircuit). length packed.circuit.inputs + length packed.circuit.outputs) c.self.view_is in
     let block : c.pad_count.result + c.args.cluster ≡ cluster_block packed c.args.cluster = omega (arith, pads, c.pad_count.ensures) in
     let told = leaves_told packed c.self.inside.bles c.self.inside.tables _ _ c.self.invariant c.ble-net.ensures (c.pad_count.result + c.args.cluster) (cluster_block packed c.args.cluster) block in
-    rw (← c.self.view_is) (output_leaves packed c.self.inside.bles c.args.cluster c.args.place c.cluster-members.result.now _ c.self.invariant.bles c.cluster-members.ensures (omega arith) c.ble-net.ensures (sym told ∙ sym c.leaves.ensures ∙ c.if-leaves.true))
+    rw (← c.self.view_is) (output_leaves packed c.self.inside.bles c.args.cluster c.args.place c.row-members.result.now _ c.self.invariant.bles c.row-members.ensures (omega arith) c.ble-net.ensures (sym told ∙ sym c.leaves.ensures ∙ c.if-leaves.true))
 
 pub returns-else-leaves : goal.returns-else-leaves
 returns-else-leaves c =
@@ -40,4 +40,4 @@ returns-else-leaves c =
     let pads = ap (λ (packed : PackedCircuit). length packed.circuit.inputs + length packed.circuit.outputs) c.self.view_is in
     let block : c.pad_count.result + c.args.cluster ≡ cluster_block packed c.args.cluster = omega (arith, pads, c.pad_count.ensures) in
     let told = leaves_told packed c.self.inside.bles c.self.inside.tables _ _ c.self.invariant c.ble-net.ensures (c.pad_count.result + c.args.cluster) (cluster_block packed c.args.cluster) block in
-    rw (← c.self.view_is) (output_stays packed c.self.inside.bles c.args.cluster c.args.place c.cluster-members.result.now _ c.self.invariant.bles c.cluster-members.ensures (omega arith) c.ble-net.ensures (sym told ∙ sym c.leaves.ensures ∙ c.if-leaves.false))
+    rw (← c.self.view_is) (output_stays packed c.self.inside.bles c.args.cluster c.args.place c.row-members.result.now _ c.self.invariant.bles c.row-members.ensures (omega arith) c.ble-net.ensures (sym told ∙ sym c.leaves.ensures ∙ c.if-leaves.false))
