@@ -1,6 +1,5 @@
 -- Names that were added where they were new are distinct.
 use Rattle.std.proofs.Common.{◌≡◌, ◌≢◌, ℕ, suc, zero, ◌<◌, Bool, true, false, ◌||◌, List, [], ◌∷◌, ◌++◌, AllPairs, length, get_or, if◌then◌else◌, refl, sym, ap, arith}
-use Rattle.std.specs.Str.{bytes_eq}
 use Rattle.std.proofs.lemmas.List.Quantifiers.{all_pairs_push}
 use Rattle.std.proofs.lemmas.Slice.Eq.{bytes_eq-Decides}
 use Rattle.blif.specs.Names.{has_name, with_name, with_names}

@@ -6,11 +6,13 @@ mod Drivers
 mod Examples
 mod Faultless
 mod Growing
+mod LatchNumbers
 mod Lawful
 mod LawfulNets
 mod LineParts
 mod Named
 mod NetNumbers
+mod Numbered
 mod Places
 mod RisingLines
 mod Seen

@@ -64,7 +64,7 @@ name_at (first ∷ names) name h = by (bytes_eq name first) refl (λ there. name
         ∙ rest (has_name-rest name first names e h)
 
 -- a name that is there stays when another is added
-has_name-with_name : (names : List (List ℕ)) (added name : List ℕ) → has_name names name ≡ true → has_name (with_name names added) name ≡ true
+pub has_name-with_name : (names : List (List ℕ)) (added name : List ℕ) → has_name names name ≡ true → has_name (with_name names added) name ≡ true
 has_name-with_name names added name h = by (has_name names added)
   where
     by : (b : Bool) → has_name (if b then names else names ++ added ∷ []) name ≡ true
@@ -76,7 +76,7 @@ has_name-with_names names [] name h = h
 has_name-with_names names (added ∷ others) name h = has_name-with_names (with_name names added) others name (has_name-with_name names added name h)
 
 -- the added one is there
-has_name-added : (names : List (List ℕ)) (name : List ℕ) → has_name (with_name names name) name ≡ true
+pub has_name-added : (names : List (List ℕ)) (name : List ℕ) → has_name (with_name names name) name ≡ true
 has_name-added names name = by (has_name names name) refl
   where
     by : (b : Bool) → has_name names name ≡ b → has_name (if b then names else names ++ name ∷ []) name ≡ true

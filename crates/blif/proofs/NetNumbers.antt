@@ -1,20 +1,28 @@
 -- Numbers of nets, put at the end one after another.
-use Rattle.std.proofs.Common.{◌≡◌, ℕ, ◌+◌, ◌<◌, List, [], ◌∷◌, ◌++◌, length, get_or, take, map, sym, ap, ◌∙◌, append_assoc, slice_get, Some, refl, arith}
-use Rattle.std.specs.Borrow.{Bor}
-use Rattle.std.proofs.lemmas.List.{take_more, map_push}
+use Rattle.std.proofs.Common.{◌≡◌, ℕ, ◌+◌, ◌-◌, ◌<◌, List, [], ◌∷◌, ◌++◌, length, get_or, take, map, sym, ap, ◌∙◌, append_assoc, slice_get, Some, refl, arith}
+use Rattle.std.proofs.lemmas.List.{length-map, map_push, take-map}
 use Rattle.blif.proofs.Places.{take_place}
-use Rattle.blif.specs.Names.{texts, number_of}
+use Rattle.blif.specs.Names.{number_of}
 use Rattle.blif.specs.Keywords.{last_of}
 use Rattle.blif.specs.LineNets.{front_of}
 use Rattle.blif.specs.Circuits.{table_with}
 
-pub numbers_more : (f : List ℕ → ℕ) (old now : List ℕ) (nets : List (Bor (List ℕ))) (i n : ℕ) (d : Bor (List ℕ)) → i < length nets → now ≡ old ++ map f (texts (take i nets)) → n ≡ f (get_or nets i d).now → now ++ n ∷ [] ≡ old ++ map f (texts (take (i + 1) nets))
-numbers_more f old now nets i n d within so_far is =
-    let front : List (List ℕ) = texts (take i nets) in
-    let all : texts (take (i + 1) nets) ≡ front ++ (get_or nets i d).now ∷ [] = ap texts (take_more nets i d within) ∙ map_push _ (take i nets) (get_or nets i d) in
-    ap (λ numbers. numbers ++ n ∷ []) so_far
-    ∙ append_assoc old (map f front) (n ∷ [])
-    ∙ ap (λ rest. old ++ rest) (ap (λ m. map f front ++ m ∷ []) is ∙ sym (ap (map f) all ∙ map_push f front (get_or nets i d).now))
+-- the numbers of the names before the last, and that of the last
+pub front_numbers : (f : List ℕ → ℕ) (names : List (List ℕ)) (numbers : List ℕ) → numbers ≡ map f names → take (length numbers - 1) numbers ≡ map f (front_of names)
+front_numbers f names numbers are =
+    ap (λ ns. take (length ns - 1) ns) are
+    ∙ ap (λ n. take (n - 1) (map f names)) (length-map names f)
+    ∙ take-map f (length names - 1) names
+
+last_map : (f : List ℕ → ℕ) (name : List ℕ) (names : List (List ℕ)) → get_or (map f (name ∷ names)) (length names) 0 ≡ f (last_of (name ∷ names))
+last_map f name [] = refl
+last_map f name (next ∷ names) = last_map f next names
+
+pub last_number : (f : List ℕ → ℕ) (names : List (List ℕ)) (numbers : List ℕ) → numbers ≡ map f names → 0 < length numbers → get_or numbers (length numbers - 1) 0 ≡ f (last_of names)
+last_number f [] numbers are some = absurd (omega (arith, some, ap length are))
+last_number f (name ∷ names) numbers are some =
+    let count : length numbers - 1 ≡ length names = omega (arith, ap length are, length-map (name ∷ names) f) in
+    ap (λ n. get_or numbers n 0) count ∙ ap (λ ns. get_or ns (length names) 0) are ∙ last_map f name names
 
 -- a table with names is one table
 pub table_with_names : (nets : List (List ℕ)) (line : ℕ) (names : List (List ℕ)) → 0 < length names → table_with nets line names ≡ record { line = line; inputs = map (number_of nets) (front_of names); output = number_of nets (last_of names) } ∷ []

@@ -6,10 +6,11 @@ use Rattle.std.proofs.lemmas.List.Elements.{filter-append}
 use Rattle.std.proofs.lemmas.List.Folds.{list_any-append}
 use Rattle.line_text.specs.Lines.{JoinedLine}
 use Rattle.blif.specs.declared.fault.BlifFaultKind.{BlifFaultKind}
-use Rattle.blif.specs.Names.{first, with_name, with_names}
+use Rattle.blif.specs.Names.{first, numbered, with_name, with_names}
 use Rattle.blif.specs.Sights.{Sights, sights_of, sights_after, kind_of, is_end, names_of, drives_of, clocks_of, outputs_of, undeclared, has_lines, cover_below}
 use Rattle.blif.specs.BlifFaults.{faults_in}
 use Rattle.blif.specs.CircuitOf.{line_faults}
+use Rattle.blif.proofs.Numbered.{numbered-append}
 use Rattle.blif.proofs.Places.{flat_map_push, first_found, first_none, take_place, drop_place}
 
 pub with_names-append : (names xs ys : List (List ℕ)) → with_names names (xs ++ ys) ≡ with_names (with_names names xs) ys
@@ -56,6 +57,16 @@ module _ (lut_size : ℕ) (declared : List (List ℕ)) (lines : List JoinedLine)
   sights_at new after =
       after ∙ ap (sights_after (kind_of line) line.words) sights
       ∙ sym (sights_push declared (take place lines) line) ∙ ap (sights_of declared) (sym (take_place lines place line within at))
+
+  -- and the numbers of its nets follow those of the lines above
+  pub numbers_so_far : (old new : List ℕ) → old ≡ numbered [] (flat_map names_of (take place lines)) → new ≡ old ++ numbered checked.nets (names_of line) → new ≡ numbered [] (flat_map names_of (take (place + 1) lines))
+  unfolding sights_of
+  numbers_so_far old new so_far added =
+      added ∙ ap (λ numbers. numbers ++ numbered checked.nets (names_of line)) so_far
+      ∙ ap (λ s. let t : Sights = s in numbered [] (flat_map names_of (take place lines)) ++ numbered t.nets (names_of line)) sights
+      ∙ sym (numbered-append [] (flat_map names_of (take place lines)) (names_of line))
+      ∙ ap (numbered []) (sym (flat_map_push names_of (take place lines) line))
+      ∙ ap (λ ls. numbered [] (flat_map names_of ls)) (sym (take_place lines place line within at))
 
   -- its fault is the first one
   pub fault_at : (kind : BlifFaultKind) → Some kind ≡ first (faults_in lut_size checked (kind_of line) line.words) → first (line_faults lut_size declared (take place lines) (drop place lines)) ≡ first (line_faults lut_size declared [] lines) → first (line_faults lut_size declared [] lines) ≡ Some (record { line = line.number; kind = kind })

@@ -30,6 +30,11 @@ abbrev pub with_names : List (List ℕ) → List (List ℕ) → List (List ℕ)
 with_names names [] = names
 with_names names (name ∷ others) = with_names (with_name names name) others
 
+-- the number of each of the others, where they are added one after another
+abbrev pub numbered : List (List ℕ) → List (List ℕ) → List ℕ
+numbered names [] = []
+numbered names (name ∷ others) = number_of names name ∷ numbered (with_name names name) others
+
 -- those of the names that are taken, or that stand earlier among them
 abbrev pub repeats : List (List ℕ) → List (List ℕ) → List (List ℕ)
 repeats taken [] = []

@@ -1,6 +1,6 @@
 //! The faults of the lines, one line after another.
 ghost use Rattle.std.specs.Prelude.{◌≡◌, ◌≤◌, ◌||◌, ◌++◌, [], ◌∷◌, map, length, None, true, false, IfOk, IfNone, IsTrue};
-ghost use Rattle.blif.specs.Names.{first, repeats, texts, with_names};
+ghost use Rattle.blif.specs.Names.{first, numbered, repeats, texts, with_names};
 ghost use Rattle.blif.specs.Keywords.{args_of, keyword_of};
 ghost use Rattle.blif.specs.LatchLines.{is_latch};
 ghost use Rattle.blif.specs.LineNets.{latch_nets, latch_output, names_in, output_of};
@@ -15,6 +15,7 @@ use crate::fault::BlifFaultKind;
 use crate::keyword::{Keyword, args_of, keyword_of, last_of};
 use crate::latch_line::{control_of, is_latch};
 use crate::names::NameSet;
+use crate::nets::Nets;
 use line_text::Text;
 use std::alloc::{AllocError, Global};
 use std::marker::Model;
@@ -66,22 +67,25 @@ impl<'t> Checker<'t> {
         Driven::new(alloc, self.nets, self.clocks, self.drivers)
     }
 
-    /// The least fault of the line with these words; without one the line has come.
+    /// The least fault of the line with these words; without one the line has come, and the numbers of the nets that it
+    /// names stand at the end.
     pub fn check(
         &mut self,
         alloc: Global,
         words: &[&'t [u8]],
         lut_size: u32,
+        numbers: &mut Nets,
     ) -> Result<Option<BlifFaultKind>, AllocError>
         ensures least { IfOk result (λ fault. fault ≡ first (faults_in lut_size self.old (keyword_of (texts words.now)) (texts words.now))) }
         ensures sights { IfOk result (λ fault. IfNone fault (self.new ≡ sights_after (keyword_of (texts words.now)) (texts words.now) self.old)) }
         ensures few { IfOk result (λ fault. IfNone fault (length self.new.nets ≤ MAX_NETS)) }
+        ensures numbers { IfOk result (λ fault. IfNone fault (numbers.new ≡ numbers.old ++ numbered self.old.nets (names_in (keyword_of (texts words.now)) (texts words.now)))) }
     {
         if self.ended {
             return Ok(Some(BlifFaultKind::Unknown));
         }
         let keyword = keyword_of(words);
-        let fault = self.kind_fault(alloc, keyword, words, lut_size)?;
+        let fault = self.kind_fault(alloc, keyword, words, lut_size, numbers)?;
         if fault.is_some() {
             return Ok(fault);
         }
@@ -102,12 +106,14 @@ impl<'t> Checker<'t> {
         keyword: Keyword,
         words: &[&'t [u8]],
         lut_size: u32,
+        numbers: &mut Nets,
     ) -> Result<Option<BlifFaultKind>, AllocError>
         requires { self.old.ended ≡ false }
         ensures least { IfOk result (λ fault. fault ≡ first (kind_faults lut_size self.old keyword (texts words.now))) }
         ensures sights { IfOk result (λ fault. IfNone fault (record self.new { begun = true } ≡ sights_after keyword (texts words.now) self.old)) }
         ensures begun { IfOk result (λ fault. self.new.begun ≡ self.old.begun) }
         ensures nets { IfOk result (λ fault. IfNone fault (self.new.nets ≡ with_names self.old.nets (names_in keyword (texts words.now)))) }
+        ensures numbers { IfOk result (λ fault. IfNone fault (numbers.new ≡ numbers.old ++ numbered self.old.nets (names_in keyword (texts words.now)))) }
     {
         let args = args_of(words);
         let fault = match keyword {
@@ -119,22 +125,29 @@ impl<'t> Checker<'t> {
                 }
             }
             Keyword::Inputs => {
-                self.nets.add_all(args)?;
+                self.nets.number_all(args, numbers)?;
                 drive(alloc, &self.clocks, &mut self.drivers, args)?
             }
             Keyword::Outputs => {
-                self.nets.add_all(args)?;
+                self.nets.number_all(args, numbers)?;
                 show(alloc, &mut self.outputs, args)?
             }
             Keyword::Clock => {
-                self.nets.add_all(args)?;
+                self.nets.number_all(args, numbers)?;
                 clock(alloc, &self.declared, &self.drivers, &mut self.clocks, args)?
             }
             Keyword::Names => {
-                self.nets.add_all(args)?;
+                self.nets.number_all(args, numbers)?;
                 table(alloc, lut_size, &self.clocks, &mut self.drivers, args)?
             }
-            Keyword::Latch => latch(alloc, &mut self.nets, &self.clocks, &mut self.drivers, args)?,
+            Keyword::Latch => latch(
+                alloc,
+                &mut self.nets,
+                numbers,
+                &self.clocks,
+                &mut self.drivers,
+                args,
+            )?,
             Keyword::End => {
                 self.ended = true;
                 None
@@ -227,31 +240,38 @@ fn table<'t>(
 fn latch<'t>(
     alloc: Global,
     nets: &mut NameSet<'t>,
+    numbers: &mut Nets,
     clocks: &NameSet<'t>,
     drivers: &mut NameSet<'t>,
     args: &[&'t [u8]],
 ) -> Result<Option<BlifFaultKind>, AllocError>
     ensures least { IfOk result (λ fault. fault ≡ first (latch_faults (clocks.now ++ drivers.old) (texts args.now))) }
     ensures nets { IfOk result (λ fault. nets.new ≡ with_names nets.old (latch_nets (texts args.now))) }
+    ensures numbers { IfOk result (λ fault. numbers.new ≡ numbers.old ++ numbered nets.old (latch_nets (texts args.now))) }
     ensures drivers { IfOk result (λ fault. IfNone fault (drivers.new ≡ drivers.old ++ latch_output (texts args.now))) }
 {
     if !is_latch(args) {
         return Ok(Some(BlifFaultKind::BadLatch));
     }
-    name_latch(nets, args)?;
+    name_latch(nets, numbers, args)?;
     drive(alloc, clocks, drivers, &args[1..2])
 }
 
-/// Adds the nets of a latch.
-fn name_latch<'t>(nets: &mut NameSet<'t>, args: &[&'t [u8]]) -> Result<(), AllocError>
+/// Adds the nets of a latch, and puts their numbers at the end.
+fn name_latch<'t>(
+    nets: &mut NameSet<'t>,
+    numbers: &mut Nets,
+    args: &[&'t [u8]],
+) -> Result<(), AllocError>
     requires { IsTrue (is_latch (texts args.now)) }
-    ensures { IfOk result (λ _. nets.new ≡ with_names nets.old (latch_nets (texts args.now))) }
+    ensures nets { IfOk result (λ _. nets.new ≡ with_names nets.old (latch_nets (texts args.now))) }
+    ensures numbers { IfOk result (λ _. numbers.new ≡ numbers.old ++ numbered nets.old (latch_nets (texts args.now))) }
 {
-    nets.add_all(&args[..2])?;
-    if let Some(control) = control_of(args) {
-        nets.add(control)?;
+    nets.number_all(&args[..2], numbers)?;
+    match control_of(args) {
+        Some(control) => nets.number_all(&[control], numbers),
+        None => Ok(()),
     }
-    Ok(())
 }
 
 /// The least fault of a row with these words below this cover.

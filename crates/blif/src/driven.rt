@@ -1,12 +1,11 @@
 //! Which nets of a text are driven.
-ghost use Rattle.std.specs.Prelude.{◌≡◌, ◌≤◌, ◌++◌, List, ℕ, map, length, None, Some, if◌then◌else◌, IfOk, IfNone, IsTrue, option_map};
+ghost use Rattle.std.specs.Prelude.{◌≡◌, ◌≤◌, ◌<◌, ◌++◌, [], map, length, IfOk, IsTrue, option_map, slice_index_or};
 ghost use Rattle.std.specs.List.{list_all};
 ghost use Rattle.blif.specs.Names.{first, has_name, number_of, texts};
 ghost use Rattle.blif.specs.CircuitOf.{undriven};
 
 use crate::circuit::MAX_NETS;
 use crate::names::NameSet;
-use crate::nets::Nets;
 use std::alloc::{AllocError, Global};
 use std::marker::Model;
 
@@ -71,46 +70,26 @@ impl<'t> Driven<'t> {
         self.nets.number(net) as u32
     }
 
-    /// The number of a net that is driven.
-    pub fn read(&self, net: &[u8]) -> Option<u32>
-        requires { IsTrue (has_name self.now.nets net.now) }
-        ensures { result ≡ (if has_name (self.now.clocks ++ self.now.drivers) net.now then Some (number_of self.now.nets net.now) else None) }
+    /// Whether the net of a number is driven.
+    pub fn is_driven(&self, net: u32) -> bool
+        requires { net < length self.now.nets }
+        ensures { result ≡ has_name (self.now.clocks ++ self.now.drivers) (slice_index_or self.now.nets net []) }
     {
-        let number = self.nets.number(net);
-        if self.is_driven[number] {
-            Some(number as u32)
-        } else {
-            None
-        }
+        self.is_driven[net as usize]
     }
 
-    /// The first of the nets that is not driven; without one their numbers stand at the end.
-    pub fn read_all(
-        &self,
-        nets: &[&'t [u8]],
-        numbers: &mut Nets,
-    ) -> Result<Option<&'t [u8]>, AllocError>
-        requires { IsTrue (list_all (has_name self.now.nets) (texts nets.now)) }
-        ensures least { IfOk result (λ net. option_map (λ n. n.now) net ≡ first (undriven (self.now.clocks ++ self.now.drivers) (texts nets.now))) }
-        ensures numbers { IfOk result (λ net. IfNone net (numbers.new ≡ numbers.old ++ map (number_of self.now.nets) (texts nets.now))) }
+    /// The first of the names that is no driven net's, where these are the numbers of their nets.
+    pub fn first_undriven(&self, names: &[&'t [u8]], nets: &[u32]) -> Option<&'t [u8]>
+        requires named { IsTrue (list_all (has_name self.now.nets) (texts names.now)) }
+        requires numbers { nets.now ≡ map (number_of self.now.nets) (texts names.now) }
+        ensures { option_map (λ n. n.now) result ≡ first (undriven (self.now.clocks ++ self.now.drivers) (texts names.now)) }
     {
-        for net in nets {
-            match self.read(net) {
-                Some(number) => numbers.push(number)?,
-                None => return Ok(Some(*net)),
+        for place in 0..names.len() {
+            if !self.is_driven(nets[place]) {
+                return Some(names[place]);
             }
         }
-        Ok(None)
-    }
-
-    /// Puts the numbers of the nets at the end.
-    pub fn number_all(&self, nets: &[&'t [u8]], numbers: &mut Nets) -> Result<(), AllocError>
-        ensures { IfOk result (λ _. numbers.new ≡ numbers.old ++ map (number_of self.now.nets) (texts nets.now)) }
-    {
-        for net in nets {
-            numbers.push(self.number(net))?;
-        }
-        Ok(())
+        None
     }
 }
 

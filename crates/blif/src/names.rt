@@ -1,7 +1,8 @@
 //! Names of nets, each once, in the order of first sight.
-ghost use Rattle.std.specs.Prelude.{◌≡◌, ◌<◌, ◌≤◌, ◌++◌, [], not, length, slice_get, Some, IfOk, IfNone, IsTrue, option_map};
-ghost use Rattle.blif.specs.Names.{first, has_name, number_of, repeats, texts, with_name, with_names};
+ghost use Rattle.std.specs.Prelude.{◌≡◌, ◌<◌, ◌≤◌, ◌++◌, [], ◌∷◌, not, length, slice_get, Some, IfOk, IfNone, IsTrue, option_map};
+ghost use Rattle.blif.specs.Names.{first, has_name, number_of, numbered, repeats, texts, with_name, with_names};
 
+use crate::nets::Nets;
 use indexmap::IndexSet;
 use std::alloc::{AllocError, Global};
 use std::marker::Model;
@@ -68,6 +69,30 @@ impl<'t> NameSet<'t> {
         ensures names { IfOk result (λ _. self.new ≡ with_name self.old name.now) }
     {
         Ok(self.names.insert(name)?)
+    }
+
+    /// Adds the name where it is new, and puts its number at the end. More names than there are numbers find no memory.
+    fn number_new(&mut self, name: &'t [u8], numbers: &mut Nets) -> Result<(), AllocError>
+        ensures names { IfOk result (λ _. self.new ≡ with_name self.old name.now) }
+        ensures numbers { IfOk result (λ _. numbers.new ≡ numbers.old ++ number_of self.old name.now ∷ []) }
+    {
+        let (place, _) = self.names.insert_full(name)?;
+        let Ok(number) = u32::try_from(place) else {
+            return Err(AllocError);
+        };
+        numbers.push(number)?;
+        Ok(())
+    }
+
+    /// Adds each of the names that is new, and puts the numbers of all at the end.
+    pub fn number_all(&mut self, names: &[&'t [u8]], numbers: &mut Nets) -> Result<(), AllocError>
+        ensures names { IfOk result (λ _. self.new ≡ with_names self.old (texts names.now)) }
+        ensures numbers { IfOk result (λ _. numbers.new ≡ numbers.old ++ numbered self.old (texts names.now)) }
+    {
+        for name in names {
+            self.number_new(name, numbers)?;
+        }
+        Ok(())
     }
 
     /// Adds each of the names that is new.

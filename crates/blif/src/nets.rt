@@ -43,10 +43,10 @@ impl Nets {
         Ok(())
     }
 
-    /// Takes all nets out.
-    pub(crate) fn clear(&mut self)
-        ensures { self.new ≡ [] }
+    /// Adds these nets at the end.
+    pub(crate) fn extend(&mut self, nets: &[u32]) -> Result<(), AllocError>
+        ensures { IfOk result (λ _. self.new ≡ self.old ++ nets.now) }
     {
-        self.nets.clear();
+        self.nets.extend_from_slice(nets)
     }
 }

@@ -2,7 +2,6 @@
 ghost use Rattle.std.specs.Prelude.{◌≡◌, List, ℕ, ◌≤◌, ◌++◌, [], map, length, option_map, IfOk, IfNone, IsTrue};
 ghost use Rattle.std.specs.List.{list_all};
 ghost use Rattle.blif.specs.Names.{first, has_name, number_of, texts};
-ghost use Rattle.blif.specs.Keywords.{keyword_of};
 ghost use Rattle.blif.specs.LatchLines.{is_latch};
 ghost use Rattle.blif.specs.LineNets.{front_of, latch_nets, latch_reads, names_in, reads_in};
 ghost use Rattle.blif.specs.Circuits.{latch_with, parts_after, parts_of, table_with};
@@ -10,7 +9,7 @@ ghost use Rattle.blif.specs.CircuitOf.{undriven};
 
 use crate::circuit::Circuit;
 use crate::driven::Driven;
-use crate::keyword::{Keyword, args_of, front_of, keyword_of, last_of};
+use crate::keyword::{Keyword, args_of, front_of};
 use crate::latch_line::{control_of, is_latch};
 use crate::latches::{Latch, Latches};
 use crate::names::NameSet;
@@ -21,14 +20,13 @@ use line_text::Text;
 use std::alloc::{AllocError, Global};
 use std::marker::Model;
 
-/// The parts so far, and room for the inputs of one table. Its value is the record of the parts.
+/// The parts so far. Its value is the record of them.
 #[derive(Drop)]
 pub struct CircuitParts {
     inputs: Nets,
     outputs: Nets,
     tables: Tables,
     latches: Latches,
-    table_inputs: Nets,
 }
 
 impl Model for CircuitParts {
@@ -50,7 +48,6 @@ impl CircuitParts {
             outputs: Nets::new(alloc),
             tables: Tables::new(alloc),
             latches: Latches::new(alloc),
-            table_inputs: Nets::new(alloc),
         }
     }
 
@@ -75,28 +72,36 @@ impl CircuitParts {
         number_names(driven.clocks(), driven, &mut self.inputs)
     }
 
-    /// The first net that the line with these words reads and that is not driven; without one the line's parts are added.
+    /// The first net that a line of this kind reads and that is not driven, where the nets that it names have these numbers;
+    /// without one the line's parts are added.
     pub fn add_line<'t>(
         &mut self,
         driven: &Driven<'t>,
         line: u32,
+        keyword: Keyword,
         words: &[&'t [u8]],
+        nets: &[u32],
     ) -> Result<Option<&'t [u8]>, AllocError>
-        requires { IsTrue (list_all (has_name driven.now.nets) (names_in (keyword_of (texts words.now)) (texts words.now))) }
-        ensures least { IfOk result (λ net. option_map (λ n. n.now) net ≡ first (undriven (driven.now.clocks ++ driven.now.drivers) (reads_in (keyword_of (texts words.now)) (texts words.now)))) }
-        ensures parts { IfOk result (λ net. IfNone net (self.new ≡ parts_after driven.now.nets line (keyword_of (texts words.now)) (texts words.now) self.old)) }
+        requires named { IsTrue (list_all (has_name driven.now.nets) (names_in keyword (texts words.now))) }
+        requires numbers { nets.now ≡ map (number_of driven.now.nets) (names_in keyword (texts words.now)) }
+        ensures least { IfOk result (λ net. option_map (λ n. n.now) net ≡ first (undriven (driven.now.clocks ++ driven.now.drivers) (reads_in keyword (texts words.now)))) }
+        ensures parts { IfOk result (λ net. IfNone net (self.new ≡ parts_after driven.now.nets line keyword (texts words.now) self.old)) }
     {
         let args = args_of(words);
-        match keyword_of(words) {
+        match keyword {
             Keyword::Inputs => {
-                driven.number_all(args, &mut self.inputs)?;
+                self.inputs.extend(nets)?;
                 Ok(None)
             }
-            Keyword::Outputs => driven.read_all(args, &mut self.outputs),
-            Keyword::Names => {
-                add_table(&mut self.tables, &mut self.table_inputs, driven, line, args)
+            Keyword::Outputs => {
+                if let Some(net) = driven.first_undriven(args, nets) {
+                    return Ok(Some(net));
+                }
+                self.outputs.extend(nets)?;
+                Ok(None)
             }
-            Keyword::Latch => add_latch(&mut self.latches, driven, line, args),
+            Keyword::Names => add_table(&mut self.tables, driven, line, args, nets),
+            Keyword::Latch => add_latch(&mut self.latches, driven, line, args, nets),
             _ => Ok(None),
         }
     }
@@ -105,27 +110,29 @@ impl CircuitParts {
 /// The first input of the table with these names that is not driven; without one the table is added.
 fn add_table<'t>(
     tables: &mut Tables,
-    inputs: &mut Nets,
     driven: &Driven<'t>,
     line: u32,
     names: &[&'t [u8]],
+    nets: &[u32],
 ) -> Result<Option<&'t [u8]>, AllocError>
-    requires { IsTrue (list_all (has_name driven.now.nets) (texts names.now)) }
+    requires named { IsTrue (list_all (has_name driven.now.nets) (texts names.now)) }
+    requires numbers { nets.now ≡ map (number_of driven.now.nets) (texts names.now) }
     ensures least { IfOk result (λ net. option_map (λ n. n.now) net ≡ first (undriven (driven.now.clocks ++ driven.now.drivers) (front_of (texts names.now)))) }
     ensures tables { IfOk result (λ net. IfNone net (tables.new ≡ tables.old ++ table_with driven.now.nets line (texts names.now))) }
 {
-    if names.is_empty() {
+    if nets.is_empty() {
         return Ok(None);
     }
-    inputs.clear();
-    let undriven = driven.read_all(front_of(names), inputs)?;
-    if undriven.is_some() {
-        return Ok(undriven);
+    let end = nets.len() - 1;
+    let inputs = &nets[..end];
+    if let Some(net) = driven.first_undriven(front_of(names), inputs) {
+        return Ok(Some(net));
     }
+    let output = nets[end];
     tables.push(Table {
         line,
-        inputs: inputs.as_slice(),
-        output: driven.number(last_of(names)),
+        inputs,
+        output,
     })?;
     Ok(None)
 }
@@ -136,30 +143,32 @@ fn add_latch<'t>(
     driven: &Driven<'t>,
     line: u32,
     args: &[&'t [u8]],
+    nets: &[u32],
 ) -> Result<Option<&'t [u8]>, AllocError>
-    requires { IsTrue (list_all (has_name driven.now.nets) (latch_nets (texts args.now))) }
+    requires named { IsTrue (list_all (has_name driven.now.nets) (latch_nets (texts args.now))) }
+    requires numbers { nets.now ≡ map (number_of driven.now.nets) (latch_nets (texts args.now)) }
     ensures least { IfOk result (λ net. option_map (λ n. n.now) net ≡ first (undriven (driven.now.clocks ++ driven.now.drivers) (latch_reads (texts args.now)))) }
     ensures latches { IfOk result (λ net. IfNone net (latches.new ≡ latches.old ++ latch_with driven.now.nets line (texts args.now))) }
 {
     if !is_latch(args) {
         return Ok(None);
     }
-    let Some(input) = driven.read(args[0]) else {
+    if !driven.is_driven(nets[0]) {
         return Ok(Some(args[0]));
-    };
+    }
     let control = match control_of(args) {
         Some(net) => {
-            let Some(control) = driven.read(net) else {
+            if !driven.is_driven(nets[2]) {
                 return Ok(Some(net));
-            };
-            Some(control)
+            }
+            Some(nets[2])
         }
         None => None,
     };
     latches.push(Latch {
         line,
-        input,
-        output: driven.number(args[1]),
+        input: nets[0],
+        output: nets[1],
         control,
     })?;
     Ok(None)

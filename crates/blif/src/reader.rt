@@ -1,7 +1,9 @@
 //! From the text to the circuit.
-ghost use Rattle.std.specs.Prelude.{◌≡◌, ◌≤◌, ◌++◌, [], ◌∷◌, length, None, Some, IfOk, MatchResult, MatchOption};
+ghost use Rattle.std.specs.Prelude.{◌≡◌, ◌≤◌, ◌++◌, [], ◌∷◌, length, map, None, Some, IfOk, MatchResult, MatchOption};
 ghost use Rattle.std.specs.List.{flat_map};
-ghost use Rattle.blif.specs.Names.{first, with_names};
+ghost use Rattle.blif.specs.Names.{first, number_of, numbered, texts, with_names};
+ghost use Rattle.blif.specs.Keywords.{keyword_of};
+ghost use Rattle.blif.specs.LineNets.{names_in};
 ghost use Rattle.blif.specs.LineOrder.{RisesFrom};
 ghost use Rattle.blif.specs.Sights.{names_of, sights_of};
 ghost use Rattle.blif.specs.Circuits.{circuit_from, circuit_with, model_of, parts_of};
@@ -11,9 +13,11 @@ use crate::checker::Checker;
 use crate::circuit::{Circuit, MAX_NETS};
 use crate::driven::Driven;
 use crate::fault::{BlifError, BlifFault, BlifFaultKind};
-use crate::keyword::{args_of, inputs_in, is_end, keyword_of};
+use crate::keyword::{Keyword, args_of, inputs_in, is_end, keyword_of};
+use crate::latch_line::{control_of, is_latch};
 use crate::names::NameSet;
 use crate::net_names::NetNames;
+use crate::nets::Nets;
 use crate::parts::CircuitParts;
 use line_text::{Lines, MAX_TEXT, Text, logical_lines};
 use std::alloc::{AllocError, Global};
@@ -38,8 +42,9 @@ fn read_lines(alloc: Global, lines: &Lines<'_>, lut_size: u32) -> Result<Circuit
     ensures { Gives lut_size (circuit_of_lines lut_size lines.now) result }
 {
     let declared = declared_inputs(alloc, lines)?;
-    let checker = check_lines(alloc, lines, lut_size, declared)?;
-    build(alloc, lines, checker)
+    let mut numbers = Nets::new(alloc);
+    let checker = check_lines(alloc, lines, lut_size, declared, &mut numbers)?;
+    build(alloc, lines, checker, numbers.as_slice())
 }
 
 /// The inputs that lines of inputs declare before the end.
@@ -58,21 +63,23 @@ fn declared_inputs<'t>(alloc: Global, lines: &Lines<'t>) -> Result<NameSet<'t>, 
     Ok(declared)
 }
 
-/// What the lines bring, or the least of their own faults.
+/// What the lines bring, with the number of each net that they name, or the least of their own faults.
 fn check_lines<'t>(
     alloc: Global,
     lines: &Lines<'t>,
     lut_size: u32,
     declared: NameSet<'t>,
+    numbers: &mut Nets,
 ) -> Result<Checker<'t>, BlifError>
+    requires { numbers.old ≡ [] }
     ensures { MatchResult result
-        (λ checker. (first (line_faults lut_size declared.entry [] lines.now) ≡ None) × (checker ≡ sights_of declared.entry lines.now) × (length checker.nets ≤ MAX_NETS))
+        (λ checker. (first (line_faults lut_size declared.entry [] lines.now) ≡ None) × (checker ≡ sights_of declared.entry lines.now) × (length checker.nets ≤ MAX_NETS) × (numbers.new ≡ numbered [] (flat_map names_of lines.now)))
         (Fails (first (line_faults lut_size declared.entry [] lines.now))) }
 {
     let mut checker = Checker::new(alloc, declared);
     for place in 0..lines.len() {
         let line = lines.line(place);
-        if let Some(kind) = checker.check(alloc, line.words, lut_size)? {
+        if let Some(kind) = checker.check(alloc, line.words, lut_size, numbers)? {
             return Err(BlifError::Fault(BlifFault {
                 line: line.number,
                 kind,
@@ -82,10 +89,17 @@ fn check_lines<'t>(
     Ok(checker)
 }
 
-/// The circuit of lines without a fault of their own, or the first net that is read and not driven.
-fn build<'t>(alloc: Global, lines: &Lines<'t>, checker: Checker<'t>) -> Result<Circuit, BlifError>
+/// The circuit of lines without a fault of their own, whose nets have these numbers, or the first net that is read and not
+/// driven.
+fn build<'t>(
+    alloc: Global,
+    lines: &Lines<'t>,
+    checker: Checker<'t>,
+    numbers: &[u32],
+) -> Result<Circuit, BlifError>
     requires sights { checker ≡ sights_of checker.declared lines.now }
     requires few { length checker.nets ≤ MAX_NETS }
+    requires numbers { numbers.now ≡ map (number_of checker.nets) (flat_map names_of lines.now) }
     ensures { MatchResult result
         (λ circuit. (first (final_faults checker.entry.declared lines.now) ≡ None) × (circuit ≡ circuit_from checker.entry.declared lines.now))
         (Fails (first (final_faults checker.entry.declared lines.now))) }
@@ -97,7 +111,7 @@ fn build<'t>(alloc: Global, lines: &Lines<'t>, checker: Checker<'t>) -> Result<C
         }));
     }
     let driven = checker.into_driven(alloc)?;
-    let parts = parts_of(alloc, lines, &driven)?;
+    let parts = parts_of(alloc, lines, &driven, numbers)?;
     Ok(assemble(alloc, lines, &driven, parts)?)
 }
 
@@ -121,16 +135,22 @@ fn parts_of<'t>(
     alloc: Global,
     lines: &Lines<'t>,
     driven: &Driven<'t>,
+    numbers: &[u32],
 ) -> Result<CircuitParts, BlifError>
-    requires { driven.now.nets ≡ with_names [] (flat_map names_of lines.now) }
+    requires nets { driven.now.nets ≡ with_names [] (flat_map names_of lines.now) }
+    requires numbers { numbers.now ≡ map (number_of driven.now.nets) (flat_map names_of lines.now) }
     ensures { MatchResult result
         (λ parts. (first (flat_map (undriven_faults (driven.now.clocks ++ driven.now.drivers)) lines.now) ≡ None) × (parts ≡ parts_of driven.now.nets lines.now))
         (Fails (first (flat_map (undriven_faults (driven.now.clocks ++ driven.now.drivers)) lines.now))) }
 {
     let mut parts = CircuitParts::new(alloc);
+    let mut rest = numbers;
     for place in 0..lines.len() {
         let reader = lines.line(place);
-        if let Some(net) = parts.add_line(driven, reader.number, reader.words)? {
+        let keyword = keyword_of(reader.words);
+        let (nets, others) = rest.split_at(net_count(keyword, reader.words));
+        rest = others;
+        if let Some(net) = parts.add_line(driven, reader.number, keyword, reader.words, nets)? {
             return Err(BlifError::Fault(BlifFault {
                 line: reader.number,
                 kind: BlifFaultKind::Undriven(Text::from_slice(alloc, net)?),
@@ -138,6 +158,18 @@ fn parts_of<'t>(
         }
     }
     Ok(parts)
+}
+
+/// How many nets a line of this kind with these words names.
+fn net_count(keyword: Keyword, words: &[&[u8]]) -> usize
+    ensures { result ≡ length (names_in keyword (texts words.now)) }
+{
+    let args = args_of(words);
+    match keyword {
+        Keyword::Inputs | Keyword::Outputs | Keyword::Clock | Keyword::Names => args.len(),
+        Keyword::Latch if is_latch(args) => 2 + usize::from(control_of(args).is_some()),
+        _ => 0,
+    }
 }
 
 /// The model's name.

@@ -7,11 +7,7 @@ ghost use Rattle.line_text.specs.Physical.{IsContent, first_line, is_plain as is
 fn is_plain(byte: u8) -> bool
     ensures { result ≡ is_plain_byte byte }
 {
-    match byte {
-        b'#' => false,
-        b'\t' | b'\r' => true,
-        _ => b' ' <= byte && byte <= b'~',
-    }
+    matches!(byte, b'$'..=b'~' | b' '..=b'"' | b'\t' | b'\r')
 }
 
 /// The place of the first byte that is not plain.

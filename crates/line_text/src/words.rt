@@ -8,7 +8,7 @@ use std::alloc::AllocError;
 pub(crate) fn is_blank(byte: u8) -> bool
     ensures { result ≡ is_blank_byte byte }
 {
-    byte == b' ' || byte == b'\t' || byte == b'\r'
+    matches!(byte, b' ' | b'\t' | b'\r')
 }
 
 /// The place of the first byte that is no blank.

@@ -1,8 +1,9 @@
-use Rattle.std.proofs.Common.{◌≡◌, ◌<◌, ◌∙◌, ap, length, arith}
+use Rattle.std.proofs.Common.{◌≡◌, ◌<◌, ◌∙◌, ap, sym, map, length, arith}
+use Rattle.std.specs.List.{flat_map}
 use Rattle.std.proofs.lemmas.List.{nil_from_length}
 use Rattle.std.proofs.lemmas.Result.{err_from_is_err_and}
-use Rattle.blif.specs.Names.{first}
-use Rattle.blif.specs.Sights.{Sights, sights_of}
+use Rattle.blif.specs.Names.{first, number_of}
+use Rattle.blif.specs.Sights.{Sights, names_of, sights_of}
 use Rattle.blif.specs.DrivenNets.{DrivenNets}
 use Rattle.blif.specs.CircuitOf.{final_faults}
 use Rattle.blif.proofs.Building.{final_faults_is, circuit_is}
@@ -14,9 +15,14 @@ returns-then-len-eq0 c =
     let empty : length c.args.lines.now ≡ 0 = omega arith in
     ap (λ lines. first (final_faults c.args.checker.declared lines)) (nil_from_length c.args.lines.now empty)
 
-pub parts_of-requires : goal.parts_of-requires
+pub parts_of-requires-clause-numbers : goal.parts_of-requires-clause-numbers
+parts_of-requires-clause-numbers c =
+    c.requires.numbers
+    ∙ ap (λ nets. map (number_of nets) (flat_map names_of c.args.lines.now)) (sym (ap (λ d. let driven : DrivenNets = d in driven.nets) c.in_ok-driven.ensures))
+
+pub parts_of-requires-clause-nets : goal.parts_of-requires-clause-nets
 unfolding sights_of
-parts_of-requires c =
+parts_of-requires-clause-nets c =
     ap (λ d. let driven : DrivenNets = d in driven.nets) c.in_ok-driven.ensures
     ∙ ap (λ s. let sights : Sights = s in sights.nets) c.requires.sights
 

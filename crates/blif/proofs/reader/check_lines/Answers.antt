@@ -1,10 +1,11 @@
-use Rattle.std.proofs.Common.{◌<◌, ◌≤◌, length, take, sym, refl, ap, ◌∙◌, arith}
+use Rattle.std.proofs.Common.{◌<◌, ◌≤◌, [], length, take, sym, refl, ap, ◌∙◌, arith}
 use Rattle.std.proofs.lemmas.List.{take_all, drop_all}
 use Rattle.line_text.specs.Lines.{JoinedLine}
-use Rattle.blif.specs.Names.{texts, first}
-use Rattle.blif.specs.Sights.{sights_of}
+use Rattle.std.specs.List.{flat_map}
+use Rattle.blif.specs.Names.{texts, first, numbered}
+use Rattle.blif.specs.Sights.{names_of, sights_of}
 use Rattle.blif.specs.CircuitOf.{line_faults}
-use Rattle.blif.proofs.Sightings.{sights_at, fault_at, no_fault_at}
+use Rattle.blif.proofs.Sightings.{sights_at, numbers_so_far, fault_at, no_fault_at}
 use Rattle.blif.proofs.reader.check_lines.Goals as goal
 
 pub returns-in-Some : goal.returns-in-Some
@@ -18,6 +19,7 @@ loop-place-preserved c =
     let within : c.loop-place.place < length c.args.lines.now = omega arith in
     record {
       sights = sights_at c.args.lut_size c.args.declared c.args.lines.now c.loop-place.place line c.loop-place.checker within c.line-line.ensures c.loop-place.invariant.sights c.check.new.self (rw c.in_default.is at c.in_ok-kind.ensures.sights);
+      numbers = numbers_so_far c.args.lut_size c.args.declared c.args.lines.now c.loop-place.place line c.loop-place.checker within c.line-line.ensures c.loop-place.invariant.sights c.loop-place.numbers c.check.new.numbers c.loop-place.invariant.numbers (rw c.in_default.is at c.in_ok-kind.ensures.numbers);
       few = rw c.in_default.is at c.in_ok-kind.ensures.few;
       faults_left = no_fault_at c.args.lut_size c.args.declared c.args.lines.now c.loop-place.place line c.loop-place.checker within c.line-line.ensures c.loop-place.invariant.sights (sym c.in_default.is ∙ c.in_ok-kind.ensures.least) c.loop-place.invariant.faults_left;
     }
@@ -27,6 +29,7 @@ unfolding sights_of
 loop-place-init c = record {
   sights = c.new-checker.ensures;
   few = rw c.new-checker.ensures (omega arith);
+  numbers = c.requires;
   faults_left = refl;
 }
 
@@ -38,4 +41,5 @@ returns c =
           ∙ ap (λ rest. first (line_faults c.args.lut_size c.args.declared (take c.loop-place.place c.args.lines.now) rest)) (drop_all c.loop-place.place c.args.lines.now past),
       c.loop-place.invariant.sights ∙ ap (sights_of c.args.declared) (take_all c.loop-place.place c.args.lines.now past),
       c.loop-place.invariant.few,
+      c.loop-place.invariant.numbers ∙ ap (λ ls. numbered [] (flat_map names_of ls)) (take_all c.loop-place.place c.args.lines.now past),
     )

@@ -1,13 +1,15 @@
-use Rattle.std.proofs.Common.{◌≡◌, ◌++◌, take, drop}
+use Rattle.std.proofs.Common.{◌≡◌, ◌++◌, take, drop, map}
 use Rattle.std.specs.List.{flat_map}
-use Rattle.blif.specs.Names.{first}
+use Rattle.blif.specs.Names.{first, number_of}
+use Rattle.blif.specs.Sights.{names_of}
 use Rattle.blif.specs.Circuits.{parts_of}
 use Rattle.blif.specs.CircuitOf.{undriven_faults}
 use Rattle.blif.proofs.reader.parts_of.Given as goal
 
--- each net that is read so far is driven
+-- each net that is read so far is driven, and the numbers of the lines below are left
 abbrev pub invariant-loop-place : goal.invariant-loop-place
 invariant-loop-place l = record {
   parts : l.parts ≡ parts_of l.driven.nets (take l.place l.lines);
+  rest : l.rest ≡ map (number_of l.driven.nets) (flat_map names_of (drop l.place l.lines));
   faults_left : first (flat_map (undriven_faults (l.driven.clocks ++ l.driven.drivers)) (drop l.place l.lines)) ≡ first (flat_map (undriven_faults (l.driven.clocks ++ l.driven.drivers)) l.lines);
 }

@@ -1,8 +1,10 @@
-use Rattle.std.proofs.Common.{◌∙◌, [], sym, ap}
+use Rattle.std.proofs.Common.{◌∙◌, [], map, sym, ap}
+use Rattle.std.specs.List.{flat_map}
 use Rattle.std.proofs.lemmas.Result.{err_from_is_err_and}
-use Rattle.blif.specs.Sights.{sights_of}
-use Rattle.blif.specs.Names.{first}
+use Rattle.blif.specs.Sights.{Sights, names_of, sights_of}
+use Rattle.blif.specs.Names.{first, number_of}
 use Rattle.blif.specs.CircuitOf.{line_faults}
+use Rattle.blif.proofs.Numbered.{numbered_all}
 use Rattle.blif.proofs.Answering.{declared_is, gives_line_fault, gives_built}
 use Rattle.blif.proofs.reader.read_lines.Goals as goal
 
@@ -15,6 +17,13 @@ pub build-requires-clause-sights : goal.build-requires-clause-sights
 build-requires-clause-sights c =
     let sights = c.in_ok-checker.ensures.1 in
     sights ∙ ap (λ d. sights_of d c.args.lines.now) (sym (declared_is c.in_ok-checker.checker c.in_ok-declared.declared c.args.lines.now sights))
+
+pub build-requires-clause-numbers : goal.build-requires-clause-numbers
+unfolding sights_of
+build-requires-clause-numbers c =
+    let names = flat_map names_of c.args.lines.now in
+    c.as_slice.ensures ∙ c.in_ok-checker.ensures.3 ∙ numbered_all [] names
+    ∙ ap (λ s. let t : Sights = s in map (number_of t.nets) names) (sym c.in_ok-checker.ensures.1)
 
 pub returns : goal.returns
 returns c =

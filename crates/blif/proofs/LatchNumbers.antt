@@ -1,0 +1,81 @@
+-- The numbers of a latch's nets, and the first net that it reads and that is not driven.
+use Rattle.std.proofs.Common.{◌≡◌, ℕ, ◌<◌, Bool, true, false, not, List, [], ◌∷◌, Option, Some, None, length, get_or, map, if◌then◌else◌, sym, ap, ◌∙◌, arith}
+use Rattle.std.specs.Borrow.{Bor}
+use Rattle.std.specs.List.{list_all}
+use Rattle.std.specs.Option.{option_to_list}
+use Rattle.blif.specs.Names.{first, texts, has_name, number_of}
+use Rattle.blif.specs.LatchLines.{is_latch, control_of}
+use Rattle.blif.specs.LineNets.{latch_nets, latch_reads}
+use Rattle.blif.specs.CircuitOf.{undriven}
+use Rattle.blif.proofs.Named.{and_left, and_right, name_at, number_of-within}
+
+-- the number is that of a net with this name
+pub record IsNumbered (nets : List (List ℕ)) (number : ℕ) (name : List ℕ) : Type 0 where
+  pub within : number < length nets
+  pub name_is : get_or nets number [] ≡ name
+
+is_numbered : (nets : List (List ℕ)) (number : ℕ) (name : List ℕ) → number ≡ number_of nets name → has_name nets name ≡ true → IsNumbered nets number name
+is_numbered nets number name is there = record {
+  within = omega (arith, is, number_of-within nets name there);
+  name_is = ap (λ n. get_or nets n []) is ∙ name_at nets name there;
+}
+
+-- the input's number, and the control's
+pub record AreLatchNumbers (nets : List (List ℕ)) (input : List ℕ) (control : Option (List ℕ)) (numbers : List ℕ) : Type 0 where
+  pub input_is : IsNumbered nets (get_or numbers 0 0) input
+  pub control_is : (name : List ℕ) → control ≡ Some name → IsNumbered nets (get_or numbers 2 0) name
+
+module _ (nets : List (List ℕ)) (numbers : List ℕ) where
+  pub latch_numbers : (args : List (Bor (List ℕ))) (d : Bor (List ℕ)) → is_latch (texts args) ≡ true → list_all (has_name nets) (latch_nets (texts args)) ≡ true → numbers ≡ map (number_of nets) (latch_nets (texts args)) → AreLatchNumbers nets (get_or args 0 d).now (control_of (texts args)) numbers
+  latch_numbers [] d form named are = absurd cc
+  latch_numbers (input ∷ []) d form named are = absurd cc
+  latch_numbers (input ∷ output ∷ rest) d form named are = by (is_latch (texts (input ∷ output ∷ rest))) (control_of (texts (input ∷ output ∷ rest))) form named are
+    where
+      by : (b : Bool) (control : Option (List ℕ)) → b ≡ true → list_all (has_name nets) (if b then input.now ∷ output.now ∷ option_to_list control else []) ≡ true → numbers ≡ map (number_of nets) (if b then input.now ∷ output.now ∷ option_to_list control else []) → AreLatchNumbers nets input.now control numbers
+      by false control form named are = absurd cc
+      by true None form named are = record {
+        input_is = is_numbered nets (get_or numbers 0 0) input.now (ap (λ ns. get_or ns 0 0) are) (and_left _ _ named);
+        control_is = λ name is. absurd cc;
+      }
+      by true (Some net) form named are = record {
+        input_is = is_numbered nets (get_or numbers 0 0) input.now (ap (λ ns. get_or ns 0 0) are) (and_left _ _ named);
+        control_is = λ name is. let same : net ≡ name = cc in
+            is_numbered nets (get_or numbers 2 0) name (ap (λ ns. get_or ns 2 0) are ∙ ap (number_of nets) same) (sym (ap (has_name nets) same) ∙ and_left _ _ (and_right _ _ (and_right _ _ named)));
+      }
+
+-- the first net that a latch reads and that is not driven
+module _ (drivers : List (List ℕ)) where
+  reads_are : (args : List (Bor (List ℕ))) (d : Bor (List ℕ)) → is_latch (texts args) ≡ true → latch_reads (texts args) ≡ (get_or args 0 d).now ∷ option_to_list (control_of (texts args))
+  reads_are [] d form = absurd cc
+  reads_are (input ∷ []) d form = absurd cc
+  reads_are (input ∷ output ∷ rest) d form = ap (λ b. if b then input.now ∷ option_to_list (control_of (texts (input ∷ output ∷ rest))) else []) form
+
+  pub input_undriven : (args : List (Bor (List ℕ))) (d : Bor (List ℕ)) → is_latch (texts args) ≡ true → has_name drivers (get_or args 0 d).now ≡ false → Some (get_or args 0 d).now ≡ first (undriven drivers (latch_reads (texts args)))
+  input_undriven args d form h =
+      let input = (get_or args 0 d).now in
+      let control = option_to_list (control_of (texts args)) in
+      sym (ap (λ b. first (if not b then input ∷ undriven drivers control else undriven drivers control)) h)
+      ∙ ap (λ names. first (undriven drivers names)) (sym (reads_are args d form))
+
+  control_left : (args : List (Bor (List ℕ))) (d : Bor (List ℕ)) → is_latch (texts args) ≡ true → has_name drivers (get_or args 0 d).now ≡ true → first (undriven drivers (option_to_list (control_of (texts args)))) ≡ first (undriven drivers (latch_reads (texts args)))
+  control_left args d form h =
+      let input = (get_or args 0 d).now in
+      let control = option_to_list (control_of (texts args)) in
+      sym (ap (λ b. first (if not b then input ∷ undriven drivers control else undriven drivers control)) h)
+      ∙ ap (λ names. first (undriven drivers names)) (sym (reads_are args d form))
+
+  of_one : (name : List ℕ) (b : Bool) → has_name drivers name ≡ b → first (undriven drivers (name ∷ [])) ≡ (if b then None else Some name)
+  of_one name true h = ap (λ b. first (if not b then name ∷ [] else [])) h
+  of_one name false h = ap (λ b. first (if not b then name ∷ [] else [])) h
+
+  pub control_undriven : (args : List (Bor (List ℕ))) (d : Bor (List ℕ)) (net : List ℕ) → is_latch (texts args) ≡ true → has_name drivers (get_or args 0 d).now ≡ true → control_of (texts args) ≡ Some net → has_name drivers net ≡ false → Some net ≡ first (undriven drivers (latch_reads (texts args)))
+  control_undriven args d net form input is h =
+      sym (ap (λ c. first (undriven drivers (option_to_list c))) is ∙ of_one net false h) ∙ control_left args d form input
+
+  pub latch_driven : (args : List (Bor (List ℕ))) (d : Bor (List ℕ)) (net : List ℕ) → is_latch (texts args) ≡ true → has_name drivers (get_or args 0 d).now ≡ true → control_of (texts args) ≡ Some net → has_name drivers net ≡ true → None ≡ first (undriven drivers (latch_reads (texts args)))
+  latch_driven args d net form input is h =
+      sym (ap (λ c. first (undriven drivers (option_to_list c))) is ∙ of_one net true h) ∙ control_left args d form input
+
+  pub free_latch_driven : (args : List (Bor (List ℕ))) (d : Bor (List ℕ)) → is_latch (texts args) ≡ true → has_name drivers (get_or args 0 d).now ≡ true → control_of (texts args) ≡ None → None ≡ first (undriven drivers (latch_reads (texts args)))
+  free_latch_driven args d form input is =
+      sym (ap (λ c. first (undriven drivers (option_to_list c))) is) ∙ control_left args d form input
