@@ -127,7 +127,7 @@ own_full first old id command limit replayed has =
 
 -- one call
 exchanged : (first : State) (old : ServiceState) (call : Call) (new : ServiceState) (id : ℕ) → Happens old call new → AllReplayed old → HasFirst first old id → Exchanged first old new id (own_exchange id call)
-exchanged first old (Admit width (Ok given)) new id happens replayed has = same_journal first old new id (rw happens.2 (journal_of-with_tenancy old width given.1 id))
+exchanged first old (Admit width (Ok given)) new id happens replayed has = same_journal first old new id (rw happens.3 (journal_of-with_tenancy old width given.1 id))
 exchanged first old (Admit width (Err refusal)) new id happens replayed has = same_journal first old new id (rw happens.1 refl)
 exchanged first old (Evict t (Ok nothing)) new id happens replayed has = same_journal first old new id (rw happens.1 (journal_of-without_tenancy old t id))
 exchanged first old (Evict t (Err refusal)) new id happens replayed has = same_journal first old new id (rw happens.2 refl)
@@ -171,7 +171,7 @@ pushed_back first hs h id has = by_id (eqb id (length hs + 1)) refl (rw (history
     by_id false e same = same
 
 back : (first : State) (old : ServiceState) (call : Call) (new : ServiceState) (id : ℕ) → Happens old call new → HasFirst first new id → HasFirst first old id
-back first old (Admit width (Ok given)) new id happens has = pushed_back first old.histories (admitted old.device width) id (rw happens.2 at has)
+back first old (Admit width (Ok given)) new id happens has = pushed_back first old.histories (admitted old.device width) id (rw happens.3 at has)
 back first old (Admit width (Err refusal)) new id happens has = rw happens.1 at has
 back first old (Evict t (Ok nothing)) new id happens has = modified_back first old.histories t id closed (λ h. refl) (rw happens.1 at has)
 back first old (Evict t (Err refusal)) new id happens has = rw happens.2 at has
@@ -185,7 +185,7 @@ back first old (Advance t (Err error)) new id happens has = rw happens.1 at has
 
 -- the device stays
 device_after : (old : ServiceState) (call : Call) (new : ServiceState) → Happens old call new → new.device ≡ old.device
-device_after old (Admit width (Ok given)) new happens = rw happens.2 refl
+device_after old (Admit width (Ok given)) new happens = rw happens.3 refl
 device_after old (Admit width (Err refusal)) new happens = rw happens.1 refl
 device_after old (Evict t (Ok nothing)) new happens = rw happens.1 refl
 device_after old (Evict t (Err refusal)) new happens = rw happens.2 refl

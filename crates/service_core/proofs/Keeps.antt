@@ -168,7 +168,7 @@ stepped old id made is = at_option (live_of old.histories id) refl is
 
 -- no call breaks it
 pub IsService-after : (old : ServiceState) (call : Call) (new : ServiceState) → Happens old call new → IsService old.device old.plan.strips old.histories → IsService new.device new.plan.strips new.histories
-IsService-after old (Admit width (Ok given)) new happens was = rw happens.2 (IsService-admitted old.device old.plan.strips old.histories width given.1 was happens.0.ids_left)
+IsService-after old (Admit width (Ok given)) new happens was = rw happens.3 (IsService-admitted old.device old.plan.strips old.histories width given.1 was happens.0.ids_left)
 IsService-after old (Admit width (Err refusal)) new happens was = rw happens.1 was
 IsService-after old (Evict id (Ok nothing)) new happens was = rw happens.1 (IsService-evicted old.device old.plan.strips old.histories id was)
 IsService-after old (Evict id (Err refusal)) new happens was = rw happens.2 was

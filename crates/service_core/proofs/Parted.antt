@@ -29,8 +29,8 @@ record IsPartedOn (columns : ℕ) (state : ServiceState) : Type 0 where
 parted_after : (columns : ℕ) (old : ServiceState) (call : Call) (new : ServiceState) → Happens old call new → IsPartedOn columns old → IsPartedOn columns new
 parted_after columns old (Admit width (Ok given)) new happens was =
     let nameless : PlacedStrip = record { id = 0; offset = given.1; width = width } in
-    let with_it : IsParted _ = happens.0.room.0.parted in
-    rw happens.2 (record { same = was.same; parted = IsParted-with old.plan _ was.parted (IsParted-with-inside old.plan nameless with_it) (IsParted-with-apart old.plan nameless with_it) })
+    let with_it : IsParted _ = happens.2.0.parted in
+    rw happens.3 (record { same = was.same; parted = IsParted-with old.plan _ was.parted (IsParted-with-inside old.plan nameless with_it) (IsParted-with-apart old.plan nameless with_it) })
 parted_after columns old (Admit width (Err refusal)) new happens was = rw happens.1 was
 parted_after columns old (Evict id (Ok nothing)) new happens was = rw happens.1 (record { same = was.same; parted = IsParted-without old.plan id was.parted })
 parted_after columns old (Evict id (Err refusal)) new happens was = rw happens.2 was

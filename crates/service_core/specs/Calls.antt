@@ -16,12 +16,11 @@ use Rattle.service_core.specs.History.{History, IsStep, StepMade, entry_of, stat
 use Rattle.service_core.specs.Receipt.{Receipted}
 use Rattle.service_core.specs.Service.{ServiceState, live_of, with_tenancy, without_tenancy, with_entry_of}
 
--- a tenancy of that width is admitted at the least offset that parts the strips, if there is memory
-pub record CanAdmit (state : ServiceState) (width offset : ℕ) : Type 0 where
+-- a tenancy of that width is admitted, if there is room and memory
+pub record CanAdmit (state : ServiceState) (width : ℕ) : Type 0 where
   pub good_width : is_bad_width state.plan width ≡ false
   pub few_strips : length state.plan.strips < 64
   pub ids_left : length state.histories < 65535
-  pub room : IsFirstFit state.plan width (Some offset)
 
 -- why a tenancy of that width isn't admitted: each refusal where none of those before it holds, in the order BadWidth,
 -- TooManyStrips, IdsSpent, NoRoom, NoMemory
@@ -29,13 +28,13 @@ abbrev pub RefusesAdmission : ServiceState → ℕ → OpRefusal → Type 0
 RefusesAdmission state width BadWidth = is_bad_width state.plan width ≡ true
 RefusesAdmission state width TooManyStrips = (is_bad_width state.plan width ≡ false) × (length state.plan.strips ≡ 64)
 RefusesAdmission state width IdsSpent = (is_bad_width state.plan width ≡ false) × (length state.plan.strips < 64) × (length state.histories ≡ 65535)
-RefusesAdmission state width NoRoom = (is_bad_width state.plan width ≡ false) × (length state.plan.strips < 64) × (length state.histories < 65535) × IsFirstFit state.plan width None
-RefusesAdmission state width NoMemory = (offset : ℕ) × CanAdmit state width offset
+RefusesAdmission state width NoRoom = CanAdmit state width × IsFirstFit state.plan width None
+RefusesAdmission state width NoMemory = CanAdmit state width × ((offset : ℕ) × IsFirstFit state.plan width (Some offset))
 RefusesAdmission state width NoSuchTenancy = ⊥
 
--- an admission gives the next id and the least offset
+-- an admission gives the next id and the least offset that parts the strips
 abbrev pub IsAdmitted : ServiceState → ℕ → Result (ℕ × ℕ) OpRefusal → ServiceState → Type 0
-IsAdmitted old width (Ok given) new = CanAdmit old width given.1 × (given.0 ≡ length old.histories + 1) × (new ≡ with_tenancy old width given.1)
+IsAdmitted old width (Ok given) new = CanAdmit old width × (given.0 ≡ length old.histories + 1) × IsFirstFit old.plan width (Some given.1) × (new ≡ with_tenancy old width given.1)
 IsAdmitted old width (Err refusal) new = RefusesAdmission old width refusal × (new ≡ old)
 
 -- an eviction is refused just where the tenancy isn't live

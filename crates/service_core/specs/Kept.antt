@@ -2,6 +2,7 @@
 use Rattle.std.specs.Prelude.{ℕ, ◌≡◌, ◌-◌, ◌<◌, ◌≤◌, List, length, true, Result, Ok, Err, Some, All, slice_index_or}
 use Rattle.arch_file.specs.Arch.{IsArch, IsWithin}
 use Rattle.strips.specs.declared.placed_strip.PlacedStrip.{PlacedStrip}
+use Rattle.strips.specs.Plan.{IsFirstFit}
 use Rattle.service_core.specs.declared.device.Device.{Device}
 use Rattle.service_core.specs.declared.op_refusal.OpRefusal.{OpRefusal}
 use Rattle.service_core.specs.Calls.{CanAdmit, RefusesAdmission}
@@ -40,5 +41,5 @@ pub record IsLiveIn (histories : List History) (id : ℕ) : Type 0 where
 
 -- the look at the refusals that need no memory gives the offset
 abbrev pub ChecksAdmission : ServiceState → ℕ → Result ℕ OpRefusal → Type 0
-ChecksAdmission state width (Ok offset) = CanAdmit state width offset
+ChecksAdmission state width (Ok offset) = CanAdmit state width × IsFirstFit state.plan width (Some offset)
 ChecksAdmission state width (Err refusal) = RefusesAdmission state width refusal

@@ -7,10 +7,10 @@ pub returns-in-Some : goal.returns-in-Some
 returns-in-Some c =
     let fits : IsFirstFit c.self.inside.layout c.args.width (Some c.in-Some.offset) = search rules in
     let few : length c.self.inside.layout.strips < 64 = grind (arith, nat_tests) in
-    rw (← c.self.view_is) (record { good_width = search rules; few_strips = few; ids_left = search rules; room = fits })
+    rw (← c.self.view_is) (record { good_width = search rules; few_strips = few; ids_left = search rules }, fits)
 
 pub returns-in-None : goal.returns-in-None
 returns-in-None c =
     let none : IsFirstFit c.self.inside.layout c.args.width None = search rules in
     let few : length c.self.inside.layout.strips < 64 = grind (arith, nat_tests) in
-    rw (← c.self.view_is) (search rules, few, search rules, none)
+    rw (← c.self.view_is) (record { good_width = search rules; few_strips = few; ids_left = search rules }, none)
