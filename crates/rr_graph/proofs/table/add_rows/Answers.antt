@@ -17,4 +17,4 @@ add_part-requires-clause-row c =
     kind_begins c.args.nodes.now c.args.a c.args.row.now.items c.args.x _ c.args.kind c.requires.lawful (rw c.saturating_sub.ensures at c.first-from.ensures) c.requires.row
 
 pub returns : goal.returns
-returns c = on_ok_weaker _ (kind_ends c.args.nodes.now c.args.a _ c.args.x _ c.args.kind c.requires.lawful c.requires.a_y c.first-to.ensures) c.add_part.ensures
+returns c = on_ok_weaker _ (kind_ends c.args.nodes.now c.args.a _ c.args.x _ c.args.kind c.requires.lawful c.requires.small.y c.first-to.ensures) c.add_part.ensures

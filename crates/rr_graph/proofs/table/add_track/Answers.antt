@@ -10,5 +10,5 @@ loop-y-init c = rw c.saturating_sub-y.ensures (track_begins c.args.nodes.now c.a
 pub returns : goal.returns
 returns c =
     let e : c.loop-y.y ≡ c.args.a.y + 2 = omega (arith, c.saturating_sub-y.ensures) in
-    track_ends c.args.nodes.now c.args.a c.loop-y.row.items c.args.x c.args.kind c.requires.lawful c.requires.a_y
+    track_ends c.args.nodes.now c.args.a c.loop-y.row.items c.args.x c.args.kind c.requires.lawful c.requires.small.y
     (subst (λ y. IsRowAt c.args.nodes.now c.args.a c.loop-y.row.items c.args.x (rank_of c.args.kind * 65536 + y * 256)) e c.loop-y.invariant)

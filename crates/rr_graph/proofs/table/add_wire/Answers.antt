@@ -14,7 +14,7 @@ pub returns-in_ok-push : goal.returns-in_ok-push
 returns-in_ok-push c =
     let lens : c.len.result ≡ column_count c.args.nodes.now = search rules in
     rw (c.in_ok-push.ensures.items, lens)
-    (wire_added c.args.nodes.now c.args.a c.args.row.now.items c.args.x c.args.y c.first.result c.args.kind c.requires.lawful c.requires.y c.requires.a_n c.requires.from c.requires.to
+    (wire_added c.args.nodes.now c.args.a c.args.row.now.items c.args.x c.args.y c.first.result c.args.kind c.requires.lawful c.requires.y c.requires.small.n c.requires.from c.requires.to
     c.requires.there c.first.ensures c.requires.row (sym c.is_slot.ensures ∙ c.if-is_slot.true) (sym c.joins.ensures ∙ c.if-joins.true))
 
 pub returns-else-is_slot : goal.returns-else-is_slot
