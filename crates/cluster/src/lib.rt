@@ -8,6 +8,7 @@ mod additions;
 mod bles;
 mod block;
 mod block_nets;
+mod candidates;
 mod cluster_sets;
 mod driven_nets;
 mod element_index;

@@ -103,6 +103,14 @@ impl Packed {
         self.clusters.row(number)
     }
 
+    /// How many blocks are pads: one for each input, and one for each output.
+    pub fn pad_count(&self) -> usize
+        ensures { result ≡ length self.now.circuit.inputs + length self.now.circuit.outputs }
+    {
+        let circuit = self.circuit.circuit();
+        circuit.inputs.as_slice().len() + circuit.outputs.as_slice().len()
+    }
+
     /// How many blocks there are: pads for inputs, pads for outputs, and clusters.
     pub fn block_count(&self) -> usize
         ensures { result ≡ length (blocks_of self.now) }
@@ -153,14 +161,6 @@ impl Packed {
             PinClass::Output => self.leaving_output(cluster, rank),
             PinClass::Clock => entry(self.tables.clocks.row(cluster), rank),
         }
-    }
-
-    /// How many pads there are.
-    fn pad_count(&self) -> usize
-        ensures { result ≡ length self.now.circuit.inputs + length self.now.circuit.outputs }
-    {
-        let circuit = self.circuit.circuit();
-        circuit.inputs.as_slice().len() + circuit.outputs.as_slice().len()
     }
 
     /// What the BLE at that place of a cluster drives, where it leaves the cluster.

@@ -1,10 +1,7 @@
 //! Whether a packed circuit fits a strip.
-ghost use Rattle.std.specs.Prelude.{◌≡◌, ◌+◌, length};
-ghost use Rattle.cluster.specs.Blocks.{blocks_of};
-ghost use Rattle.grid.specs.declared.place.Kind.TheVariants.{Logic, Pad};
+ghost use Rattle.std.specs.Prelude.{◌≡◌};
 ghost use Rattle.grid.specs.Sizes.{IsStripSize};
-ghost use Rattle.grid.specs.Places.{places_of};
-ghost use Rattle.grid.specs.Fits.{block_count, compared, fit_of};
+ghost use Rattle.grid.specs.Fits.{compared, fit_of};
 
 use crate::Strip;
 use crate::place::Kind;
@@ -30,7 +27,7 @@ impl Strip {
             self.places(Kind::Logic).len(),
             packed.cluster_count(),
             self.places(Kind::Pad).len(),
-            pad_count(packed),
+            packed.pad_count(),
         )
     }
 }
@@ -52,12 +49,4 @@ fn compared(logic_places: usize, blocks: usize, pad_places: usize, pads: usize) 
     } else {
         Fit::Fits
     }
-}
-
-/// How many blocks of the circuit are pads.
-fn pad_count(packed: &Packed) -> usize
-    ensures { result ≡ block_count packed.now Pad }
-{
-    let circuit = packed.circuit();
-    circuit.inputs.as_slice().len() + circuit.outputs.as_slice().len()
 }
