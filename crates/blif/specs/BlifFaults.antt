@@ -3,7 +3,7 @@ use Rattle.std.specs.Prelude.{ℕ, Bool, true, false, not, ◌&&◌, ◌||◌, L
 use Rattle.blif.specs.declared.circuit.TheConstants.{MAX_NETS}
 use Rattle.blif.specs.declared.cover.Cover.{Cover}
 use Rattle.blif.specs.declared.keyword.Keyword.{Keyword}
-use Rattle.blif.specs.declared.keyword.Keyword.TheVariants.{Model, Inputs, Outputs, Clock, Names, Latch, End, Skipped, Other, Row}
+use Rattle.blif.specs.declared.keyword.Keyword.TheVariants.{Model, Inputs, Outputs, Clock, Names, Latch, Other, Row}
 use Rattle.blif.specs.declared.fault.BlifFaultKind.{BlifFaultKind}
 use Rattle.blif.specs.declared.fault.BlifFaultKind.TheVariants.{Unknown, BadCover, MixedCover, TooWide, TwoDrivers, RepeatedOutput, BadLatch, NoModel, OverLimit}
 use Rattle.blif.specs.Names.{has_name, with_names, repeats}
@@ -52,23 +52,14 @@ kind_faults lut_size above Outputs words = map RepeatedOutput (repeats above.out
 kind_faults lut_size above Clock words = clock_faults above.declared above.drivers (args_of words)
 kind_faults lut_size above Names words = table_faults lut_size (driven above) (args_of words)
 kind_faults lut_size above Latch words = latch_faults (driven above) (args_of words)
-kind_faults lut_size above End words = []
-kind_faults lut_size above Skipped words = []
 kind_faults lut_size above Other words = Unknown ∷ []
 kind_faults lut_size above Row words = row_faults above.cover words
+kind_faults lut_size above keyword words = []
 
 -- whether a line of this kind begins a model
 abbrev pub is_model : Keyword → Bool
 is_model Model = true
-is_model Inputs = false
-is_model Outputs = false
-is_model Clock = false
-is_model Names = false
-is_model Latch = false
-is_model End = false
-is_model Skipped = false
-is_model Other = false
-is_model Row = false
+is_model keyword = false
 
 -- all faults of a line of this kind: no line may come after the end, the first line begins the model, and the nets of the
 -- lines so far are not more than the most

@@ -5,7 +5,7 @@ use Rattle.std.specs.Option.{option_map}
 use Rattle.line_text.specs.Lines.{JoinedLine}
 use Rattle.blif.specs.declared.circuit.Circuit.{Circuit}
 use Rattle.blif.specs.declared.keyword.Keyword.{Keyword}
-use Rattle.blif.specs.declared.keyword.Keyword.TheVariants.{Model, Inputs, Outputs, Clock, Names, Latch, End, Skipped, Other, Row}
+use Rattle.blif.specs.declared.keyword.Keyword.TheVariants.{Names, Latch}
 use Rattle.blif.specs.declared.latches.Latch.{Latch as StoredLatch}
 use Rattle.blif.specs.Names.{number_of}
 use Rattle.blif.specs.Keywords.{args_of, last_of}
@@ -22,15 +22,7 @@ table_with nets number (name ∷ names) = record { line = number; inputs = map (
 -- the tables that a line of this kind brings
 abbrev pub tables_in : List (List ℕ) → ℕ → Keyword → List (List ℕ) → List LookupTable
 tables_in nets number Names words = table_with nets number (args_of words)
-tables_in nets number Model words = []
-tables_in nets number Inputs words = []
-tables_in nets number Outputs words = []
-tables_in nets number Clock words = []
-tables_in nets number Latch words = []
-tables_in nets number End words = []
-tables_in nets number Skipped words = []
-tables_in nets number Other words = []
-tables_in nets number Row words = []
+tables_in nets number keyword words = []
 
 -- the latch with these words on the line with this number
 abbrev pub latch_with : List (List ℕ) → ℕ → List (List ℕ) → List StoredLatch
@@ -40,15 +32,7 @@ latch_with nets number args =
 -- the latches that a line of this kind brings
 abbrev pub latches_in : List (List ℕ) → ℕ → Keyword → List (List ℕ) → List StoredLatch
 latches_in nets number Latch words = latch_with nets number (args_of words)
-latches_in nets number Model words = []
-latches_in nets number Inputs words = []
-latches_in nets number Outputs words = []
-latches_in nets number Clock words = []
-latches_in nets number Names words = []
-latches_in nets number End words = []
-latches_in nets number Skipped words = []
-latches_in nets number Other words = []
-latches_in nets number Row words = []
+latches_in nets number keyword words = []
 
 -- the parts of a circuit that lines bring
 pub record Parts : Type 0 where

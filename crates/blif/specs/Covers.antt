@@ -5,7 +5,7 @@ use Rattle.std.specs.Option.{option_map, option_or}
 use Rattle.std.specs.Str.{bytes_eq}
 use Rattle.blif.specs.declared.cover.Cover.{Cover}
 use Rattle.blif.specs.declared.keyword.Keyword.{Keyword}
-use Rattle.blif.specs.declared.keyword.Keyword.TheVariants.{Model, Inputs, Outputs, Clock, Names, Latch, End, Skipped, Other, Row}
+use Rattle.blif.specs.declared.keyword.Keyword.TheVariants.{Names, Row}
 use Rattle.blif.specs.Keywords.{args_of, last_of}
 
 -- a character of a row's first word: an input that is 0, that is 1, or that may be either
@@ -47,11 +47,4 @@ with_row words cover = record { inputs = cover.inputs; output = option_or cover.
 abbrev pub cover_after : Keyword → List (List ℕ) → Option Cover → Option Cover
 cover_after Names words above = Some (record { inputs = length (args_of words) - 1; output = None })
 cover_after Row words above = option_map (with_row words) above
-cover_after Model words above = None
-cover_after Inputs words above = None
-cover_after Outputs words above = None
-cover_after Clock words above = None
-cover_after Latch words above = None
-cover_after End words above = None
-cover_after Skipped words above = None
-cover_after Other words above = None
+cover_after keyword words above = None

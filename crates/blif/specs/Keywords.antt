@@ -1,5 +1,6 @@
 -- What a line is, by its first word, and which nets it names.
-use Rattle.std.specs.Prelude.{ℕ, Bool, false, ◌||◌, List, [], ◌∷◌, ◌==◌, codes, drop, if◌then◌else◌}
+use Rattle.std.specs.Prelude.{ℕ, Bool, false, List, [], ◌∷◌, ◌==◌, codes, drop, if◌then◌else◌}
+use Rattle.std.specs.List.{list_any}
 use Rattle.std.specs.Str.{bytes_eq}
 use Rattle.blif.specs.declared.keyword.Keyword.{Keyword}
 use Rattle.blif.specs.declared.keyword.Keyword.TheVariants.{Model, Inputs, Outputs, Clock, Names, Latch, End, Skipped, Other, Row}
@@ -9,25 +10,16 @@ abbrev pub is_pointed : List ℕ → Bool
 is_pointed [] = false
 is_pointed (byte ∷ bytes) = byte == 46
 
--- whether the word begins a line of delays, areas or loads
+-- what begins a line of delays, areas or loads
+abbrev pub skipped_words : List (List ℕ)
+skipped_words =
+    codes ".area" ∷ codes ".delay" ∷ codes ".wire_load_slope" ∷ codes ".wire" ∷ codes ".input_arrival" ∷ codes ".default_input_arrival"
+    ∷ codes ".output_required" ∷ codes ".default_output_required" ∷ codes ".input_drive" ∷ codes ".default_input_drive" ∷ codes ".output_load"
+    ∷ codes ".default_output_load" ∷ codes ".max_input_load" ∷ codes ".default_max_input_load" ∷ codes ".cycle" ∷ codes ".clock_event" ∷ []
+
+-- whether the word is one of them
 abbrev pub is_skipped : List ℕ → Bool
-is_skipped word =
-    bytes_eq word (codes ".area")
-    || (bytes_eq word (codes ".delay")
-    || (bytes_eq word (codes ".wire_load_slope")
-    || (bytes_eq word (codes ".wire")
-    || (bytes_eq word (codes ".input_arrival")
-    || (bytes_eq word (codes ".default_input_arrival")
-    || (bytes_eq word (codes ".output_required")
-    || (bytes_eq word (codes ".default_output_required")
-    || (bytes_eq word (codes ".input_drive")
-    || (bytes_eq word (codes ".default_input_drive")
-    || (bytes_eq word (codes ".output_load")
-    || (bytes_eq word (codes ".default_output_load")
-    || (bytes_eq word (codes ".max_input_load")
-    || (bytes_eq word (codes ".default_max_input_load")
-    || (bytes_eq word (codes ".cycle")
-    || bytes_eq word (codes ".clock_event")))))))))))))))
+is_skipped word = list_any (bytes_eq word) skipped_words
 
 -- what a word with a point begins
 abbrev pub command_of : List ℕ → Keyword

@@ -2,7 +2,7 @@
 use Rattle.std.specs.Prelude.{ℕ, ◌-◌, List, [], ◌∷◌, ◌++◌, take, drop, length, if◌then◌else◌}
 use Rattle.std.specs.Option.{option_to_list}
 use Rattle.blif.specs.declared.keyword.Keyword.{Keyword}
-use Rattle.blif.specs.declared.keyword.Keyword.TheVariants.{Model, Inputs, Outputs, Clock, Names, Latch, End, Skipped, Other, Row}
+use Rattle.blif.specs.declared.keyword.Keyword.TheVariants.{Inputs, Outputs, Clock, Names, Latch}
 use Rattle.blif.specs.Keywords.{args_of, last_of}
 use Rattle.blif.specs.LatchLines.{is_latch, control_of}
 
@@ -17,11 +17,7 @@ names_in Outputs words = args_of words
 names_in Clock words = args_of words
 names_in Names words = args_of words
 names_in Latch words = latch_nets (args_of words)
-names_in Model words = []
-names_in End words = []
-names_in Skipped words = []
-names_in Other words = []
-names_in Row words = []
+names_in keyword words = []
 
 -- the last word, of a list that has one
 abbrev pub output_of : List (List ℕ) → List (List ℕ)
@@ -37,52 +33,22 @@ abbrev pub drives_in : Keyword → List (List ℕ) → List (List ℕ)
 drives_in Inputs words = args_of words
 drives_in Names words = output_of (args_of words)
 drives_in Latch words = latch_output (args_of words)
-drives_in Outputs words = []
-drives_in Clock words = []
-drives_in Model words = []
-drives_in End words = []
-drives_in Skipped words = []
-drives_in Other words = []
-drives_in Row words = []
+drives_in keyword words = []
 
 -- the inputs that a line of this kind names
 abbrev pub inputs_in : Keyword → List (List ℕ) → List (List ℕ)
 inputs_in Inputs words = args_of words
-inputs_in Outputs words = []
-inputs_in Clock words = []
-inputs_in Names words = []
-inputs_in Latch words = []
-inputs_in Model words = []
-inputs_in End words = []
-inputs_in Skipped words = []
-inputs_in Other words = []
-inputs_in Row words = []
+inputs_in keyword words = []
 
 -- the clocks that a line of this kind names
 abbrev pub clocks_in : Keyword → List (List ℕ) → List (List ℕ)
 clocks_in Clock words = args_of words
-clocks_in Inputs words = []
-clocks_in Outputs words = []
-clocks_in Names words = []
-clocks_in Latch words = []
-clocks_in Model words = []
-clocks_in End words = []
-clocks_in Skipped words = []
-clocks_in Other words = []
-clocks_in Row words = []
+clocks_in keyword words = []
 
 -- the outputs that a line of this kind names
 abbrev pub outputs_in : Keyword → List (List ℕ) → List (List ℕ)
 outputs_in Outputs words = args_of words
-outputs_in Inputs words = []
-outputs_in Clock words = []
-outputs_in Names words = []
-outputs_in Latch words = []
-outputs_in Model words = []
-outputs_in End words = []
-outputs_in Skipped words = []
-outputs_in Other words = []
-outputs_in Row words = []
+outputs_in keyword words = []
 
 -- the words before the last
 abbrev pub front_of : List (List ℕ) → List (List ℕ)
@@ -97,10 +63,4 @@ abbrev pub reads_in : Keyword → List (List ℕ) → List (List ℕ)
 reads_in Outputs words = args_of words
 reads_in Names words = front_of (args_of words)
 reads_in Latch words = latch_reads (args_of words)
-reads_in Inputs words = []
-reads_in Clock words = []
-reads_in Model words = []
-reads_in End words = []
-reads_in Skipped words = []
-reads_in Other words = []
-reads_in Row words = []
+reads_in keyword words = []

@@ -4,7 +4,7 @@ use Rattle.std.specs.List.{flat_map, list_any}
 use Rattle.line_text.specs.Lines.{JoinedLine}
 use Rattle.blif.specs.declared.cover.Cover.{Cover}
 use Rattle.blif.specs.declared.keyword.Keyword.{Keyword}
-use Rattle.blif.specs.declared.keyword.Keyword.TheVariants.{Model, Inputs, Outputs, Clock, Names, Latch, End, Skipped, Other, Row}
+use Rattle.blif.specs.declared.keyword.Keyword.TheVariants.{End}
 use Rattle.blif.specs.Names.{has_name, with_names}
 use Rattle.blif.specs.Keywords.{keyword_of}
 use Rattle.blif.specs.LineNets.{names_in, drives_in, inputs_in, clocks_in, outputs_in}
@@ -30,15 +30,7 @@ pub record Sights : Type 0 where
 -- whether a line of this kind ends the model
 abbrev pub is_end : Keyword → Bool
 is_end End = true
-is_end Model = false
-is_end Inputs = false
-is_end Outputs = false
-is_end Clock = false
-is_end Names = false
-is_end Latch = false
-is_end Skipped = false
-is_end Other = false
-is_end Row = false
+is_end keyword = false
 
 -- what the line is
 abbrev pub kind_of : JoinedLine → Keyword
