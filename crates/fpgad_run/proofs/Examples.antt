@@ -1,18 +1,13 @@
 -- Examples that are computed.
-use Rattle.std.proofs.Common.{◌≡◌, ◌∷◌, ◌++◌, [], codes, decimal, Ok, Err, Some, None, refl}
-use Rattle.tenant_slot.specs.declared.reply.StateName.TheVariants.{Loaded}
-use Rattle.tenant_slot.specs.declared.reply.Reply.TheVariants.{Accepted, File, Refused as RefusedReply}
-use Rattle.tenant_slot.specs.declared.reply.FileKind.TheVariants.{Net}
-use Rattle.tenant_slot.specs.declared.reply.Refusal.TheVariants.{CannotPack}
+use Rattle.std.proofs.Common.{◌≡◌, ◌∷◌, [], codes, Ok, Err, Some, None, refl}
 use Rattle.tenant_slot.specs.declared.advance.StepReply.TheVariants.{Finished}
 use Rattle.fpgad_run.specs.declared.operator_line.OperatorLine.TheVariants.{Admit, Step}
-use Rattle.fpgad_run.specs.declared.session_line.SessionRefusal.TheVariants.{UnfinishedUpload}
-use Rattle.fpgad_run.specs.declared.session_line.SessionLine.TheVariants.{Blank, Refused}
+use Rattle.sessions.specs.declared.refusal.SessionRefusal.TheVariants.{UnfinishedUpload}
+use Rattle.sessions.specs.declared.line.SessionLine.TheVariants.{Blank, Refused}
 use Rattle.fpgad_run.specs.declared.item.Act.TheVariants.{Operator, Session}
 use Rattle.fpgad_run.specs.OperatorText.{last_id, outcome_text}
 use Rattle.fpgad_run.specs.Run.{written}
 use Rattle.fpgad_run.specs.Script.{form_in, script_of}
-use Rattle.fpgad_run.specs.SessionText.{reply_text}
 
 admission : script_of 1 (codes "op admit T 1\n") ≡ Ok (record { line = 1; act = Operator (Admit (codes "T") 1) } ∷ [])
 unfolding form_in
@@ -33,15 +28,6 @@ least_faulty_line = refl
 text_without_end : script_of 1 (codes "@T upload\n.end\n") ≡ Ok (record { line = 1; act = Session (codes "T") (Refused UnfinishedUpload) } ∷ [])
 unfolding form_in
 text_without_end = refl
-
-accepted : reply_text (Accepted Loaded) ≡ codes "ok Loaded\n"
-accepted = refl
-
-cannot_pack : reply_text (RefusedReply (CannotPack 0)) ≡ codes "refused " ++ decimal 5 ++ codes " CannotPack" ++ (32 ∷ decimal 0) ++ codes "\n"
-cannot_pack = refl
-
-file : reply_text (File Net (codes "a\n\n")) ≡ codes "text net " ++ decimal 3 ++ codes "\na\n\n"
-file = refl
 
 finished : outcome_text (Ok (Some Finished)) ≡ codes "finished\n"
 finished = refl

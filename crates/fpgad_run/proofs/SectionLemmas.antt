@@ -1,15 +1,21 @@
 -- Sections, kept as names and texts.
-use Rattle.std.proofs.Common.{◌≡◌, ℕ, ◌+◌, ◌<◌, ◌≤◌, List, [], ◌∷◌, ◌++◌, true, false, if◌then◌else◌, Some, Result, Ok, Err, append_assoc, Vec, Global, suc, zero, add-one, length, get_or, drop, refl, sym, ap, ◌∙◌, arith}
+use Rattle.std.proofs.Common.{◌≡◌, ℕ, ◌+◌, ◌<◌, ◌≤◌, List, [], ◌∷◌, ◌++◌, true, false, if◌then◌else◌, Some, Result, Ok, Err, append_assoc, length-append, suc, zero, add-one, length, get_or, drop, refl, sym, ap, ◌∙◌, arith}
 use Rattle.std.specs.Prelude.{slice_get, is_ok, OnOk}
 use Rattle.std.specs.List.{flat_map}
 use Rattle.std.specs.Str.{bytes_eq}
 use Rattle.std.proofs.Math.ListN.{set}
 use Rattle.fpgad_run.specs.Names.{has_name, number_of, with_name}
 use Rattle.fpgad_run.specs.Run.{Section, heading, section_text, with_text}
+use Rattle.line_text.specs.declared.memory_sink.MemorySink.{MemorySink}
+use Rattle.std.specs.declared.alloc.AllocError.{AllocError}
+use Rattle.std.proofs.lemmas.Bool.{false≢true}
+use Rattle.line_text.specs.declared.source.Failed.{Failed}
+use Rattle.vpr_files.specs.Writing.{Writes}
+use Rattle.fpgad_run.specs.Held.{held}
 use Rattle.fpgad_run.specs.Zipped.{zipped}
 
 abbrev pub Text : Type 0
-Text = Vec ℕ Global
+Text = MemorySink
 
 -- a name that is not the first
 with_name-later : (n : List ℕ) (names : List (List ℕ)) (name : List ℕ) → bytes_eq name n ≡ false → with_name (n ∷ names) name ≡ n ∷ with_name names name
@@ -36,14 +42,14 @@ section name text = record { name = name; text = text }
 
 -- a name that has a section
 pub zipped-set : (names : List (List ℕ)) (texts : List Text) (name text : List ℕ) (k : ℕ) (v : Text) → k ≡ number_of names name → k < length texts → length texts ≡ length names →
-    v.items ≡ (get_or texts k v).items ++ text → zipped (with_name names name) (set texts k v) ≡ with_text (zipped names texts) name text
+    held v ≡ held (get_or texts k v) ++ text → zipped (with_name names name) (set texts k v) ≡ with_text (zipped names texts) name text
 zipped-set [] [] name text k v at within same told = absurd (omega arith)
 zipped-set [] (t ∷ texts) name text k v at within same told = absurd (omega arith)
 zipped-set (n ∷ names) [] name text k v at within same told = absurd (omega arith)
 zipped-set (n ∷ names) (t ∷ texts) name text zero v at within same told =
     elim (bytes_eq name n) as (λ b. bytes_eq name n ≡ b → zipped (with_name (n ∷ names) name) (v ∷ texts) ≡ with_text (zipped (n ∷ names) (t ∷ texts)) name text) [
       | true ↦ λ e. ap (λ ns. zipped ns (v ∷ texts)) (with_name-first n names name e) ∙ ap (λ i. section n i ∷ zipped names texts) told
-          ∙ sym (with_text-first (section n t.items) (zipped names texts) name text e)
+          ∙ sym (with_text-first (section n (held t)) (zipped names texts) name text e)
       | false ↦ λ e. let later = number_of-later n names name e in absurd (omega (arith, at, later))
     ] refl
 zipped-set (n ∷ names) (t ∷ texts) name text (suc k) v at within same told =
@@ -51,23 +57,23 @@ zipped-set (n ∷ names) (t ∷ texts) name text (suc k) v at within same told =
       | true ↦ λ e. let first = number_of-first n names name e in absurd (omega (arith, at, first))
       | false ↦ λ e. let later = number_of-later n names name e in
           ap (λ ns. zipped ns (t ∷ set texts k v)) (with_name-later n names name e)
-          ∙ ap (λ ss. section n t.items ∷ ss) (zipped-set names texts name text k v (omega (arith, at, later)) (omega arith) (omega arith) told)
-          ∙ sym (with_text-later (section n t.items) (zipped names texts) name text e)
+          ∙ ap (λ ss. section n (held t) ∷ ss) (zipped-set names texts name text k v (omega (arith, at, later)) (omega arith) (omega arith) told)
+          ∙ sym (with_text-later (section n (held t)) (zipped names texts) name text e)
     ] refl
 
 -- and one that has none
 pub zipped-push : (names : List (List ℕ)) (texts : List Text) (name : List ℕ) (v : Text) → length texts ≡ length names → length texts ≤ number_of names name →
-    zipped (with_name names name) (texts ++ v ∷ []) ≡ with_text (zipped names texts) name v.items
+    zipped (with_name names name) (texts ++ v ∷ []) ≡ with_text (zipped names texts) name (held v)
 zipped-push [] [] name v same at = refl
 zipped-push [] (t ∷ texts) name v same at = absurd (omega arith)
 zipped-push (n ∷ names) [] name v same at = absurd (omega arith)
 zipped-push (n ∷ names) (t ∷ texts) name v same at =
-    elim (bytes_eq name n) as (λ b. bytes_eq name n ≡ b → zipped (with_name (n ∷ names) name) (t ∷ (texts ++ v ∷ [])) ≡ with_text (zipped (n ∷ names) (t ∷ texts)) name v.items) [
+    elim (bytes_eq name n) as (λ b. bytes_eq name n ≡ b → zipped (with_name (n ∷ names) name) (t ∷ (texts ++ v ∷ [])) ≡ with_text (zipped (n ∷ names) (t ∷ texts)) name (held v)) [
       | true ↦ λ e. let first = number_of-first n names name e in absurd (omega (arith, at, first))
       | false ↦ λ e. let later = number_of-later n names name e in
           ap (λ ns. zipped ns (t ∷ (texts ++ v ∷ []))) (with_name-later n names name e)
-          ∙ ap (λ ss. section n t.items ∷ ss) (zipped-push names texts name v (omega arith) (omega (arith, at, later)))
-          ∙ sym (with_text-later (section n t.items) (zipped names texts) name v.items e)
+          ∙ ap (λ ss. section n (held t) ∷ ss) (zipped-push names texts name v (omega arith) (omega (arith, at, later)))
+          ∙ sym (with_text-later (section n (held t)) (zipped names texts) name (held v) e)
     ] refl
 
 -- a name of a place is among the names, so that there are as many of them as before
@@ -81,13 +87,13 @@ length-found (n ∷ names) name h =
 
 -- the next section
 pub zipped-drop : (names : List (List ℕ)) (texts : List Text) (n : ℕ) (name : List ℕ) (v : Text) → length texts ≡ length names → n < length texts → slice_get names n ≡ Some name →
-    zipped (drop n names) (drop n texts) ≡ section name (get_or texts n v).items ∷ zipped (drop (n + 1) names) (drop (n + 1) texts)
+    zipped (drop n names) (drop n texts) ≡ section name (held (get_or texts n v)) ∷ zipped (drop (n + 1) names) (drop (n + 1) texts)
 zipped-drop names [] n name v same within at = absurd (omega arith)
 zipped-drop [] (t ∷ texts) n name v same within at = absurd (omega arith)
-zipped-drop (m ∷ names) (t ∷ texts) zero name v same within at = let e : m ≡ name = cc in ap (λ k. section k t.items ∷ zipped names texts) e
+zipped-drop (m ∷ names) (t ∷ texts) zero name v same within at = let e : m ≡ name = cc in ap (λ k. section k (held t) ∷ zipped names texts) e
 zipped-drop (m ∷ names) (t ∷ texts) (suc n) name v same within at =
-    zipped-drop names texts n name v (omega arith) (omega arith) at ∙ ap (λ k. section name (get_or texts n v).items ∷ zipped (drop k names) (drop k texts)) (add-one n)
-    ∙ ap (λ k. section name (get_or texts n v).items ∷ zipped (drop k (m ∷ names)) (drop k (t ∷ texts))) (sym (add-one (suc n)))
+    zipped-drop names texts n name v (omega arith) (omega arith) at ∙ ap (λ k. section name (held (get_or texts n v)) ∷ zipped (drop k names) (drop k texts)) (add-one n)
+    ∙ ap (λ k. section name (held (get_or texts n v)) ∷ zipped (drop k (m ∷ names)) (drop k (t ∷ texts))) (sym (add-one (suc n)))
 
 pub on_ok_if : {E P : Type 0} (r : Result (Unit {0}) E) (new old more : List ℕ) → new ≡ (if is_ok r then old ++ more else old) → (new ≡ old ++ more → P) → OnOk r P
 on_ok_if (Ok u) new old more e f = f e
@@ -95,10 +101,33 @@ on_ok_if (Err e) new old more is f = tt
 
 -- one section more is told
 pub section-told : (out next : List ℕ) (names : List (List ℕ)) (texts : List Text) (n : ℕ) (name : List ℕ) (v : Text) (whole : List ℕ) → length texts ≡ length names → n < length texts → slice_get names n ≡ Some name →
-    v ≡ get_or texts n v → next ≡ out ++ (heading name ++ v.items) →
+    v ≡ get_or texts n v → next ≡ out ++ (heading name ++ held v) →
     out ++ flat_map section_text (zipped (drop n names) (drop n texts)) ≡ whole → next ++ flat_map section_text (zipped (drop (n + 1) names) (drop (n + 1) texts)) ≡ whole
 section-told out next names texts n name v whole same within at is told so_far =
     ap (λ t. t ++ flat_map section_text (zipped (drop (n + 1) names) (drop (n + 1) texts))) told
-    ∙ append_assoc out (heading name ++ v.items) _
-    ∙ ap (λ (w : Text). out ++ ((heading name ++ w.items) ++ flat_map section_text (zipped (drop (n + 1) names) (drop (n + 1) texts)))) is
+    ∙ append_assoc out (heading name ++ held v) _
+    ∙ ap (λ (w : Text). out ++ ((heading name ++ held w) ++ flat_map section_text (zipped (drop (n + 1) names) (drop (n + 1) texts)))) is
     ∙ ap (λ ss. out ++ flat_map section_text ss) (sym (zipped-drop names texts n name v same within at)) ∙ so_far
+
+-- the answer is written where the sink had the memory
+pub on_told : {P : Type 0} (r : Result (Unit {0}) AllocError) (w : Result (Unit {0}) Failed) (old new : MemorySink) (text : List ℕ) → is_ok r ≡ is_ok w →
+    Writes (λ (s : MemorySink). Some (held s)) (λ (s : MemorySink). s.failed) old new text w → (held new ≡ held old ++ text → P) → OnOk r P
+on_told (Ok u) (Ok v) old new text same writes f = f writes.bytes
+on_told (Ok u) (Err e) old new text same writes f = absurd (false≢true (sym same))
+on_told (Err e) w old new text same writes f = tt
+
+pub is_told : (w : Result (Unit {0}) Failed) (old new : MemorySink) (text : List ℕ) → is_ok w ≡ true →
+    Writes (λ (s : MemorySink). Some (held s)) (λ (s : MemorySink). s.failed) old new text w → held new ≡ held old ++ text
+is_told (Ok v) old new text same writes = writes.bytes
+is_told (Err e) old new text same writes = absurd (false≢true same)
+
+-- a name that is new makes one more
+pub length-new : (names : List (List ℕ)) (name : List ℕ) (k : ℕ) → length names ≤ k → k < length (with_name names name) → length (with_name names name) ≡ suc (length names)
+length-new names name k past within =
+    elim (has_name names name) as (λ b. k < length (if b then names else names ++ name ∷ []) → length (if b then names else names ++ name ∷ []) ≡ suc (length names)) [
+      | true ↦ λ w. absurd (omega arith)
+      | false ↦ λ w. length-append names (name ∷ []) ∙ add-one (length names)
+    ] within
+
+pub held_as : (sink : MemorySink) (bytes : List ℕ) → Some (held sink) ≡ Some bytes → bytes ≡ held sink
+held_as sink bytes same = cc

@@ -19,13 +19,16 @@ use Rattle.service_core.specs.Service.{ServiceState, empty, live_of}
 use Rattle.fpgad_run.specs.declared.program.Running.{Running}
 use Rattle.fpgad_run.specs.declared.operator_line.OperatorLine.TheVariants.{Admit, Evict, List as ListAll, Step}
 use Rattle.fpgad_run.specs.declared.item.Item.{Item}
-use Rattle.fpgad_run.specs.declared.session_line.SessionLine.{SessionLine}
-use Rattle.fpgad_run.specs.declared.session_line.SessionLine.TheVariants.{Blank, Command, Refused}
+use Rattle.sessions.specs.declared.line.SessionLine.{SessionLine}
+use Rattle.sessions.specs.declared.line.SessionLine.TheVariants.{Blank, Command, Refused}
 use Rattle.fpgad_run.specs.declared.item.Act.{Act}
 use Rattle.fpgad_run.specs.declared.item.Act.TheVariants.{Operator, Session}
 use Rattle.fpgad_run.specs.OperatorText.{last_id}
 use Rattle.fpgad_run.specs.Script.{named_act, named_item}
-use Rattle.fpgad_run.specs.SessionAnswer.{IsSessionAnswer}
+use Rattle.sessions.specs.declared.told.Answer.{Answer}
+use Rattle.sessions.specs.SessionAnswer.{Asks, IsAnswer}
+use Rattle.sessions.specs.SessionText.{answer_text}
+use Rattle.fpgad_run.specs.Held.{held}
 use Rattle.fpgad_run.specs.Run.{Stage, Section, Telling, Tells, IsAdmission, IsAnswered, calls_of, output_of, sections_after, told_operator, told_session}
 use Rattle.fpgad_run.proofs.OperatorLemmas.{length-modified}
 use Rattle.fpgad_run.proofs.Stepping.{Run-append}
@@ -43,7 +46,7 @@ pub record Progress (start : Stage) (running : Running) (acts : List (Act (List 
   pub tellings : List Telling
   pub all : map (λ t. t.act) tellings ≡ acts
   pub told : Tells start tellings (stage_of running)
-  pub operator_text : running.operator_text.items ≡ operator_texts tellings
+  pub operator_text : held running.operator_text ≡ operator_texts tellings
   pub sections : sections_of running ≡ sections_after [] tellings
   pub even : IsEven running
 
@@ -84,21 +87,17 @@ answered_runs old (Operator (Admit name width)) calls text new is = admission_ru
 answered_runs old (Operator (Evict name)) calls text new is = rw is.3 (new.service, is.1, refl)
 answered_runs old (Operator (Step name count)) calls text new is = rw is.4 is.2
 answered_runs old (Operator ListAll) calls text new is = rw is.0 (ap (λ (s : Stage). s.service) is.2)
-answered_runs old (Session name Blank) calls text new is = rw is.0 (ap (λ (s : Stage). s.service) is.2)
-answered_runs old (Session name (Refused refusal)) calls text new is = rw is.0 (ap (λ (s : Stage). s.service) is.2)
-answered_runs old (Session name (Command command)) calls text new is = rw is.3 (new.service, is.1, refl)
+answered_runs old (Session name line) calls text new is = is.2
 
 pub told_runs : (old : Stage) (ts : List Telling) (new : Stage) → Tells old ts new → Run old.service (calls_of ts) new.service
 told_runs old [] new is = ap (λ (s : Stage). s.service) is
 told_runs old (t ∷ ts) new is = Run-append old.service t.calls (is.0).service (calls_of ts) new.service (answered_runs old t.act t.calls t.text is.0 is.1) (told_runs is.0 ts new is.2)
 
 -- a session's line is answered by the core
-pub session_answers : (names : List (List ℕ)) (old new : ServiceState) (name : List ℕ) (id : ℕ) (line : SessionLine) (reply : List ℕ) → id ≡ last_id names name → IsSessionAnswer old id line [] reply new →
-    (calls : List Call) × IsAnswered (record { names = names; service = old }) (Session name line) calls reply (record { names = names; service = new })
-session_answers names old new name id Blank reply at is = ([], (refl, is.0, ap (λ (s : ServiceState). record { names = names; service = s }) is.1))
-session_answers names old new name id (Refused refusal) reply at is = ([], (refl, is.0, ap (λ (s : ServiceState). record { names = names; service = s }) is.1))
-session_answers names old new name id (Command command) reply at is =
-    (TenantCall id command is.0 ∷ [], (is.0, (let P : ℕ → Type 0 = λ n. IsServed old n command is.0 new in subst P at is.1), refl, ap (λ n. TenantCall n command is.0 ∷ []) at, is.2))
+pub session_answers : (names : List (List ℕ)) (old new : ServiceState) (name : List ℕ) (id : ℕ) (line : SessionLine) (answer : Answer) → id ≡ last_id names name → IsAnswer old id line answer new →
+    (calls : List Call) × IsAnswered (record { names = names; service = old }) (Session name line) calls (answer_text answer) (record { names = names; service = new })
+session_answers names old new name id line answer at is =
+    (is.0, (answer, (let P : ℕ → Type 0 = λ n. Asks n line is.0 answer in subst P at is.1), is.2, refl, refl))
 
 -- the next item is the last of those that are left
 pub next_item : (told : List (Act (List ℕ))) (left : List (Item (Bor (List ℕ)))) (rest : List (Item (Bor (List ℕ)))) (item : Item (Bor (List ℕ))) (all : List (Act (List ℕ))) → left ≡ rest ++ item ∷ [] →
@@ -114,11 +113,16 @@ lengths-served old new id command (Err (JournalFull note)) is = ap (λ (s : Serv
 lengths-served old new id command (Err (NoSuchTenancy note)) is = ap (λ (s : ServiceState). length s.histories) (sym is.2)
 lengths-served old new id command (Err NoMemory) is = ap (λ (s : ServiceState). length s.histories) (sym is.1)
 
+called : (old new : ServiceState) (calls these : List Call) → calls ≡ these → Run old calls new → Run old these new
+called old new calls these same run = let P : List Call → Type 0 = λ cs. Run old cs new in subst P same run
+
 -- it admits and evicts no one
-pub lengths-answered : (old new : ServiceState) (id : ℕ) (line : SessionLine) (before reply : List ℕ) → IsSessionAnswer old id line before reply new → length old.histories ≡ length new.histories
-lengths-answered old new id Blank before reply is = ap (λ (s : ServiceState). length s.histories) (sym is.1)
-lengths-answered old new id (Refused refusal) before reply is = ap (λ (s : ServiceState). length s.histories) (sym is.1)
-lengths-answered old new id (Command command) before reply is = lengths-served old new id command is.0 is.1
+pub lengths-answered : (old new : ServiceState) (id : ℕ) (line : SessionLine) (answer : Answer) → IsAnswer old id line answer new → length old.histories ≡ length new.histories
+lengths-answered old new id Blank answer is = let run : Run old [] new = called old new is.0 [] is.1.0 is.2 in ap (λ (s : ServiceState). length s.histories) (sym run)
+lengths-answered old new id (Refused refusal) answer is = let run : Run old [] new = called old new is.0 [] is.1.0 is.2 in ap (λ (s : ServiceState). length s.histories) (sym run)
+lengths-answered old new id (Command command) answer is =
+    let run : Run old (TenantCall id command is.1.0 ∷ []) new = called old new is.0 (TenantCall id command is.1.0 ∷ []) is.1.1 is.2 in
+    lengths-served old run.0 id command is.1.0 run.1 ∙ ap (λ (s : ServiceState). length s.histories) (sym run.2)
 
 pub on_ok_both : {E P Q R : Type 0} (r : Result (Unit {0}) E) → (P → Q → R) → OnOk r P → OnOk r Q → OnOk r R
 on_ok_both (Ok u) f p q = f p q

@@ -1,4 +1,5 @@
 pub mod Commands
+pub mod Held
 pub mod Ids
 pub mod Limits
 pub mod Lines
@@ -10,7 +11,5 @@ pub mod Program
 pub mod Reading
 pub mod Run
 pub mod Script
-pub mod SessionAnswer
-pub mod SessionText
 pub mod Told
 pub mod Zipped

@@ -9,7 +9,7 @@ use Rattle.service_core.specs.declared.op_refusal.OpRefusal.{OpRefusal}
 use Rattle.service_core.specs.Names.{op_refusal_number, op_refusal_text}
 use Rattle.service_core.specs.History.{History, state_of}
 use Rattle.service_core.specs.Service.{ServiceState, live_of}
-use Rattle.fpgad_run.specs.SessionText.{blank_word, numbered_line, step_text}
+use Rattle.sessions.specs.SessionText.{blank_word, numbered_line, step_text}
 
 -- a refusal of the operator as a line
 abbrev pub refused_text : ℕ → List ℕ → List ℕ
@@ -39,11 +39,14 @@ abbrev pub names_after : List (List ℕ) → List ℕ → Result (ℕ × ℕ) Op
 names_after names name (Ok given) = name ∷ names
 names_after names name (Err refusal) = names
 
+-- a tenancy's line: its id, its name, where its strip stands, how wide it is, and its state
+abbrev pub row_text : ℕ → List ℕ → ℕ → ℕ → List ℕ → List ℕ
+row_text id name offset width state = decimal id ++ blank_word name ++ blank_word (decimal offset) ++ blank_word (decimal width) ++ blank_word state ++ 10 ∷ []
+
 -- the line of a tenancy in the operator's list, if it is live
 abbrev pub listed_text : Option History → Option ℕ → ℕ → List ℕ → List ℕ
 listed_text None offset id name = []
-listed_text (Some h) offset id name =
-    decimal id ++ blank_word name ++ blank_word (decimal (unwrap_or offset 0)) ++ blank_word (decimal h.strip.width) ++ blank_word (state_text (state_of h).name) ++ 10 ∷ []
+listed_text (Some h) offset id name = row_text id name (unwrap_or offset 0) h.strip.width (state_text (state_of h).name)
 
 abbrev pub listed : ServiceState → ℕ → List ℕ → List ℕ
 listed service id name = listed_text (live_of service.histories id) (offset_of service.plan.strips id) id name

@@ -4,18 +4,17 @@ use Rattle.std.specs.declared.alloc.AllocError.{AllocError}
 use Rattle.std.specs.List.{flat_map}
 use Rattle.std.specs.Str.{bytes_eq}
 use Rattle.service_core.specs.declared.op_refusal.OpRefusal.{OpRefusal}
-use Rattle.service_core.specs.declared.not_served.NotServed.{NotServed}
 use Rattle.service_core.specs.History.{History, StepMade}
-use Rattle.service_core.specs.Receipt.{Receipted}
 use Rattle.service_core.specs.Run.{Call, Run}
-use Rattle.service_core.specs.Run.Call.{Admit as AdmitCall, Advance as AdvanceCall, Evict as EvictCall, Tenant as TenantCall}
-use Rattle.service_core.specs.Calls.{IsAdmitted, IsEvicted, IsServed, told_of}
+use Rattle.service_core.specs.Run.Call.{Admit as AdmitCall, Advance as AdvanceCall, Evict as EvictCall}
+use Rattle.service_core.specs.Calls.{IsAdmitted, IsEvicted, told_of}
 use Rattle.service_core.specs.Service.{ServiceState, live_of}
 use Rattle.fpgad_run.specs.declared.operator_line.OperatorLine.TheVariants.{Admit, Evict, List as ListAll, Step}
-use Rattle.fpgad_run.specs.declared.session_line.SessionLine.TheVariants.{Blank, Command, Refused}
+use Rattle.sessions.specs.declared.told.Answer.{Answer}
+use Rattle.sessions.specs.SessionAnswer.{Asks}
 use Rattle.fpgad_run.specs.declared.item.Act.{Act}
 use Rattle.fpgad_run.specs.declared.item.Act.TheVariants.{Operator, Session}
-use Rattle.fpgad_run.specs.SessionText.{answer_text, session_refusal_text}
+use Rattle.sessions.specs.SessionText.{answer_text}
 use Rattle.fpgad_run.specs.OperatorText.{admitted_text, evicted_text, last_id, list_text, names_after, outcome_text, refused_text}
 
 -- the core's state, and the names of all ids, the newest first
@@ -42,7 +41,7 @@ advances id outcomes = map (λ outcome. AdvanceCall id outcome) outcomes
 abbrev pub outcomes_text : Outcomes → List ℕ
 outcomes_text outcomes = flat_map (λ outcome. outcome_text (told_of outcome)) outcomes
 
--- an act is answered with that text, after those calls of the core: one for each step, else none or one
+-- an act is answered with that text, after those calls of the core
 abbrev pub IsAnswered : Stage → Act (List ℕ) → List Call → List ℕ → Stage → Type 0
 IsAnswered old (Operator (Admit name width)) calls text new = IsAdmission (live_of old.service.histories (last_id old.names name)) old name width calls text new
 IsAnswered old (Operator (Evict name)) calls text new = (answer : Result (Unit {0}) OpRefusal)
@@ -52,11 +51,9 @@ IsAnswered old (Operator (Step name count)) calls text new = (outcomes : Outcome
     × (length outcomes ≡ count) × Run old.service (advances (last_id old.names name) outcomes) new.service × (new.names ≡ old.names)
     × (calls ≡ advances (last_id old.names name) outcomes) × (text ≡ outcomes_text outcomes)
 IsAnswered old (Operator ListAll) calls text new = (calls ≡ []) × (text ≡ list_text old.service old.names) × (new ≡ old)
-IsAnswered old (Session name Blank) calls text new = (calls ≡ []) × (text ≡ []) × (new ≡ old)
-IsAnswered old (Session name (Refused refusal)) calls text new = (calls ≡ []) × (text ≡ session_refusal_text refusal) × (new ≡ old)
-IsAnswered old (Session name (Command command)) calls text new = (answer : Result Receipted NotServed)
-    × IsServed old.service (last_id old.names name) command answer new.service × (new.names ≡ old.names)
-    × (calls ≡ TenantCall (last_id old.names name) command answer ∷ []) × (text ≡ answer_text answer)
+IsAnswered old (Session name line) calls text new = (answer : Answer)
+    × Asks (last_id old.names name) line calls answer × Run old.service calls new.service × (new.names ≡ old.names)
+    × (text ≡ answer_text answer)
 
 -- an act with its calls and its text
 pub record Telling : Type 0 where

@@ -4,18 +4,18 @@ use Rattle.std.specs.Borrow.{Bor}
 use Rattle.std.specs.Char.{is_ascii_alphanumeric}
 use Rattle.std.specs.List.{list_all, position_or_len, before_first, after_first}
 use Rattle.std.specs.Str.{bytes_eq}
-use Rattle.tenant_slot.specs.declared.command.Command.{Command as TenantCommand}
-use Rattle.tenant_slot.specs.declared.command.Command.TheVariants.{Upload as UploadText, Change as ChangeText, Pack, Net, Status, Withdraw}
 use Rattle.fpgad_run.specs.declared.operator_line.OperatorLine.{OperatorLine}
 use Rattle.fpgad_run.specs.declared.operator_line.OperatorLine.TheVariants.{Admit, Evict, List as ListAll, Step}
-use Rattle.fpgad_run.specs.declared.session_line.SessionRefusal.TheVariants.{UnknownCommand, UnfinishedUpload}
-use Rattle.fpgad_run.specs.declared.session_line.SessionLine.{SessionLine}
-use Rattle.fpgad_run.specs.declared.session_line.SessionLine.TheVariants.{Blank, Command, Refused}
+use Rattle.sessions.specs.declared.refusal.SessionRefusal.TheVariants.{UnfinishedUpload}
+use Rattle.sessions.specs.declared.line.SessionLine.{SessionLine}
+use Rattle.sessions.specs.declared.line.SessionLine.TheVariants.{Command, Refused}
 use Rattle.fpgad_run.specs.declared.item.Act.{Act}
 use Rattle.fpgad_run.specs.declared.item.Act.TheVariants.{Operator, Session}
 use Rattle.fpgad_run.specs.declared.item.Item.{Item}
-use Rattle.fpgad_run.specs.declared.session_line.TextKind.{TextKind}
-use Rattle.fpgad_run.specs.declared.session_line.TextKind.TheVariants.{Upload, Change}
+use Rattle.sessions.specs.declared.line.TextKind.{TextKind}
+use Rattle.sessions.specs.declared.line.LineForm.{LineForm}
+use Rattle.sessions.specs.declared.line.LineForm.TheVariants.{Asks as LineAsks, Begins as LineBegins}
+use Rattle.sessions.specs.SessionLines.{line_form, text_command}
 use Rattle.fpgad_run.specs.declared.form.Form.{Form}
 use Rattle.fpgad_run.specs.declared.form.Form.TheVariants.{Skipped, Faulty, Asks, Begins}
 use Rattle.fpgad_run.specs.declared.script.ScriptError.{ScriptError}
@@ -52,29 +52,17 @@ operator_form (verb ∷ name ∷ number ∷ []) =
     if bytes_eq verb (codes "step") && is_name name then stepping name (decimal_of 32 number) else Faulty
 operator_form words = Faulty
 
--- a session line that is one word
-abbrev pub verb_form : List ℕ → List ℕ → Form (List ℕ)
-verb_form name verb =
-    if bytes_eq verb (codes "upload") then Begins name Upload else
-    if bytes_eq verb (codes "change") then Begins name Change else
-    if bytes_eq verb (codes "status") then Asks (Session name (Command Status)) else
-    if bytes_eq verb (codes "pack") then Asks (Session name (Command Pack)) else
-    if bytes_eq verb (codes "net") then Asks (Session name (Command Net)) else
-    if bytes_eq verb (codes "withdraw") then Asks (Session name (Command Withdraw)) else
-    Asks (Session name (Refused UnknownCommand))
-
--- the words of a session line of that length
-abbrev pub session_form : List ℕ → ℕ → List (List ℕ) → Form (List ℕ)
-session_form name long [] = Asks (Session name Blank)
-session_form name long (verb ∷ []) = if nat_lt 4096 long then Asks (Session name (Refused UnknownCommand)) else verb_form name verb
-session_form name long words = Asks (Session name (Refused UnknownCommand))
+-- a line of that name's session
+abbrev pub session_form : List ℕ → LineForm → Form (List ℕ)
+session_form name (LineAsks line) = Asks (Session name line)
+session_form name (LineBegins kind) = Begins name kind
 
 -- a line by its first word and what stands after it and one blank
 abbrev pub form_by : List ℕ → List ℕ → Form (List ℕ)
 form_by [] rest = Skipped
 form_by (b ∷ name) rest =
     if b == 35 then Skipped else
-    if b == 64 then (if is_name name then session_form name (length rest) (words_of rest) else Faulty) else
+    if b == 64 then (if is_name name then session_form name (line_form rest) else Faulty) else
     if bytes_eq (b ∷ name) (codes "op") then operator_form (words_of rest) else Faulty
 
 -- the blanks ahead of a line are not looked at
@@ -87,10 +75,6 @@ form_in line = form_by (before_first is_blank (without_blanks line)) (after_firs
 
 abbrev pub form_of : List ℕ → Form (List ℕ)
 form_of line = form_in (without_cr line)
-
-abbrev pub text_command : TextKind → List ℕ → TenantCommand
-text_command Upload text = UploadText text
-text_command Change text = ChangeText text
 
 -- the command with its text, of which the first 1,048,577 bytes are kept, or the refusal of one that doesn't end
 abbrev pub text_line : TextKind → Option (List ℕ) → SessionLine

@@ -2,16 +2,25 @@
 use Rattle.std.specs.Prelude.{ℕ, ◌≡◌, List, [], ◌++◌, length}
 use Rattle.service_core.specs.Run.{Call}
 use Rattle.service_core.specs.Service.{ServiceState}
+use Rattle.sessions.specs.declared.line.SessionLine.{SessionLine}
+use Rattle.sessions.specs.declared.told.Answer.{Answer}
+use Rattle.sessions.specs.SessionAnswer.{IsAnswer}
+use Rattle.sessions.specs.SessionText.{answer_text}
 use Rattle.fpgad_run.specs.declared.program.Running.{Running}
+use Rattle.fpgad_run.specs.declared.sections.Sections.{Sections}
+use Rattle.fpgad_run.specs.Held.{held}
 use Rattle.fpgad_run.specs.declared.item.Act.{Act}
-use Rattle.fpgad_run.specs.Run.{Stage, Section, IsAnswered, output_of, told_operator, told_session}
+use Rattle.fpgad_run.specs.Run.{Stage, Section, IsAnswered, output_of, told_operator, told_session, with_text}
 use Rattle.fpgad_run.specs.Zipped.{zipped}
 
 abbrev pub stage_of : Running → Stage
 stage_of running = record { names = running.operator; service = running.core }
 
+abbrev pub sections_in : Sections → List Section
+sections_in sections = zipped sections.names sections.texts.items
+
 abbrev pub sections_of : Running → List Section
-sections_of running = zipped running.sections.names running.sections.texts.items
+sections_of running = sections_in running.sections
 
 -- each section has a name, and each id one
 pub record IsEven (running : Running) : Type 0 where
@@ -20,12 +29,12 @@ pub record IsEven (running : Running) : Type 0 where
 
 -- what would be written now
 abbrev pub told_so_far : Running → List ℕ
-told_so_far running = output_of running.operator_text.items (sections_of running)
+told_so_far running = output_of (held running.operator_text) (sections_of running)
 
 -- nothing is told yet
 pub record Begins (core : ServiceState) (running : Running) : Type 0 where
   pub stage : stage_of running ≡ record { names = []; service = core }
-  pub operator_text : running.operator_text.items ≡ []
+  pub operator_text : held running.operator_text ≡ []
   pub sections : sections_of running ≡ []
   pub even : IsEven running
 
@@ -34,6 +43,12 @@ pub record Serves (old : Running) (act : Act (List ℕ)) (new : Running) : Type 
   pub calls : List Call
   pub text : List ℕ
   pub answered : IsAnswered (stage_of old) act calls text (stage_of new)
-  pub operator_text : new.operator_text.items ≡ old.operator_text.items ++ told_operator act text
+  pub operator_text : held new.operator_text ≡ held old.operator_text ++ told_operator act text
   pub sections : sections_of new ≡ told_session (sections_of old) act text
   pub even : IsEven new
+
+-- a line of a name's session is answered by the core, and the answer stands in the name's section
+abbrev pub AnswersSession : Sections → ServiceState → List ℕ → ℕ → SessionLine → Sections → ServiceState → Type 0
+AnswersSession old service name id line new new_service = (answer : Answer)
+    × IsAnswer service id line answer new_service
+    × (sections_in new ≡ with_text (sections_in old) name (answer_text answer)) × (length new.texts.items ≡ length new.names)

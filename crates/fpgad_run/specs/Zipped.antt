@@ -1,11 +1,11 @@
 -- Private: how the sections are kept.
 use Rattle.std.specs.Prelude.{ℕ, List, [], ◌∷◌}
-use Rattle.std.specs.declared.vec.Vec.{Vec}
-use Rattle.std.specs.declared.alloc.Global.{Global}
+use Rattle.line_text.specs.declared.memory_sink.MemorySink.{MemorySink}
+use Rattle.fpgad_run.specs.Held.{held}
 use Rattle.fpgad_run.specs.Run.{Section}
 
 -- a name and a text each
-abbrev pub zipped : List (List ℕ) → List (Vec ℕ Global) → List Section
+abbrev pub zipped : List (List ℕ) → List MemorySink → List Section
 zipped [] texts = []
 zipped (name ∷ names) [] = []
-zipped (name ∷ names) (text ∷ texts) = record { name = name; text = text.items } ∷ zipped names texts
+zipped (name ∷ names) (text ∷ texts) = record { name = name; text = held text } ∷ zipped names texts

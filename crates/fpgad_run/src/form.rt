@@ -1,12 +1,12 @@
 ghost use Rattle.std.specs.Prelude.{◌≡◌, IfOk};
-ghost use Rattle.fpgad_run.specs.Script.{form_by, form_in, named_form};
+ghost use Rattle.fpgad_run.specs.Script.{form_by, form_in, named_form, session_form};
 
 use crate::item::Act;
 use crate::names::is_name;
 use crate::operator_line::operator_form;
-use crate::session_line::{TextKind, session_form};
 use crate::words::{split_word, without_blanks};
 use line_text::append_words;
+use sessions::{LineForm, TextKind, read_line};
 use std::alloc::AllocError;
 
 /// What a line of a script is by itself.
@@ -47,9 +47,7 @@ fn form_by<'t>(
         if !is_name(name) {
             return Ok(Form::Faulty);
         }
-        words.clear();
-        append_words(words, rest)?;
-        return Ok(session_form(name, rest.len(), words));
+        return Ok(session_form(name, read_line(words, rest)?));
     }
     if first != b"op".as_slice() {
         return Ok(Form::Faulty);
@@ -57,4 +55,14 @@ fn form_by<'t>(
     words.clear();
     append_words(words, rest)?;
     Ok(operator_form(words))
+}
+
+/// What a line of that name's session is.
+fn session_form<'t>(name: &'t [u8], line: LineForm) -> Form<&'t [u8]>
+    ensures { named_form result ≡ session_form name.now line }
+{
+    match line {
+        LineForm::Asks(line) => Form::Asks(Act::Session(name, line)),
+        LineForm::Begins(kind) => Form::Begins(name, kind),
+    }
 }

@@ -1,5 +1,5 @@
 use crate::operator_line::OperatorLine;
-use crate::session_line::SessionLine;
+use sessions::SessionLine;
 
 /// What an item of a script asks.
 #[derive(Debug, Drop)]

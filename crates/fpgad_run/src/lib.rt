@@ -3,8 +3,7 @@
 //! - `read_options` reads the command line, `read_script` the script: each line is an operator's or a session's.
 //! - `run_script` reads a script, checks it whole, serves it in order and writes the replies: the operator's, then each
 //!   session's. `Outcome` tells how it ended, by a status and a message.
-//! - `push_answer`, `push_reply` and `push_session_refusal` are the texts that a session is answered with.
-//! - In `specs/`, `Script` says what a script says, `SessionText` and `OperatorText` how answers are spelled, `Run` what the
+//! - In `specs/`, `Script` says what a script says, `OperatorText` how the operator's answers are spelled, `Run` what the
 //!   items of a script are answered, and `Program` what is written and how a run ends.
 #![tactic(auto)]
 
@@ -20,8 +19,6 @@ mod outcome;
 mod program;
 mod script;
 mod sections;
-mod session_line;
-mod session_text;
 mod words;
 
 pub use command::{run_line, run_words};
@@ -31,5 +28,3 @@ pub use options::{CommandLine, Options, read_options};
 pub use outcome::Outcome;
 pub use program::{Architecture, run, run_script};
 pub use script::{Script, ScriptError, read_script};
-pub use session_line::{SessionLine, SessionRefusal};
-pub use session_text::{push_answer, push_reply, push_session_refusal};

@@ -1,13 +1,15 @@
 ghost use Rattle.std.specs.Prelude.{◌≡◌, ◌+◌, ◌^◌, ◌<◌, ◌∷◌, ◌++◌, [], length, decimal, OnOk, Ok, Err};
-ghost use Rattle.fpgad_run.specs.OperatorText.{admitted_text, evicted_text, last_id, list_text, listed, outcome_text};
+ghost use Rattle.fpgad_run.specs.OperatorText.{admitted_text, evicted_text, last_id, list_text, listed, outcome_text, refused_text, row_text};
+ghost use Rattle.std.specs.List.{flat_map};
+ghost use Rattle.fpgad_run.specs.Held.{held};
 ghost use Rattle.fpgad_run.specs.Operators.{Steps};
 
 use crate::operator_line::OperatorLine;
-use crate::session_text::{
-    push_decimal, push_end, push_number, push_refused, push_word, step_word,
-};
 use indexmap::IndexMap;
+use itoa::Buffer;
+use line_text::MemorySink;
 use service_core::{Core, OpRefusal};
+use sessions::{step_word, write_parts, write_refused};
 use std::alloc::{AllocError, Global};
 use std::marker::Model;
 use tenant_slot::StepReply;
@@ -58,10 +60,10 @@ impl<'t> Operator<'t> {
         &mut self,
         core: &mut Core,
         line: OperatorLine<&'t [u8]>,
-        reply: &mut Vec<u8>,
+        reply: &mut MemorySink,
     ) -> Result<(), AllocError>
         requires { length self.old ≡ length core.old.histories }
-        ensures { OnOk result (Answers self.old core.old line.entry reply.old.items reply.new.items self.new core.new) }
+        ensures { OnOk result (Answers self.old core.old line.entry (held reply.old) (held reply.new) self.new core.new) }
     {
         match line {
             OperatorLine::Admit(name, width) => self.admit(core, name, width, reply),
@@ -79,10 +81,10 @@ impl<'t> Operator<'t> {
         core: &mut Core,
         name: &'t [u8],
         width: u32,
-        reply: &mut Vec<u8>,
+        reply: &mut MemorySink,
     ) -> Result<(), AllocError>
         requires { length self.old ≡ length core.old.histories }
-        ensures { OnOk result (Admits self.old core.old name.now width reply.old.items reply.new.items self.new core.new) }
+        ensures { OnOk result (Admits self.old core.old name.now width (held reply.old) (held reply.new) self.new core.new) }
     {
         if core.state(self.last_id(name)).is_some() {
             return push_refused(reply, 7, "NameInUse");
@@ -109,9 +111,9 @@ impl<'t> Operator<'t> {
     }
 
     /// Appends a line for each live tenancy, by id.
-    fn list(&self, core: &Core, reply: &mut Vec<u8>) -> Result<(), AllocError>
+    fn list(&self, core: &Core, reply: &mut MemorySink) -> Result<(), AllocError>
         requires { length self.now ≡ length core.now.histories }
-        ensures { OnOk result (reply.new.items ≡ reply.old.items ++ list_text core.now self.now) }
+        ensures { OnOk result (held reply.new ≡ held reply.old ++ list_text core.now self.now) }
     {
         let names = self.admitted.as_slice();
         for place in 0..core.admissions() {
@@ -122,56 +124,72 @@ impl<'t> Operator<'t> {
 }
 
 /// Appends the line of a tenancy, if it is live.
-fn push_listed(reply: &mut Vec<u8>, core: &Core, id: u32, name: &[u8]) -> Result<(), AllocError>
-    ensures { OnOk result (reply.new.items ≡ reply.old.items ++ listed core.now id name.now) }
+fn push_listed(reply: &mut MemorySink, core: &Core, id: u32, name: &[u8]) -> Result<(), AllocError>
+    ensures { OnOk result (held reply.new ≡ held reply.old ++ listed core.now id name.now) }
 {
     let Some(state) = core.state(id) else {
         return Ok(());
     };
     let offset = core.offset(id).unwrap_or(0);
     let width = core.width(id).unwrap_or(0);
-    push_decimal(reply, id)?;
-    push_word(reply, name)?;
-    push_number(reply, offset)?;
-    push_number(reply, width)?;
-    push_word(reply, state.name().as_bytes())?;
-    push_end(reply)
+    push_row(reply, id, name, offset, width, state.name())
+}
+
+/// Appends a line: an id, a name, an offset, a width and the name of a state.
+fn push_row<'t>(
+    reply: &mut MemorySink,
+    id: u32,
+    name: &'t [u8],
+    offset: u32,
+    width: u32,
+    state: &'t str,
+) -> Result<(), AllocError>
+    ensures { OnOk result (held reply.new ≡ held reply.old ++ row_text id name.now offset width state.now) }
+{
+    let (mut ids, mut offsets, mut widths) = (Buffer::new(), Buffer::new(), Buffer::new());
+    let id = ids.format(id).as_bytes();
+    let offset = offsets.format(offset).as_bytes();
+    let width = widths.format(width).as_bytes();
+    let state = state.as_bytes();
+    push_parts(
+        reply,
+        &[
+            id, b" ", name, b" ", offset, b" ", width, b" ", state, b"\n",
+        ],
+    )
 }
 
 /// Appends the line of what an admission was answered.
 fn push_admitted(
-    reply: &mut Vec<u8>,
+    reply: &mut MemorySink,
     answer: &Result<(u32, u32), OpRefusal>,
 ) -> Result<(), AllocError>
-    ensures { OnOk result (reply.new.items ≡ reply.old.items ++ admitted_text answer.now) }
+    ensures { OnOk result (held reply.new ≡ held reply.old ++ admitted_text answer.now) }
 {
     match answer {
         Ok((id, offset)) => {
-            reply.extend_from_slice(b"ok")?;
-            push_number(reply, *id)?;
-            push_number(reply, *offset)?;
-            push_end(reply)
+            let (mut ids, mut offsets) = (Buffer::new(), Buffer::new());
+            let id = ids.format(*id).as_bytes();
+            let offset = offsets.format(*offset).as_bytes();
+            push_parts(reply, &[b"ok ", id, b" ", offset, b"\n"])
         }
         Err(refusal) => push_refused(reply, refusal.number(), refusal.name()),
     }
 }
 
 /// Appends the line of what an eviction was answered.
-fn push_evicted(reply: &mut Vec<u8>, answer: &Result<(), OpRefusal>) -> Result<(), AllocError>
-    ensures { OnOk result (reply.new.items ≡ reply.old.items ++ evicted_text answer.now) }
+fn push_evicted(reply: &mut MemorySink, answer: &Result<(), OpRefusal>) -> Result<(), AllocError>
+    ensures { OnOk result (held reply.new ≡ held reply.old ++ evicted_text answer.now) }
 {
     match answer {
-        Ok(()) => {
-            reply.extend_from_slice(b"ok")?;
-            push_end(reply)
-        }
+        Ok(()) => push_parts(reply, &[b"ok\n"]),
         Err(refusal) => push_refused(reply, refusal.number(), refusal.name()),
     }
 }
 
 /// Makes the next step of a tenancy's job so many times, and appends the outcome of each as a line.
-fn step(core: &mut Core, id: u32, count: u32, reply: &mut Vec<u8>) -> Result<(), AllocError>
-    ensures { OnOk result (Steps core.old id count reply.old.items reply.new.items core.new) }
+fn step(core: &mut Core, id: u32, count: u32, reply: &mut MemorySink) -> Result<(), AllocError>
+    ensures { OnOk result (Steps core.old id count (held reply.old) (held reply.new) core.new) }
 {
     for number in 0..count {
         let outcome = core.advance(id);
@@ -182,15 +200,35 @@ fn step(core: &mut Core, id: u32, count: u32, reply: &mut Vec<u8>) -> Result<(),
 
 /// Appends the outcome of a step.
 fn push_outcome(
-    reply: &mut Vec<u8>,
+    reply: &mut MemorySink,
     outcome: &Result<Option<StepReply>, AllocError>,
 ) -> Result<(), AllocError>
-    ensures { OnOk result (reply.new.items ≡ reply.old.items ++ outcome_text outcome.now) }
+    ensures { OnOk result (held reply.new ≡ held reply.old ++ outcome_text outcome.now) }
 {
-    match outcome {
-        Ok(Some(made)) => reply.extend_from_slice(step_word(*made))?,
-        Ok(None) => reply.extend_from_slice(b"none")?,
-        Err(_) => reply.extend_from_slice(b"nomemory")?,
+    let word = match outcome {
+        Ok(Some(made)) => step_word(*made),
+        Ok(None) => b"none",
+        Err(_) => b"nomemory",
+    };
+    push_parts(reply, &[word, b"\n"])
+}
+
+/// Appends the parts, one behind the other.
+fn push_parts(reply: &mut MemorySink, parts: &[&[u8]]) -> Result<(), AllocError>
+    ensures { OnOk result (held reply.new ≡ held reply.old ++ flat_map (λ part. part.now) parts.now) }
+{
+    match write_parts(reply, parts) {
+        Ok(()) => Ok(()),
+        Err(_) => Err(AllocError),
     }
-    push_end(reply)
+}
+
+/// Appends the line of a refusal.
+fn push_refused(reply: &mut MemorySink, number: u32, name: &str) -> Result<(), AllocError>
+    ensures { OnOk result (held reply.new ≡ held reply.old ++ refused_text number name.now) }
+{
+    match write_refused(reply, number, name) {
+        Ok(()) => Ok(()),
+        Err(_) => Err(AllocError),
+    }
 }

@@ -2,7 +2,6 @@ ghost use Rattle.std.specs.Prelude.{◌≡◌, ◌+◌, ◌<◌, ◌≤◌, ◌^
 ghost use Rattle.arch_file.specs.Arch.{IsArch, arch_of};
 ghost use Rattle.fpgad_run.specs.Script.{named_act, script_of};
 ghost use Rattle.fpgad_run.specs.Program.{Decides, IsReplies, Replies, Writes, checked, start_of};
-ghost use Rattle.fpgad_run.specs.SessionAnswer.{IsSessionAnswer};
 
 use crate::item::{Act, Item};
 use crate::lines::split_architecture;
@@ -11,10 +10,8 @@ use crate::options::Options;
 use crate::outcome::Outcome;
 use crate::script::{Script, ScriptError, read_script};
 use crate::sections::{Sections, push_section};
-use crate::session_line::SessionLine;
-use crate::session_text::{push_answer, push_session_refusal};
 use arch_file::{Arch, ArchError, read_arch};
-use line_text::{ReadError, Sink, Source, read_all, write_all};
+use line_text::{MemorySink, ReadError, Sink, Source, read_all, write_all};
 use service_core::{Core, Device, headline};
 use std::alloc::{AllocError, Global};
 
@@ -161,9 +158,8 @@ fn serve(
 struct Running<'t> {
     core: Core,
     operator: Operator<'t>,
-    operator_text: Vec<u8>,
+    operator_text: MemorySink,
     sections: Sections<'t>,
-    reply: Vec<u8>,
 }
 
 impl<'t> Running<'t> {
@@ -176,9 +172,8 @@ impl<'t> Running<'t> {
         Running {
             core,
             operator: Operator::new(alloc),
-            operator_text: Vec::new(alloc),
+            operator_text: MemorySink::new(alloc),
             sections: Sections::new(alloc),
-            reply: Vec::new(alloc),
         }
     }
 
@@ -194,14 +189,8 @@ impl<'t> Running<'t> {
                     .serve(&mut self.core, line, &mut self.operator_text)
             }
             Act::Session(name, line) => {
-                self.reply.clear();
-                answer(
-                    &mut self.core,
-                    self.operator.last_id(name),
-                    line,
-                    &mut self.reply,
-                )?;
-                self.sections.push(name, self.reply.as_slice())
+                let id = self.operator.last_id(name);
+                self.sections.answer(&mut self.core, name, id, line)
             }
         }
     }
@@ -212,27 +201,8 @@ impl<'t> Running<'t> {
         ensures { IfOk result (λ output. output.items ≡ told_so_far self.now) }
     {
         let mut out = Vec::new(alloc);
-        push_section(&mut out, b"op", self.operator_text.as_slice())?;
+        push_section(&mut out, b"op", self.operator_text.as_bytes())?;
         self.sections.append_to(&mut out)?;
         Ok(out)
-    }
-}
-
-/// Appends the answer to a session's line, for the tenancy of that id.
-fn answer(
-    core: &mut Core,
-    id: u32,
-    line: SessionLine,
-    reply: &mut Vec<u8>,
-) -> Result<(), AllocError>
-    ensures { OnOk result (IsSessionAnswer core.old id line reply.old.items reply.new.items core.new) }
-{
-    match line {
-        SessionLine::Blank => Ok(()),
-        SessionLine::Refused(refusal) => push_session_refusal(reply, refusal),
-        SessionLine::Command(command) => {
-            let answer = core.tenant(id, command);
-            push_answer(reply, &answer)
-        }
     }
 }

@@ -1,16 +1,16 @@
 ghost use Rattle.std.specs.Prelude.{◌≡◌, ◌+◌, ◌<◌, ◌≤◌, ◌^◌, ◌++◌, length, vec_len, OnOk, IfOk, map, ℕ, [], None, Some};
 ghost use Rattle.fpgad_run.specs.Lines.{kept};
 ghost use Rattle.fpgad_run.specs.declared.item.Act.TheVariants.{Session};
-ghost use Rattle.fpgad_run.specs.Script.{Gives, script_of, named_act, named_item, text_command, text_line};
+ghost use Rattle.fpgad_run.specs.Script.{Gives, script_of, named_act, named_item, text_line};
 
 use crate::form::{Form, form_of};
 use crate::item::{Act, Item};
 use crate::lines::{is_point, split_line, without_cr};
-use crate::session_line::{SessionLine, SessionRefusal, TextKind};
 use line_text::Text;
+use sessions::{SessionLine, SessionRefusal, TextKind};
 use std::alloc::{AllocError, AllocFailed, Global};
 use std::marker::Model;
-use tenant_slot::{Command, SharedText};
+use tenant_slot::SharedText;
 
 /// So many bytes of a text are kept, one more than a netlist may have.
 const MAX_KEPT: usize = 1_048_577;
@@ -174,7 +174,7 @@ impl<'t> Reading<'t> {
             Ok(text) => text,
             Err(_) => return Err(ScriptError::NoMemory),
         };
-        let command = text_command(kind, text);
+        let command = kind.command(text);
         self.push(line, Act::Session(name, SessionLine::Command(command)))
     }
 
@@ -211,16 +211,6 @@ impl<'t> PendingText<'t> {
             kind,
             text,
         })
-    }
-}
-
-/// The command of a text.
-fn text_command(kind: TextKind, text: SharedText) -> Command
-    ensures { result ≡ text_command kind text }
-{
-    match kind {
-        TextKind::Upload => Command::Upload(text),
-        TextKind::Change => Command::Change(text),
     }
 }
 

@@ -1,9 +1,12 @@
-ghost use Rattle.std.specs.Prelude.{◌≡◌, ◌++◌, [], length, OnOk};
+ghost use Rattle.std.specs.Prelude.{is_ok, ◌≡◌, ◌++◌, [], length, OnOk};
 ghost use Rattle.std.specs.List.{flat_map};
-ghost use Rattle.fpgad_run.specs.Run.{heading, section_text, with_text};
+ghost use Rattle.fpgad_run.specs.Run.{heading, section_text};
 ghost use Rattle.fpgad_run.specs.Zipped.{zipped};
 
 use crate::names::Names;
+use line_text::{Failed, MemorySink};
+use service_core::Core;
+use sessions::{Answer, SessionLine, answer};
 use std::alloc::{AllocError, Global};
 
 /// What each session was told, by names in the order of their first lines.
@@ -11,10 +14,12 @@ use std::alloc::{AllocError, Global};
 pub(crate) struct Sections<'t> {
     alloc: Global,
     names: Names<'t>,
-    texts: Vec<Vec<u8>>,
+    texts: Vec<MemorySink>,
 }
 
 impl<'t> Sections<'t> {
+    ghost use Rattle.fpgad_run.specs.Told.{AnswersSession};
+
     pub(crate) fn new(alloc: Global) -> Self
         ensures names { result.names ≡ [] }
         ensures texts { result.texts.items ≡ [] }
@@ -26,20 +31,26 @@ impl<'t> Sections<'t> {
         }
     }
 
-    /// Appends to a name's section; a name that has none gets one, the last.
-    pub(crate) fn push(&mut self, name: &'t [u8], text: &[u8]) -> Result<(), AllocError>
+    /// Has the core answer a line of that name's session, and appends the answer to the name's section; a name that has
+    /// none gets one, the last.
+    pub(crate) fn answer(
+        &mut self,
+        core: &mut Core,
+        name: &'t [u8],
+        id: u32,
+        line: SessionLine,
+    ) -> Result<(), AllocError>
         requires { length self.old.texts.items ≡ length self.old.names }
-        ensures told { OnOk result (zipped self.new.names self.new.texts.items ≡ with_text (zipped self.old.names self.old.texts.items) name.now text.now) }
-        ensures even { OnOk result (length self.new.texts.items ≡ length self.new.names) }
+        ensures { OnOk result (AnswersSession self.old core.old name.now id line self.new core.new) }
     {
         let number = self.names.number(name)?;
         if number < self.texts.len() {
-            self.texts[number].extend_from_slice(text)
-        } else {
-            let first = Vec::from_slice(self.alloc, text)?;
-            self.texts.push(first)?;
-            Ok(())
+            return told(answer(core, id, line, &mut self.texts[number]));
         }
+        let mut first = MemorySink::new(self.alloc);
+        told(answer(core, id, line, &mut first))?;
+        self.texts.push(first)?;
+        Ok(())
     }
 
     /// Appends all sections, each under its name.
@@ -48,7 +59,7 @@ impl<'t> Sections<'t> {
         ensures { OnOk result (out.new.items ≡ out.old.items ++ flat_map section_text (zipped self.now.names self.now.texts.items)) }
     {
         for (number, text) in self.texts.iter().enumerate() {
-            push_section(out, self.names.name(number), text.as_slice())?;
+            push_section(out, self.names.name(number), text.as_bytes())?;
         }
         Ok(())
     }
@@ -62,4 +73,16 @@ pub(crate) fn push_section(out: &mut Vec<u8>, name: &[u8], text: &[u8]) -> Resul
     out.extend_from_slice(name)?;
     out.push(b'\n')?;
     out.extend_from_slice(text)
+}
+
+/// Whether what was answered is written.
+fn told(answered: (Answer, Result<(), Failed>)) -> Result<(), AllocError>
+    ensures { is_ok result ≡ is_ok answered.1 }
+{
+    let (answer, written) = answered;
+    drop(answer);
+    match written {
+        Ok(()) => Ok(()),
+        Err(_) => Err(AllocError),
+    }
 }

@@ -1,23 +1,20 @@
-use Rattle.std.proofs.Common.{[], ◌∙◌, ap, sym, append-nil}
-use Rattle.fpgad_run.specs.Run.{with_text}
-use Rattle.fpgad_run.specs.SessionAnswer.{IsSessionAnswer}
-use Rattle.fpgad_run.specs.Told.{sections_of}
-use Rattle.fpgad_run.proofs.Telling.{session_answers, lengths-answered, on_ok_both}
+use Rattle.std.proofs.Common.{◌∙◌, sym, append-nil}
+use Rattle.sessions.specs.SessionText.{answer_text}
+use Rattle.fpgad_run.specs.Held.{held}
+use Rattle.fpgad_run.proofs.OperatorLemmas.{on_ok}
+use Rattle.fpgad_run.proofs.Telling.{session_answers, lengths-answered}
 use Rattle.fpgad_run.proofs.program.Running.serve.Goals as goal
 
-pub returns-in_ok-answer-in-Session : goal.returns-in_ok-answer-in-Session
-returns-in_ok-answer-in-Session c =
-    let told : IsSessionAnswer c.args.self.now.core c.last_id.result c.in-Session.line [] c.answer.new.reply.items c.answer.new.core =
-    rw c.clear.ensures.items at c.in_ok-answer-in-Session.ensures in
-    let answers = session_answers c.args.self.now.operator c.args.self.now.core c.answer.new.core c.in-Session.name.now c.last_id.result c.in-Session.line c.answer.new.reply.items c.last_id.ensures told in
+pub returns-in-Session : goal.returns-in-Session
+returns-in-Session c =
     rw c.in-Session.is
-    (on_ok_both c.push.result
-    (λ pushed even. record {
+    (on_ok c.answer.result
+    (λ told. let answers = session_answers c.args.self.now.operator c.args.self.now.core c.answer.new.core c.in-Session.name.now c.last_id-id.result c.in-Session.line told.0 c.last_id-id.ensures told.1 in record {
       calls = answers.0;
-      text = c.answer.new.reply.items;
+      text = answer_text told.0;
       answered = answers.1;
-      operator_text = sym (append-nil c.args.self.now.operator_text.items);
-      sections = pushed ∙ ap (with_text (sections_of c.args.self.now) c.in-Session.name.now) c.as_slice.ensures.value;
-      even = record { sections = even; ids = c.requires.ids ∙ lengths-answered c.args.self.now.core c.answer.new.core c.last_id.result c.in-Session.line [] c.answer.new.reply.items told };
+      operator_text = sym (append-nil (held c.args.self.now.operator_text));
+      sections = told.2;
+      even = record { sections = told.3; ids = c.requires.ids ∙ lengths-answered c.args.self.now.core c.answer.new.core c.last_id-id.result c.in-Session.line told.0 told.1 };
     })
-    c.push.ensures.told c.push.ensures.even)
+    c.answer.ensures)

@@ -1,5 +1,5 @@
 -- The texts that a session is answered with.
-use Rattle.std.specs.Prelude.{ℕ, List, [], ◌∷◌, ◌++◌, length, codes, decimal, Option, Some, None, Result, Ok, Err}
+use Rattle.std.specs.Prelude.{ℕ, List, [], ◌∷◌, ◌++◌, length, codes, decimal, Option, Some, None}
 use Rattle.blif.specs.declared.fault.BlifFault.{BlifFault}
 use Rattle.blif.specs.Faults.{net_of, number_of}
 use Rattle.tenant_slot.specs.declared.reply.Reply.{Reply}
@@ -9,11 +9,12 @@ use Rattle.tenant_slot.specs.declared.reply.Refusal.TheVariants.{WrongState, Bad
 use Rattle.tenant_slot.specs.Names.{file_text, state_text, refusal_number, refusal_text}
 use Rattle.tenant_slot.specs.declared.advance.StepReply.{StepReply}
 use Rattle.tenant_slot.specs.declared.advance.StepReply.TheVariants.{Advanced, Finished, Stale}
-use Rattle.service_core.specs.declared.not_served.NotServed.{NotServed}
-use Rattle.service_core.specs.declared.not_served.NotServed.TheVariants.{NoMemory, JournalFull, NoSuchTenancy}
-use Rattle.service_core.specs.Receipt.{Receipted}
-use Rattle.fpgad_run.specs.declared.session_line.SessionRefusal.{SessionRefusal}
-use Rattle.fpgad_run.specs.declared.session_line.SessionRefusal.TheVariants.{UnknownCommand, BadNumber, UnfinishedUpload, Evicted}
+use Rattle.service_core.specs.declared.not_served.NoteCause.{NoteCause}
+use Rattle.service_core.specs.declared.not_served.NoteCause.TheVariants.{JournalFull, NoSuchTenancy}
+use Rattle.sessions.specs.declared.told.Answer.{Answer}
+use Rattle.sessions.specs.declared.told.Answer.TheVariants.{Nothing, Receipt, Note, Refused as RefusedAnswer, NoMemory}
+use Rattle.sessions.specs.declared.refusal.SessionRefusal.{SessionRefusal}
+use Rattle.sessions.specs.declared.refusal.SessionRefusal.TheVariants.{UnknownCommand, BadNumber, UnfinishedUpload, Evicted}
 
 -- a blank and a word
 abbrev pub blank_word : List ℕ → List ℕ
@@ -37,6 +38,14 @@ cause_text (CannotPack ble) = blank_word (decimal ble)
 abbrev pub numbered_line : List ℕ → ℕ → List ℕ → List ℕ → List ℕ
 numbered_line word number name more = word ++ blank_word (decimal number) ++ blank_word name ++ more ++ 10 ∷ []
 
+-- `WORD NAME COUNT` as a line
+abbrev pub counted_line : List ℕ → List ℕ → ℕ → List ℕ
+counted_line word name count = word ++ blank_word name ++ blank_word (decimal count) ++ 10 ∷ []
+
+-- a refused command as a line, with its cause
+abbrev pub refusal_line : Refusal → List ℕ
+refusal_line refusal = numbered_line (codes "refused") (refusal_number refusal) (refusal_text refusal) (cause_text refusal)
+
 -- the word for a step that was made
 abbrev pub step_text : StepReply → List ℕ
 step_text Advanced = codes "advanced"
@@ -46,10 +55,10 @@ step_text Stale = codes "stale"
 -- a reply as a line; a file follows its line as it is
 abbrev pub reply_text : Reply → List ℕ
 reply_text (Accepted state) = codes "ok" ++ blank_word (state_text state) ++ 10 ∷ []
-reply_text (Status status) = codes "status" ++ blank_word (state_text status.state) ++ blank_word (decimal status.steps) ++ 10 ∷ []
-reply_text (File kind text) = codes "text" ++ blank_word (file_text kind) ++ blank_word (decimal (length text)) ++ 10 ∷ text
+reply_text (Status status) = counted_line (codes "status") (state_text status.state) status.steps
+reply_text (File kind text) = counted_line (codes "text") (file_text kind) (length text) ++ text
 reply_text (Step reply) = step_text reply ++ 10 ∷ []
-reply_text (Refused refusal) = numbered_line (codes "refused") (refusal_number refusal) (refusal_text refusal) (cause_text refusal)
+reply_text (Refused refusal) = refusal_line refusal
 
 abbrev pub session_refusal_number : SessionRefusal → ℕ
 session_refusal_number UnknownCommand = 1
@@ -67,9 +76,15 @@ session_refusal_name Evicted = codes "Evicted"
 abbrev pub session_refusal_text : SessionRefusal → List ℕ
 session_refusal_text refusal = numbered_line (codes "line") (session_refusal_number refusal) (session_refusal_name refusal) []
 
--- what the core answered to a command, as a line
-abbrev pub answer_text : Result Receipted NotServed → List ℕ
-answer_text (Ok receipt) = reply_text receipt.reply
-answer_text (Err NoMemory) = numbered_line (codes "refused") 1 (codes "NoMemory") []
-answer_text (Err (JournalFull note)) = numbered_line (codes "refused") 2 (codes "JournalFull") []
-answer_text (Err (NoSuchTenancy note)) = session_refusal_text Evicted
+-- why the core had no reply, as a line
+abbrev pub note_text : NoteCause → List ℕ
+note_text JournalFull = numbered_line (codes "refused") 2 (codes "JournalFull") []
+note_text NoSuchTenancy = session_refusal_text Evicted
+
+-- what a session is told
+abbrev pub answer_text : Answer → List ℕ
+answer_text Nothing = []
+answer_text (Receipt receipt) = reply_text receipt.reply
+answer_text (Note note) = note_text note.cause
+answer_text (RefusedAnswer refusal) = session_refusal_text refusal
+answer_text NoMemory = numbered_line (codes "refused") 1 (codes "NoMemory") []

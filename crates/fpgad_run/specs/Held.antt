@@ -1,0 +1,6 @@
+-- Private: what a sink in memory holds.
+use Rattle.std.specs.Prelude.{ℕ, List}
+use Rattle.line_text.specs.declared.memory_sink.MemorySink.{MemorySink}
+
+abbrev pub held : MemorySink → List ℕ
+held sink = sink.bytes.items

@@ -1,0 +1,3 @@
+pub mod SessionAnswer
+pub mod SessionLines
+pub mod SessionText

@@ -1,0 +1,29 @@
+-- What a session's line asks of the core, and is answered.
+use Rattle.std.specs.Prelude.{ℕ, ◌≡◌, List, [], ◌∷◌, Result, Ok, Err}
+use Rattle.service_core.specs.declared.not_served.NotServed.{NotServed}
+use Rattle.service_core.specs.declared.not_served.NotServed.TheVariants.{NoMemory as NotServedNoMemory, JournalFull, NoSuchTenancy}
+use Rattle.service_core.specs.Receipt.{Receipted}
+use Rattle.service_core.specs.Run.{Call, Run}
+use Rattle.service_core.specs.Run.Call.{Tenant}
+use Rattle.service_core.specs.Service.{ServiceState}
+use Rattle.sessions.specs.declared.line.SessionLine.{SessionLine}
+use Rattle.sessions.specs.declared.line.SessionLine.TheVariants.{Blank, Command, Refused}
+use Rattle.sessions.specs.declared.told.Answer.{Answer}
+use Rattle.sessions.specs.declared.told.Answer.TheVariants.{Nothing, Receipt, Note, Refused as RefusedAnswer, NoMemory}
+
+-- what the core answered to a command
+abbrev pub answer_of : Result Receipted NotServed → Answer
+answer_of (Ok receipt) = Receipt receipt
+answer_of (Err (JournalFull note)) = Note note
+answer_of (Err (NoSuchTenancy note)) = Note note
+answer_of (Err NotServedNoMemory) = NoMemory
+
+-- the line makes those calls of the core, for the tenancy of that id, and is answered so
+abbrev pub Asks : ℕ → SessionLine → List Call → Answer → Type 0
+Asks id Blank calls answer = (calls ≡ []) × (answer ≡ Nothing)
+Asks id (Refused refusal) calls answer = (calls ≡ []) × (answer ≡ RefusedAnswer refusal)
+Asks id (Command command) calls answer = (served : Result Receipted NotServed) × (calls ≡ Tenant id command served ∷ []) × (answer ≡ answer_of served)
+
+-- and the calls lead from one state of the core to the other
+abbrev pub IsAnswer : ServiceState → ℕ → SessionLine → Answer → ServiceState → Type 0
+IsAnswer old id line answer new = (calls : List Call) × Asks id line calls answer × Run old calls new

@@ -1,0 +1,41 @@
+ghost use Rattle.std.specs.Prelude.{◌≡◌};
+ghost use Rattle.vpr_files.specs.Writing.{Writes};
+ghost use Rattle.sessions.specs.SessionAnswer.{IsAnswer};
+ghost use Rattle.sessions.specs.SessionText.{answer_text};
+
+use crate::line::SessionLine;
+use crate::told::{Answer, write_answer};
+use line_text::{Failed, Sink};
+use service_core::{Core, NotServed};
+
+/// Asks the core what a session's line asks, for the tenancy of that id, and writes what the session is told. The answer
+/// stands also where the writer fails: it has then taken a beginning of the text.
+pub fn answer<W: Sink>(
+    core: &mut Core,
+    id: u32,
+    line: SessionLine,
+    writer: &mut W,
+) -> (Answer, Result<(), Failed>)
+    ensures answered { IsAnswer core.old id line result.0 core.new }
+    ensures written { Writes W.contents W.has_failed writer.old writer.new (answer_text result.0) result.1 }
+{
+    let answer = ask(core, id, line);
+    let written = write_answer(writer, &answer);
+    (answer, written)
+}
+
+/// Asks the core.
+fn ask(core: &mut Core, id: u32, line: SessionLine) -> Answer
+    ensures { IsAnswer core.old id line result core.new }
+{
+    match line {
+        SessionLine::Blank => Answer::Nothing,
+        SessionLine::Refused(refusal) => Answer::Refused(refusal),
+        SessionLine::Command(command) => match core.tenant(id, command) {
+            Ok(receipt) => Answer::Receipt(receipt),
+            Err(NotServed::JournalFull(note)) => Answer::Note(note),
+            Err(NotServed::NoSuchTenancy(note)) => Answer::Note(note),
+            Err(NotServed::NoMemory) => Answer::NoMemory,
+        },
+    }
+}

@@ -1,0 +1,20 @@
+//! A tenant's line protocol.
+//!
+//! - `read_line` tells what a session's line asks: a command, nothing, or a text that follows.
+//! - `answer` asks the core, and writes what the session is told to any [`line_text::Sink`]: exactly the text, or a
+//!   beginning of it where the sink fails. The entry stands then.
+//! - `write_reply`, `write_refused`, `write_session_refusal`, `step_word` and `write_parts` are how answers are spelled.
+//! - In `specs/`, `SessionLines` says what a line asks, and `SessionText` how answers are spelled.
+#![tactic(auto)]
+
+mod asking;
+mod line;
+mod refusal;
+mod text;
+mod told;
+
+pub use asking::answer;
+pub use line::{LineForm, SessionLine, TextKind, read_line};
+pub use refusal::SessionRefusal;
+pub use text::{step_word, write_parts, write_refused, write_reply, write_session_refusal};
+pub use told::Answer;

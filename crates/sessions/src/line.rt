@@ -1,0 +1,94 @@
+ghost use Rattle.std.specs.Prelude.{◌≡◌, map, IfOk};
+ghost use Rattle.sessions.specs.SessionLines.{line_form, text_command, verb_form, words_form};
+
+use crate::refusal::SessionRefusal;
+use line_text::append_words;
+use std::alloc::AllocError;
+use tenant_slot::{Command, SharedText};
+
+/// So many bytes a session's line may have.
+const MAX_LINE: usize = 4096;
+
+/// What a session's line asks. A command stands with its text.
+#[derive(Debug, Drop)]
+pub enum SessionLine {
+    /// No words: it is answered nothing.
+    Blank,
+    Command(Command),
+    Refused(SessionRefusal),
+}
+
+/// Which command a text is for.
+#[derive(Clone, Copy, Debug, PartialEq, Eq)]
+pub enum TextKind {
+    Upload,
+    Change,
+}
+
+impl TextKind {
+    /// The command of that text.
+    pub fn command(self, text: SharedText) -> Command
+        ensures { result ≡ text_command self text }
+    {
+        match self {
+            TextKind::Upload => Command::Upload(text),
+            TextKind::Change => Command::Change(text),
+        }
+    }
+}
+
+/// What a session's line is by itself.
+#[derive(Debug, Drop)]
+pub enum LineForm {
+    Asks(SessionLine),
+    /// The text follows.
+    Begins(TextKind),
+}
+
+/// What a session's line asks, without its end. The room for its words is lent.
+pub fn read_line<'t>(words: &mut Vec<&'t [u8]>, line: &'t [u8]) -> Result<LineForm, AllocError>
+    ensures { IfOk result (λ form. form ≡ line_form line.now) }
+{
+    words.clear();
+    append_words(words, line)?;
+    Ok(words_form(line.len(), words))
+}
+
+/// What the words of a line of that length ask.
+fn words_form(length: usize, words: &[&[u8]]) -> LineForm
+    ensures { result ≡ words_form length (map (λ w. w.now) words.now) }
+{
+    let unknown = LineForm::Asks(SessionLine::Refused(SessionRefusal::UnknownCommand));
+    match words {
+        [] => LineForm::Asks(SessionLine::Blank),
+        [verb] => if length > MAX_LINE {
+            unknown
+        } else {
+            verb_form(*verb)
+        },
+        _ => unknown,
+    }
+}
+
+/// What a line of one word asks.
+fn verb_form(verb: &[u8]) -> LineForm
+    ensures { result ≡ verb_form verb.now }
+{
+    if verb == b"upload".as_slice() {
+        return LineForm::Begins(TextKind::Upload);
+    }
+    if verb == b"change".as_slice() {
+        return LineForm::Begins(TextKind::Change);
+    }
+    LineForm::Asks(if verb == b"status".as_slice() {
+        SessionLine::Command(Command::Status)
+    } else if verb == b"pack".as_slice() {
+        SessionLine::Command(Command::Pack)
+    } else if verb == b"net".as_slice() {
+        SessionLine::Command(Command::Net)
+    } else if verb == b"withdraw".as_slice() {
+        SessionLine::Command(Command::Withdraw)
+    } else {
+        SessionLine::Refused(SessionRefusal::UnknownCommand)
+    })
+}

@@ -1,0 +1,173 @@
+ghost use Rattle.std.specs.Prelude.{◌≡◌, ◌++◌, ◌∷◌, [], codes, decimal, length};
+ghost use Rattle.std.specs.List.{flat_map};
+ghost use Rattle.vpr_files.specs.Writing.{Writes};
+ghost use Rattle.sessions.specs.SessionText.{counted_line, fault_text, numbered_line, refusal_line, reply_text, session_refusal_text, step_text};
+
+use crate::refusal::SessionRefusal;
+use blif::BlifFault;
+use itoa::Buffer;
+use line_text::{Failed, Sink, write_all};
+use tenant_slot::{Refusal, Reply, StepReply};
+
+/// Writes the parts, one behind the other. Where the sink fails, it has taken a beginning of them.
+pub fn write_parts<W: Sink>(sink: &mut W, parts: &[&[u8]]) -> Result<(), Failed>
+    ensures { Writes W.contents W.has_failed sink.old sink.new (flat_map (λ part. part.now) parts.now) result }
+{
+    for part in parts {
+        write_all(sink, part)?;
+    }
+    Ok(())
+}
+
+/// Writes a line: a word, a number, the name that goes with it, and two more parts.
+fn write_numbered<'t, W: Sink>(
+    sink: &mut W,
+    word: &'t [u8],
+    number: u32,
+    name: &'t str,
+    more: &'t [u8],
+    last: &'t [u8],
+) -> Result<(), Failed>
+    ensures { Writes W.contents W.has_failed sink.old sink.new (numbered_line word.now number name.now (more.now ++ last.now)) result }
+{
+    let mut digits = Buffer::new();
+    let digits = digits.format(number).as_bytes();
+    let name = name.as_bytes();
+    write_parts(sink, &[word, b" ", digits, b" ", name, more, last, b"\n"])
+}
+
+/// Writes a line: a word, a name and a count; and the bytes of a file behind it.
+fn write_counted<'t, W: Sink>(
+    sink: &mut W,
+    word: &'t [u8],
+    name: &'t str,
+    count: usize,
+    file: &'t [u8],
+) -> Result<(), Failed>
+    ensures { Writes W.contents W.has_failed sink.old sink.new (counted_line word.now name.now count ++ file.now) result }
+{
+    let mut digits = Buffer::new();
+    let digits = digits.format(count).as_bytes();
+    let name = name.as_bytes();
+    write_parts(sink, &[word, b" ", name, b" ", digits, b"\n", file])
+}
+
+/// Writes a refusal, as the line `refused NUMBER NAME`.
+pub fn write_refused<W: Sink>(sink: &mut W, number: u32, name: &str) -> Result<(), Failed>
+    ensures { Writes W.contents W.has_failed sink.old sink.new (numbered_line (codes "refused") number name.now []) result }
+{
+    write_numbered(sink, b"refused", number, name, b"", b"")
+}
+
+/// Writes the line of a session's refusal.
+pub fn write_session_refusal<W: Sink>(sink: &mut W, refusal: SessionRefusal) -> Result<(), Failed>
+    ensures { Writes W.contents W.has_failed sink.old sink.new (session_refusal_text refusal) result }
+{
+    write_numbered(sink, b"line", refusal.number(), refusal.name(), b"", b"")
+}
+
+/// The word for a step that was made.
+pub fn step_word(reply: StepReply) -> &'static [u8]
+    ensures { result.now ≡ step_text reply }
+{
+    match reply {
+        StepReply::Advanced => b"advanced",
+        StepReply::Finished => b"finished",
+        StepReply::Stale => b"stale",
+    }
+}
+
+/// Writes a reply: its line, and the bytes of a file behind it.
+pub fn write_reply<W: Sink>(sink: &mut W, reply: &Reply) -> Result<(), Failed>
+    ensures { Writes W.contents W.has_failed sink.old sink.new (reply_text reply.now) result }
+{
+    match reply {
+        Reply::Accepted(state) => write_parts(sink, &[b"ok ", state.name().as_bytes(), b"\n"]),
+        Reply::Status(status) => {
+            let name = status.state.name();
+            write_counted(sink, b"status", name, status.steps as usize, b"")
+        }
+        Reply::File { kind, text } => {
+            let file = text.as_bytes();
+            write_counted(sink, b"text", kind.name(), file.len(), file)
+        }
+        Reply::Step(reply) => write_parts(sink, &[step_word(*reply), b"\n"]),
+        Reply::Refused(refusal) => write_refusal(sink, refusal),
+    }
+}
+
+/// Writes the line of a refused command, with its cause.
+fn write_refusal<W: Sink>(sink: &mut W, refusal: &Refusal) -> Result<(), Failed>
+    ensures { Writes W.contents W.has_failed sink.old sink.new (refusal_line refusal.now) result }
+{
+    let (number, name) = (refusal.number(), refusal.name());
+    match refusal {
+        Refusal::WrongState(state) => {
+            write_numbered(
+                sink,
+                b"refused",
+                number,
+                name,
+                b" ",
+                state.name().as_bytes(),
+            )
+        }
+        Refusal::BadBlif(fault) => write_fault(sink, number, name, fault),
+        Refusal::CannotPack(ble) => {
+            let mut digits = Buffer::new();
+            let ble = digits.format(*ble).as_bytes();
+            write_numbered(sink, b"refused", number, name, b" ", ble)
+        }
+    }
+}
+
+/// Writes the line of a refusal for a netlist's fault: its number, its line and its net.
+fn write_fault<W: Sink>(
+    sink: &mut W,
+    number: u32,
+    name: &str,
+    fault: &BlifFault,
+) -> Result<(), Failed>
+    ensures { Writes W.contents W.has_failed sink.old sink.new (numbered_line (codes "refused") number name.now (fault_text fault.now)) result }
+{
+    let (mut digits, mut kinds, mut lines) = (Buffer::new(), Buffer::new(), Buffer::new());
+    let number = digits.format(number).as_bytes();
+    let kind = kinds.format(fault.number()).as_bytes();
+    let line = lines.format(fault.line).as_bytes();
+    let name = name.as_bytes();
+    match fault.net() {
+        Some(net) => {
+            let net = net.as_bytes();
+            write_parts(
+                sink,
+                &[
+                    b"refused ",
+                    number,
+                    b" ",
+                    name,
+                    b" ",
+                    kind,
+                    b" ",
+                    line,
+                    b" ",
+                    net,
+                    b"\n",
+                ],
+            )
+        }
+        None => write_parts(
+            sink,
+            &[
+                b"refused ",
+                number,
+                b" ",
+                name,
+                b" ",
+                kind,
+                b" ",
+                line,
+                b"\n",
+            ],
+        ),
+    }
+}
