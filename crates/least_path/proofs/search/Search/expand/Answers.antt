@@ -1,4 +1,4 @@
-use Rattle.std.proofs.Common.{◌+◌, ap, sym, arith}
+use Rattle.std.proofs.Common.{refl, ap, sym, arith}
 use Rattle.std.proofs.lemmas.List.{get_or_read}
 use Rattle.least_path.specs.Frontier.{no_label}
 use Rattle.least_path.specs.declared.search.Label.{Label}
@@ -17,28 +17,23 @@ overflow_add-end g c =
     let m = meets c.loop-end.invariant c.requires.lawful c.requires.within c.requires.frontier c.ends-ends.result.list.now c.ends-ends.result.base c.ends-ends.ensures c.loop-end-test.true in
     omega (arith, m.within, c.requires.lawful.few)
 
-pub cost-requires : goal.cost-requires
-cost-requires g c =
+pub offer_end-requires-clause-within : goal.offer_end-requires-clause-within
+offer_end-requires-clause-within g c =
     (meets c.loop-end.invariant c.requires.lawful c.requires.within c.requires.frontier c.ends-ends.result.list.now c.ends-ends.result.base c.ends-ends.ensures c.loop-end-test.true).within
 
-pub overflow_add-cost : goal.overflow_add-cost
-overflow_add-cost g c =
-    let m = meets c.loop-end.invariant c.requires.lawful c.requires.within c.requires.frontier c.ends-ends.result.list.now c.ends-ends.result.base c.ends-ends.ensures c.loop-end-test.true in
-    omega (arith, m.small, c.cost.ensures)
-
-pub offer-requires-clause-within : goal.offer-requires-clause-within
-offer-requires-clause-within g c =
-    (meets c.loop-end.invariant c.requires.lawful c.requires.within c.requires.frontier c.ends-ends.result.list.now c.ends-ends.result.base c.ends-ends.ensures c.loop-end-test.true).within
-
-pub offer-requires-clause-room : goal.offer-requires-clause-room
-offer-requires-clause-room g c =
+pub offer_end-requires-clause-room : goal.offer_end-requires-clause-room
+offer_end-requires-clause-room g c =
     let m = meets c.loop-end.invariant c.requires.lawful c.requires.within c.requires.frontier c.ends-ends.result.list.now c.ends-ends.result.base c.ends-ends.ensures c.loop-end-test.true in
     omega (arith, m.room, c.loop-end.self.labels.ok.0)
+
+pub offer_end-requires-clause-small : goal.offer_end-requires-clause-small
+offer_end-requires-clause-small g c =
+    (meets c.loop-end.invariant c.requires.lawful c.requires.within c.requires.frontier c.ends-ends.result.list.now c.ends-ends.result.base c.ends-ends.ensures c.loop-end-test.true).small
 
 pub loop-end-preserved : goal.loop-end-preserved
 loop-end-preserved g c =
     let m = meets c.loop-end.invariant c.requires.lawful c.requires.within c.requires.frontier c.ends-ends.result.list.now c.ends-ends.result.base c.ends-ends.ensures c.loop-end-test.true in
-    expanding_more c.offer.new.self _ c.loop-end.invariant m c.requires.lawful c.requires.within (ap (λ x. c.index.result.now.cost + x) c.cost.ensures) c.in_ok-offer.ensures
+    expanding_more c.offer_end.new.self _ c.loop-end.invariant m c.requires.lawful c.requires.within refl c.in_ok-offer_end.ensures
 
 pub returns-clause-frontier : goal.returns-clause-frontier
 returns-clause-frontier g c = expanded c.loop-end.invariant c.requires.other (past_listed _ _ _ _ c.ends-ends.ensures c.loop-end-test.false)
