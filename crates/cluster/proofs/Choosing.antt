@@ -9,7 +9,7 @@ use Rattle.std.proofs.lemmas.Option.{get_or_from_slice_get}
 use Rattle.arch_file.specs.declared.arch.Arch.{Arch}
 use Rattle.cluster.specs.Bles.{LogicElement, element_at}
 use Rattle.cluster.specs.Clusters.{first_most, grown, next_member}
-use Rattle.cluster.specs.Growing.{free_in}
+use Rattle.cluster.specs.FreeBles.{free_in}
 use Rattle.cluster.proofs.Members.{leading_lawful}
 
 -- numbers below a count

@@ -7,11 +7,11 @@ use Rattle.std.proofs.lemmas.Bool.Decides.{nat_tests, eqb_tells}
 use Rattle.arch_file.specs.declared.arch.Arch.{Arch}
 use Rattle.cluster.specs.Nets.{has}
 use Rattle.cluster.specs.Bles.{LogicElement}
-use Rattle.cluster.specs.ElementGains.{AreTouched, gain_at}
+use Rattle.cluster.specs.SharedNets.{AreTouched, gain_at}
 use Rattle.cluster.specs.Choosing.{IsBest, IsFirst, LeadsOver, SharesNet, beats, is_candidate}
 use Rattle.cluster.specs.Clusters.{may_join, next_member, shared_nets}
 use Rattle.cluster.specs.Choosing.{taken_at}
-use Rattle.cluster.specs.Growing.{free_in}
+use Rattle.cluster.specs.FreeBles.{free_in}
 use Rattle.cluster.proofs.Choice.{IsRising, first_most-is, first_most-none, has-filter, rising-filter, rising-range}
 use Rattle.cluster.proofs.Outside.{has-append}
 

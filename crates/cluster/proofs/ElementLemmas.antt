@@ -10,9 +10,9 @@ use Rattle.rows.specs.ByKey.{items_by_key, items_with}
 use Rattle.cluster.specs.Nets.{IsOnce, distinct, has, with_net, with_nets}
 use Rattle.cluster.specs.Bles.{LogicElement, element_at}
 use Rattle.cluster.specs.Clusters.{nets_of}
-use Rattle.cluster.specs.Elements.{AreElements, AreHaving, pairs_from, row_at}
+use Rattle.cluster.specs.BleIndex.{AreElements, AreHaving, pairs_from, row_at}
 use Rattle.rows.specs.ByKey.{pairs_with}
-use Rattle.cluster.specs.Growing.{IsElement}
+use Rattle.cluster.specs.FreeBles.{IsElement}
 use Rattle.cluster.proofs.Outside.{distinct-more, once-distinct}
 
 -- the pairs of an element, once its inputs are there

@@ -14,7 +14,7 @@ use Rattle.blif.specs.LawfulCircuits.{IsCircuit, IsLatchWithin, IsTableWithin}
 use Rattle.cluster.specs.Nets.{has, distinct, with_net, with_nets}
 use Rattle.cluster.specs.Bles.{LogicElement, bles_of, element_of_latch, element_of_table, in_line_order, is_above, is_read_once, latch_behind, stands_alone}
 use Rattle.cluster.specs.Clusters.{clocks_of, fits_in_cluster, outside_inputs}
-use Rattle.cluster.specs.Growing.{IsElement}
+use Rattle.cluster.specs.FreeBles.{IsElement}
 use Rattle.cluster.specs.Nets.{IsOnce}
 use Rattle.cluster.proofs.Outside.{once-distinct, with_nets-new}
 

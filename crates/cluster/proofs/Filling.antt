@@ -4,7 +4,7 @@ use Rattle.std.proofs.lemmas.List.Elements.{All-nil, All-cons, All-append}
 use Rattle.arch_file.specs.declared.arch.Arch.{Arch}
 use Rattle.cluster.specs.Bles.{LogicElement}
 use Rattle.cluster.specs.Clusters.{cluster_of, first_most, grown, input_count_at, next_member, with_member}
-use Rattle.cluster.specs.Growing.{free_in}
+use Rattle.cluster.specs.FreeBles.{free_in}
 use Rattle.cluster.proofs.Choosing.{grown_full}
 use Rattle.cluster.proofs.ChoosingLemmas.{next_none}
 use Rattle.cluster.proofs.Fitting.{cluster_is}

@@ -11,7 +11,7 @@ use Rattle.blif.specs.LawfulCircuits.{IsCircuit}
 use Rattle.cluster.specs.Nets.{has}
 use Rattle.cluster.specs.Bles.{LogicElement, bles_of}
 use Rattle.cluster.specs.Clusters.{PackedCircuit, cluster_of, clusters_after, free_of, packed_of, packing_steps, unfit_among, unfit_of, with_cluster}
-use Rattle.cluster.specs.Growing.{GrowerState}
+use Rattle.cluster.specs.FreeBles.{FreeBlesState}
 use Rattle.cluster.specs.Packing.{IsPacked}
 use Rattle.cluster.specs.UnderWay.{IsUnderWay, steps_reached}
 use Rattle.cluster.proofs.Marking.{filter_filter, free_same}
@@ -35,7 +35,7 @@ free_with elements clusters (seed ∷ others) =
     by number false e false f more = grind (arith, e, f, more)
 
 -- a packing under way whose next step has made its cluster
-pub record IsStepped (circuit : Circuit) (arch : Arch) (growth : GrowerState) (clusters : List (List ℕ)) (made : ℕ) : Type 0 where
+pub record IsStepped (circuit : Circuit) (arch : Arch) (growth : FreeBlesState) (clusters : List (List ℕ)) (made : ℕ) : Type 0 where
   pub fit : unfit_of circuit arch ≡ None
   pub elements : growth.elements ≡ bles_of circuit
   pub free : growth.free ≡ free_of (bles_of circuit) clusters
@@ -50,7 +50,7 @@ exact_more arch elements [] clusters made is exact = ap (with_cluster clusters) 
 exact_more arch elements (number ∷ free) clusters made is exact =
     ap (λ ns. with_cluster clusters (cluster_of arch elements ns)) is ∙ ap (λ cs. with_cluster cs (cluster_of arch elements (free_of elements cs))) exact
 
-pub stepped : (circuit : Circuit) (arch : Arch) (old new : GrowerState) (clusters later : List (List ℕ)) (made : ℕ) → IsUnderWay circuit arch old clusters made → new.elements ≡ old.elements → later ≡ with_cluster clusters (cluster_of arch old.elements old.free) → new.free ≡ filter (λ number. not (has (cluster_of arch old.elements old.free) number)) old.free → IsStepped circuit arch new later made
+pub stepped : (circuit : Circuit) (arch : Arch) (old new : FreeBlesState) (clusters later : List (List ℕ)) (made : ℕ) → IsUnderWay circuit arch old clusters made → new.elements ≡ old.elements → later ≡ with_cluster clusters (cluster_of arch old.elements old.free) → new.free ≡ filter (λ number. not (has (cluster_of arch old.elements old.free) number)) old.free → IsStepped circuit arch new later made
 stepped circuit arch old new clusters later made way same added left = record {
   fit = way.fit;
   elements = same ∙ way.elements;
@@ -70,11 +70,11 @@ unfolding packed_of
 steps_are circuit arch = refl
 
 -- more steps are to come while something is free
-pub record GoesFurther (circuit : Circuit) (arch : Arch) (growth : GrowerState) (clusters : List (List ℕ)) (made : ℕ) : Type 0 where
+pub record GoesFurther (circuit : Circuit) (arch : Arch) (growth : FreeBlesState) (clusters : List (List ℕ)) (made : ℕ) : Type 0 where
   pub way : IsUnderWay circuit arch growth clusters (made + 1)
   pub more : made + 1 < packing_steps circuit arch
 
-pub goes_further : (circuit : Circuit) (arch : Arch) (growth : GrowerState) (clusters : List (List ℕ)) (made : ℕ) → IsStepped circuit arch growth clusters made → 0 < length growth.free → GoesFurther circuit arch growth clusters made
+pub goes_further : (circuit : Circuit) (arch : Arch) (growth : FreeBlesState) (clusters : List (List ℕ)) (made : ℕ) → IsStepped circuit arch growth clusters made → 0 < length growth.free → GoesFurther circuit arch growth clusters made
 goes_further circuit arch growth clusters made s some = by growth.free refl some
   where
     by : (free : List ℕ) → growth.free ≡ free → 0 < length free → GoesFurther circuit arch growth clusters made
@@ -98,12 +98,12 @@ goes_further circuit arch growth clusters made s some = by growth.free refl some
         }
 
 -- nothing is free any more
-pub record Ends (circuit : Circuit) (arch : Arch) (growth : GrowerState) (clusters : List (List ℕ)) (made : ℕ) : Type 0 where
+pub record Ends (circuit : Circuit) (arch : Arch) (growth : FreeBlesState) (clusters : List (List ℕ)) (made : ℕ) : Type 0 where
   pub way : IsUnderWay circuit arch growth clusters made
   pub packed : packed_of circuit arch ≡ record { circuit = circuit; arch = arch; clusters = clusters }
   pub steps : made + 1 ≡ packing_steps circuit arch
 
-pub ends : (circuit : Circuit) (arch : Arch) (growth : GrowerState) (clusters : List (List ℕ)) (made : ℕ) → IsStepped circuit arch growth clusters made → growth.free ≡ [] → Ends circuit arch growth clusters made
+pub ends : (circuit : Circuit) (arch : Arch) (growth : FreeBlesState) (clusters : List (List ℕ)) (made : ℕ) → IsStepped circuit arch growth clusters made → growth.free ≡ [] → Ends circuit arch growth clusters made
 ends circuit arch growth clusters made s none =
     let elements = bles_of circuit in
     let left : free_of elements (clusters_after arch elements (suc made)) ≡ [] = sym (s.free ∙ ap (free_of elements) s.exact) ∙ none in
@@ -133,7 +133,7 @@ unfolding clusters_after
 begins_exact arch elements [] is = sym (ap (with_cluster []) (ap (cluster_of arch elements) (sym is) ∙ no_cluster arch elements))
 begins_exact arch elements (number ∷ free) is = refl
 
-pub begins : (circuit : Circuit) (arch : Arch) (growth : GrowerState) (clusters : List (List ℕ)) → unfit_of circuit arch ≡ None → growth.elements ≡ bles_of circuit → growth.free ≡ range_with_len 0 (length (bles_of circuit)) → clusters ≡ [] → IsUnderWay circuit arch growth clusters 0
+pub begins : (circuit : Circuit) (arch : Arch) (growth : FreeBlesState) (clusters : List (List ℕ)) → unfit_of circuit arch ≡ None → growth.elements ≡ bles_of circuit → growth.free ≡ range_with_len 0 (length (bles_of circuit)) → clusters ≡ [] → IsUnderWay circuit arch growth clusters 0
 begins circuit arch growth clusters fit same free none =
     let elements = bles_of circuit in
     let g = going_first arch elements in

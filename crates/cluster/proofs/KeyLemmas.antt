@@ -5,9 +5,9 @@ use Rattle.std.proofs.lemmas.List.Sums.{length-filter, count_by-le-length}
 use Rattle.cluster.specs.Bles.{LogicElement, element_at}
 use Rattle.cluster.specs.Clusters.{input_count_at}
 use Rattle.cluster.specs.FirstFree.{AreLacks, HaveAtMost, key_at, own_outside}
-use Rattle.cluster.specs.Growing.{IsElement}
+use Rattle.cluster.specs.FreeBles.{IsElement}
 use Rattle.cluster.proofs.ElementLemmas.{inputs_once}
-use Rattle.cluster.proofs.GrowthLemmas.{once_few}
+use Rattle.cluster.proofs.GrowingLemmas.{once_few}
 use Rattle.cluster.proofs.Choosing.{element_is}
 
 -- the element that a lookup gave has few inputs

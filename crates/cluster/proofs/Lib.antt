@@ -27,7 +27,7 @@ mod Examples
 pub mod Raising
 pub mod Choice
 pub mod ElementLemmas
-pub mod GrowthLemmas
+pub mod GrowingLemmas
 pub mod ChoosingLemmas
 pub mod FreeNumbers
 pub mod KeyLemmas

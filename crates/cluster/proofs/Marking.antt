@@ -5,7 +5,7 @@ use Rattle.std.proofs.lemmas.Grind.{get_or-set_at}
 use Rattle.std.proofs.lemmas.Bool.Decides.{eqb_tells, nat_tests}
 use Rattle.std.proofs.lemmas.List.Elements.{filter_agree}
 use Rattle.cluster.specs.Nets.{has}
-use Rattle.cluster.specs.Growing.{free_in}
+use Rattle.cluster.specs.FreeBles.{free_in}
 use Rattle.cluster.proofs.Outside.{has-append}
 
 -- two filters, one after the other

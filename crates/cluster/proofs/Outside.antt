@@ -10,7 +10,7 @@ use Rattle.std.proofs.lemmas.List.Elements.{filter-append}
 use Rattle.std.proofs.lemmas.List.Folds.{list_any-append}
 use Rattle.cluster.specs.Nets.{IsOnce, distinct, has, with_net, with_nets}
 use Rattle.cluster.specs.Bles.{LogicElement}
-use Rattle.cluster.specs.Gains.{gained, loses}
+use Rattle.cluster.specs.OutsideInputs.{gained, loses}
 use Rattle.cluster.specs.Clusters.{inputs_of, nets_of, outputs_of, outside_inputs}
 
 pub has-append : (xs ys : List ℕ) (net : ℕ) → has (xs ++ ys) net ≡ (has xs net || has ys net)

@@ -3,7 +3,7 @@ use Rattle.std.proofs.Common.{◌≡◌, ◌≢◌, ℕ, suc, zero, ◌+◌, ◌
 use Rattle.std.proofs.lemmas.List.{drop_all, drop_more, take_more}
 use Rattle.std.proofs.lemmas.Bool.Decides.{nat_tests, eqb_tells}
 use Rattle.cluster.specs.Nets.{IsOnce, has}
-use Rattle.cluster.specs.ElementGains.{AreRaised, AreTouched, ShareNothing, gain_at, is_raised}
+use Rattle.cluster.specs.SharedNets.{AreRaised, AreTouched, ShareNothing, gain_at, is_raised}
 use Rattle.cluster.proofs.Outside.{has-append}
 
 -- no element is a number that isn't among them

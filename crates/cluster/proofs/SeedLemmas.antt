@@ -7,10 +7,10 @@ use Rattle.cluster.specs.Choosing.{LeadsOver, taken_at}
 use Rattle.cluster.specs.Clusters.{first_most, input_count_at}
 use Rattle.cluster.specs.declared.first_free.FirstFree.{FirstFree}
 use Rattle.cluster.specs.FirstFree.{AreLacks, IsFirstFree, IsKept, IsLowest, key_at}
-use Rattle.cluster.specs.Growth.{IsSeeded}
+use Rattle.cluster.specs.GrowingCluster.{IsSeeded}
 use Rattle.cluster.proofs.FreeNumbers.{kept_free}
 use Rattle.std.proofs.lemmas.List.{take-append-le, take_all}
-use Rattle.cluster.specs.Growing.{free_in}
+use Rattle.cluster.specs.FreeBles.{free_in}
 use Rattle.cluster.proofs.Choice.{first_most-is, first_most-none, has-filter, rising-filter, rising-range}
 use Rattle.cluster.proofs.Choosing.{first_most_lawful, free_within}
 use Rattle.cluster.proofs.ChoosingLemmas.{has-range, in-range}

@@ -7,7 +7,7 @@ use Rattle.arch_file.specs.Arch.{IsArch, input_count}
 use Rattle.blif.specs.declared.circuit.Circuit.{Circuit}
 use Rattle.cluster.specs.Bles.{LogicElement, bles_of, element_at}
 use Rattle.cluster.specs.Clusters.{fits_in_cluster, unfit_among, unfit_of}
-use Rattle.cluster.specs.Growing.{IsElement}
+use Rattle.cluster.specs.FreeBles.{IsElement}
 use Rattle.cluster.proofs.Choosing.{element_is}
 use Rattle.cluster.proofs.Elements.{alone_fits}
 

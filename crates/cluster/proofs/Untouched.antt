@@ -4,20 +4,20 @@ use Rattle.std.specs.List.{flat_map}
 use Rattle.std.proofs.lemmas.Bool.Decides.{eqb_tells, nat_tests}
 use Rattle.arch_file.specs.declared.arch.Arch.{Arch}
 use Rattle.arch_file.specs.Arch.{input_count}
-use Rattle.cluster.specs.declared.growth.Growth.{Growth}
+use Rattle.cluster.specs.declared.growing_cluster.GrowingCluster.{GrowingCluster}
 use Rattle.cluster.specs.Nets.{IsOnce, has}
 use Rattle.cluster.specs.Bles.{LogicElement, element_at}
 use Rattle.cluster.specs.Choosing.{IsBest, SharesNet, is_candidate, taken_at}
 use Rattle.cluster.specs.Clusters.{elements_at, fits_in_cluster, inputs_of, may_join, nets_of, outputs_of, outside_inputs}
-use Rattle.cluster.specs.ElementGains.{gain_at}
-use Rattle.cluster.specs.Elements.{AreLawful, ElementsOver}
+use Rattle.cluster.specs.SharedNets.{gain_at}
+use Rattle.cluster.specs.BleIndex.{AreLawful, BlesOver}
 use Rattle.cluster.specs.FirstFree.{AreAbove, AreOutsideCounts, own_outside}
-use Rattle.cluster.specs.Gains.{gained, loses}
-use Rattle.cluster.specs.Growing.{IsElement}
-use Rattle.cluster.specs.Growth.{IsGrowth}
+use Rattle.cluster.specs.OutsideInputs.{gained, loses}
+use Rattle.cluster.specs.FreeBles.{IsElement}
+use Rattle.cluster.specs.GrowingCluster.{IsGrowingCluster}
 use Rattle.cluster.proofs.ElementLemmas.{inputs_once}
 use Rattle.cluster.proofs.Fitting.{may_join_full}
-use Rattle.cluster.proofs.GrowthLemmas.{has_room, members_more}
+use Rattle.cluster.proofs.GrowingLemmas.{has_room, members_more}
 use Rattle.cluster.proofs.Outside.{has-append, has-distinct, has-member_nets, outside_more}
 
 -- where no net is shared each of them is apart
@@ -40,7 +40,7 @@ same_kept test other (first ∷ nets) agree =
     let ih = same_kept test other nets (λ net there. agree net (grind (arith, there))) in
     grind (arith, here, ih)
 
-module _ (elements : List LogicElement) (nets : ℕ) (growth : Growth) (g : IsGrowth elements nets growth) (number : ℕ) (small : number < length elements) (once : IsOnce (element_at elements number).inputs) (none : gain_at growth.gains number ≡ 0) where
+module _ (elements : List LogicElement) (nets : ℕ) (growth : GrowingCluster) (g : IsGrowingCluster elements nets growth) (number : ℕ) (small : number < length elements) (once : IsOnce (element_at elements number).inputs) (none : gain_at growth.gains number ≡ 0) where
   abbrev element : LogicElement
   element = element_at elements number
 
@@ -78,7 +78,7 @@ module _ (elements : List LogicElement) (nets : ℕ) (growth : Growth) (g : IsGr
       by false b c h = absurd cc
 
 -- where none of those that share a net may be added, what is free above the room isn't either
-pub passed_over : (arch : Arch) (over : ElementsOver) (growth : Growth) (taken : List Bool) (keys : List ℕ) (pins end : ℕ) → pins ≡ input_count arch.pins → IsGrowth over.elements over.nets growth → AreLawful over → AreOutsideCounts over.elements keys
+pub passed_over : (arch : Arch) (over : BlesOver) (growth : GrowingCluster) (taken : List Bool) (keys : List ℕ) (pins end : ℕ) → pins ≡ input_count arch.pins → IsGrowingCluster over.elements over.nets growth → AreLawful over → AreOutsideCounts over.elements keys
     → IsBest arch over.elements taken growth.members.items growth.gains (SharesNet over.elements growth.gains) None → AreAbove taken keys (pins - growth.outside) end → end ≤ length over.elements
     → (other : ℕ) → other < end → is_candidate arch over.elements taken growth.members.items other ≡ false
 passed_over arch over growth taken keys pins end pins_are g lawful counts alone above within other below = by (is_candidate arch over.elements taken growth.members.items other) refl (gain_at growth.gains other) refl

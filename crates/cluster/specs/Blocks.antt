@@ -25,7 +25,7 @@ blocks_of packed = map InputPad packed.circuit.inputs ++ map OutputPad packed.ci
 abbrev pub net_name : Circuit → ℕ → List ℕ
 net_name circuit net = slice_index_or circuit.nets net []
 
--- the name of a cluster with these elements: its seed's, which is that of the seed's output
+-- the name of a cluster with these BLEs: its seed's, which is that of the seed's output
 abbrev pub seed_name : Circuit → List LogicElement → List ℕ
 seed_name circuit [] = []
 seed_name circuit (seed ∷ others) = net_name circuit seed.output
@@ -58,7 +58,7 @@ is_empty (reader ∷ readers) = false
 abbrev pub leaves_block : PackedCircuit → ℕ → ℕ → Bool
 leaves_block packed driver net = is_global packed.circuit net || not (is_empty (readers_of packed driver net))
 
--- the nets that a block drives, in the order of its elements
+-- the nets that a block drives, in the order of its BLEs
 abbrev pub nets_from : PackedCircuit → ℕ → Block → List ℕ
 nets_from packed driver (InputPad net) = net ∷ []
 nets_from packed driver (OutputPad net) = []
@@ -74,7 +74,7 @@ pub record BlockNet : Type 0 where
 abbrev pub block_net : PackedCircuit → ℕ → ℕ → BlockNet
 block_net packed driver net = record { net = net; driver = driver; readers = readers_of packed driver net; global = is_global packed.circuit net }
 
--- the nets, numbered by driving block, then by element
+-- the nets, numbered by driving block, then by BLE
 abbrev pub block_nets : PackedCircuit → List BlockNet
 block_nets packed = flat_map (λ block. map (block_net packed block.0) (nets_from packed block.0 block.1)) (enumerate_from 0 (blocks_of packed))
 

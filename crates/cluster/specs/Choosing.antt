@@ -3,13 +3,13 @@ use Rattle.std.specs.Prelude.{ℕ, ◌≡◌, ◌<◌, ◌≤◌, ◌⊎◌, Boo
 use Rattle.arch_file.specs.declared.arch.Arch.{Arch}
 use Rattle.cluster.specs.Bles.{LogicElement}
 use Rattle.cluster.specs.Clusters.{may_join}
-use Rattle.cluster.specs.ElementGains.{gain_at}
+use Rattle.cluster.specs.SharedNets.{gain_at}
 
--- whether the element is taken
+-- whether the BLE is taken
 abbrev pub taken_at : List Bool → ℕ → Bool
 taken_at taken number = slice_index_or taken number true
 
--- the element is free, and may be added to the members
+-- the BLE is free, and may be added to the members
 abbrev pub is_candidate : Arch → List LogicElement → List Bool → List ℕ → ℕ → Bool
 is_candidate arch elements taken members number = not (taken_at taken number) && may_join arch elements members number
 
@@ -17,7 +17,7 @@ is_candidate arch elements taken members number = not (taken_at taken number) &&
 abbrev pub LeadsOver : (ℕ → ℕ) → ℕ → ℕ → Type 0
 LeadsOver score number other = (score other < score number) ⊎ ((score other ≡ score number) × (number ≤ other))
 
--- the element shares more nets than the best so far, or as many and is lesser
+-- the BLE shares more nets than the best so far, or as many and is lesser
 abbrev pub beats : List ℕ → ℕ → Option ℕ → Bool
 beats gains number None = true
 beats gains number (Some best) = nat_lt (gain_at gains best) (gain_at gains number) || (gain_at gains number == gain_at gains best && nat_lt number best)
@@ -34,7 +34,7 @@ abbrev pub IsBest : Arch → List LogicElement → List Bool → List ℕ → Li
 IsBest arch elements taken members gains Among None = (other : ℕ) → Among other → is_candidate arch elements taken members other ≡ false
 IsBest arch elements taken members gains Among (Some best) = IsLeader arch elements taken members gains Among best
 
--- an element that shares a net
+-- a BLE that shares a net
 pub record SharesNet (elements : List LogicElement) (gains : List ℕ) (number : ℕ) : Type 0 where
   pub small : number < length elements
   pub shares : 0 < gain_at gains number

@@ -11,13 +11,13 @@ use Rattle.cluster.specs.Clusters.{elements_at, clocks_of, outside_inputs}
 use Rattle.cluster.specs.Blocks.{rank_of}
 use Rattle.rows.specs.ByKey.{items_with}
 
--- the element's nets are among so many
+-- the BLE's nets are among so many
 pub record IsElementWithin (count : ℕ) (element : LogicElement) : Type 0 where
   pub inputs : All (λ net. net < count) element.inputs
   pub output : element.output < count
   pub clock : ForSome element.clock (λ net. net < count)
 
--- the clocks of elements, as often as they clock one
+-- the clocks of BLEs, as often as they clock one
 abbrev pub all_clocks_of : List LogicElement → List ℕ
 all_clocks_of elements = flat_map (λ element. option_to_list element.clock) elements
 
@@ -29,11 +29,11 @@ inputs_of_clusters elements clusters = map (λ members. outside_inputs (elements
 abbrev pub clocks_of_clusters : List LogicElement → List (List ℕ) → List (List ℕ)
 clocks_of_clusters elements clusters = map (λ members. clocks_of (elements_at elements members)) clusters
 
--- the nets on the pins of a cluster with these elements, but for the output pins
+-- the nets on the pins of a cluster with these BLEs, but for the output pins
 abbrev pub nets_read : List LogicElement → List ℕ
 nets_read elements = with_nets (outside_inputs elements) (clocks_of elements)
 
--- the elements of the cluster of that number
+-- the BLEs of the cluster of that number
 abbrev pub members_of : List LogicElement → List (List ℕ) → ℕ → List LogicElement
 members_of elements clusters cluster = elements_at elements (slice_index_or clusters cluster [])
 

@@ -43,21 +43,21 @@ pub record IsFirstFree (taken : List Bool) (index : FirstFree) : Type 0 where
   pub bounds : All (λ key. key < length index.firsts.items) index.keys.items
   pub passed : (bound : ℕ) → bound < length index.firsts.items → AreAbove taken index.keys.items bound (slice_index_or index.firsts.items bound 0)
 
--- no element has more inputs
+-- no BLE has more inputs
 abbrev pub HaveAtMost : List LogicElement → ℕ → Type 0
 HaveAtMost elements most = (number : ℕ) → number < length elements → input_count_at elements number ≤ most
 
--- each key is what the element's inputs lack of the most
+-- each key is what the BLE's inputs lack of the most
 pub record AreLacks (elements : List LogicElement) (keys : List ℕ) : Type 0 where
   pub most : ℕ
   pub count : length keys ≡ length elements
   pub sum : (number : ℕ) → number < length elements → key_at keys number + input_count_at elements number ≡ most
 
--- the nets that the element reads and doesn't drive
+-- the nets that the BLE reads and doesn't drive
 abbrev pub own_outside : LogicElement → List ℕ
 own_outside element = filter (λ net. not (net == element.output)) element.inputs
 
--- each key is how many nets the element reads and doesn't drive
+-- each key is how many nets the BLE reads and doesn't drive
 pub record AreOutsideCounts (elements : List LogicElement) (keys : List ℕ) : Type 0 where
   pub count : length keys ≡ length elements
   pub counted : (number : ℕ) → number < length elements → key_at keys number ≡ length (own_outside (element_at elements number))

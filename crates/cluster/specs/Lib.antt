@@ -6,11 +6,11 @@ pub mod Packing
 pub mod FlatBles
 pub mod Reads
 pub mod CircuitReaders
-pub mod Growing
-pub mod Gains
-pub mod ElementGains
-pub mod Elements
-pub mod Growth
+pub mod FreeBles
+pub mod OutsideInputs
+pub mod SharedNets
+pub mod BleIndex
+pub mod GrowingCluster
 pub mod Choosing
 pub mod FirstFree
 pub mod PackedTables

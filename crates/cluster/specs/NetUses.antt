@@ -31,7 +31,7 @@ net_by uses driver net = record { net = net; driver = driver; readers = others d
 abbrev pub input_nets : Circuit → NetUses → ℕ → List BlockNet
 input_nets circuit uses count = flat_map (λ pad. net_by uses pad (slice_index circuit.inputs pad) ∷ []) (range_with_len 0 count)
 
--- the nets that a block with these elements drives
+-- the nets that a block with these BLEs drives
 abbrev pub driven_nets : NetUses → ℕ → List LogicElement → List BlockNet
 driven_nets uses driver elements = map (net_by uses driver) (filter (leaves_by uses driver) (outputs_of elements))
 

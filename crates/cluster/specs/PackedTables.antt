@@ -18,7 +18,7 @@ pub record AreTablesOf (packed : PackedCircuit) (tables : PackedTables) : Type 0
   pub nets : tables.nets ≡ block_nets packed
   pub ranks : tables.ranks.items ≡ pin_ranks packed.arch.pins
 
--- the elements and the tables are those of the packed circuit
+-- the BLEs and the tables are those of the packed circuit
 pub record ArePartsOf (packed : PackedCircuit) (elements : List LogicElement) (tables : PackedTables) : Type 0 where
   pub lawful : IsPacked packed
   pub bles : elements ≡ bles_of packed.circuit

@@ -8,7 +8,7 @@ use Rattle.cluster.specs.declared.packing.PackEnd.TheVariants.{More, Last}
 use Rattle.cluster.specs.Clusters.{PackingUnderWay, one_more, packed_of, packing_steps}
 pub use Rattle.cluster.specs.LawfulPackings.{IsPacked}
 
--- what a check may answer where that is the least element that doesn't fit alone
+-- what a check may answer where that is the least BLE that doesn't fit alone
 abbrev pub IsChecked : Option ℕ → Result (Unit {0}) PackError → Type 0
 IsChecked unfit (Ok u) = unfit ≡ None
 IsChecked unfit (Err (Fault (CannotFit number))) = unfit ≡ Some number

@@ -4,15 +4,15 @@ use Rattle.arch_file.specs.declared.arch.Arch.{Arch}
 use Rattle.blif.specs.declared.circuit.Circuit.{Circuit}
 use Rattle.cluster.specs.Bles.{bles_of}
 use Rattle.cluster.specs.Clusters.{clusters_after, free_of, unfit_of}
-use Rattle.cluster.specs.Growing.{GrowerState}
+use Rattle.cluster.specs.FreeBles.{FreeBlesState}
 
 -- the steps whose clusters are made: where nothing is free any more, the step under way has made its cluster already
 abbrev pub steps_reached : List ℕ → ℕ → ℕ
 steps_reached [] made = suc made
 steps_reached (number ∷ free) made = made
 
--- the clusters are those of the steps made, each of which took an element, and what is in none of them is free
-pub record IsUnderWay (circuit : Circuit) (arch : Arch) (growth : GrowerState) (clusters : List (List ℕ)) (made : ℕ) : Type 0 where
+-- the clusters are those of the steps made, each of which took a BLE, and what is in none of them is free
+pub record IsUnderWay (circuit : Circuit) (arch : Arch) (growth : FreeBlesState) (clusters : List (List ℕ)) (made : ℕ) : Type 0 where
   pub fit : unfit_of circuit arch ≡ None
   pub elements : growth.elements ≡ bles_of circuit
   pub free : growth.free ≡ free_of (bles_of circuit) clusters

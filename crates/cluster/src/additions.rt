@@ -3,28 +3,28 @@ ghost use Rattle.std.specs.Prelude.{◌≡◌, ◌<◌, ◌≤◌, All, length, 
 ghost use Rattle.arch_file.specs.Arch.{IsArch};
 ghost use Rattle.cluster.specs.Clusters.{cluster_of, first_most, grown, input_count_at, unfit_among};
 ghost use Rattle.cluster.specs.FirstFree.{AreOutsideCounts, IsFirstFree};
-ghost use Rattle.cluster.specs.Growing.{free_in};
-ghost use Rattle.cluster.specs.Growth.{IsGrowth, IsRoomFor};
+ghost use Rattle.cluster.specs.FreeBles.{free_in};
+ghost use Rattle.cluster.specs.GrowingCluster.{IsGrowingCluster, IsRoomFor};
 
+use crate::ble_index::BleIndex;
 use crate::candidates::Candidates;
-use crate::element_index::Elements;
 use crate::first_free::FirstFree;
-use crate::growth::Growth;
+use crate::growing_cluster::GrowingCluster;
 use crate::pins::input_count;
 use arch_file::Arch;
 use std::alloc::AllocError;
 
-impl Growth {
+impl GrowingCluster {
     /// Adds members while there is one to add.
     fn grow(
         &mut self,
         arch: &Arch,
-        elements: &Elements,
+        elements: &BleIndex,
         is_taken: &[bool],
         by_outside: &mut FirstFree,
     ) -> Result<(), AllocError>
         requires arch { IsArch arch.now }
-        requires growth { IsGrowth elements.now.elements elements.now.nets self.old }
+        requires growth { IsGrowingCluster elements.now.elements elements.now.nets self.old }
         requires taken { length is_taken.now ≡ length elements.now.elements }
         requires few { length elements.now.elements ≤ 8192 }
         requires counts { AreOutsideCounts elements.now.elements by_outside.old.keys.items }
@@ -55,11 +55,11 @@ impl Growth {
         Ok(())
     }
 
-    /// Chooses the members of a cluster among the elements that are not taken, of which that is the seed.
+    /// Chooses the members of a cluster among the BLEs that are not taken, of which that is the seed.
     pub(crate) fn choose(
         &mut self,
         arch: &Arch,
-        elements: &Elements,
+        elements: &BleIndex,
         is_taken: &[bool],
         by_outside: &mut FirstFree,
         seed: Option<usize>,

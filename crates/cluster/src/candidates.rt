@@ -5,12 +5,12 @@ ghost use Rattle.arch_file.specs.Arch.{input_count};
 ghost use Rattle.cluster.specs.Clusters.{may_join, next_member};
 ghost use Rattle.cluster.specs.Choosing.{IsBest, IsFirst, SharesNet, beats, is_candidate};
 ghost use Rattle.cluster.specs.FirstFree.{AreOutsideCounts, IsFirstFree};
-ghost use Rattle.cluster.specs.Growing.{free_in};
-ghost use Rattle.cluster.specs.Growth.{IsGrowth};
+ghost use Rattle.cluster.specs.FreeBles.{free_in};
+ghost use Rattle.cluster.specs.GrowingCluster.{IsGrowingCluster};
 
-use crate::element_index::Elements;
+use crate::ble_index::BleIndex;
 use crate::first_free::FirstFree;
-use crate::growth::Growth;
+use crate::growing_cluster::GrowingCluster;
 use arch_file::Arch;
 use std::ops::Range;
 
@@ -20,16 +20,16 @@ pub(crate) struct Candidates<'a> {
     pub(crate) arch: &'a Arch,
     /// How many input pins a cluster has.
     pub(crate) pins: usize,
-    pub(crate) elements: &'a Elements,
+    pub(crate) elements: &'a BleIndex,
     pub(crate) is_taken: &'a [bool],
-    pub(crate) growth: &'a Growth,
+    pub(crate) growth: &'a GrowingCluster,
     ghost all_pins: { pins ≡ input_count arch.now.pins },
-    ghost under_way: { IsGrowth elements.now.elements elements.now.nets growth.now },
+    ghost under_way: { IsGrowingCluster elements.now.elements elements.now.nets growth.now },
     ghost marks: { length is_taken.now ≡ length elements.now.elements },
 }
 
 impl Candidates<'_> {
-    /// Whether the element is free, and fits with the members.
+    /// Whether the BLE is free, and fits with the members.
     fn is_candidate(&self, number: u32) -> bool
         requires number { number < length self.now.elements.now.elements }
         ensures { result ≡ is_candidate self.now.arch.now self.now.elements.now.elements self.now.is_taken.now self.now.growth.now.members.items number }
@@ -41,7 +41,7 @@ impl Candidates<'_> {
                 .fits_with(self.arch, self.pins, self.elements, number)
     }
 
-    /// Whether the element shares more nets with the members than the best so far, or as many and is lesser.
+    /// Whether the BLE shares more nets with the members than the best so far, or as many and is lesser.
     fn beats(&self, number: u32, best: Option<u32>) -> bool
         requires number { number < length self.now.growth.now.gains }
         requires best { ForSome best (λ other. other < length self.now.growth.now.gains) }
@@ -57,7 +57,7 @@ impl Candidates<'_> {
         }
     }
 
-    /// Whether the element is to be taken rather than the best so far.
+    /// Whether the BLE is to be taken rather than the best so far.
     fn prefers(&self, number: u32, best: Option<u32>) -> bool
         requires number { number < length self.now.elements.now.elements }
         requires best { ForSome best (λ other. other < length self.now.elements.now.elements) }
@@ -66,7 +66,7 @@ impl Candidates<'_> {
         self.beats(number, best) && self.is_candidate(number)
     }
 
-    /// Of the elements that share a net with the members, the one to take next, if one is free and fits.
+    /// Of the BLEs that share a net with the members, the one to take next, if one is free and fits.
     fn best_touched(&self) -> Option<u32>
         ensures { IsBest self.now.arch.now self.now.elements.now.elements self.now.is_taken.now self.now.growth.now.members.items self.now.growth.now.gains (SharesNet self.now.elements.now.elements self.now.growth.now.gains) result }
     {
@@ -79,7 +79,7 @@ impl Candidates<'_> {
         best
     }
 
-    /// The least element from the start on that is free and fits.
+    /// The least BLE from the start on that is free and fits.
     fn fitting_from(&self, numbers: Range<u32>) -> Option<u32>
         requires end { numbers.end ≡ length self.now.elements.now.elements }
         requires before { (other : ℕ) → other < numbers.start → is_candidate self.now.arch.now self.now.elements.now.elements self.now.is_taken.now self.now.growth.now.members.items other ≡ false }
@@ -93,7 +93,7 @@ impl Candidates<'_> {
         None
     }
 
-    /// The least element that is free and fits, where none fits that shares a net with the members. What shares none
+    /// The least BLE that is free and fits, where none fits that shares a net with the members. What shares none
     /// brings all its outside inputs, so the search begins at the first that has few enough of them.
     fn first_fitting(&self, by_outside: &mut FirstFree) -> Option<u32>
         requires few { length self.now.elements.now.elements ≤ 8192 }
@@ -112,7 +112,7 @@ impl Candidates<'_> {
         }
     }
 
-    /// The element to take next: of those that are free and fit the one that shares most nets with the members, the
+    /// The BLE to take next: of those that are free and fit the one that shares most nets with the members, the
     /// least number deciding.
     pub(crate) fn next_member(&self, by_outside: &mut FirstFree) -> Option<u32>
         requires few { length self.now.elements.now.elements ≤ 8192 }

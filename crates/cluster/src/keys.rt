@@ -1,6 +1,6 @@
 //! The keys by which free BLEs are found: the seed has most inputs, and what joins a cluster reads few nets from outside.
 ghost use Rattle.std.specs.Prelude.{◌≡◌, ◌≤◌, ◌==◌, All, filter, length, not, IfOk};
-ghost use Rattle.cluster.specs.Growing.{IsElement};
+ghost use Rattle.cluster.specs.FreeBles.{IsElement};
 ghost use Rattle.cluster.specs.FirstFree.{AreLacks, AreOutsideCounts, HaveAtMost};
 
 use crate::bles::{Ble, Bles};

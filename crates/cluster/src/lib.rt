@@ -1,22 +1,23 @@
 //! Packing: the tables and latches of a circuit as basic logic elements (BLEs), and these in clusters, as T-VPack does.
 //!
-//! - `Bles` are the elements, `check` says whether each fits into a cluster alone.
-//! - `Packing` makes the clusters, one a step. `Packed` is the result, with its blocks, nets and pins.
+//! - `Bles` are the BLEs of a circuit, `check` says whether each fits into a cluster alone.
+//! - `Packing` makes the clusters, one a step. `Packed` is the result, with its blocks, nets and pins; `SharedPacked` is
+//!   one with many owners.
+//! - `laws_of_packing` says what placing and routing may take for granted of each packed circuit.
 #![tactic(auto)]
 
 mod additions;
+mod ble_index;
 mod bles;
 mod block;
 mod block_nets;
 mod candidates;
 mod cluster_sets;
 mod driven_nets;
-mod element_index;
 mod fault;
 mod first_free;
-mod gains;
-mod grower;
-mod growth;
+mod free_bles;
+mod growing_cluster;
 mod keys;
 mod laws;
 mod net_set;
@@ -29,6 +30,7 @@ mod pin_ranks;
 mod pins;
 mod readers;
 mod shared;
+mod shared_nets;
 
 pub use bles::{Ble, Bles};
 pub use block::{Block, BlockNet};

@@ -4,12 +4,12 @@ ghost use Rattle.arch_file.specs.Arch.{IsArch};
 ghost use Rattle.blif.specs.LawfulCircuits.{IsCircuit};
 ghost use Rattle.cluster.specs.Nets.{has};
 ghost use Rattle.cluster.specs.Clusters.{cluster_of, unfit_among, unfit_of, with_cluster};
-ghost use Rattle.cluster.specs.Growing.{IsElement};
+ghost use Rattle.cluster.specs.FreeBles.{IsElement};
 ghost use Rattle.cluster.specs.Packing.{IsChecked, GoesOn};
 
 use crate::bles::Bles;
 use crate::fault::{PackError, PackFault};
-use crate::grower::Grower;
+use crate::free_bles::FreeBles;
 use crate::keys::outside_inputs;
 use crate::packed::Packed;
 use crate::packed_tables::PackedTables;
@@ -55,7 +55,7 @@ pub struct Packing {
     alloc: Global,
     circuit: SharedCircuit,
     arch: SharedArch,
-    grower: Grower,
+    grower: FreeBles,
     clusters: Rows,
     made: usize,
 }
@@ -89,7 +89,7 @@ impl Packing {
         ensures { IfOk result (λ packing. packing ≡ record { circuit = circuit.now; arch = arch.now; made = 0 }) }
     {
         let bles = Bles::new(alloc, circuit.circuit())?;
-        let grower = Grower::new(alloc, bles, circuit.circuit().nets.len())?;
+        let grower = FreeBles::new(alloc, bles, circuit.circuit().nets.len())?;
         let clusters = Rows::new(alloc);
         Ok(Packing {
             alloc,
@@ -159,7 +159,7 @@ impl Packing {
 }
 
 /// Adds one cluster of free BLEs, if there are any. Without memory nothing is added.
-fn add_cluster(grower: &mut Grower, clusters: &mut Rows, arch: &Arch) -> Result<(), AllocError>
+fn add_cluster(grower: &mut FreeBles, clusters: &mut Rows, arch: &Arch) -> Result<(), AllocError>
     requires arch { IsArch arch.now }
     requires fit { unfit_among arch.now grower.old.elements ≡ None }
     ensures elements { grower.new.elements ≡ grower.old.elements }

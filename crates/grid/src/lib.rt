@@ -2,7 +2,8 @@
 //!
 //! A strip has columns 1 to `width` of logic blocks in rows 1 to `rows`, and at both ends of each column, in row 0 and in
 //! row `rows + 1`, `io_rat` pads. [`Strip::places`] gives the places of a kind in their order, by arithmetic and without memory:
-//! by column, then row, and pads then by number. [`Strip::fits`] compares the blocks of a packed circuit with them.
+//! by column, then row, and pads then by number. [`Strip::fits`] compares the blocks of a packed circuit with them, and
+//! [`laws_of_places`] says what placing and routing may take for granted of them.
 #![tactic(auto)]
 
 mod fit;

@@ -1,7 +1,7 @@
 use Rattle.std.proofs.Common.{◌<◌, ℕ, Bool, ◌∷◌, [], ◌∙◌, not, length, sym, arith}
 use Rattle.cluster.specs.Bles.{element_at}
 use Rattle.cluster.specs.Clusters.{fits_in_cluster}
-use Rattle.cluster.specs.Growing.{IsElement}
+use Rattle.cluster.specs.FreeBles.{IsElement}
 use Rattle.cluster.proofs.Choosing.{element_lawful}
 use Rattle.cluster.proofs.Unfit.{fit_narrow, found_here, found_later, unfit_wide}
 use Rattle.cluster.proofs.packing.unfit.Goals as goal
