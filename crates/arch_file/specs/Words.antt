@@ -1,14 +1,10 @@
 -- The words of the architecture file.
-use Rattle.std.specs.Prelude.{ℕ, ◌==◌, nat_eq, Bool, ◌||◌, List, [], ◌∷◌, map, codes, Option, Some, None}
+use Rattle.std.specs.Prelude.{ℕ, ◌==◌, nat_eq, Bool, ◌||◌, List, [], ◌∷◌, codes, Option, Some, None}
 use Rattle.std.specs.List.{find, starts_with}
 use Rattle.std.specs.Str.{bytes_eq}
-use Rattle.std.specs.Borrow.{Bor}
+pub use Rattle.line_text.specs.Words.{texts}
 use Rattle.arch_file.specs.declared.fault.Keyword.{Keyword}
 use Rattle.arch_file.specs.declared.fault.Keyword.TheVariants.{IoRat, ChanWidthIo, ChanWidthX, ChanWidthY, Inpin, Outpin, SubblocksPerClb, SubblockLutSize, FcType, FcOutput, FcInput, FcPad, SwitchBlockType, Segment}
-
--- the bytes of the words
-abbrev pub texts : List (Bor (List ℕ)) → List (List ℕ)
-texts words = map (λ word. word.now) words
 
 -- how a keyword is spelled
 abbrev pub text_of : Keyword → List ℕ

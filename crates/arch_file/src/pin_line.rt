@@ -8,7 +8,7 @@ ghost use Rattle.arch_file.specs.declared.arch.Pin.{Pin};
 
 use crate::arch::{Pin, PinClass, Sides};
 use crate::fault::{ArchFaultKind, Keyword};
-use crate::words::is_word;
+use line_text::is_word;
 
 /// How many inputs a logic block may have.
 const MAX_INPUTS: u32 = 128;

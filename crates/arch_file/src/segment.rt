@@ -6,8 +6,7 @@ ghost use Rattle.arch_file.specs.Words.{texts};
 
 use crate::fault::{ArchFaultKind, Keyword};
 use crate::values::ONE;
-use crate::words::is_word;
-use line_text::millionths;
+use line_text::{is_word, millionths};
 
 /// Whether the word is the decimal 1.
 fn is_number_one(word: &[u8]) -> bool

@@ -5,8 +5,8 @@ ghost use Rattle.arch_file.specs.FcTypes.{is_fractional_type};
 ghost use Rattle.arch_file.specs.Words.{lone, texts};
 
 use crate::fault::{ArchFaultKind, Keyword};
-use crate::words::{is_word, lone};
-use line_text::{millionths, whole_number};
+use crate::words::lone;
+use line_text::{is_word, millionths, whole_number};
 
 /// 1, in millionths.
 pub(crate) const ONE: u64 = 1_000_000;

@@ -1,8 +1,8 @@
 ghost use Rattle.std.specs.Prelude.{◌≡◌, ◌<◌, option_map};
-ghost use Rattle.std.specs.Str.{bytes_eq};
 ghost use Rattle.arch_file.specs.Words.{is_pin_keyword, is_unread, keyword_of, lone, rank_of, same_keyword, text_of, texts};
 
 use crate::fault::Keyword;
+use line_text::is_word;
 
 /// The keywords that must stand, in the order in which a missing one is told.
 pub(crate) const REQUIRED: [Keyword; 12] = [
@@ -97,13 +97,6 @@ impl Keyword {
     {
         matches!(self, Keyword::Segment)
     }
-}
-
-/// Whether the word is spelled so.
-pub(crate) fn is_word(word: &[u8], text: &str) -> bool
-    ensures { result ≡ bytes_eq word.now text.now }
-{
-    word == text.as_bytes()
 }
 
 /// The keyword that the word is.

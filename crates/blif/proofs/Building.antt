@@ -3,12 +3,13 @@ use Rattle.std.proofs.Common.{◌≡◌, ℕ, ◌+◌, ◌<◌, ◌≤◌, true,
 use Rattle.std.specs.List.{flat_map}
 use Rattle.std.proofs.lemmas.List.{map-append, drop_all}
 use Rattle.line_text.specs.Lines.{JoinedLine}
+use Rattle.blif.specs.LineByLine.{parts_after}
 use Rattle.blif.specs.declared.fault.BlifFaultKind.TheVariants.{Undriven}
 use Rattle.blif.specs.Names.{first, number_of, with_names}
 use Rattle.blif.specs.LineNets.{reads_in, inputs_in, outputs_in}
 use Rattle.blif.specs.Sights.{Sights, sights_of, kind_of, is_end, inputs_of}
 use Rattle.blif.specs.BlifFaults.{driven}
-use Rattle.blif.specs.Circuits.{Parts, circuit_from, circuit_with, parts_of, parts_after, tables_in, latches_in}
+use Rattle.blif.specs.Circuits.{Parts, circuit_from, circuit_with, parts_of, tables_in, latches_in}
 use Rattle.blif.specs.CircuitOf.{final_faults, lines_to_end, undriven, undriven_faults}
 use Rattle.blif.proofs.Places.{flat_map_push, first_found, first_none, take_place, drop_place}
 use Rattle.blif.proofs.Sightings.{with_names-append}

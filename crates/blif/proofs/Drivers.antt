@@ -7,6 +7,7 @@ use Rattle.std.proofs.lemmas.List.{append-nil}
 use Rattle.std.proofs.lemmas.List.Elements.{All-nil, All-cons, All-map}
 use Rattle.std.proofs.lemmas.List.Sums.{AllPass-from_list_all}
 use Rattle.line_text.specs.Lines.{JoinedLine}
+use Rattle.blif.specs.LineByLine.{sights_after}
 use Rattle.blif.specs.declared.keyword.Keyword.{Keyword}
 use Rattle.blif.specs.declared.keyword.Keyword.TheVariants.{Inputs, Outputs, Clock, Names, Latch}
 use Rattle.blif.specs.declared.latches.Latch.{Latch as StoredLatch}
@@ -15,7 +16,7 @@ use Rattle.blif.specs.Names.{has_name, number_of}
 use Rattle.blif.specs.Keywords.{args_of, last_of}
 use Rattle.blif.specs.LatchLines.{is_latch, control_of}
 use Rattle.blif.specs.LineNets.{drives_in, front_of, inputs_in, names_in, output_of, outputs_in, reads_in, latch_nets, latch_output, latch_reads}
-use Rattle.blif.specs.Sights.{Sights, kind_of, drives_of, inputs_of, sights_of, sights_after}
+use Rattle.blif.specs.Sights.{Sights, kind_of, drives_of, inputs_of, sights_of}
 use Rattle.blif.specs.BlifFaults.{kind_faults}
 use Rattle.blif.specs.Circuits.{circuit_from, latch_with, latches_in, parts_of, table_with, tables_in}
 use Rattle.blif.specs.LawfulCircuits.{IsLatchDriven, drivers_of, has_net}

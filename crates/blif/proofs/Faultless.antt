@@ -4,12 +4,13 @@ use Rattle.std.proofs.lemmas.List.{append-nil}
 use Rattle.std.proofs.lemmas.List.Folds.{list_all-append}
 use Rattle.std.specs.List.{flat_map, list_all}
 use Rattle.line_text.specs.Lines.{JoinedLine}
+use Rattle.blif.specs.LineByLine.{sights_after}
 use Rattle.blif.specs.declared.fault.BlifFaultKind.TheVariants.{BadLatch, NoModel, OverLimit, Unknown}
 use Rattle.blif.specs.declared.keyword.Keyword.{Keyword}
 use Rattle.blif.specs.Names.{first, has_name, repeats, with_names}
 use Rattle.blif.specs.LineNets.{latch_output, names_in, output_of, reads_in}
 use Rattle.blif.specs.LatchLines.{is_latch}
-use Rattle.blif.specs.Sights.{Sights, sights_of, sights_after, kind_of}
+use Rattle.blif.specs.Sights.{Sights, sights_of, kind_of}
 use Rattle.blif.specs.declared.circuit.TheConstants.{MAX_NETS}
 use Rattle.blif.specs.BlifFaults.{driven, driver_faults, fault_where, faults_in, is_model, kind_faults, latch_faults, table_faults}
 use Rattle.blif.specs.CircuitOf.{final_faults, line_faults, undriven, undriven_faults}

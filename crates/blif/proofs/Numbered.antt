@@ -8,8 +8,9 @@ use Rattle.std.proofs.lemmas.List.{length-map, map-append, get_or-map, take_at, 
 use Rattle.std.proofs.lemmas.List.Folds.{position_or_len_push}
 use Rattle.std.proofs.lemmas.Slice.Eq.{bytes_eq-Decides}
 use Rattle.line_text.specs.Lines.{JoinedLine}
+use Rattle.blif.specs.Numbering.{numbered}
 use Rattle.blif.specs.CircuitOf.{undriven}
-use Rattle.blif.specs.Names.{first, texts, has_name, number_of, numbered, with_name, with_names}
+use Rattle.blif.specs.Names.{first, texts, has_name, number_of, with_name, with_names}
 use Rattle.blif.specs.Sights.{names_of}
 use Rattle.blif.proofs.Named.{has_name-with_name, has_name-added, name_at, named_at, number_of-within}
 use Rattle.blif.proofs.Places.{drop_place}

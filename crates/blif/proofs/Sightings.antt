@@ -5,9 +5,11 @@ use Rattle.std.proofs.lemmas.List.{reverse-append}
 use Rattle.std.proofs.lemmas.List.Elements.{filter-append}
 use Rattle.std.proofs.lemmas.List.Folds.{list_any-append}
 use Rattle.line_text.specs.Lines.{JoinedLine}
+use Rattle.blif.specs.LineByLine.{sights_after}
+use Rattle.blif.specs.Numbering.{numbered}
 use Rattle.blif.specs.declared.fault.BlifFaultKind.{BlifFaultKind}
-use Rattle.blif.specs.Names.{first, numbered, with_name, with_names}
-use Rattle.blif.specs.Sights.{Sights, sights_of, sights_after, kind_of, is_end, names_of, drives_of, clocks_of, outputs_of, undeclared, has_lines, cover_below}
+use Rattle.blif.specs.Names.{first, with_name, with_names}
+use Rattle.blif.specs.Sights.{Sights, sights_of, kind_of, is_end, names_of, drives_of, clocks_of, outputs_of, undeclared, has_lines, cover_below}
 use Rattle.blif.specs.BlifFaults.{faults_in}
 use Rattle.blif.specs.CircuitOf.{line_faults}
 use Rattle.blif.proofs.Numbered.{numbered-append}

@@ -61,8 +61,8 @@ abbrev pub is_model : Keyword → Bool
 is_model Model = true
 is_model keyword = false
 
--- all faults of a line of this kind: no line may come after the end, the first line begins the model, and the nets of the
--- lines so far are not more than the most
+-- all faults of a line of this kind: after the end it is Unknown and nothing else; before, the faults of its kind, and the
+-- first line begins the model, and the nets of the lines so far, with its own, are not more than the most
 abbrev pub faults_in : ℕ → Sights → Keyword → List (List ℕ) → List BlifFaultKind
 faults_in lut_size above keyword words =
     if above.ended then Unknown ∷ [] else

@@ -50,15 +50,6 @@ parts_of nets lines = record {
   latches = flat_map (λ line. latches_in nets line.number (kind_of line) line.words) lines;
 }
 
--- the parts with those that one more line brings
-abbrev pub parts_after : List (List ℕ) → ℕ → Keyword → List (List ℕ) → Parts → Parts
-parts_after nets number keyword words old = record {
-  inputs = old.inputs ++ map (number_of nets) (inputs_in keyword words);
-  outputs = old.outputs ++ map (number_of nets) (outputs_in keyword words);
-  tables = old.tables ++ tables_in nets number keyword words;
-  latches = old.latches ++ latches_in nets number keyword words;
-}
-
 -- the model's name, which a line of the model may leave out
 abbrev pub named_model : List (List ℕ) → List ℕ
 named_model [] = codes "top"

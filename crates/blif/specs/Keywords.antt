@@ -1,4 +1,4 @@
--- What a line is, by its first word, and which nets it names.
+-- What a line is, by its first word.
 use Rattle.std.specs.Prelude.{ℕ, Bool, false, List, [], ◌∷◌, ◌==◌, codes, drop, if◌then◌else◌}
 use Rattle.std.specs.List.{list_any}
 use Rattle.std.specs.Str.{bytes_eq}

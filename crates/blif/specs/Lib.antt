@@ -7,9 +7,11 @@ pub mod Faults
 pub mod Keywords
 pub mod LatchLines
 pub mod LawfulCircuits
+pub mod LineByLine
 pub mod LineNets
 pub mod LineOrder
 pub mod LookupTables
 pub mod Names
+pub mod Numbering
 pub mod Sights
 pub mod Spans

@@ -28,7 +28,7 @@ output_of (word ∷ words) = last_of (word ∷ words) ∷ []
 abbrev pub latch_output : List (List ℕ) → List (List ℕ)
 latch_output args = if is_latch args then drop 1 (take 2 args) else []
 
--- the nets that a line of this kind drives; a line of clocks drives those that are not inputs by a line of inputs
+-- the nets that a line of this kind drives by itself; of a line of clocks the lines of inputs of the whole text decide
 abbrev pub drives_in : Keyword → List (List ℕ) → List (List ℕ)
 drives_in Inputs words = args_of words
 drives_in Names words = output_of (args_of words)

@@ -1,12 +1,8 @@
 -- Names of nets, as lists of bytes.
-use Rattle.std.specs.Prelude.{ℕ, Bool, List, [], ◌∷◌, ◌++◌, map, Option, Some, None, if◌then◌else◌}
-use Rattle.std.specs.Borrow.{Bor}
+use Rattle.std.specs.Prelude.{ℕ, Bool, List, [], ◌∷◌, ◌++◌, Option, Some, None, if◌then◌else◌}
 use Rattle.std.specs.List.{list_any, position_or_len}
 use Rattle.std.specs.Str.{bytes_eq}
-
--- the texts behind slices
-abbrev pub texts : List (Bor (List ℕ)) → List (List ℕ)
-texts slices = map (λ slice. slice.now) slices
+pub use Rattle.line_text.specs.Words.{texts}
 
 -- the first of a list, if it has one
 abbrev pub first : {A : Type 0} → List A → Option A
@@ -29,11 +25,6 @@ with_name names name = if has_name names name then names else names ++ name ∷ 
 abbrev pub with_names : List (List ℕ) → List (List ℕ) → List (List ℕ)
 with_names names [] = names
 with_names names (name ∷ others) = with_names (with_name names name) others
-
--- the number of each of the others, where they are added one after another
-abbrev pub numbered : List (List ℕ) → List (List ℕ) → List ℕ
-numbered names [] = []
-numbered names (name ∷ others) = number_of names name ∷ numbered (with_name names name) others
 
 -- those of the names that are taken, or that stand earlier among them
 abbrev pub repeats : List (List ℕ) → List (List ℕ) → List (List ℕ)

@@ -1,5 +1,5 @@
 -- What the lines of a text bring, as lists over all of them.
-use Rattle.std.specs.Prelude.{ℕ, Bool, true, false, not, ◌||◌, List, [], ◌∷◌, ◌++◌, Option, None, filter, reverse}
+use Rattle.std.specs.Prelude.{ℕ, Bool, true, false, not, List, [], ◌∷◌, Option, None, filter, reverse}
 use Rattle.std.specs.List.{flat_map, list_any}
 use Rattle.line_text.specs.Lines.{JoinedLine}
 use Rattle.blif.specs.declared.cover.Cover.{Cover}
@@ -81,17 +81,4 @@ sights_of declared lines = record {
   clocks = with_names [] (undeclared declared (flat_map clocks_of lines));
   outputs = flat_map outputs_of lines;
   cover = cover_below (reverse lines);
-}
-
--- what they have brought with one more line, of this kind and with these words
-abbrev pub sights_after : Keyword → List (List ℕ) → Sights → Sights
-sights_after keyword words old = record {
-  declared = old.declared;
-  begun = true;
-  ended = old.ended || is_end keyword;
-  nets = with_names old.nets (names_in keyword words);
-  drivers = old.drivers ++ drives_in keyword words;
-  clocks = with_names old.clocks (undeclared old.declared (clocks_in keyword words));
-  outputs = old.outputs ++ outputs_in keyword words;
-  cover = cover_after keyword words old.cover;
 }

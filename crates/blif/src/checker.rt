@@ -1,10 +1,12 @@
 //! The faults of the lines, one line after another.
 ghost use Rattle.std.specs.Prelude.{◌≡◌, ◌≤◌, ◌||◌, ◌++◌, [], ◌∷◌, map, length, None, true, false, IfOk, IfNone, IsTrue};
-ghost use Rattle.blif.specs.Names.{first, numbered, repeats, texts, with_names};
+ghost use Rattle.blif.specs.LineByLine.{sights_after};
+ghost use Rattle.blif.specs.Numbering.{numbered};
+ghost use Rattle.blif.specs.Names.{first, repeats, texts, with_names};
 ghost use Rattle.blif.specs.Keywords.{args_of, keyword_of};
 ghost use Rattle.blif.specs.LatchLines.{is_latch};
 ghost use Rattle.blif.specs.LineNets.{latch_nets, latch_output, names_in, output_of};
-ghost use Rattle.blif.specs.Sights.{sights_after, sights_of, undeclared};
+ghost use Rattle.blif.specs.Sights.{sights_of, undeclared};
 ghost use Rattle.blif.specs.BlifFaults.{clock_faults, driver_faults, faults_in, kind_faults, row_faults, table_faults, latch_faults};
 ghost use Rattle.blif.specs.declared.fault.BlifFaultKind.TheVariants.{RepeatedOutput};
 

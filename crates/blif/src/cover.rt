@@ -4,7 +4,8 @@ ghost use Rattle.std.specs.List.{list_all};
 ghost use Rattle.blif.specs.Names.{texts};
 ghost use Rattle.blif.specs.Covers.{cover_after, gives_one, is_literal, is_output, is_mixed, is_row};
 
-use crate::keyword::{Keyword, is, last_of};
+use crate::keyword::{Keyword, last_of};
+use line_text::is_word;
 
 /// A table whose rows may follow: how many inputs it has, and whether its first row gives 1, once there is one.
 #[derive(Clone, Copy)]
@@ -46,7 +47,7 @@ fn is_output(word: &[u8]) -> bool
 fn gives_one(words: &[&[u8]]) -> bool
     ensures { result ≡ gives_one (texts words.now) }
 {
-    is(last_of(words), "1")
+    is_word(last_of(words), "1")
 }
 
 /// Whether the output of the row with these words is another than that of the cover's first row.

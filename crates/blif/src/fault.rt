@@ -11,17 +11,29 @@ use thiserror::Error;
 /// What is wrong with a netlist. Three faults name their net.
 #[derive(Debug, Drop)]
 pub enum BlifFaultKind {
+    /// The first word begins with a point and is no keyword, a second model, a row without a table, or a line after the end.
     Unknown,
+    /// A table without a word, or a row that is none for its inputs.
     BadCover,
+    /// A row whose output is another than that of the first row.
     MixedCover,
+    /// A table of more inputs than there may be.
     TooWide,
+    /// The net is driven already.
     TwoDrivers(Text),
+    /// The net is read and not driven. This is found at the end, at its first reader's line.
     Undriven(Text),
+    /// The net is an output already.
     RepeatedOutput(Text),
+    /// Not two to five words of a latch's form.
     BadLatch,
+    /// The first line does not begin the model, or there is no line.
     NoModel,
+    /// The text is too long, or the line brings one net too many.
     OverLimit,
+    /// A byte outside comments is neither blank nor a printing ASCII character.
     NotAscii,
+    /// A joined line is too long.
     LineTooLong,
 }
 

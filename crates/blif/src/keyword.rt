@@ -1,10 +1,11 @@
 //! What a line is, by its first word.
 ghost use Rattle.std.specs.Prelude.{◌≡◌};
-ghost use Rattle.std.specs.Str.{bytes_eq};
 ghost use Rattle.blif.specs.Names.{texts};
 ghost use Rattle.blif.specs.Keywords.{args_of, command_of, is_skipped, keyword_of, last_of};
 ghost use Rattle.blif.specs.LineNets.{front_of, inputs_in};
 ghost use Rattle.blif.specs.Sights.{is_end};
+
+use line_text::is_word;
 
 /// The kinds of lines. A line whose first word has no point in front is a row of a cover.
 #[derive(Clone, Copy, Debug, PartialEq, Eq)]
@@ -38,19 +39,19 @@ pub fn keyword_of(words: &[&[u8]]) -> Keyword
 fn command_of(word: &[u8]) -> Keyword
     ensures { result ≡ command_of word.now }
 {
-    if is(word, ".names") {
+    if is_word(word, ".names") {
         Keyword::Names
-    } else if is(word, ".latch") {
+    } else if is_word(word, ".latch") {
         Keyword::Latch
-    } else if is(word, ".inputs") {
+    } else if is_word(word, ".inputs") {
         Keyword::Inputs
-    } else if is(word, ".outputs") {
+    } else if is_word(word, ".outputs") {
         Keyword::Outputs
-    } else if is(word, ".clock") {
+    } else if is_word(word, ".clock") {
         Keyword::Clock
-    } else if is(word, ".model") {
+    } else if is_word(word, ".model") {
         Keyword::Model
-    } else if is(word, ".end") {
+    } else if is_word(word, ".end") {
         Keyword::End
     } else if is_skipped(word) {
         Keyword::Skipped
@@ -62,29 +63,22 @@ fn command_of(word: &[u8]) -> Keyword
 fn is_skipped(word: &[u8]) -> bool
     ensures { result ≡ is_skipped word.now }
 {
-    is(word, ".area")
-        || is(word, ".delay")
-        || is(word, ".wire_load_slope")
-        || is(word, ".wire")
-        || is(word, ".input_arrival")
-        || is(word, ".default_input_arrival")
-        || is(word, ".output_required")
-        || is(word, ".default_output_required")
-        || is(word, ".input_drive")
-        || is(word, ".default_input_drive")
-        || is(word, ".output_load")
-        || is(word, ".default_output_load")
-        || is(word, ".max_input_load")
-        || is(word, ".default_max_input_load")
-        || is(word, ".cycle")
-        || is(word, ".clock_event")
-}
-
-/// Whether the word is that text.
-pub fn is(word: &[u8], text: &str) -> bool
-    ensures { result ≡ bytes_eq word.now text.now }
-{
-    word == text.as_bytes()
+    is_word(word, ".area")
+        || is_word(word, ".delay")
+        || is_word(word, ".wire_load_slope")
+        || is_word(word, ".wire")
+        || is_word(word, ".input_arrival")
+        || is_word(word, ".default_input_arrival")
+        || is_word(word, ".output_required")
+        || is_word(word, ".default_output_required")
+        || is_word(word, ".input_drive")
+        || is_word(word, ".default_input_drive")
+        || is_word(word, ".output_load")
+        || is_word(word, ".default_output_load")
+        || is_word(word, ".max_input_load")
+        || is_word(word, ".default_max_input_load")
+        || is_word(word, ".cycle")
+        || is_word(word, ".clock_event")
 }
 
 /// The words after the first.

@@ -4,7 +4,7 @@ ghost use Rattle.std.specs.Option.{option_map};
 ghost use Rattle.blif.specs.Names.{texts};
 ghost use Rattle.blif.specs.LatchLines.{control_of, is_init, is_latch, is_type};
 
-use crate::keyword::is;
+use line_text::is_word;
 
 /// Whether these words are a latch.
 pub fn is_latch(words: &[&[u8]]) -> bool
@@ -25,7 +25,7 @@ pub fn control_of<'t>(words: &[&'t [u8]]) -> Option<&'t [u8]>
 {
     match words {
         [_, _, _, control, ..] => {
-            if is(control, "NIL") {
+            if is_word(control, "NIL") {
                 None
             } else {
                 Some(*control)
@@ -38,7 +38,11 @@ pub fn control_of<'t>(words: &[&'t [u8]]) -> Option<&'t [u8]>
 fn is_type(word: &[u8]) -> bool
     ensures { result ≡ is_type word.now }
 {
-    is(word, "fe") || is(word, "re") || is(word, "ah") || is(word, "al") || is(word, "as")
+    is_word(word, "fe")
+        || is_word(word, "re")
+        || is_word(word, "ah")
+        || is_word(word, "al")
+        || is_word(word, "as")
 }
 
 fn is_init(word: &[u8]) -> bool

@@ -1,11 +1,15 @@
 //! Names of nets, each once, in the order of first sight.
 ghost use Rattle.std.specs.Prelude.{◌≡◌, ◌<◌, ◌≤◌, ◌++◌, [], ◌∷◌, not, length, slice_get, Some, IfOk, IfNone, IsTrue, option_map};
-ghost use Rattle.blif.specs.Names.{first, has_name, number_of, numbered, repeats, texts, with_name, with_names};
+ghost use Rattle.blif.specs.Numbering.{numbered};
+ghost use Rattle.blif.specs.Names.{first, has_name, number_of, repeats, texts, with_name, with_names};
 
 use crate::nets::Nets;
 use indexmap::IndexSet;
 use std::alloc::{AllocError, Global};
 use std::marker::Model;
+
+/// So many names are looked through faster than they are hashed.
+const FEW: usize = 4;
 
 /// Different names, numbered from 0 in the order in which they were added. Its value is the list of the names.
 #[derive(Drop)]
@@ -51,7 +55,10 @@ impl<'t> NameSet<'t> {
     pub fn contains(&self, name: &[u8]) -> bool
         ensures { result ≡ has_name self.now name.now }
     {
-        !self.names.is_empty() && self.names.contains(&name)
+        if self.names.len() <= FEW {
+            return is_among(self.names.as_slice(), name);
+        }
+        self.names.contains(&name)
     }
 
     /// The number of the name, or of the next name where it is not there.
@@ -117,4 +124,16 @@ impl<'t> NameSet<'t> {
         }
         Ok(None)
     }
+}
+
+/// Whether the name is one of these.
+fn is_among(names: &[&[u8]], name: &[u8]) -> bool
+    ensures { result ≡ has_name (texts names.now) name.now }
+{
+    for other in names {
+        if name == *other {
+            return true;
+        }
+    }
+    false
 }

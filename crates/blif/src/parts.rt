@@ -1,10 +1,11 @@
 //! The parts of a circuit, line after line, with nets by number.
 ghost use Rattle.std.specs.Prelude.{◌≡◌, List, ℕ, ◌≤◌, ◌++◌, [], map, length, option_map, IfOk, IfNone, IsTrue};
 ghost use Rattle.std.specs.List.{list_all};
+ghost use Rattle.blif.specs.LineByLine.{parts_after};
 ghost use Rattle.blif.specs.Names.{first, has_name, number_of, texts};
 ghost use Rattle.blif.specs.LatchLines.{is_latch};
 ghost use Rattle.blif.specs.LineNets.{front_of, latch_nets, latch_reads, names_in, reads_in};
-ghost use Rattle.blif.specs.Circuits.{latch_with, parts_after, parts_of, table_with};
+ghost use Rattle.blif.specs.Circuits.{latch_with, parts_of, table_with};
 ghost use Rattle.blif.specs.CircuitOf.{undriven};
 
 use crate::circuit::Circuit;

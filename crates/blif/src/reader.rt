@@ -1,7 +1,8 @@
 //! From the text to the circuit.
 ghost use Rattle.std.specs.Prelude.{◌≡◌, ◌≤◌, ◌++◌, [], ◌∷◌, length, map, None, Some, IfOk, MatchResult, MatchOption};
 ghost use Rattle.std.specs.List.{flat_map};
-ghost use Rattle.blif.specs.Names.{first, number_of, numbered, texts, with_names};
+ghost use Rattle.blif.specs.Numbering.{numbered};
+ghost use Rattle.blif.specs.Names.{first, number_of, texts, with_names};
 ghost use Rattle.blif.specs.Keywords.{keyword_of};
 ghost use Rattle.blif.specs.LineNets.{names_in};
 ghost use Rattle.blif.specs.LineOrder.{RisesFrom};

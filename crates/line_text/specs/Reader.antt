@@ -4,12 +4,13 @@ use Rattle.line_text.specs.declared.fault.LineError.{LineError}
 use Rattle.line_text.specs.declared.fault.LineError.TheVariants.{NoMemory, Fault}
 use Rattle.line_text.specs.declared.reader.Reader.{Reader}
 use Rattle.line_text.specs.Lines.{JoinedLine}
-use Rattle.line_text.specs.Spans.{bytes_of, seen_lines}
+use Rattle.line_text.specs.Spans.{seen_lines}
+use Rattle.line_text.specs.Words.{texts}
 use Rattle.line_text.specs.Reading.{OpenLine, Reading, after, ended}
 
 -- the line whose words begin at that place
 abbrev pub open_line : Reader → OpenLine
-open_line r = record { number = r.number; words = drop r.start (bytes_of r.words.items); count = r.count }
+open_line r = record { number = r.number; words = drop r.start (texts r.words.items); count = r.count }
 
 -- that line, if it is open
 abbrev pub line_if : Bool → OpenLine → Option OpenLine
@@ -18,7 +19,7 @@ line_if false line = None
 
 -- the lines that have ended
 abbrev pub done_of : Reader → List JoinedLine
-done_of r = seen_lines (bytes_of r.words.items) r.spans.items
+done_of r = seen_lines (texts r.words.items) r.spans.items
 
 -- what a reader has read
 abbrev pub reading_of : Reader → Reading

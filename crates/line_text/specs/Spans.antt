@@ -1,12 +1,7 @@
 -- Private: how the lines of a text are kept, as places among all of its words.
 use Rattle.std.specs.Prelude.{ℕ, ◌-◌, ◌≤◌, List, map, take, drop, All}
-use Rattle.std.specs.Borrow.{Bor}
 use Rattle.line_text.specs.declared.lines.Span.{Span}
 use Rattle.line_text.specs.Lines.{JoinedLine}
-
--- the bytes of the words
-abbrev pub bytes_of : List (Bor (List ℕ)) → List (List ℕ)
-bytes_of words = map (λ w. w.now) words
 
 -- the line of a span of the words
 abbrev pub seen_line : List (List ℕ) → Span → JoinedLine

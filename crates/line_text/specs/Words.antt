@@ -1,5 +1,6 @@
 -- The words of a line.
-use Rattle.std.specs.Prelude.{ℕ, Bool, true, false, ◌||◌, ◌==◌, List, [], ◌∷◌, filter}
+use Rattle.std.specs.Prelude.{ℕ, Bool, true, false, ◌||◌, ◌==◌, List, [], ◌∷◌, filter, map}
+use Rattle.std.specs.Borrow.{Bor}
 use Rattle.std.specs.List.{slice_split}
 
 -- space, tab and CR
@@ -14,3 +15,7 @@ is_filled (_ ∷ _) = true
 -- the words of a line: what stands between blanks
 abbrev pub words_of : List ℕ → List (List ℕ)
 words_of line = filter is_filled (slice_split is_blank line)
+
+-- the texts behind slices
+abbrev pub texts : List (Bor (List ℕ)) → List (List ℕ)
+texts slices = map (λ slice. slice.now) slices

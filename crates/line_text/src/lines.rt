@@ -38,22 +38,24 @@ pub struct Lines<'t> {
 impl<'t> Model for Lines<'t> {
     ghost use Rattle.std.specs.Prelude.{List, length};
     ghost use Rattle.line_text.specs.Lines.{JoinedLine};
-    ghost use Rattle.line_text.specs.Spans.{AreWithin, bytes_of, seen_lines};
+    ghost use Rattle.line_text.specs.Spans.{AreWithin, seen_lines};
+    ghost use Rattle.line_text.specs.Words.{texts};
 
     ghost Value = { List JoinedLine };
 
-    ghost view = { λ a. seen_lines (bytes_of a.words.items) a.spans.items };
+    ghost view = { λ a. seen_lines (texts a.words.items) a.spans.items };
 
     ghost invariant = { λ a. AreWithin (length a.words.items) a.spans.items };
 }
 
 impl<'t> Lines<'t> {
-    ghost use Rattle.line_text.specs.Spans.{AreWithin, bytes_of, seen_lines};
+    ghost use Rattle.line_text.specs.Spans.{AreWithin, seen_lines};
+    ghost use Rattle.line_text.specs.Words.{texts};
 
     /// The lines of these spans of the words.
     pub(crate) fn new(words: Vec<&'t [u8]>, spans: Vec<Span>) -> Self
         requires { AreWithin (length words.items) spans.items }
-        ensures { result ≡ seen_lines (bytes_of words.entry.items) spans.items }
+        ensures { result ≡ seen_lines (texts words.entry.items) spans.items }
     {
         Lines { words, spans }
     }
@@ -75,7 +77,7 @@ impl<'t> Lines<'t> {
     /// The line at that place, from 0.
     pub fn line(&self, place: usize) -> Line<'_, 't>
         requires { place < length self.now }
-        ensures { slice_get self.now place ≡ Some (record { number = result.number; words = map (λ w. w.now) result.words.now }) }
+        ensures { slice_get self.now place ≡ Some (record { number = result.number; words = texts result.words.now }) }
     {
         let span = self.spans[place];
         Line {

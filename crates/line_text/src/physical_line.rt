@@ -1,6 +1,6 @@
-ghost use Rattle.std.specs.Prelude.{◌≡◌, ◌≤◌, ◌<◌, length, not, position, drop, take, true, MatchOption, ◌==◌};
+ghost use Rattle.std.specs.Prelude.{◌≡◌, ◌≤◌, ◌<◌, ◌∷◌, length, not, position, drop, take, true, MatchOption, ◌==◌};
 ghost use Rattle.std.specs.List.{position_or_len};
-ghost use Rattle.line_text.specs.Lines.{is_not_ascii};
+ghost use Rattle.line_text.specs.Lines.{is_not_ascii, physical_lines};
 ghost use Rattle.line_text.specs.Physical.{IsContent, first_line, is_plain as is_plain_byte, later_lines};
 
 /// Whether the byte ends no line, begins no comment and may stand outside comments.
@@ -32,13 +32,15 @@ fn line_end(text: &[u8]) -> Option<usize>
     text.iter().position(|byte| *byte == b'\n')
 }
 
-/// What follows the first LF.
-fn after_line(text: &[u8]) -> &[u8]
-    ensures { result.now ≡ later_lines text.now }
+/// The first physical line of a text without its LF, and what follows it.
+pub fn split_line(text: &[u8]) -> (&[u8], &[u8])
+    ensures first { result.0.now ≡ first_line text.now }
+    ensures later { result.1.now ≡ later_lines text.now }
+    ensures lines { 0 < length text.now → physical_lines text.now ≡ result.0.now ∷ physical_lines result.1.now }
 {
     match line_end(text) {
-        Some(end) => &text[end + 1..],
-        None => &text[text.len()..],
+        Some(end) => (&text[..end], &text[end + 1..]),
+        None => text.split_at(text.len()),
     }
 }
 
@@ -55,7 +57,8 @@ pub(crate) fn split_content(text: &[u8]) -> Option<(&[u8], &[u8])>
         return Some((content, rest));
     }
     if *stop == b'#' {
-        return Some((content, after_line(rest)));
+        let (_, later) = split_line(rest);
+        return Some((content, later));
     }
     None
 }

@@ -1,8 +1,8 @@
 ghost use Rattle.std.specs.Prelude.{◌≡◌, ◌+◌, ◌≤◌, ◌<◌, ◌^◌, length, take, drop, map, position, OnOk, IsTrue, ◌==◌, MatchOption, IfErr, ◌++◌, [], true, false};
 ghost use Rattle.std.specs.List.{suffix_len};
 ghost use Rattle.line_text.specs.Lines.{ends_in_backslash, is_not_ascii, trimmed as trimmed_bytes, without_comment, without_last};
-ghost use Rattle.line_text.specs.Spans.{AreWithin, bytes_of, seen_lines};
-ghost use Rattle.line_text.specs.Words.{is_blank as is_blank_byte, words_of};
+ghost use Rattle.line_text.specs.Spans.{AreWithin, seen_lines};
+ghost use Rattle.line_text.specs.Words.{is_blank as is_blank_byte, texts, words_of};
 
 use crate::fault::{LineError, LineFault};
 use crate::lines::{Lines, MAX_LINE, Span};

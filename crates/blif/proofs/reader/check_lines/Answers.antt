@@ -2,7 +2,8 @@ use Rattle.std.proofs.Common.{◌<◌, ◌≤◌, [], length, take, sym, refl, a
 use Rattle.std.proofs.lemmas.List.{take_all, drop_all}
 use Rattle.line_text.specs.Lines.{JoinedLine}
 use Rattle.std.specs.List.{flat_map}
-use Rattle.blif.specs.Names.{texts, first, numbered}
+use Rattle.blif.specs.Numbering.{numbered}
+use Rattle.blif.specs.Names.{texts, first}
 use Rattle.blif.specs.Sights.{names_of, sights_of}
 use Rattle.blif.specs.CircuitOf.{line_faults}
 use Rattle.blif.proofs.Sightings.{sights_at, numbers_so_far, fault_at, no_fault_at}

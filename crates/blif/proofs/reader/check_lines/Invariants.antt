@@ -1,6 +1,7 @@
 use Rattle.std.proofs.Common.{◌≡◌, ◌≤◌, [], take, drop, length}
 use Rattle.std.specs.List.{flat_map}
-use Rattle.blif.specs.Names.{first, numbered}
+use Rattle.blif.specs.Numbering.{numbered}
+use Rattle.blif.specs.Names.{first}
 use Rattle.blif.specs.Sights.{names_of, sights_of}
 use Rattle.blif.specs.CircuitOf.{line_faults}
 use Rattle.blif.specs.declared.circuit.TheConstants.{MAX_NETS}

@@ -12,7 +12,7 @@ returns-then-stop-eq10 c =
 
 pub returns-then-stop-eq35 : goal.returns-then-stop-eq35
 returns-then-stop-eq35 c =
-    is_content-comment c.args.text.now _ _ c.in-Some.rest.now _ c.split_plain.ensures.front c.split_plain.ensures.back (c.in-Some.ensures.cases.0 ∙ ap (λ b. b ∷ c.in-Some.rest.now) c.if-stop-eq35.true) c.after_line.ensures
+    is_content-comment c.args.text.now _ _ c.in-Some.rest.now _ c.split_plain.ensures.front c.split_plain.ensures.back (c.in-Some.ensures.cases.0 ∙ ap (λ b. b ∷ c.in-Some.rest.now) c.if-stop-eq35.true) c.split_line.ensures.later
 
 pub returns : goal.returns
 returns c =

@@ -3,7 +3,7 @@ use Rattle.blif.specs.Names.{has_name}
 use Rattle.blif.proofs.Seen.{has_name-texts}
 use Rattle.blif.proofs.names.NameSet.contains.Goals as goal
 
-pub returns-then-not-is_empty : goal.returns-then-not-is_empty
-returns-then-not-is_empty c =
+pub returns : goal.returns
+returns c =
     c.contains.ensures ∙ has_name-texts c.self.inside.names.keys c.args.name.now
     ∙ ap (λ ns. has_name ns c.args.name.now) c.self.view_is

@@ -1,5 +1,6 @@
 use Rattle.std.proofs.Common.{◌≡◌, ◌++◌, drop}
-use Rattle.blif.specs.Names.{numbered, texts, with_names}
+use Rattle.blif.specs.Numbering.{numbered}
+use Rattle.blif.specs.Names.{texts, with_names}
 use Rattle.blif.proofs.names.NameSet.number_all.Given as goal
 
 -- what is left, added to the names so far, gives what all of them give

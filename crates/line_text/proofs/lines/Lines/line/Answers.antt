@@ -2,7 +2,8 @@ use Rattle.std.proofs.Common.{◌≡◌, ℕ, zero, suc, ◌-◌, ◌<◌, List,
 use Rattle.std.specs.List.{take-map, drop-map}
 use Rattle.std.proofs.lemmas.List.{length-map}
 use Rattle.line_text.specs.declared.lines.Span.{Span}
-use Rattle.line_text.specs.Spans.{bytes_of, seen_line, seen_lines}
+use Rattle.line_text.specs.Spans.{seen_line, seen_lines}
+use Rattle.line_text.specs.Words.{texts}
 use Rattle.line_text.proofs.lines.Lines.line.Goals as goal
 
 slice_get-map : {X Y : Type 0} (f : X → Y) (xs : List X) (i : ℕ) (x : X) → i < length xs → x ≡ get_or xs i x → slice_get (map f xs) i ≡ Some (f x)
@@ -10,7 +11,7 @@ slice_get-map f [] i x h e = absurd (omega arith)
 slice_get-map f (y ∷ ys) zero x h e = ap (λ z. Some (f z)) (sym e)
 slice_get-map f (y ∷ ys) (suc i) x h e = slice_get-map f ys i x (omega arith) e
 
-seen_line-words : (words : List (Bor (List ℕ))) (span : Span) → seen_line (bytes_of words) span ≡ record { number = span.number; words = map (λ w. w.now) (take (span.end - span.start) (drop span.start words)) }
+seen_line-words : (words : List (Bor (List ℕ))) (span : Span) → seen_line (texts words) span ≡ record { number = span.number; words = map (λ w. w.now) (take (span.end - span.start) (drop span.start words)) }
 seen_line-words words span =
     ap (λ ws. record { number = span.number; words = ws }) (ap (take (span.end - span.start)) (drop-map (λ (w : Bor (List ℕ)). w.now) span.start words) ∙ take-map (λ (w : Bor (List ℕ)). w.now) (span.end - span.start) (drop span.start words))
 
@@ -18,7 +19,7 @@ pub returns : goal.returns
 returns c =
     let words = c.self.inside.words.items in
     let span = c.index-span.result.now in
-    let view : seen_lines (bytes_of words) c.self.inside.spans.items ≡ c.args.self.now = c.self.view_is in
+    let view : seen_lines (texts words) c.self.inside.spans.items ≡ c.args.self.now = c.self.view_is in
     ap (λ lines. slice_get lines c.args.place) (sym view)
-    ∙ (slice_get-map (seen_line (bytes_of words)) c.self.inside.spans.items c.args.place span (omega (arith, ap length view, length-map c.self.inside.spans.items (seen_line (bytes_of words)))) c.index-span.ensures
+    ∙ (slice_get-map (seen_line (texts words)) c.self.inside.spans.items c.args.place span (omega (arith, ap length view, length-map c.self.inside.spans.items (seen_line (texts words)))) c.index-span.ensures
     ∙ ap Some (seen_line-words words span ∙ ap (λ (ws : List (Bor (List ℕ))). record { number = span.number; words = map (λ w. w.now) (take (span.end - span.start) (drop span.start ws)) }) (sym c.deref.ensures.value)))

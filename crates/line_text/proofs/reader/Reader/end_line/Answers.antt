@@ -1,5 +1,5 @@
 use Rattle.std.proofs.Common.{arith}
-use Rattle.line_text.specs.Spans.{bytes_of}
+use Rattle.line_text.specs.Words.{texts}
 use Rattle.line_text.proofs.ReaderLemmas.{ended-too_long, started_within}
 use Rattle.line_text.proofs.reader.Reader.end_line.Goals as goal
 
@@ -7,4 +7,4 @@ pub returns-then-self-gt-MAX_LINE-clause-ended : goal.returns-then-self-gt-MAX_L
 returns-then-self-gt-MAX_LINE-clause-ended c =
     let self = c.args.self.now in
     let started = started_within (λ w. w.now) self.words.items self.start _ self.started c.if-self-end.false (omega (arith, self.words.ok.0)) in
-    ended-too_long _ (bytes_of self.words.items) self.number self.start self.count started c.if-self-gt-MAX_LINE.true
+    ended-too_long _ (texts self.words.items) self.number self.start self.count started c.if-self-gt-MAX_LINE.true

@@ -1,6 +1,6 @@
 use Rattle.std.proofs.Common.{sym, ap, ◌∙◌}
-use Rattle.line_text.specs.Spans.{bytes_of, seen_lines}
-use Rattle.line_text.specs.Words.{words_of}
+use Rattle.line_text.specs.Spans.{seen_lines}
+use Rattle.line_text.specs.Words.{texts, words_of}
 use Rattle.line_text.proofs.ReaderLemmas.{AreWithin-map, from_on_ok, seen_lines-append}
 use Rattle.line_text.proofs.reader.Reader.extend.Goals as goal
 
@@ -9,4 +9,4 @@ returns-clause-done c =
     let self = c.args.self.now in
     let more = from_on_ok _ _ (sym c.is_err.ensures.value ∙ c.if-is_err.false) c.append_words.ensures.ok in
     ap (λ words. seen_lines words self.spans.items) more
-    ∙ seen_lines-append (bytes_of self.words.items) (words_of c.args.bytes.now) self.spans.items (AreWithin-map (λ w. w.now) self.words.items self.spans.items self.within)
+    ∙ seen_lines-append (texts self.words.items) (words_of c.args.bytes.now) self.spans.items (AreWithin-map (λ w. w.now) self.words.items self.spans.items self.within)
