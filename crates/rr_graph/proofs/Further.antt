@@ -126,9 +126,9 @@ own_reads arch strip sink wire pin block kind there own h =
     let o = own_parts true sink pin own in
     let row : is_block_row strip pin.y ≡ true = ap (λ v. is_block_row strip v) o.1 ∙ sym block in
     let no_pad : is_pad_row strip pin.y ≡ false = no_pad_row strip pin.y row in
-    let slot = (and_parts (nat_le 1 pin.x || is_chan_y pin.kind) (is_slot arch strip pin.kind pin.y pin.n)
+    let member = (and_parts (nat_le 1 pin.x || is_chan_y pin.kind) (is_slot arch strip pin.kind pin.y pin.n)
     (and_parts (nat_le pin.x strip.width) ((nat_le 1 pin.x || is_chan_y pin.kind) && is_slot arch strip pin.kind pin.y pin.n) there).1).1 in
-    let number : is_block_number arch Ipin pin.n ≡ true = elim (or_cases (is_pad_row strip pin.y && nat_lt pin.n strip.io_rat) (is_block_row strip pin.y && is_block_number arch Ipin pin.n) (rw kind at slot)) [
+    let number : is_block_number arch Ipin pin.n ≡ true = elim (or_cases (is_pad_row strip pin.y && nat_lt pin.n strip.io_rat) (is_block_row strip pin.y && is_block_number arch Ipin pin.n) (rw kind at member)) [
       | inl pad ↦ absurd (false≢true (sym no_pad ∙ (and_parts (is_pad_row strip pin.y) (nat_lt pin.n strip.io_rat) pad).0))
       | inr block' ↦ (and_parts (is_block_row strip pin.y) (is_block_number arch Ipin pin.n) block').1
     ] in
@@ -141,9 +141,9 @@ pad_reads : (arch : Arch) (strip : Strip) (sink wire pin : Node) → is_block_ro
 pad_reads arch strip sink wire pin pad kind there own h =
     let o = own_parts false sink pin own in
     let row : is_block_row strip pin.y ≡ false = ap (λ v. is_block_row strip v) o.1 ∙ pad in
-    let slot = (and_parts (nat_le 1 pin.x || is_chan_y pin.kind) (is_slot arch strip pin.kind pin.y pin.n)
+    let member = (and_parts (nat_le 1 pin.x || is_chan_y pin.kind) (is_slot arch strip pin.kind pin.y pin.n)
     (and_parts (nat_le pin.x strip.width) ((nat_le 1 pin.x || is_chan_y pin.kind) && is_slot arch strip pin.kind pin.y pin.n) there).1).1 in
-    let pads : is_pad_row strip pin.y ≡ true = elim (or_cases (is_pad_row strip pin.y && nat_lt pin.n strip.io_rat) (is_block_row strip pin.y && is_block_number arch Ipin pin.n) (rw kind at slot)) [
+    let pads : is_pad_row strip pin.y ≡ true = elim (or_cases (is_pad_row strip pin.y && nat_lt pin.n strip.io_rat) (is_block_row strip pin.y && is_block_number arch Ipin pin.n) (rw kind at member)) [
       | inl q ↦ (and_parts (is_pad_row strip pin.y) (nat_lt pin.n strip.io_rat) q).0
       | inr block' ↦ absurd (false≢true (sym row ∙ (and_parts (is_block_row strip pin.y) (is_block_number arch Ipin pin.n) block').0))
     ] in

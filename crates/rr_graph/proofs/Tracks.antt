@@ -9,77 +9,77 @@ use Rattle.grid.specs.declared.Strip.{Strip}
 use Rattle.rr_graph.specs.declared.node.NodeKind.{NodeKind}
 use Rattle.rr_graph.specs.declared.node.NodeKind.TheVariants.{Source, Sink, Opin, Ipin, ChanX, ChanY}
 use Rattle.rr_graph.specs.declared.node.Node.{Node}
-use Rattle.rr_graph.specs.declared.node.Slot.{Slot}
+use Rattle.rr_graph.specs.declared.node.Member.{Member}
 use Rattle.rr_graph.specs.declared.numbering.Numbering.{Numbering}
 use Rattle.rr_graph.specs.Geometry.{IsWire, is_wire, is_slot, is_block_row, joins}
 use Rattle.rr_graph.specs.Node.{rank_of}
-use Rattle.rr_graph.specs.Column.{Separates, slot_key, IsRising, AreFirsts}
-use Rattle.rr_graph.specs.Numbering.{IsNumbering, slot_at, in_column, column_count, no_slot}
+use Rattle.rr_graph.specs.Column.{Separates, member_key, IsRising, AreFirsts}
+use Rattle.rr_graph.specs.Numbering.{IsNumbering, member_at, in_column, column_count, no_member}
 use Rattle.rr_graph.specs.Table.{IsRowBelow, IsRowAt, may_lead}
-use Rattle.rr_graph.proofs.Columns.{slot_of, same_kind, rank_few, separates_order, separates_some}
+use Rattle.rr_graph.proofs.Columns.{member_of, same_kind, rank_few, separates_order, separates_some}
 use Rattle.rr_graph.proofs.GeometryLaws.{own_track}
 use Rattle.rr_graph.proofs.Numberings.{node_of_place, all_small}
 use Rattle.rr_graph.proofs.Rows.{leads, row_skip, part_push, kind_begins, kind_ends}
 
 -- ---- the first index of each kind and row
 
-pub firsts_none : (slots : List Slot) → AreFirsts slots [] 0
-firsts_none slots = record { many = refl; each = λ kind y few before. absurd (omega arith) }
+pub firsts_none : (members : List Member) → AreFirsts members [] 0
+firsts_none members = record { many = refl; each = λ kind y few before. absurd (omega arith) }
 
-pub firsts_push : (slots : List Slot) (firsts : List ℕ) (kind : NodeKind) (y index : ℕ) → y < 68 → AreFirsts slots firsts (rank_of kind * 68 + y) →
-    Separates slots (rank_of kind * 65536 + y * 256) index → AreFirsts slots (firsts ++ index ∷ []) (rank_of kind * 68 + (y + 1))
-firsts_push slots firsts kind y index low old at = record {
+pub firsts_push : (members : List Member) (firsts : List ℕ) (kind : NodeKind) (y index : ℕ) → y < 68 → AreFirsts members firsts (rank_of kind * 68 + y) →
+    Separates members (rank_of kind * 65536 + y * 256) index → AreFirsts members (firsts ++ index ∷ []) (rank_of kind * 68 + (y + 1))
+firsts_push members firsts kind y index low old at = record {
   many = omega (arith, length_push firsts index, old.many);
   each = λ k z few before. elim (cases_lt (rank_of k * 68 + z) (rank_of kind * 68 + y)) [
     | inl lt ↦ (let here : rank_of k * 68 + z < length firsts = omega (arith, old.many, lt) in
-        subst (Separates slots (rank_of k * 65536 + z * 256)) (sym (get_or_append_left firsts (index ∷ []) 0 (rank_of k * 68 + z) here)) (old.each k z few lt))
+        subst (Separates members (rank_of k * 65536 + z * 256)) (sym (get_or_append_left firsts (index ∷ []) 0 (rank_of k * 68 + z) here)) (old.each k z few lt))
     | inr ge ↦ (let rank : rank_of kind ≡ rank_of k = omega (arith, before, ge, few, low) in
         let row : y ≡ z = omega (arith, before, ge, rank) in
         let last : length firsts ≡ rank_of k * 68 + z = omega (arith, old.many, rank, row) in
         let place : rank_of kind * 65536 + y * 256 ≡ rank_of k * 65536 + z * 256 = omega (arith, rank, row) in
-        subst (Separates slots (rank_of k * 65536 + z * 256)) (sym (get_or_push firsts index 0 (rank_of k * 68 + z) last)) (subst (λ p. Separates slots p index) place at))
+        subst (Separates members (rank_of k * 65536 + z * 256)) (sym (get_or_push firsts index 0 (rank_of k * 68 + z) last)) (subst (λ p. Separates members p index) place at))
   ];
 }
 
 -- ---- where the wires of a row stand
 
--- the slot of a place stands at the place's index
-separates_at : (slots : List Slot) (p i : ℕ) (slot : Slot) → IsRising slots → Separates slots p i → Contains slots slot → slot_key slot ≡ p → (i < length slots) × (get_or slots i slot ≡ slot)
-separates_at slots p i slot rising at (k, within, is) e =
-    let key : slot_key (get_or slots k slot) ≡ p = ap slot_key is ∙ e in
+-- the member of a place stands at the place's index
+separates_at : (members : List Member) (p i : ℕ) (member : Member) → IsRising members → Separates members p i → Contains members member → member_key member ≡ p → (i < length members) × (get_or members i member ≡ member)
+separates_at members p i member rising at (k, within, is) e =
+    let key : member_key (get_or members k member) ≡ p = ap member_key is ∙ e in
     elim (cases_lt k i) [
-      | inl lt ↦ absurd (let b : slot_key (get_or slots k slot) < p = at.before k slot lt in omega (arith, b, key))
+      | inl lt ↦ absurd (let b : member_key (get_or members k member) < p = at.before k member lt in omega (arith, b, key))
       | inr ge ↦ elim (cases_lt i k) [
         | inl lt ↦ absurd (
-            let r : slot_key (get_or slots i slot) < slot_key (get_or slots k slot) = rising i k slot lt within in
-            let a : p ≤ slot_key (get_or slots i slot) = at.after i slot (omega arith) (omega arith) in
+            let r : member_key (get_or members i member) < member_key (get_or members k member) = rising i k member lt within in
+            let a : p ≤ member_key (get_or members i member) = at.after i member (omega arith) (omega arith) in
             omega (arith, r, a, key))
-        | inr le ↦ (let same : k ≡ i = omega arith in (omega (arith, same, within), subst (λ j. get_or slots j slot ≡ slot) same is))
+        | inr le ↦ (let same : k ≡ i = omega arith in (omega (arith, same, within), subst (λ j. get_or members j member ≡ member) same is))
       ]
     ]
 
 -- within a list the default does not matter
-any_default : (xs : List Slot) (j : ℕ) (c d : Slot) → j < length xs → get_or xs j d ≡ get_or xs j c
+any_default : (xs : List Member) (j : ℕ) (c d : Member) → j < length xs → get_or xs j d ≡ get_or xs j c
 any_default [] j c d lt = absurd (omega arith)
 any_default (x ∷ xs) zero c d lt = refl
 any_default (x ∷ xs) (suc j) c d lt = any_default xs j c d (omega arith)
 
 -- and the next place has the next index
-separates_next : (slots : List Slot) (p i : ℕ) (slot : Slot) → IsRising slots → Separates slots p i → Contains slots slot → slot_key slot ≡ p → Separates slots (p + 1) (i + 1)
-separates_next slots p i slot rising at found e =
-    let stands = separates_at slots p i slot rising at found e in
-    let key : slot_key (get_or slots i slot) ≡ p = ap slot_key stands.1 ∙ e in
+separates_next : (members : List Member) (p i : ℕ) (member : Member) → IsRising members → Separates members p i → Contains members member → member_key member ≡ p → Separates members (p + 1) (i + 1)
+separates_next members p i member rising at found e =
+    let stands = separates_at members p i member rising at found e in
+    let key : member_key (get_or members i member) ≡ p = ap member_key stands.1 ∙ e in
     record {
       within = omega (arith, stands.0);
       before = λ k d lt. elim (cases_lt k i) [
-        | inl less ↦ (let b : slot_key (get_or slots k d) < p = at.before k d less in omega (arith, b))
+        | inl less ↦ (let b : member_key (get_or members k d) < p = at.before k d less in omega (arith, b))
         | inr ge ↦ (let same : i ≡ k = omega arith in
-            let here : slot_key (get_or slots k d) ≡ p = subst (λ j. slot_key (get_or slots j d) ≡ p) same (ap slot_key (any_default slots i slot d stands.0) ∙ key) in
+            let here : member_key (get_or members k d) ≡ p = subst (λ j. member_key (get_or members j d) ≡ p) same (ap member_key (any_default members i member d stands.0) ∙ key) in
             omega (arith, here))
       ];
       after = λ k d ge lt.
-          let r : slot_key (get_or slots i d) < slot_key (get_or slots k d) = rising i k d (omega arith) lt in
-          let here : slot_key (get_or slots i d) ≡ p = ap slot_key (any_default slots i slot d stands.0) ∙ key in
+          let r : member_key (get_or members i d) < member_key (get_or members k d) = rising i k d (omega arith) lt in
+          let here : member_key (get_or members i d) ≡ p = ap member_key (any_default members i member d stands.0) ∙ key in
           omega (arith, r, here);
     }
 
@@ -96,24 +96,24 @@ earlier_track arch strip ChanY y m wire h =
     let parts = and_parts (is_block_row strip y) (nat_lt (suc m) arch.tracks) h in
     and_from (is_block_row strip y) (nat_lt m arch.tracks) parts.0 (lt-ltb m arch.tracks (omega (arith, ltb-true (suc m) arch.tracks parts.1)))
 
--- a slot of the column
-contained : (nodes : Numbering) (kind : NodeKind) (y n : ℕ) → IsNumbering nodes → y < 68 → n < 256 → is_slot nodes.arch nodes.strip kind y n ≡ true → Contains nodes.slots.items (slot_of kind y n)
-contained nodes kind y n lawful low few is = lawful.column.all.complete (slot_of kind y n) is (omega (arith, rank_few kind, low, few))
+-- a member of the column
+contained : (nodes : Numbering) (kind : NodeKind) (y n : ℕ) → IsNumbering nodes → y < 68 → n < 256 → is_slot nodes.arch nodes.strip kind y n ≡ true → Contains nodes.members.items (member_of kind y n)
+contained nodes kind y n lawful low few is = lawful.column.all.complete (member_of kind y n) is (omega (arith, rank_few kind, low, few))
 
 -- a track's place has the index that many after the row's first
 pub track_index : (nodes : Numbering) (kind : NodeKind) (y first n : ℕ) → IsNumbering nodes → y < 68 → n < 256 → is_wire kind ≡ true → is_slot nodes.arch nodes.strip kind y n ≡ true →
-    Separates nodes.slots.items (rank_of kind * 65536 + y * 256) first → Separates nodes.slots.items (rank_of kind * 65536 + y * 256 + n) (first + n)
+    Separates nodes.members.items (rank_of kind * 65536 + y * 256) first → Separates nodes.members.items (rank_of kind * 65536 + y * 256 + n) (first + n)
 track_index nodes kind y first zero lawful low few wire is at =
     let p : rank_of kind * 65536 + y * 256 ≡ rank_of kind * 65536 + y * 256 + 0 = omega arith in
     let i : first ≡ first + 0 = omega arith in
-    subst (λ q. Separates nodes.slots.items q (first + 0)) p (subst (Separates nodes.slots.items (rank_of kind * 65536 + y * 256)) i at)
+    subst (λ q. Separates nodes.members.items q (first + 0)) p (subst (Separates nodes.members.items (rank_of kind * 65536 + y * 256)) i at)
 track_index nodes kind y first (suc m) lawful low few wire is at =
     let is' = earlier_track nodes.arch nodes.strip kind y m wire is in
     let before = track_index nodes kind y first m lawful low (omega arith) wire is' at in
     let p : rank_of kind * 65536 + y * 256 + m + 1 ≡ rank_of kind * 65536 + y * 256 + suc m = omega arith in
     let i : first + m + 1 ≡ first + suc m = omega arith in
-    subst (λ q. Separates nodes.slots.items q (first + suc m)) p (subst (Separates nodes.slots.items (rank_of kind * 65536 + y * 256 + m + 1)) i
-    (separates_next nodes.slots.items (rank_of kind * 65536 + y * 256 + m) (first + m) (slot_of kind y m) lawful.column.all.rising before (contained nodes kind y m lawful low (omega arith) is') refl))
+    subst (λ q. Separates nodes.members.items q (first + suc m)) p (subst (Separates nodes.members.items (rank_of kind * 65536 + y * 256 + m + 1)) i
+    (separates_next nodes.members.items (rank_of kind * 65536 + y * 256 + m) (first + m) (member_of kind y m) lawful.column.all.rising before (contained nodes kind y m lawful low (omega arith) is') refl))
 
 -- ---- the wire of a's own track in a row
 
@@ -125,93 +125,93 @@ wire_is Ipin h = false≢true h
 wire_is ChanX h = tt
 wire_is ChanY h = tt
 
--- the slots between two rows' places
-row_slot : (nodes : Numbering) (kind : NodeKind) (y r : ℕ) → IsNumbering nodes → y < 68 → r < column_count nodes →
-    rank_of kind * 65536 + y * 256 ≤ slot_key (slot_at nodes r) → slot_key (slot_at nodes r) < rank_of kind * 65536 + (y + 1) * 256 →
-    ((slot_at nodes r).kind ≡ kind) × ((slot_at nodes r).y ≡ y) × (slot_key (slot_at nodes r) ≡ rank_of kind * 65536 + y * 256 + (slot_at nodes r).n)
-row_slot nodes kind y r lawful low here from to =
-    let small = all_small nodes lawful r no_slot here in
-    let rank : rank_of (slot_at nodes r).kind ≡ rank_of kind = omega (arith, small.0, small.1, from, to) in
-    let row : (slot_at nodes r).y ≡ y = omega (arith, small.0, small.1, from, to, rank) in
-    (same_kind (slot_at nodes r).kind kind rank, row, omega (arith, rank, row))
+-- the members between two rows' places
+row_member : (nodes : Numbering) (kind : NodeKind) (y r : ℕ) → IsNumbering nodes → y < 68 → r < column_count nodes →
+    rank_of kind * 65536 + y * 256 ≤ member_key (member_at nodes r) → member_key (member_at nodes r) < rank_of kind * 65536 + (y + 1) * 256 →
+    ((member_at nodes r).kind ≡ kind) × ((member_at nodes r).y ≡ y) × (member_key (member_at nodes r) ≡ rank_of kind * 65536 + y * 256 + (member_at nodes r).n)
+row_member nodes kind y r lawful low here from to =
+    let small = all_small nodes lawful r no_member here in
+    let rank : rank_of (member_at nodes r).kind ≡ rank_of kind = omega (arith, small.0, small.1, from, to) in
+    let row : (member_at nodes r).y ≡ y = omega (arith, small.0, small.1, from, to, rank) in
+    (same_kind (member_at nodes r).kind kind rank, row, omega (arith, rank, row))
 
 -- where an edge of the wire leads in the row, the track is its own
-own_number : (nodes : Numbering) (a : Node) (x : ℕ) (slot : Slot) → is_wire a.kind ≡ true → is_wire slot.kind ≡ true → leads nodes a (in_column x slot) ≡ true → a.n ≡ slot.n
-own_number nodes a x slot wa wb h = own_track nodes.arch nodes.strip a.kind slot.kind a (in_column x slot) (wire_is a.kind wa) (wire_is slot.kind wb) h
+own_number : (nodes : Numbering) (a : Node) (x : ℕ) (member : Member) → is_wire a.kind ≡ true → is_wire member.kind ≡ true → leads nodes a (in_column x member) ≡ true → a.n ≡ member.n
+own_number nodes a x member wa wb h = own_track nodes.arch nodes.strip a.kind member.kind a (in_column x member) (wire_is a.kind wa) (wire_is member.kind wb) h
 
--- no other slot of the row is led to
+-- no other member of the row is led to
 pass_others : (nodes : Numbering) (a : Node) (row : List ℕ) (x from to y : ℕ) (kind : NodeKind) → IsNumbering nodes → y < 68 → is_wire a.kind ≡ true → is_wire kind ≡ true → from ≤ to → to ≤ column_count nodes →
     IsRowBelow nodes a row (x * column_count nodes + from) →
-    ((r : ℕ) → from ≤ r → r < to → (rank_of kind * 65536 + y * 256 ≤ slot_key (slot_at nodes r)) × (slot_key (slot_at nodes r) < rank_of kind * 65536 + (y + 1) * 256)) →
-    ((r : ℕ) → from ≤ r → r < to → leads nodes a (in_column x (slot_at nodes r)) ≡ true → slot_key (slot_at nodes r) ≡ rank_of kind * 65536 + y * 256 + a.n → ⊥) →
+    ((r : ℕ) → from ≤ r → r < to → (rank_of kind * 65536 + y * 256 ≤ member_key (member_at nodes r)) × (member_key (member_at nodes r) < rank_of kind * 65536 + (y + 1) * 256)) →
+    ((r : ℕ) → from ≤ r → r < to → leads nodes a (in_column x (member_at nodes r)) ≡ true → member_key (member_at nodes r) ≡ rank_of kind * 65536 + y * 256 + a.n → ⊥) →
     IsRowBelow nodes a row (x * column_count nodes + to)
 pass_others nodes a row x from to y kind lawful low wa wb order within old between none =
     row_skip nodes a row _ _ old (omega arith) (λ j least most leads'.
     let r : ℕ = j + nodes.before - x * column_count nodes in
     let e : j + nodes.before ≡ x * column_count nodes + r = omega arith in
     let here : r < column_count nodes = omega arith in
-    let led : leads nodes a (in_column x (slot_at nodes r)) ≡ true = subst (λ b. leads nodes a b ≡ true) (node_of_place nodes x r j here e) leads' in
+    let led : leads nodes a (in_column x (member_at nodes r)) ≡ true = subst (λ b. leads nodes a b ≡ true) (node_of_place nodes x r j here e) leads' in
     let span = between r (omega arith) (omega arith) in
-    let slot = row_slot nodes kind y r lawful low here span.0 span.1 in
-    let own : a.n ≡ (slot_at nodes r).n = own_number nodes a x (slot_at nodes r) wa (ap is_wire slot.0 ∙ wb) led in
-    none r (omega arith) (omega arith) led (omega (arith, slot.2, own)))
+    let member = row_member nodes kind y r lawful low here span.0 span.1 in
+    let own : a.n ≡ (member_at nodes r).n = own_number nodes a x (member_at nodes r) wa (ap is_wire member.0 ∙ wb) led in
+    none r (omega arith) (omega arith) led (omega (arith, member.2, own)))
 
 -- the row has no such wire
 pub wire_none : (nodes : Numbering) (a : Node) (row : List ℕ) (x y : ℕ) (kind : NodeKind) → IsNumbering nodes → y < 68 → is_wire a.kind ≡ true → is_wire kind ≡ true →
     IsRowAt nodes a row x (rank_of kind * 65536 + y * 256) →
-    (is_slot nodes.arch nodes.strip kind y a.n ≡ true → leads nodes a (in_column x (slot_of kind y a.n)) ≡ true → ⊥) →
+    (is_slot nodes.arch nodes.strip kind y a.n ≡ true → leads nodes a (in_column x (member_of kind y a.n)) ≡ true → ⊥) →
     IsRowAt nodes a row x (rank_of kind * 65536 + (y + 1) * 256)
 wire_none nodes a row x y kind lawful low wa wb old isn't index at =
-    let first = separates_some nodes.slots.items (rank_of kind * 65536 + y * 256) lawful.column.all.rising in
-    let order : first.0 ≤ index = separates_order nodes.slots.items _ _ first.0 index first.1 at (omega arith) in
-    let span : (r : ℕ) → first.0 ≤ r → r < index → (rank_of kind * 65536 + y * 256 ≤ slot_key (slot_at nodes r)) × (slot_key (slot_at nodes r) < rank_of kind * 65536 + (y + 1) * 256) =
-    λ r least most. (first.1.after r no_slot least (omega (arith, at.within)), at.before r no_slot most) in
+    let first = separates_some nodes.members.items (rank_of kind * 65536 + y * 256) lawful.column.all.rising in
+    let order : first.0 ≤ index = separates_order nodes.members.items _ _ first.0 index first.1 at (omega arith) in
+    let span : (r : ℕ) → first.0 ≤ r → r < index → (rank_of kind * 65536 + y * 256 ≤ member_key (member_at nodes r)) × (member_key (member_at nodes r) < rank_of kind * 65536 + (y + 1) * 256) =
+    λ r least most. (first.1.after r no_member least (omega (arith, at.within)), at.before r no_member most) in
     pass_others nodes a row x first.0 index y kind lawful low wa wb order at.within (old first.0 first.1) span
     (λ r least most led key.
     let here : r < column_count nodes = omega (arith, at.within) in
     let two = span r least most in
-    let slot = row_slot nodes kind y r lawful low here two.0 two.1 in
-    let n : (slot_at nodes r).n ≡ a.n = omega (arith, slot.2, key) in
-    let same : slot_at nodes r ≡ slot_of kind y a.n = same_parts (slot_at nodes r) kind y a.n slot.0 slot.1 n in
-    let there : is_slot nodes.arch nodes.strip (slot_at nodes r).kind (slot_at nodes r).y (slot_at nodes r).n ≡ true = lawful.column.all.sound r no_slot here in
-    isn't (subst (λ (s : Slot). is_slot nodes.arch nodes.strip s.kind s.y s.n ≡ true) same there) (subst (λ s. leads nodes a (in_column x s) ≡ true) same led))
+    let member = row_member nodes kind y r lawful low here two.0 two.1 in
+    let n : (member_at nodes r).n ≡ a.n = omega (arith, member.2, key) in
+    let same : member_at nodes r ≡ member_of kind y a.n = same_parts (member_at nodes r) kind y a.n member.0 member.1 n in
+    let there : is_slot nodes.arch nodes.strip (member_at nodes r).kind (member_at nodes r).y (member_at nodes r).n ≡ true = lawful.column.all.sound r no_member here in
+    isn't (subst (λ (s : Member). is_slot nodes.arch nodes.strip s.kind s.y s.n ≡ true) same there) (subst (λ s. leads nodes a (in_column x s) ≡ true) same led))
   where
-    same_parts : (slot : Slot) (k : NodeKind) (v n : ℕ) → slot.kind ≡ k → slot.y ≡ v → slot.n ≡ n → slot ≡ slot_of k v n
-    same_parts slot k v n ek ev en = ap (λ z. slot_of z slot.y slot.n) ek ∙ (ap (λ z. slot_of k z slot.n) ev ∙ ap (λ z. slot_of k v z) en)
+    same_parts : (member : Member) (k : NodeKind) (v n : ℕ) → member.kind ≡ k → member.y ≡ v → member.n ≡ n → member ≡ member_of k v n
+    same_parts member k v n ek ev en = ap (λ z. member_of z member.y member.n) ek ∙ (ap (λ z. member_of k z member.n) ev ∙ ap (λ z. member_of k v z) en)
 
 -- only the vertical channel stands in column 0
-pub wire_there : (nodes : Numbering) (x y first n : ℕ) (kind : NodeKind) → IsNumbering nodes → Separates nodes.slots.items (rank_of kind * 65536 + y * 256) first → ((x ≡ 0) → rank_of kind ≡ 5) →
+pub wire_there : (nodes : Numbering) (x y first n : ℕ) (kind : NodeKind) → IsNumbering nodes → Separates nodes.members.items (rank_of kind * 65536 + y * 256) first → ((x ≡ 0) → rank_of kind ≡ 5) →
     nodes.before ≤ x * column_count nodes + (first + n)
 wire_there nodes x y first n kind lawful at there = elim (cases_lt 0 x) [
   | inl some ↦ (let many : 1 * column_count nodes ≤ x * column_count nodes = mul-le 1 (column_count nodes) x (column_count nodes) some (omega arith) in
       omega (arith, lawful.before.within))
   | inr none ↦ (let rank : rank_of kind ≡ 5 = there (omega arith) in
-      let order : nodes.before ≤ first = separates_order nodes.slots.items _ _ nodes.before first lawful.before at (omega arith) in
+      let order : nodes.before ≤ first = separates_order nodes.members.items _ _ nodes.before first lawful.before at (omega arith) in
       omega arith)
 ]
 
 -- the row has it, and it is added
 pub wire_added : (nodes : Numbering) (a : Node) (row : List ℕ) (x y first : ℕ) (kind : NodeKind) → IsNumbering nodes → y < 68 → a.n < 145 → is_wire a.kind ≡ true → is_wire kind ≡ true →
-    ((x ≡ 0) → rank_of kind ≡ 5) → Separates nodes.slots.items (rank_of kind * 65536 + y * 256) first →
+    ((x ≡ 0) → rank_of kind ≡ 5) → Separates nodes.members.items (rank_of kind * 65536 + y * 256) first →
     IsRowAt nodes a row x (rank_of kind * 65536 + y * 256) →
-    is_slot nodes.arch nodes.strip kind y a.n ≡ true → leads nodes a (in_column x (slot_of kind y a.n)) ≡ true →
+    is_slot nodes.arch nodes.strip kind y a.n ≡ true → leads nodes a (in_column x (member_of kind y a.n)) ≡ true →
     IsRowAt nodes a (row ++ (x * column_count nodes + (first + a.n) - nodes.before) ∷ []) x (rank_of kind * 65536 + (y + 1) * 256)
 wire_added nodes a row x y first kind lawful low few wa wb there at_first old is led index at =
     let p : ℕ = rank_of kind * 65536 + y * 256 in
     let i : ℕ = first + a.n in
     let here = track_index nodes kind y first a.n lawful low (omega arith) wb is at_first in
     let found = contained nodes kind y a.n lawful low (omega arith) is in
-    let stands = separates_at nodes.slots.items (p + a.n) i (slot_of kind y a.n) lawful.column.all.rising here found refl in
-    let slot_is : slot_at nodes i ≡ slot_of kind y a.n = any_default nodes.slots.items i (slot_of kind y a.n) no_slot stands.0 ∙ stands.1 in
-    let next = separates_next nodes.slots.items (p + a.n) i (slot_of kind y a.n) lawful.column.all.rising here found refl in
-    let order : i + 1 ≤ index = separates_order nodes.slots.items _ _ (i + 1) index next at (omega arith) in
+    let stands = separates_at nodes.members.items (p + a.n) i (member_of kind y a.n) lawful.column.all.rising here found refl in
+    let member_is : member_at nodes i ≡ member_of kind y a.n = any_default nodes.members.items i (member_of kind y a.n) no_member stands.0 ∙ stands.1 in
+    let next = separates_next nodes.members.items (p + a.n) i (member_of kind y a.n) lawful.column.all.rising here found refl in
+    let order : i + 1 ≤ index = separates_order nodes.members.items _ _ (i + 1) index next at (omega arith) in
     let start = pass_others nodes a row x first i y kind lawful low wa wb (omega arith) here.within (old first at_first)
-    (λ r least most. (at_first.after r no_slot least (omega (arith, here.within)), (let b : slot_key (slot_at nodes r) < p + a.n = here.before r no_slot most in omega (arith, b, few))))
-    (λ r least most led' key. (let b : slot_key (slot_at nodes r) < p + a.n = here.before r no_slot most in omega (arith, b, key))) in
-    let pushed = part_push nodes a row x i stands.0 (wire_there nodes x y first a.n kind lawful at_first there) start (subst (λ s. leads nodes a (in_column x s) ≡ true) (sym slot_is) led) in
+    (λ r least most. (at_first.after r no_member least (omega (arith, here.within)), (let b : member_key (member_at nodes r) < p + a.n = here.before r no_member most in omega (arith, b, few))))
+    (λ r least most led' key. (let b : member_key (member_at nodes r) < p + a.n = here.before r no_member most in omega (arith, b, key))) in
+    let pushed = part_push nodes a row x i stands.0 (wire_there nodes x y first a.n kind lawful at_first there) start (subst (λ s. leads nodes a (in_column x s) ≡ true) (sym member_is) led) in
     pass_others nodes a _ x (i + 1) index y kind lawful low wa wb order at.within pushed
-    (λ r least most. ((let b : p + a.n + 1 ≤ slot_key (slot_at nodes r) = next.after r no_slot least (omega (arith, at.within)) in omega (arith, b)), at.before r no_slot most))
-    (λ r least most led' key. (let b : p + a.n + 1 ≤ slot_key (slot_at nodes r) = next.after r no_slot least (omega (arith, at.within)) in omega (arith, b, key)))
+    (λ r least most. ((let b : p + a.n + 1 ≤ member_key (member_at nodes r) = next.after r no_member least (omega (arith, at.within)) in omega (arith, b)), at.before r no_member most))
+    (λ r least most led' key. (let b : p + a.n + 1 ≤ member_key (member_at nodes r) = next.after r no_member least (omega (arith, at.within)) in omega (arith, b, key)))
 
 -- ---- all rows of a kind
 
@@ -257,18 +257,18 @@ led_kind arch strip ChanY ChanY a b h = refl
 pub kind_none : (nodes : Numbering) (a : Node) (row : List ℕ) (x : ℕ) (kind : NodeKind) → IsNumbering nodes → may_lead a.kind kind ≡ false →
     IsRowAt nodes a row x (rank_of kind * 65536) → IsRowAt nodes a row x ((rank_of kind + 1) * 65536)
 kind_none nodes a row x kind lawful isn't old index at =
-    let first = separates_some nodes.slots.items (rank_of kind * 65536) lawful.column.all.rising in
-    let order : first.0 ≤ index = separates_order nodes.slots.items _ _ first.0 index first.1 at (omega arith) in
+    let first = separates_some nodes.members.items (rank_of kind * 65536) lawful.column.all.rising in
+    let order : first.0 ≤ index = separates_order nodes.members.items _ _ first.0 index first.1 at (omega arith) in
     row_skip nodes a row _ _ (old first.0 first.1) (omega arith) (λ j least most leads'.
     let r : ℕ = j + nodes.before - x * column_count nodes in
     let e : j + nodes.before ≡ x * column_count nodes + r = omega arith in
     let here : r < column_count nodes = omega (arith, at.within) in
-    let led : leads nodes a (in_column x (slot_at nodes r)) ≡ true = subst (λ b. leads nodes a b ≡ true) (node_of_place nodes x r j here e) leads' in
-    let small = all_small nodes lawful r no_slot here in
-    let from : rank_of kind * 65536 ≤ slot_key (slot_at nodes r) = first.1.after r no_slot (omega arith) here in
-    let to : slot_key (slot_at nodes r) < (rank_of kind + 1) * 65536 = at.before r no_slot (omega arith) in
-    let same : (slot_at nodes r).kind ≡ kind = same_kind (slot_at nodes r).kind kind (omega (arith, small.0, small.1, from, to)) in
-    false≢true (sym isn't ∙ (ap (may_lead a.kind) (sym same) ∙ led_kind nodes.arch nodes.strip a.kind (slot_at nodes r).kind a (in_column x (slot_at nodes r)) led)))
+    let led : leads nodes a (in_column x (member_at nodes r)) ≡ true = subst (λ b. leads nodes a b ≡ true) (node_of_place nodes x r j here e) leads' in
+    let small = all_small nodes lawful r no_member here in
+    let from : rank_of kind * 65536 ≤ member_key (member_at nodes r) = first.1.after r no_member (omega arith) here in
+    let to : member_key (member_at nodes r) < (rank_of kind + 1) * 65536 = at.before r no_member (omega arith) in
+    let same : (member_at nodes r).kind ≡ kind = same_kind (member_at nodes r).kind kind (omega (arith, small.0, small.1, from, to)) in
+    false≢true (sym isn't ∙ (ap (may_lead a.kind) (sym same) ∙ led_kind nodes.arch nodes.strip a.kind (member_at nodes r).kind a (in_column x (member_at nodes r)) led)))
 
 -- the rows before those next to the node's own
 pub track_begins : (nodes : Numbering) (a : Node) (row : List ℕ) (x : ℕ) (kind : NodeKind) → IsNumbering nodes →
@@ -279,5 +279,5 @@ track_begins nodes a row x kind lawful old index at = kind_begins nodes a row x 
 pub track_ends : (nodes : Numbering) (a : Node) (row : List ℕ) (x : ℕ) (kind : NodeKind) → IsNumbering nodes → a.y < 66 →
     IsRowAt nodes a row x (rank_of kind * 65536 + (a.y + 2) * 256) → IsRowAt nodes a row x ((rank_of kind + 1) * 65536)
 track_ends nodes a row x kind lawful low old =
-    let stop = separates_some nodes.slots.items (rank_of kind * 65536 + (a.y + 2) * 256) lawful.column.all.rising in
+    let stop = separates_some nodes.members.items (rank_of kind * 65536 + (a.y + 2) * 256) lawful.column.all.rising in
     kind_ends nodes a row x stop.0 kind lawful low stop.1 (old stop.0 stop.1)

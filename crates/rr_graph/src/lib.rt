@@ -5,10 +5,12 @@
 //! number, and numbered in that order. Edges lead from sources over output pins, wires and input pins to sinks, and
 //! between wires of one track that meet at a point, both ways.
 //!
-//! [`StripGraph`] is what a router uses: nodes by number, and the other ends of each node's edges in node order. An
-//! architecture and a strip determine it, which [`one_graph`] says, so any two are the same graph. [`Fabric`] implements
-//! it. All columns of blocks have the same nodes, so it keeps the nodes of one column in a table, and the edges of the
-//! columns that differ: column 0 with its vertical channel, the first of blocks, one for all between, and the last.
+//! [`StripGraph`] is what a router uses: nodes by number, and the other ends of each node's edges in node order. For a
+//! search that goes to a sink it tells which ends matter and how many nodes at least follow a node; [`laws_of_ways`] says
+//! why that is right. An architecture and a strip determine the graph, which [`one_graph`] says, so any two are the same.
+//! [`Fabric`] implements it. All columns of blocks have the same nodes, so it keeps the nodes of one column in a table, and
+//! the edges of the columns that differ, all and the wires among them: column 0 with its vertical channel, the first of
+//! blocks, one for all between, and the last.
 #![tactic(auto)]
 
 mod column;

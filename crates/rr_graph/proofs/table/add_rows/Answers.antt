@@ -10,7 +10,7 @@ add_part-requires-clause-there c =
 
 pub add_part-requires-clause-order : goal.add_part-requires-clause-order
 add_part-requires-clause-order c =
-    separates_order c.args.nodes.now.slots.items _ _ _ _ c.first-from.ensures c.first-to.ensures (omega (arith, c.saturating_sub.ensures))
+    separates_order c.args.nodes.now.members.items _ _ _ _ c.first-from.ensures c.first-to.ensures (omega (arith, c.saturating_sub.ensures))
 
 pub add_part-requires-clause-row : goal.add_part-requires-clause-row
 add_part-requires-clause-row c =
