@@ -9,7 +9,8 @@ use std::io::{ErrorKind, Write};
 /// How often a call that was interrupted is made again.
 const MOST_TRIES: u32 = 1_000_000;
 
-/// A sink over a writer of the standard library. A call that was interrupted is made again.
+/// A sink over a writer of the standard library. A call that was interrupted is made again. From the writer's first failure on
+/// it answers [`Failed`], as [`Sink`] says, whatever the writer would take; a write of some bytes that takes none is one.
 #[derive(Drop)]
 pub struct StdSink<W: Write + Drop> {
     writer: W,

@@ -8,7 +8,8 @@ use std::io::{ErrorKind, Read};
 /// How often a call that was interrupted is made again.
 const MOST_TRIES: u32 = 1_000_000;
 
-/// A source over a reader of the standard library. A call that was interrupted is made again.
+/// A source over a reader of the standard library. A call that was interrupted is made again. From the reader's first failure on
+/// it answers [`Failed`], as [`Source`] says, whatever the reader would give.
 #[derive(Drop)]
 pub struct StdSource<R: Read + Drop> {
     reader: R,

@@ -1,7 +1,8 @@
 //! Joined lines, words and numbers.
 use line_text::{
-    LineError, LineFault, Text, append_words, decimal_u32, decimal_u64, logical_lines, millionths,
-    whole_number,
+    LineError, LineFault, Text, append_words, decimal_u32, decimal_u64, is_blank, is_word,
+    logical_lines, millionths, skip_blanks, split_line, split_word, whole_number, word_end,
+    word_start,
 };
 use std::alloc::{AllocError, Global};
 use std::test::Fail;
@@ -64,6 +65,20 @@ fn appends_the_words_of_a_command(rt: HostRuntime) -> Result<(), Fail> {
     assert_eq!(rt; words[0], b"place".as_slice());
     assert_eq!(rt; words[2], b"#0\\".as_slice());
     Ok(())
+}
+
+#[test]
+fn takes_a_line_and_a_word(rt: HostRuntime) {
+    let (line, later) = split_line(b"  place\t7\n.end");
+    assert_eq!(rt; later, b".end".as_slice());
+    assert_eq!(rt; word_start(line), Some(2));
+    let (word, rest) = split_word(skip_blanks(line));
+    assert!(rt; is_word(word, "place"));
+    assert!(rt; !is_word(word, "places"));
+    assert_eq!(rt; skip_blanks(rest), b"7".as_slice());
+    assert_eq!(rt; word_end(b"a b"), Some(1));
+    assert!(rt; is_blank(b'\r'));
+    assert!(rt; !is_blank(b'\n'));
 }
 
 #[test]
