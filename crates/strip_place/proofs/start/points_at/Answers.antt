@@ -1,0 +1,20 @@
+use Rattle.std.proofs.Common.{◌<◌, ◌++◌, ◌∷◌, [], List, length, map, take, get_or, arith, ap, sym, ◌∙◌}
+use Rattle.std.proofs.lemmas.List.{map_push, take_all, take_more}
+use Rattle.strip_place.specs.declared.point.Point.{Point}
+use Rattle.strip_place.specs.Wiring.{nowhere, point_at}
+use Rattle.strip_place.proofs.start.points_at.Goals as goal
+
+pub loop-site-preserved : goal.loop-site-preserved
+loop-site-preserved c =
+    let spots = c.args.spots.now in
+    let sites = c.args.sites.now in
+    let i = c.loop-site.site-index in
+    let lt : i < length sites = omega arith in
+    c.in_ok-push.ensures.items ∙ ap (λ (front : List Point). front ++ point_at spots (get_or sites i 0) ∷ []) c.loop-site.invariant
+    ∙ sym (map_push (point_at spots) (take i sites) (get_or sites i 0)) ∙ ap (map (point_at spots)) (sym (take_more sites i 0 lt))
+
+pub returns : goal.returns
+returns c =
+    let spots = c.args.spots.now in
+    let all = take_all c.loop-site.site-index c.args.sites.now (omega arith) in
+    c.in_ok-push-2.ensures.items ∙ ap (λ (front : List Point). front ++ nowhere ∷ []) (c.loop-site.invariant ∙ ap (map (point_at spots)) all)

@@ -1,0 +1,32 @@
+use Rattle.std.proofs.Common.{◌≡◌, ◌<◌, [], length, arith}
+use Rattle.std.proofs.lemmas.Option.{get_or_from_slice_get}
+use Rattle.strip_place.specs.Nets.{net_at}
+use Rattle.strip_place.specs.Boxes.{IsBox}
+use Rattle.strip_place.proofs.Swaps.{boxes_all, boxes_more, boxes_none}
+use Rattle.strip_place.proofs.wires.boxes_of.Goals as goal
+
+pub loop-number-init : goal.loop-number-init
+loop-number-init c = boxes_none _ _ _ c.new-boxes.ensures.items
+
+pub of-now-requires : goal.of-now-requires
+of-now-requires c =
+    let nets = c.args.nets.now in
+    let number = c.loop-number.number in
+    let within : number < length nets = omega arith in
+    let row : net_at nets number ≡ c.row.result.now = get_or_from_slice_get nets number c.row.result.now [] c.row.ensures in
+    record {
+      some = rw row at (c.requires.some number within);
+      within = rw row at (c.requires.within number within);
+      short = rw row at (c.requires.short number within);
+    }
+
+pub loop-number-preserved : goal.loop-number-preserved
+loop-number-preserved c =
+    let nets = c.args.nets.now in
+    let number = c.loop-number.number in
+    let row : net_at nets number ≡ c.row.result.now = get_or_from_slice_get nets number c.row.result.now [] c.row.ensures in
+    let here : IsBox c.args.points.now (net_at nets number) c.of-now.result = rw row c.of-now.ensures in
+    rw c.in_ok-push.ensures.items (boxes_more c.args.points.now nets number c.loop-number.boxes.items _ c.loop-number.invariant here)
+
+pub returns : goal.returns
+returns c = boxes_all _ _ c.loop-number.number _ (omega arith) c.loop-number.invariant

@@ -1,0 +1,37 @@
+-- Private: nets of blocks, and the nets that a block is on.
+use Rattle.std.specs.Prelude.{ℕ, ◌≡◌, ◌+◌, ◌<◌, ◌≤◌, ◌^◌, ◌==◌, List, [], ◌∷◌, ◌++◌, length, count_by, slice_index, All}
+use Rattle.std.specs.List.{slice_index_or}
+use Rattle.rows.specs.declared.by_key.Keyed.{Keyed}
+use Rattle.rows.specs.ByKey.{items_by_key, pairs_with}
+
+-- the net of that number
+abbrev pub net_at : List (List ℕ) → ℕ → List ℕ
+net_at nets number = slice_index_or nets number []
+
+-- how often the block stands on the net
+abbrev pub times_on : ℕ → List ℕ → ℕ
+times_on block net = count_by (λ other. other == block) net
+
+-- nets have blocks of that many, each at most once
+pub record AreNets (count : ℕ) (nets : List (List ℕ)) : Type 0 where
+  pub some : (number : ℕ) → number < length nets → 0 < length (net_at nets number)
+  pub within : (number : ℕ) → number < length nets → All (λ block. block < count) (net_at nets number)
+  pub once : (number block : ℕ) → number < length nets → times_on block (net_at nets number) ≤ 1
+  pub short : (number : ℕ) → number < length nets → length (net_at nets number) + 2 < 2 ^ 16
+  pub few : length nets < 2 ^ 31
+
+-- the numbers of the nets that the block is on, each once
+pub record AreTouched (nets : List (List ℕ)) (block : ℕ) (touched : List ℕ) : Type 0 where
+  pub rising : (k j : ℕ) → k < j → j < length touched → slice_index touched k < slice_index touched j
+  pub within : (k : ℕ) → k < length touched → slice_index touched k < length nets
+  pub on : (k : ℕ) → k < length touched → times_on block (net_at nets (slice_index touched k)) ≡ 1
+  pub found : (number : ℕ) → number < length nets → 0 < times_on block (net_at nets number) → (k : ℕ) × (k < length touched) × (slice_index touched k ≡ number)
+
+-- the blocks of nets with numbers from one on, each with its net's number
+abbrev pub pairs_from : ℕ → List (List ℕ) → List Keyed
+pairs_from number [] = []
+pairs_from number (net ∷ nets) = pairs_with number net ++ pairs_from (number + 1) nets
+
+-- the numbers of the nets by block
+unfoldable pub touching_of : List (List ℕ) → ℕ → List (List ℕ)
+touching_of nets blocks = items_by_key (pairs_from 0 nets) blocks
