@@ -1,3 +1,4 @@
+//! What a device is made of.
 ghost use Rattle.std.specs.Prelude.{◌≡◌, ◌<◌, ◌≤◌, length, IfOk, slice_get, Some};
 
 use std::alloc::AllocError;

@@ -1,3 +1,4 @@
+//! What the lines so far say of the architecture.
 ghost use Rattle.std.specs.Prelude.{ℕ, ◌≡◌, ◌<◌, List, [], OnOk, true, false, not, nat_lt, ◌≤◌, ◌&&◌, ◌==◌, slice_index_or, slice_set};
 ghost use Rattle.std.specs.List.{find};
 ghost use Rattle.line_text.specs.Lines.{JoinedLine};

@@ -1,3 +1,4 @@
+//! What can be wrong with an architecture file, and how it is told.
 ghost use Rattle.std.specs.Prelude.{◌≡◌};
 ghost use Rattle.arch_file.specs.Faults.{name_of, number_of};
 

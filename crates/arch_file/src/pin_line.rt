@@ -1,3 +1,4 @@
+//! The line of a pin: its class and its sides.
 ghost use Rattle.std.specs.Prelude.{ℕ, ◌≡◌, ◌<◌, ◌++◌, ◌∷◌, [], List, IfOk, Some, nat_lt, true, false};
 ghost use Rattle.arch_file.specs.Readings.{FindsLeast};
 ghost use Rattle.arch_file.specs.PinLine.{are_sides, class_faults, class_fits, class_of, pin_in, pin_line_faults, sides_of};

@@ -1,3 +1,4 @@
+//! From the text to the architecture.
 ghost use Rattle.std.specs.Prelude.{◌≤◌};
 ghost use Rattle.arch_file.specs.Arch.{Gives, arch_of};
 ghost use Rattle.arch_file.specs.Draft.{ReadsAll};

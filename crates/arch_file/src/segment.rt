@@ -1,3 +1,4 @@
+//! The segment line: pairs of a key and a value.
 ghost use Rattle.std.specs.Prelude.{◌≡◌};
 ghost use Rattle.line_text.specs.Decimal.{millionths_of};
 ghost use Rattle.arch_file.specs.Readings.{FindsLeast};

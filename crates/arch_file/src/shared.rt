@@ -1,3 +1,4 @@
+//! An architecture that many own.
 ghost use Rattle.std.specs.Prelude.{◌≡◌, IfErr, IfOk};
 ghost use Rattle.arch_file.specs.Arch.{IsArch};
 

@@ -1,3 +1,4 @@
+//! The values behind the keywords.
 ghost use Rattle.std.specs.Prelude.{◌≡◌, ◌<◌, ◌≤◌, IfOk, Some, option_map, option_and_then};
 ghost use Rattle.arch_file.specs.Readings.{Finds};
 ghost use Rattle.arch_file.specs.Values.{decimal_faults, decimal_in, is_fc_type, is_fractional_choice, is_subset, one_faults, reach, whole_faults, whole_in, width_faults, word_faults};

@@ -1,3 +1,4 @@
+//! What can be wrong with a text's lines.
 /// What is wrong with a text's lines, with the number of the line, from 1.
 #[derive(Clone, Copy, Debug, PartialEq, Eq)]
 pub enum LineFault {

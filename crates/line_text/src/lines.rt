@@ -1,3 +1,4 @@
+//! The joined lines of a text.
 ghost use Rattle.std.specs.Prelude.{IsTrue, ◌↔◌, ◌≡◌, ◌<◌, ◌^◌, ◌∷◌, ◌+◌, ◌≤◌, ◌==◌, length, position, slice_get, Some, map};
 ghost use Rattle.line_text.specs.Lines.{Gives, JoinedLine, lines_of, physical_lines};
 

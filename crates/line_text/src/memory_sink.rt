@@ -1,3 +1,4 @@
+//! A sink that keeps the bytes.
 ghost use Rattle.std.specs.Prelude.{◌≡◌, Some, [], false};
 
 use crate::sink::Sink;

@@ -1,3 +1,4 @@
+//! A source over bytes in memory.
 ghost use Rattle.std.specs.Prelude.{◌≡◌, ◌^◌, Some, false};
 
 use crate::source::{Failed, Source};

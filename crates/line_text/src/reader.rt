@@ -1,3 +1,4 @@
+//! Joined lines, read one physical line after another.
 ghost use Rattle.std.specs.Prelude.{◌≡◌, ◌+◌, ◌≤◌, ◌<◌, ◌^◌, length, take, drop, map, position, OnOk, IsTrue, ◌==◌, MatchOption, IfErr, ◌++◌, [], true, false};
 ghost use Rattle.std.specs.List.{suffix_len};
 ghost use Rattle.line_text.specs.Lines.{ends_in_backslash, is_not_ascii, trimmed as trimmed_bytes, without_comment, without_last};

@@ -1,3 +1,4 @@
+//! Where bytes come from.
 ghost use Rattle.std.specs.Prelude.{◌≡◌, ◌-◌, List, OnErr, OnOk, IfOk, IfErr, IfSome, length, vec_len, ◌<◌, true, false};
 ghost use Rattle.std.specs.Io.{ReadsAtMost};
 ghost use Rattle.std.specs.Io.KnownBytes.{IsAtEnd, ReadConsumes};

@@ -1,3 +1,4 @@
+//! A sink over a writer of the standard library.
 ghost use Rattle.std.specs.Prelude.{◌≡◌, take, IfOk, OnErr, false};
 ghost use Rattle.std.specs.Io.{WritesAtMost};
 ghost use Rattle.std.specs.Io.KnownBytes.{Appends, Keeps};

@@ -1,3 +1,4 @@
+//! Bytes that belong to their holder.
 ghost use Rattle.std.specs.Prelude.{◌≡◌, ◌<◌, ◌^◌, length, IfOk, IsTrue, ◌↔◌};
 
 use std::alloc::{AllocError, Global};
