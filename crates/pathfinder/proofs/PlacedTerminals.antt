@@ -1,0 +1,146 @@
+-- The sources and sinks of placed blocks.
+use Rattle.std.proofs.Common.{◌≡◌, ◌≢◌, ℕ, ◌+◌, ◌<◌, ◌≤◌, Bool, true, false, List, [], ◌∷◌, length, get_or, map, cond, refl, sym, ap, subst, ◌∙◌, ◌⊎◌, inl, inr, arith}
+use Rattle.std.specs.Prelude.{All}
+use Rattle.std.specs.List.{AllPairs}
+use Rattle.std.proofs.lemmas.Bool.Decides.{nat_tests, Decides-eqb}
+use Rattle.std.proofs.lemmas.List.{length-map, get_or-map}
+use Rattle.std.proofs.lemmas.List.Elements.{All-nil, All-map, All-contains}
+use Rattle.std.proofs.lemmas.Map.Made.{IsDistinct-from_AllPairs}
+use Rattle.arch_file.specs.declared.arch.Arch.{Arch}
+use Rattle.arch_file.specs.Arch.{IsWithin}
+use Rattle.cluster.specs.declared.block.Block.{Block}
+use Rattle.cluster.specs.declared.block.Block.TheVariants.{InputPad, OutputPad, Cluster}
+use Rattle.cluster.specs.Clusters.{PackedCircuit}
+use Rattle.cluster.specs.Blocks.{BlockNet, blocks_of, block_nets}
+use Rattle.cluster.specs.PackingLaws.{IsBlockNet, IsLawfulPacking}
+use Rattle.grid.specs.declared.Strip.{Strip}
+use Rattle.grid.specs.declared.place.Kind.{Kind}
+use Rattle.grid.specs.declared.place.Place.{Place}
+use Rattle.grid.specs.Sizes.{IsStripSize}
+use Rattle.grid.specs.Places.{place_at, places_of}
+use Rattle.grid.specs.PlaceLaws.{IsInRow, IsPlaceIn}
+use Rattle.grid.specs.Fits.{kind_of}
+use Rattle.rr_graph.specs.declared.node.NodeKind.TheVariants.{Source, Sink}
+use Rattle.rr_graph.specs.declared.node.Node.{Node}
+use Rattle.rr_graph.specs.Geometry.{is_node}
+use Rattle.rr_graph.specs.Graph.{Basis, IsBasis, RoutingGraph, IsRoutingGraph, graph_of, make_node}
+use Rattle.pathfinder.specs.Wiring.{Wiring, Net, IsNet, AreNets}
+use Rattle.pathfinder.specs.PlacedNets.{wiring_of, number_of, source_at, sink_at, block_at, place_of, net_to_route, nets_to_route, ArePlaced}
+use Rattle.pathfinder.proofs.NodeNumbers.{number_found}
+
+-- ---- they are nodes
+
+pub source_is : (arch : Arch) (strip : Strip) (block : Block) (place : Place) → IsPlaceIn strip (kind_of block) place → is_node arch strip (source_at block place) ≡ true
+source_is arch strip block place at = by block at.column at.row
+  where
+    by : (block : Block) → IsWithin 1 place.x strip.width → IsInRow strip (kind_of block) place → is_node arch strip (source_at block place) ≡ true
+    by (InputPad net) (x, w) (inl e, s) = grind (arith, nat_tests)
+    by (InputPad net) (x, w) (inr e, s) = grind (arith, nat_tests)
+    by (OutputPad net) (x, w) (inl e, s) = grind (arith, nat_tests)
+    by (OutputPad net) (x, w) (inr e, s) = grind (arith, nat_tests)
+    by (Cluster cluster) (x, w) ((y, r), s) = grind (arith, nat_tests)
+
+pub sink_is : (arch : Arch) (strip : Strip) (block : Block) (place : Place) → IsPlaceIn strip (kind_of block) place → is_node arch strip (sink_at block place) ≡ true
+sink_is arch strip block place at = by block at.column at.row
+  where
+    by : (block : Block) → IsWithin 1 place.x strip.width → IsInRow strip (kind_of block) place → is_node arch strip (sink_at block place) ≡ true
+    by (InputPad net) (x, w) (inl e, s) = grind (arith, nat_tests)
+    by (InputPad net) (x, w) (inr e, s) = grind (arith, nat_tests)
+    by (OutputPad net) (x, w) (inl e, s) = grind (arith, nat_tests)
+    by (OutputPad net) (x, w) (inr e, s) = grind (arith, nat_tests)
+    by (Cluster cluster) (x, w) ((y, r), s) = grind (arith, nat_tests)
+
+-- two places are one
+same_place : (a b : Place) → a.x ≡ b.x → a.y ≡ b.y → a.subblock ≡ b.subblock → a ≡ b
+same_place a b x y s = ap (λ k. place_at k a.y a.subblock) x ∙ ap (λ k. place_at b.x k a.subblock) y ∙ ap (λ k. place_at b.x b.y k) s
+
+-- two blocks with one sink have one place
+same_sink : (strip : Strip) (a b : Block) (p q : Place) → IsInRow strip (kind_of a) p → IsInRow strip (kind_of b) q → sink_at a p ≡ sink_at b q → p ≡ q
+same_sink strip (InputPad a) (InputPad b) p q s t e = same_place p q (ap (λ (n : Node). n.x) e) (ap (λ (n : Node). n.y) e) (ap (λ (n : Node). n.n) e)
+same_sink strip (InputPad a) (OutputPad b) p q s t e = same_place p q (ap (λ (n : Node). n.x) e) (ap (λ (n : Node). n.y) e) (ap (λ (n : Node). n.n) e)
+same_sink strip (OutputPad a) (InputPad b) p q s t e = same_place p q (ap (λ (n : Node). n.x) e) (ap (λ (n : Node). n.y) e) (ap (λ (n : Node). n.n) e)
+same_sink strip (OutputPad a) (OutputPad b) p q s t e = same_place p q (ap (λ (n : Node). n.x) e) (ap (λ (n : Node). n.y) e) (ap (λ (n : Node). n.n) e)
+same_sink strip (Cluster a) (Cluster b) p q (_, s) (_, t) e = same_place p q (ap (λ (n : Node). n.x) e) (ap (λ (n : Node). n.y) e) (s ∙ sym t)
+same_sink strip (Cluster a) (InputPad b) p q ((l, h), _) (inl t, _) e = absurd (omega (arith, l, t, ap (λ (n : Node). n.y) e))
+same_sink strip (Cluster a) (InputPad b) p q ((l, h), _) (inr t, _) e = absurd (omega (arith, h, t, ap (λ (n : Node). n.y) e))
+same_sink strip (Cluster a) (OutputPad b) p q ((l, h), _) (inl t, _) e = absurd (omega (arith, l, t, ap (λ (n : Node). n.y) e))
+same_sink strip (Cluster a) (OutputPad b) p q ((l, h), _) (inr t, _) e = absurd (omega (arith, h, t, ap (λ (n : Node). n.y) e))
+same_sink strip (InputPad a) (Cluster b) p q (inl t, _) ((l, h), _) e = absurd (omega (arith, l, t, ap (λ (n : Node). n.y) e))
+same_sink strip (InputPad a) (Cluster b) p q (inr t, _) ((l, h), _) e = absurd (omega (arith, h, t, ap (λ (n : Node). n.y) e))
+same_sink strip (OutputPad a) (Cluster b) p q (inl t, _) ((l, h), _) e = absurd (omega (arith, l, t, ap (λ (n : Node). n.y) e))
+same_sink strip (OutputPad a) (Cluster b) p q (inr t, _) ((l, h), _) e = absurd (omega (arith, h, t, ap (λ (n : Node). n.y) e))
+
+-- pairs of a list that a function keeps
+AllPairs-map : {X Y : Type 0} (R : Y → Y → Type 0) (f : X → Y) (xs : List X) → AllPairs (λ x y. R (f x) (f y)) xs → AllPairs R (map f xs)
+AllPairs-map R f [] h i j d l m = absurd (omega arith)
+AllPairs-map {X} {Y} R f (x ∷ xs) h i j d l m =
+    let long = length-map (x ∷ xs) f in
+    let at : (k : ℕ) → k < length (x ∷ xs) → get_or (map f (x ∷ xs)) k d ≡ f (get_or (x ∷ xs) k x) = λ k b. get_or-map f (x ∷ xs) k x d b in
+    let ends : j < length (x ∷ xs) = omega (arith, m, long) in
+    let starts : i < length (x ∷ xs) = omega (arith, l, ends) in
+    let here = h i j x l ends in
+    subst (λ (a : Y). R a (get_or (map f (x ∷ xs)) j d)) (sym (at i starts)) (subst (λ (b : Y). R (f (get_or (x ∷ xs) i x)) b) (sym (at j ends)) here)
+
+-- ---- the nets to route
+
+module _ (basis : Basis) (known : IsBasis basis) (lawful : IsRoutingGraph basis (graph_of basis)) (packed : PackedCircuit) (places : List Place) (placed : ArePlaced basis.strip packed places) (within : (strip : Strip) (kind : Kind) → IsStripSize strip → All (IsPlaceIn strip kind) (places_of strip kind)) where
+  -- where a block stands
+  pub block_stands : (block : ℕ) → block < length (blocks_of packed) → IsPlaceIn basis.strip (kind_of (block_at packed block)) (place_of places block)
+  block_stands block b = All-contains (IsPlaceIn basis.strip (kind_of (block_at packed block))) (places_of basis.strip (kind_of (block_at packed block))) (place_of places block) (within basis.strip (kind_of (block_at packed block)) known.strip) (placed.by_kind block b)
+
+  -- a node has its number
+  numbered : (node : Node) → is_node basis.arch basis.strip node ≡ true → (number_of (graph_of basis) node < (graph_of basis).count) × ((graph_of basis).node (number_of (graph_of basis) node) ≡ node)
+  numbered node is =
+      let there = lawful.all node is in
+      let e = number_found (graph_of basis) lawful.ordered there.0 node there.1 there.2 in
+      (omega (arith, e, there.1), ap (graph_of basis).node e ∙ there.2)
+
+  pub block_source : (block : ℕ) → block < length (blocks_of packed) → is_node basis.arch basis.strip (source_at (block_at packed block) (place_of places block)) ≡ true
+  block_source block b = source_is basis.arch basis.strip (block_at packed block) (place_of places block) (block_stands block b)
+
+  pub block_sink : (block : ℕ) → block < length (blocks_of packed) → is_node basis.arch basis.strip (sink_at (block_at packed block) (place_of places block)) ≡ true
+  block_sink block b = sink_is basis.arch basis.strip (block_at packed block) (place_of places block) (block_stands block b)
+
+  abbrev sink_number : ℕ → ℕ
+  sink_number block = number_of (graph_of basis) (sink_at (block_at packed block) (place_of places block))
+
+  sinks_apart : (block other : ℕ) → block < length (blocks_of packed) → other < length (blocks_of packed) → sink_number block ≡ sink_number other → block ≡ other
+  sinks_apart block other b o e =
+      let one = numbered (sink_at (block_at packed block) (place_of places block)) (block_sink block b) in
+      let two = numbered (sink_at (block_at packed other) (place_of places other)) (block_sink other o) in
+      let same = sym one.1 ∙ ap (graph_of basis).node e ∙ two.1 in
+      placed.one_to_one block other b o (same_sink basis.strip (block_at packed block) (block_at packed other) (place_of places block) (place_of places other) (block_stands block b).row (block_stands other o).row same)
+
+  is_net : (net : BlockNet) → IsBlockNet packed net → IsNet (wiring_of basis) (net_to_route basis packed places net)
+  is_net net n = by net.global
+    where
+      by : (global : Bool) → IsNet (wiring_of basis) (record { source = number_of (graph_of basis) (source_at (block_at packed net.driver) (place_of places net.driver)); sinks = cond global [] (map sink_number net.readers) })
+      by true =
+          let source = numbered (source_at (block_at packed net.driver) (place_of places net.driver)) (block_source net.driver n.driver) in
+          record {
+            source_in = source.0;
+            source = ap (λ (node : Node). node.kind) source.1;
+            sinks_in = All-nil (λ sink. sink < (wiring_of basis).count);
+            sinks = All-nil (λ sink. (wiring_of basis).kind sink ≡ Sink);
+            distinct = IsDistinct-from_AllPairs Decides-eqb [] (λ i j d l m. absurd (omega arith));
+          }
+      by false =
+          let source = numbered (source_at (block_at packed net.driver) (place_of places net.driver)) (block_source net.driver n.driver) in
+          let sink = λ (block : ℕ) (b : block < length (blocks_of packed)). numbered (sink_at (block_at packed block) (place_of places block)) (block_sink block b) in
+          record {
+            source_in = source.0;
+            source = ap (λ (node : Node). node.kind) source.1;
+            sinks_in = All-map (λ sink. sink < (wiring_of basis).count) sink_number net.readers (λ k d l. (sink (get_or net.readers k d) (n.readers k d l)).0);
+            sinks = All-map (λ sink. (wiring_of basis).kind sink ≡ Sink) sink_number net.readers (λ k d l. ap (λ (node : Node). node.kind) (sink (get_or net.readers k d) (n.readers k d l)).1);
+            distinct = IsDistinct-from_AllPairs Decides-eqb (map sink_number net.readers) (AllPairs-map (λ (a b : ℕ). a ≢ b) sink_number net.readers (λ i j d l m e.
+                let before : i < length net.readers = omega arith in
+                omega (arith, n.rise i j d l m, sinks_apart (get_or net.readers i d) (get_or net.readers j d) (n.readers i d before) (n.readers j d m) e)));
+          }
+
+  -- they are nets
+  pub are_nets : IsLawfulPacking packed → AreNets (wiring_of basis) (nets_to_route basis packed places)
+  unfolding nets_to_route
+  are_nets law = record {
+    few = omega (arith, law.few_nets, length-map (block_nets packed) (net_to_route basis packed places));
+    each = All-map (IsNet (wiring_of basis)) (net_to_route basis packed places) (block_nets packed) (λ k d l. is_net (get_or (block_nets packed) k d) (law.nets k d l));
+  }

@@ -1,0 +1,28 @@
+use Rattle.std.proofs.Common.{◌≡◌, ◌≤◌, ◌^◌, true, arith, refl, subst, sym}
+use Rattle.rr_graph.specs.declared.node.Node.{Node}
+use Rattle.rr_graph.specs.Geometry.{is_node}
+use Rattle.rr_graph.specs.Graph.{graph_of}
+use Rattle.least_path.specs.LowerBound.{IsLowerBound}
+use Rattle.pathfinder.specs.PlacedNets.{wiring_of}
+use Rattle.pathfinder.specs.Tables.{aimed, tabled}
+use Rattle.pathfinder.proofs.Aims.{aimed_bound}
+use Rattle.pathfinder.proofs.InRange.{tabled_lawful}
+use Rattle.pathfinder.proofs.Strips.{strip_wiring}
+use Rattle.pathfinder.proofs.prices.PricesRoads.at_least.Goals as goal
+
+pub further_to-requires-clause-sink : goal.further_to-requires-clause-sink
+further_to-requires-clause-sink g c =
+    let prices = c.args.self.now in
+    let basis = g.G.StripGraph.basis prices.graph.now in
+    subst (λ (node : Node). is_node basis.arch basis.strip node ≡ true) prices.aim.is (c.count-count.ensures.lawful.nodes prices.goal prices.aim.within)
+
+pub returns-then-goal-aim : goal.returns-then-goal-aim
+returns-then-goal-aim g c =
+    let prices = c.args.self.now in
+    let basis = g.G.StripGraph.basis prices.graph.now in
+    let few : (graph_of basis).count ≤ 2 ^ 23 = omega (arith, c.count-count.ensures.few, c.count-count.ensures.value) in
+    let at_prices = tabled (wiring_of basis) prices.iterations prices.history.now prices.held.now in
+    let lawful = tabled_lawful (wiring_of basis) (strip_wiring basis c.count-count.ensures.lawful few) prices.iterations prices.history.now prices.held.now prices.lawful in
+    let bound = aimed_bound basis c.count-count.ensures.lawful prices.goal prices.sink prices.aim at_prices lawful refl (λ node. refl) c.args.node c.requires.node in
+    subst (λ goal. IsLowerBound (aimed basis prices.sink at_prices) goal c.args.node c.further_to.result) (sym c.if-goal-aim.true)
+    (subst (λ further. IsLowerBound (aimed basis prices.sink at_prices) prices.goal c.args.node further) (sym c.further_to.ensures) bound)

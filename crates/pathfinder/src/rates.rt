@@ -1,0 +1,37 @@
+//! What each node costs in an iteration, but for the trees that hold it.
+ghost use Rattle.std.specs.Prelude.{◌≡◌, ◌≤◌, ◌^◌, All, IfOk, length};
+ghost use Rattle.pathfinder.specs.PlacedNets.{wiring_of};
+ghost use Rattle.pathfinder.specs.Rates.{AreRates};
+
+use rr_graph::StripGraph;
+use std::alloc::{AllocError, Global};
+
+/// What a node costs, but for how many trees hold it.
+#[derive(Clone, Copy, Debug)]
+pub(crate) struct Rate {
+    /// One more than its overuse so far.
+    pub(crate) factor: u32,
+    /// How many nets it can carry.
+    pub(crate) capacity: u32,
+}
+
+/// The rates of all nodes, by their overuse so far.
+pub(crate) fn rates_of<G: StripGraph>(
+    alloc: Global,
+    graph: &G,
+    history: &[u32],
+) -> Result<Vec<Rate>, AllocError>
+    requires long { length history.now ≡ (wiring_of (G.basis graph.now)).count }
+    requires low { All (λ x. x ≤ 2 ^ 20) history.now }
+    ensures { IfOk result (λ rates. AreRates (wiring_of (G.basis graph.now)) history.now rates.items) }
+{
+    let mut rates = Vec::new(alloc);
+    rates.reserve(history.len())?;
+    for node in 0..history.len() {
+        rates.push(Rate {
+            factor: 1 + history[node],
+            capacity: graph.capacity(node),
+        })?;
+    }
+    Ok(rates)
+}
