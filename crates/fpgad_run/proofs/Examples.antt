@@ -1,8 +1,9 @@
 -- Examples that are computed.
-use Rattle.std.proofs.Common.{◌≡◌, ◌∷◌, [], codes, Ok, Err, Some, None, refl}
-use Rattle.tenant_slot.specs.declared.advance.StepReply.TheVariants.{Finished}
+use Rattle.std.proofs.Common.{◌≡◌, ◌∷◌, [], codes, Ok, Err, refl}
+use Rattle.tenant_slot.specs.declared.reply.StepReply.TheVariants.{Finished}
 use Rattle.fpgad_run.specs.declared.operator_line.OperatorLine.TheVariants.{Admit, Step}
 use Rattle.sessions.specs.declared.refusal.SessionRefusal.TheVariants.{UnfinishedUpload}
+use Rattle.sessions.specs.declared.steps.StepOutcome.TheVariants.{Recorded, Nothing}
 use Rattle.sessions.specs.declared.line.SessionLine.TheVariants.{Blank, Refused}
 use Rattle.fpgad_run.specs.declared.item.Act.TheVariants.{Operator, Session}
 use Rattle.fpgad_run.specs.OperatorText.{last_id, outcome_text}
@@ -29,10 +30,10 @@ text_without_end : script_of 1 (codes "@T upload\n.end\n") ≡ Ok (record { line
 unfolding form_in
 text_without_end = refl
 
-finished : outcome_text (Ok (Some Finished)) ≡ codes "finished\n"
+finished : outcome_text (Recorded Finished) ≡ codes "finished\n"
 finished = refl
 
-nothing : outcome_text (Ok None) ≡ codes "none\n"
+nothing : outcome_text Nothing ≡ codes "none\n"
 nothing = refl
 
 last_of_two : last_id (codes "T" ∷ codes "U" ∷ codes "T" ∷ []) (codes "T") ≡ 3

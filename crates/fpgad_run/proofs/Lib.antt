@@ -1,4 +1,5 @@
 mod Examples
+mod HeldLemmas
 mod LineLemmas
 mod NameLemmas
 mod OperatorLemmas

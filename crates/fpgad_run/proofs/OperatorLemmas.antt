@@ -17,6 +17,7 @@ use Rattle.fpgad_run.specs.declared.item.Act.TheVariants.{Operator}
 use Rattle.fpgad_run.specs.Names.{texts}
 use Rattle.fpgad_run.specs.Ids.{AreLastIds, newest_first}
 use Rattle.fpgad_run.specs.OperatorText.{admitted_text, evicted_text, last_id, list_text, listed, names_after, refused_text}
+use Rattle.fpgad_run.specs.HeldJobs.{HeldList}
 use Rattle.fpgad_run.specs.Run.{Stage, IsAdmission, IsAnswered}
 
 pub newest_first-push : (admitted : List (Bor (List ℕ))) (name : Bor (List ℕ)) → newest_first (admitted ++ name ∷ []) ≡ name.now ∷ newest_first admitted
@@ -60,10 +61,10 @@ lengths-admitted old new width (Err refusal) names name same is = rw is.1 same
 
 -- a name that is not
 pub admits : (live : Option History) (state : Option StateName) (old new : Stage) (name : List ℕ) (width : ℕ) (answer : Result (ℕ × ℕ) OpRefusal) →
-    state ≡ option_map (λ h. (state_of h).name) live → false ≡ is_some state → IsAdmitted old.service width answer new.service → new.names ≡ names_after old.names name answer →
+    state ≡ option_map (λ h. (state_of h).name) live → false ≡ is_some state → IsAdmitted old.service width answer new.service → new.names ≡ names_after old.names name answer → new.jobs ≡ old.jobs →
     IsAdmission live old name width (AdmitCall width answer ∷ []) (admitted_text answer) new
-admits (Some h) state old new name width answer is none admitted names = let some : is_some state ≡ true = ap is_some is in absurd (false≢true (none ∙ some))
-admits None state old new name width answer is none admitted names = (answer, admitted, names, refl, refl)
+admits (Some h) state old new name width answer is none admitted names jobs = let some : is_some state ≡ true = ap is_some is in absurd (false≢true (none ∙ some))
+admits None state old new name width answer is none admitted names jobs = (answer, admitted, names, jobs, refl, refl)
 
 pub length-modified : (histories : List History) (id : ℕ) (change : History → History) → length (modified histories id change) ≡ length histories
 length-modified [] id change = refl
@@ -76,6 +77,6 @@ pub lengths-evicted : (old new : ServiceState) (id : ℕ) (answer : Result (Unit
 lengths-evicted old new id (Ok nothing) is = rw is.1 (sym (length-modified old.histories id closed))
 lengths-evicted old new id (Err refusal) is = rw is.2 refl
 
-pub evicts : (names : List (List ℕ)) (old new : ServiceState) (name : List ℕ) (id : ℕ) (answer : Result (Unit {0}) OpRefusal) → id ≡ last_id names name → IsEvicted old id answer new →
-    IsAnswered (record { names = names; service = old }) (Operator (Evict name)) (EvictCall id answer ∷ []) (evicted_text answer) (record { names = names; service = new })
-evicts names old new name id answer is evicted = (answer, (let P : ℕ → Type 0 = λ n. IsEvicted old n answer new in subst P is evicted), refl, ap (λ n. EvictCall n answer ∷ []) is, refl)
+pub evicts : (names : List (List ℕ)) (jobs : HeldList) (old new : ServiceState) (name : List ℕ) (id : ℕ) (answer : Result (Unit {0}) OpRefusal) → id ≡ last_id names name → IsEvicted old id answer new →
+    IsAnswered (record { names = names; jobs = jobs; service = old }) (Operator (Evict name)) (EvictCall id answer ∷ []) (evicted_text answer) (record { names = names; jobs = jobs; service = new })
+evicts names jobs old new name id answer is evicted = (answer, (let P : ℕ → Type 0 = λ n. IsEvicted old n answer new in subst P is evicted), refl, refl, ap (λ n. EvictCall n answer ∷ []) is, refl)

@@ -5,22 +5,15 @@ use Rattle.std.specs.Borrow.{Bor}
 use Rattle.std.specs.List.{flat_map}
 use Rattle.std.proofs.lemmas.Grind.{flat_map-append}
 use Rattle.std.proofs.lemmas.List.{map_push, reverse-append}
-use Rattle.tenant_slot.specs.declared.command.Command.{Command as TenantCommand}
-use Rattle.service_core.specs.declared.not_served.NotServed.{NotServed}
-use Rattle.service_core.specs.declared.not_served.NotServed.TheVariants.{JournalFull, NoMemory, NoSuchTenancy}
 use Rattle.service_core.specs.History.{History}
-use Rattle.service_core.specs.Receipt.{Receipted}
 use Rattle.service_core.specs.declared.device.Device.{Device}
 use Rattle.service_core.specs.Headline.{AreParted, EachIsAlone}
 use Rattle.service_core.specs.Run.{Call, Run}
-use Rattle.service_core.specs.Run.Call.{Tenant as TenantCall}
-use Rattle.service_core.specs.Calls.{IsServed}
 use Rattle.service_core.specs.Service.{ServiceState, empty, live_of}
 use Rattle.fpgad_run.specs.declared.program.Running.{Running}
-use Rattle.fpgad_run.specs.declared.operator_line.OperatorLine.TheVariants.{Admit, Evict, List as ListAll, Step}
+use Rattle.fpgad_run.specs.declared.operator_line.OperatorLine.TheVariants.{Admit, Evict, List as ListAll, Step, Take, Put}
 use Rattle.fpgad_run.specs.declared.item.Item.{Item}
 use Rattle.sessions.specs.declared.line.SessionLine.{SessionLine}
-use Rattle.sessions.specs.declared.line.SessionLine.TheVariants.{Blank, Command, Refused}
 use Rattle.fpgad_run.specs.declared.item.Act.{Act}
 use Rattle.fpgad_run.specs.declared.item.Act.TheVariants.{Operator, Session}
 use Rattle.fpgad_run.specs.OperatorText.{last_id}
@@ -30,8 +23,9 @@ use Rattle.sessions.specs.SessionAnswer.{Asks, IsAnswer}
 use Rattle.sessions.specs.SessionText.{answer_text}
 use Rattle.fpgad_run.specs.Held.{held}
 use Rattle.fpgad_run.specs.Run.{Stage, Section, Telling, Tells, IsAdmission, IsAnswered, calls_of, output_of, sections_after, told_operator, told_session}
-use Rattle.fpgad_run.proofs.OperatorLemmas.{length-modified}
-use Rattle.fpgad_run.proofs.Stepping.{Run-append}
+use Rattle.sessions.proofs.StepLemmas.{Run-append}
+use Rattle.fpgad_run.specs.HeldJobs.{HeldList}
+use Rattle.fpgad_run.proofs.Stepping.{lengths-run, steady_asks}
 use Rattle.fpgad_run.specs.Told.{Begins, IsEven, Serves, sections_of, stage_of, told_so_far}
 use Rattle.fpgad_run.specs.declared.options.Options.{Options}
 use Rattle.arch_file.specs.declared.arch.Arch.{Arch}
@@ -58,8 +52,12 @@ pub sections_after-push : (sections : List Section) (ts : List Telling) (t : Tel
 sections_after-push sections [] t = refl
 sections_after-push sections (x ∷ xs) t = sections_after-push (told_session sections x.act x.text) xs t
 
-pub progress_none : (core : ServiceState) (running : Running) → Begins core running → Progress (record { names = []; service = core }) running []
+pub progress_none : (core : ServiceState) (running : Running) → Begins core running → Progress (record { names = []; jobs = []; service = core }) running []
 progress_none core running b = record { tellings = []; all = refl; told = b.stage; operator_text = b.operator_text; sections = b.sections; even = b.even }
+
+-- a service that begins does so from its own core
+pub begins_own : (core : ServiceState) (running : Running) → Begins core running → Begins running.core running
+begins_own core running b = let P : ServiceState → Type 0 = λ s. Begins s running in subst P (sym (ap (λ (s : Stage). s.service) b.stage)) b
 
 pub progress_more : (start : Stage) (old new : Running) (acts : List (Act (List ℕ))) (act : Act (List ℕ)) → Progress start old acts → Serves old act new → Progress start new (acts ++ act ∷ [])
 progress_more start old new acts act p s =
@@ -80,12 +78,14 @@ Run-one a b calls new none same = rw none same
 
 admission_runs : (live : Option History) (old : Stage) (name : List ℕ) (width : ℕ) (calls : List Call) (text : List ℕ) (new : Stage) → IsAdmission live old name width calls text new → Run old.service calls new.service
 admission_runs (Some h) old name width calls text new is = rw is.0 (ap (λ (s : Stage). s.service) is.2)
-admission_runs None old name width calls text new is = rw is.3 (new.service, is.1, refl)
+admission_runs None old name width calls text new is = rw is.4 (new.service, is.1, refl)
 
 pub answered_runs : (old : Stage) (act : Act (List ℕ)) (calls : List Call) (text : List ℕ) (new : Stage) → IsAnswered old act calls text new → Run old.service calls new.service
 answered_runs old (Operator (Admit name width)) calls text new is = admission_runs (live_of old.service.histories (last_id old.names name)) old name width calls text new is
-answered_runs old (Operator (Evict name)) calls text new is = rw is.3 (new.service, is.1, refl)
-answered_runs old (Operator (Step name count)) calls text new is = rw is.4 is.2
+answered_runs old (Operator (Evict name)) calls text new is = rw is.4 (new.service, is.1, refl)
+answered_runs old (Operator (Step name count)) calls text new is = is.3
+answered_runs old (Operator (Take name)) calls text new is = rw is.4 (new.service, is.1, refl)
+answered_runs old (Operator (Put number)) calls text new is = is.2
 answered_runs old (Operator ListAll) calls text new is = rw is.0 (ap (λ (s : Stage). s.service) is.2)
 answered_runs old (Session name line) calls text new is = is.2
 
@@ -94,10 +94,10 @@ told_runs old [] new is = ap (λ (s : Stage). s.service) is
 told_runs old (t ∷ ts) new is = Run-append old.service t.calls (is.0).service (calls_of ts) new.service (answered_runs old t.act t.calls t.text is.0 is.1) (told_runs is.0 ts new is.2)
 
 -- a session's line is answered by the core
-pub session_answers : (names : List (List ℕ)) (old new : ServiceState) (name : List ℕ) (id : ℕ) (line : SessionLine) (answer : Answer) → id ≡ last_id names name → IsAnswer old id line answer new →
-    (calls : List Call) × IsAnswered (record { names = names; service = old }) (Session name line) calls (answer_text answer) (record { names = names; service = new })
-session_answers names old new name id line answer at is =
-    (is.0, (answer, (let P : ℕ → Type 0 = λ n. Asks n line is.0 answer in subst P at is.1), is.2, refl, refl))
+pub session_answers : (names : List (List ℕ)) (jobs : HeldList) (old new : ServiceState) (name : List ℕ) (id : ℕ) (line : SessionLine) (answer : Answer) → id ≡ last_id names name → IsAnswer old id line answer new →
+    (calls : List Call) × IsAnswered (record { names = names; jobs = jobs; service = old }) (Session name line) calls (answer_text answer) (record { names = names; jobs = jobs; service = new })
+session_answers names jobs old new name id line answer at is =
+    (is.0, (answer, (let P : ℕ → Type 0 = λ n. Asks n line is.0 answer in subst P at is.1), is.2, refl, refl, refl))
 
 -- the next item is the last of those that are left
 pub next_item : (told : List (Act (List ℕ))) (left : List (Item (Bor (List ℕ)))) (rest : List (Item (Bor (List ℕ)))) (item : Item (Bor (List ℕ))) (all : List (Act (List ℕ))) → left ≡ rest ++ item ∷ [] →
@@ -107,22 +107,9 @@ next_item told left rest item all is so_far =
     ∙ ap (λ items. told ++ map (λ (i : Item (List ℕ)). i.act) (map named_item items)) (sym (reverse-append rest (item ∷ [])))
     ∙ ap (λ items. told ++ map (λ (i : Item (List ℕ)). i.act) (map named_item (reverse items))) (sym is) ∙ so_far
 
-lengths-served : (old new : ServiceState) (id : ℕ) (command : TenantCommand) (answer : Result Receipted NotServed) → IsServed old id command answer new → length old.histories ≡ length new.histories
-lengths-served old new id command (Ok r) is = rw is.1 (sym (length-modified old.histories id _))
-lengths-served old new id command (Err (JournalFull note)) is = ap (λ (s : ServiceState). length s.histories) (sym is.2)
-lengths-served old new id command (Err (NoSuchTenancy note)) is = ap (λ (s : ServiceState). length s.histories) (sym is.2)
-lengths-served old new id command (Err NoMemory) is = ap (λ (s : ServiceState). length s.histories) (sym is.1)
-
-called : (old new : ServiceState) (calls these : List Call) → calls ≡ these → Run old calls new → Run old these new
-called old new calls these same run = let P : List Call → Type 0 = λ cs. Run old cs new in subst P same run
-
 -- it admits and evicts no one
 pub lengths-answered : (old new : ServiceState) (id : ℕ) (line : SessionLine) (answer : Answer) → IsAnswer old id line answer new → length old.histories ≡ length new.histories
-lengths-answered old new id Blank answer is = let run : Run old [] new = called old new is.0 [] is.1.0 is.2 in ap (λ (s : ServiceState). length s.histories) (sym run)
-lengths-answered old new id (Refused refusal) answer is = let run : Run old [] new = called old new is.0 [] is.1.0 is.2 in ap (λ (s : ServiceState). length s.histories) (sym run)
-lengths-answered old new id (Command command) answer is =
-    let run : Run old (TenantCall id command is.1.0 ∷ []) new = called old new is.0 (TenantCall id command is.1.0 ∷ []) is.1.1 is.2 in
-    lengths-served old run.0 id command is.1.0 run.1 ∙ ap (λ (s : ServiceState). length s.histories) (sym run.2)
+lengths-answered old new id line answer is = lengths-run old new is.0 (steady_asks id line is.0 answer is.1) is.2
 
 pub on_ok_both : {E P Q R : Type 0} (r : Result (Unit {0}) E) → (P → Q → R) → OnOk r P → OnOk r Q → OnOk r R
 on_ok_both (Ok u) f p q = f p q
@@ -139,11 +126,11 @@ pub record IsHeadline : Type 0 where
 
 -- all that was told is what is written
 pub replies_all : (options : Options) (arch : Arch) (items : List (Item (List ℕ))) (running : Running) (acts : List (Act (List ℕ))) (output : List ℕ) → IsHeadline →
-    Progress (record { names = []; service = empty (device_of options arch) }) running acts → acts ≡ map (λ (i : Item (List ℕ)). i.act) items → output ≡ told_so_far running →
+    Progress (record { names = []; jobs = []; service = empty (device_of options arch) }) running acts → acts ≡ map (λ (i : Item (List ℕ)). i.act) items → output ≡ told_so_far running →
     IsReplies options (Ok (arch, items)) output
 replies_all options arch items running acts output headline p all is =
     let runs : Run (empty (device_of options arch)) (calls_of p.tellings) running.core =
-    told_runs (record { names = []; service = empty (device_of options arch) }) p.tellings (stage_of running) p.told in
+    told_runs (record { names = []; jobs = []; service = empty (device_of options arch) }) p.tellings (stage_of running) p.told in
     record {
       arch = arch;
       items = items;

@@ -1,5 +1,6 @@
 pub mod Commands
 pub mod Held
+pub mod HeldJobs
 pub mod Ids
 pub mod Limits
 pub mod Lines

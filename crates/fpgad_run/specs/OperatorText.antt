@@ -1,8 +1,8 @@
 -- The texts that the operator is answered with, and the names that tenancies were admitted under.
 use Rattle.std.specs.Prelude.{ℕ, ◌+◌, List, [], ◌∷◌, ◌++◌, length, codes, decimal, Result, Ok, Err, Option, Some, None, unwrap_or, if◌then◌else◌}
-use Rattle.std.specs.declared.alloc.AllocError.{AllocError}
 use Rattle.std.specs.Str.{bytes_eq}
-use Rattle.tenant_slot.specs.declared.advance.StepReply.{StepReply}
+use Rattle.sessions.specs.declared.steps.StepOutcome.{StepOutcome}
+use Rattle.sessions.specs.declared.steps.StepOutcome.TheVariants.{Recorded, Full, Gone, NoMemory, Nothing}
 use Rattle.tenant_slot.specs.Names.{state_text}
 use Rattle.strips.specs.Plan.{offset_of}
 use Rattle.service_core.specs.declared.op_refusal.OpRefusal.{OpRefusal}
@@ -23,11 +23,22 @@ abbrev pub evicted_text : Result (Unit {0}) OpRefusal → List ℕ
 evicted_text (Ok nothing) = codes "ok" ++ 10 ∷ []
 evicted_text (Err refusal) = refused_text (op_refusal_number refusal) (op_refusal_text refusal)
 
--- the outcome of a step as a line
-abbrev pub outcome_text : Result (Option StepReply) AllocError → List ℕ
-outcome_text (Ok (Some reply)) = step_text reply ++ 10 ∷ []
-outcome_text (Ok None) = codes "none" ++ 10 ∷ []
-outcome_text (Err error) = codes "nomemory" ++ 10 ∷ []
+-- what the making of a step came to, as a word
+abbrev pub outcome_word : StepOutcome → List ℕ
+outcome_word (Recorded reply) = step_text reply
+outcome_word Full = codes "full"
+outcome_word Gone = codes "gone"
+outcome_word NoMemory = codes "nomemory"
+outcome_word Nothing = codes "none"
+
+-- and as a line
+abbrev pub outcome_text : StepOutcome → List ℕ
+outcome_text outcome = outcome_word outcome ++ 10 ∷ []
+
+-- a job that was taken is told by its number
+abbrev pub taken_text : Option ℕ → List ℕ
+taken_text None = codes "none" ++ 10 ∷ []
+taken_text (Some number) = codes "ok job" ++ blank_word (decimal number) ++ 10 ∷ []
 
 -- the last id of a name, or 0. The names are those of all ids, the newest first; the oldest has id 1
 abbrev pub last_id : List (List ℕ) → List ℕ → ℕ

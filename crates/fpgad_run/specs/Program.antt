@@ -62,7 +62,7 @@ pub record IsReplies (options : Options) (start : Start) (output : List ℕ) : T
   pub tellings : List Telling
   pub last : Stage
   pub all : map (λ t. t.act) tellings ≡ map (λ item. item.act) items
-  pub told : Tells (record { names = []; service = empty (device_of options arch) }) tellings last
+  pub told : Tells (record { names = []; jobs = []; service = empty (device_of options arch) }) tellings last
   pub runs : Run (empty (device_of options arch)) (calls_of tellings) last.service
   pub alone : EachIsAlone (device_of options arch) (calls_of tellings) last.service
   pub parted : AreParted (device_of options arch) last.service

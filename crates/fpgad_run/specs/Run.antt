@@ -1,59 +1,68 @@
 -- What the items of a script are answered, one after another.
-use Rattle.std.specs.Prelude.{ℕ, ◌≡◌, List, [], ◌∷◌, ◌++◌, length, map, codes, Result, Option, Some, None, if◌then◌else◌}
-use Rattle.std.specs.declared.alloc.AllocError.{AllocError}
+use Rattle.std.specs.Prelude.{ℕ, ◌≡◌, ◌+◌, All, option_map, List, [], ◌∷◌, ◌++◌, length, codes, Result, Option, Some, None, if◌then◌else◌}
 use Rattle.std.specs.List.{flat_map}
 use Rattle.std.specs.Str.{bytes_eq}
 use Rattle.service_core.specs.declared.op_refusal.OpRefusal.{OpRefusal}
-use Rattle.service_core.specs.History.{History, StepMade}
+use Rattle.service_core.specs.History.{History}
 use Rattle.service_core.specs.Run.{Call, Run}
-use Rattle.service_core.specs.Run.Call.{Admit as AdmitCall, Advance as AdvanceCall, Evict as EvictCall}
-use Rattle.service_core.specs.Calls.{IsAdmitted, IsEvicted, told_of}
+use Rattle.service_core.specs.Run.Call.{Admit as AdmitCall, Evict as EvictCall, Take as TakeCall}
+use Rattle.service_core.specs.Calls.{IsAdmitted, IsEvicted, IsTaken}
 use Rattle.service_core.specs.Service.{ServiceState, live_of}
-use Rattle.fpgad_run.specs.declared.operator_line.OperatorLine.TheVariants.{Admit, Evict, List as ListAll, Step}
+use Rattle.fpgad_run.specs.declared.operator_line.OperatorLine.TheVariants.{Admit, Evict, List as ListAll, Step, Take, Put}
+use Rattle.job_state.specs.Job.{JobState}
+use Rattle.sessions.specs.declared.steps.StepOutcome.{StepOutcome}
+use Rattle.sessions.specs.Steps.{MakesStep}
 use Rattle.sessions.specs.declared.told.Answer.{Answer}
 use Rattle.sessions.specs.SessionAnswer.{Asks}
 use Rattle.fpgad_run.specs.declared.item.Act.{Act}
 use Rattle.fpgad_run.specs.declared.item.Act.TheVariants.{Operator, Session}
 use Rattle.sessions.specs.SessionText.{answer_text}
-use Rattle.fpgad_run.specs.OperatorText.{admitted_text, evicted_text, last_id, list_text, names_after, outcome_text, refused_text}
+use Rattle.fpgad_run.specs.HeldJobs.{HeldList, PutsHeld, job_at, with_job, without_job}
+use Rattle.fpgad_run.specs.OperatorText.{admitted_text, evicted_text, last_id, list_text, names_after, outcome_text, refused_text, taken_text}
 
--- the core's state, and the names of all ids, the newest first
+-- the core's state, the names of all ids, the newest first, and the jobs that the operator took
 pub record Stage : Type 0 where
   pub names : List (List ℕ)
+  pub jobs : HeldList
   pub service : ServiceState
 
 -- an admission under a name that is in use is refused without a call of the core
 abbrev pub IsAdmission : Option History → Stage → List ℕ → ℕ → List Call → List ℕ → Stage → Type 0
 IsAdmission (Some h) old name width calls text new = (calls ≡ []) × (text ≡ refused_text 7 (codes "NameInUse")) × (new ≡ old)
 IsAdmission None old name width calls text new = (answer : Result (ℕ × ℕ) OpRefusal)
-    × IsAdmitted old.service width answer new.service × (new.names ≡ names_after old.names name answer)
+    × IsAdmitted old.service width answer new.service × (new.names ≡ names_after old.names name answer) × (new.jobs ≡ old.jobs)
     × (calls ≡ AdmitCall width answer ∷ []) × (text ≡ admitted_text answer)
 
--- what calls of the core that each make a step may be answered
-abbrev pub Outcomes : Type 0
-Outcomes = List (Result (Option StepMade) AllocError)
+-- steps that were tried: the calls of the core that each comes to, and what came of it
+abbrev pub Tried : Type 0
+Tried = List (List Call × StepOutcome)
 
--- those calls, of the tenancy of that id
-abbrev pub advances : ℕ → Outcomes → List Call
-advances id outcomes = map (λ outcome. AdvanceCall id outcome) outcomes
+abbrev pub tried_calls : Tried → List Call
+tried_calls tried = flat_map (λ t. t.0) tried
 
--- their outcomes, a line each
-abbrev pub outcomes_text : Outcomes → List ℕ
-outcomes_text outcomes = flat_map (λ outcome. outcome_text (told_of outcome)) outcomes
+-- what came of them, a line each
+abbrev pub tried_text : Tried → List ℕ
+tried_text tried = flat_map (λ t. outcome_text t.1) tried
 
 -- an act is answered with that text, after those calls of the core
 abbrev pub IsAnswered : Stage → Act (List ℕ) → List Call → List ℕ → Stage → Type 0
 IsAnswered old (Operator (Admit name width)) calls text new = IsAdmission (live_of old.service.histories (last_id old.names name)) old name width calls text new
 IsAnswered old (Operator (Evict name)) calls text new = (answer : Result (Unit {0}) OpRefusal)
-    × IsEvicted old.service (last_id old.names name) answer new.service × (new.names ≡ old.names)
+    × IsEvicted old.service (last_id old.names name) answer new.service × (new.names ≡ old.names) × (new.jobs ≡ old.jobs)
     × (calls ≡ EvictCall (last_id old.names name) answer ∷ []) × (text ≡ evicted_text answer)
-IsAnswered old (Operator (Step name count)) calls text new = (outcomes : Outcomes)
-    × (length outcomes ≡ count) × Run old.service (advances (last_id old.names name) outcomes) new.service × (new.names ≡ old.names)
-    × (calls ≡ advances (last_id old.names name) outcomes) × (text ≡ outcomes_text outcomes)
+IsAnswered old (Operator (Step name count)) calls text new = (tried : Tried)
+    × (length tried ≡ count) × All (λ t. MakesStep (last_id old.names name) t.0 t.1) tried × Run old.service calls new.service
+    × (new.names ≡ old.names) × (new.jobs ≡ old.jobs) × (calls ≡ tried_calls tried) × (text ≡ tried_text tried)
+IsAnswered old (Operator (Take name)) calls text new = (job : Option JobState)
+    × IsTaken old.service (last_id old.names name) job new.service × (new.names ≡ old.names) × (new.jobs ≡ with_job old.jobs job)
+    × (calls ≡ TakeCall (last_id old.names name) job ∷ []) × (text ≡ taken_text (option_map (λ j. length old.jobs + 1) job))
+IsAnswered old (Operator (Put number)) calls text new = (outcome : StepOutcome)
+    × PutsHeld (job_at old.jobs number) calls outcome × Run old.service calls new.service
+    × (new.names ≡ old.names) × (new.jobs ≡ without_job old.jobs number) × (text ≡ outcome_text outcome)
 IsAnswered old (Operator ListAll) calls text new = (calls ≡ []) × (text ≡ list_text old.service old.names) × (new ≡ old)
 IsAnswered old (Session name line) calls text new = (answer : Answer)
     × Asks (last_id old.names name) line calls answer × Run old.service calls new.service × (new.names ≡ old.names)
-    × (text ≡ answer_text answer)
+    × (new.jobs ≡ old.jobs) × (text ≡ answer_text answer)
 
 -- an act with its calls and its text
 pub record Telling : Type 0 where

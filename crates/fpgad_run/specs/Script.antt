@@ -5,7 +5,7 @@ use Rattle.std.specs.Char.{is_ascii_alphanumeric}
 use Rattle.std.specs.List.{list_all, position_or_len, before_first, after_first}
 use Rattle.std.specs.Str.{bytes_eq}
 use Rattle.fpgad_run.specs.declared.operator_line.OperatorLine.{OperatorLine}
-use Rattle.fpgad_run.specs.declared.operator_line.OperatorLine.TheVariants.{Admit, Evict, List as ListAll, Step}
+use Rattle.fpgad_run.specs.declared.operator_line.OperatorLine.TheVariants.{Admit, Evict, List as ListAll, Step, Take, Put}
 use Rattle.sessions.specs.declared.refusal.SessionRefusal.TheVariants.{UnfinishedUpload}
 use Rattle.sessions.specs.declared.line.SessionLine.{SessionLine}
 use Rattle.sessions.specs.declared.line.SessionLine.TheVariants.{Command, Refused}
@@ -43,10 +43,18 @@ abbrev pub stepping : List ℕ → Option ℕ → Form (List ℕ)
 stepping name None = Faulty
 stepping name (Some count) = Asks (Operator (Step name count))
 
+-- `op put J`
+abbrev pub putting : Option ℕ → Form (List ℕ)
+putting None = Faulty
+putting (Some number) = Asks (Operator (Put number))
+
 -- the words after `op`
 abbrev pub operator_form : List (List ℕ) → Form (List ℕ)
 operator_form (verb ∷ []) = if bytes_eq verb (codes "list") then Asks (Operator ListAll) else Faulty
-operator_form (verb ∷ name ∷ []) = if bytes_eq verb (codes "evict") && is_name name then Asks (Operator (Evict name)) else Faulty
+operator_form (verb ∷ name ∷ []) =
+    if bytes_eq verb (codes "evict") && is_name name then Asks (Operator (Evict name)) else
+    if bytes_eq verb (codes "take") && is_name name then Asks (Operator (Take name)) else
+    if bytes_eq verb (codes "put") then putting (decimal_of 32 name) else Faulty
 operator_form (verb ∷ name ∷ number ∷ []) =
     if bytes_eq verb (codes "admit") && is_name name then admission name (decimal_of 32 number) else
     if bytes_eq verb (codes "step") && is_name name then stepping name (decimal_of 32 number) else Faulty
@@ -121,6 +129,8 @@ named_operator (Admit name width) = Admit name.now width
 named_operator (Evict name) = Evict name.now
 named_operator ListAll = ListAll
 named_operator (Step name count) = Step name.now count
+named_operator (Take name) = Take name.now
+named_operator (Put number) = Put number
 
 abbrev pub named_act : Act (Bor (List ℕ)) → Act (List ℕ)
 named_act (Operator line) = Operator (named_operator line)

@@ -14,7 +14,7 @@ use Rattle.fpgad_run.specs.Run.{Stage, Section, IsAnswered, output_of, told_oper
 use Rattle.fpgad_run.specs.Zipped.{zipped}
 
 abbrev pub stage_of : Running → Stage
-stage_of running = record { names = running.operator; service = running.core }
+stage_of running = record { names = running.operator; jobs = running.jobs; service = running.core }
 
 abbrev pub sections_in : Sections → List Section
 sections_in sections = zipped sections.names sections.texts.items
@@ -33,7 +33,7 @@ told_so_far running = output_of (held running.operator_text) (sections_of runnin
 
 -- nothing is told yet
 pub record Begins (core : ServiceState) (running : Running) : Type 0 where
-  pub stage : stage_of running ≡ record { names = []; service = core }
+  pub stage : stage_of running ≡ record { names = []; jobs = []; service = core }
   pub operator_text : held running.operator_text ≡ []
   pub sections : sections_of running ≡ []
   pub even : IsEven running

@@ -9,6 +9,7 @@
 
 mod command;
 mod form;
+mod held_jobs;
 mod item;
 mod lines;
 mod names;

@@ -1,18 +1,18 @@
 ghost use Rattle.std.specs.Prelude.{◌≡◌, ◌+◌, ◌^◌, ◌<◌, ◌∷◌, ◌++◌, [], length, decimal, OnOk, Ok, Err};
-ghost use Rattle.fpgad_run.specs.OperatorText.{admitted_text, evicted_text, last_id, list_text, listed, outcome_text, refused_text, row_text};
+ghost use Rattle.fpgad_run.specs.OperatorText.{admitted_text, evicted_text, last_id, list_text, listed, outcome_text, outcome_word, refused_text, row_text, taken_text};
 ghost use Rattle.std.specs.List.{flat_map};
 ghost use Rattle.fpgad_run.specs.Held.{held};
 ghost use Rattle.fpgad_run.specs.Operators.{Steps};
 
+use crate::held_jobs::HeldJobs;
 use crate::operator_line::OperatorLine;
 use indexmap::IndexMap;
 use itoa::Buffer;
 use line_text::MemorySink;
 use service_core::{Core, OpRefusal};
-use sessions::{step_word, write_parts, write_refused};
+use sessions::{StepOutcome, make_step, step_word, write_parts, write_refused};
 use std::alloc::{AllocError, Global};
 use std::marker::Model;
-use tenant_slot::StepReply;
 
 /// The operator: names over ids, one live tenancy a name. Its value is the names of all ids, the newest first; the oldest
 /// has id 1.
@@ -59,11 +59,12 @@ impl<'t> Operator<'t> {
     pub(crate) fn serve(
         &mut self,
         core: &mut Core,
+        jobs: &mut HeldJobs,
         line: OperatorLine<&'t [u8]>,
         reply: &mut MemorySink,
     ) -> Result<(), AllocError>
         requires { length self.old ≡ length core.old.histories }
-        ensures { OnOk result (Answers self.old core.old line.entry (held reply.old) (held reply.new) self.new core.new) }
+        ensures { OnOk result (Answers self.old jobs.old core.old line.entry (held reply.old) (held reply.new) self.new jobs.new core.new) }
     {
         match line {
             OperatorLine::Admit(name, width) => self.admit(core, name, width, reply),
@@ -73,6 +74,14 @@ impl<'t> Operator<'t> {
             }
             OperatorLine::List => self.list(core, reply),
             OperatorLine::Step(name, count) => step(core, self.last_id(name), count, reply),
+            OperatorLine::Take(name) => {
+                let number = jobs.take(core, self.last_id(name))?;
+                push_taken(reply, number)
+            }
+            OperatorLine::Put(number) => {
+                let outcome = jobs.put(core, number);
+                push_outcome(reply, outcome)
+            }
         }
     }
 
@@ -192,25 +201,44 @@ fn step(core: &mut Core, id: u32, count: u32, reply: &mut MemorySink) -> Result<
     ensures { OnOk result (Steps core.old id count (held reply.old) (held reply.new) core.new) }
 {
     for number in 0..count {
-        let outcome = core.advance(id);
-        push_outcome(reply, &outcome)?;
+        let outcome = make_step(core, id);
+        push_outcome(reply, outcome)?;
     }
     Ok(())
 }
 
-/// Appends the outcome of a step.
-fn push_outcome(
-    reply: &mut MemorySink,
-    outcome: &Result<Option<StepReply>, AllocError>,
-) -> Result<(), AllocError>
-    ensures { OnOk result (held reply.new ≡ held reply.old ++ outcome_text outcome.now) }
+/// Appends what the making of a step came to.
+fn push_outcome(reply: &mut MemorySink, outcome: StepOutcome) -> Result<(), AllocError>
+    ensures { OnOk result (held reply.new ≡ held reply.old ++ outcome_text outcome) }
 {
-    let word = match outcome {
-        Ok(Some(made)) => step_word(*made),
-        Ok(None) => b"none",
-        Err(_) => b"nomemory",
-    };
-    push_parts(reply, &[word, b"\n"])
+    push_parts(reply, &[outcome_word(outcome), b"\n"])
+}
+
+/// What the making of a step came to, as a word.
+fn outcome_word(outcome: StepOutcome) -> &'static [u8]
+    ensures { result.now ≡ outcome_word outcome }
+{
+    match outcome {
+        StepOutcome::Recorded(reply) => step_word(reply),
+        StepOutcome::Full => b"full",
+        StepOutcome::Gone => b"gone",
+        StepOutcome::NoMemory => b"nomemory",
+        StepOutcome::Nothing => b"none",
+    }
+}
+
+/// Appends the number of a job that was taken.
+fn push_taken(reply: &mut MemorySink, number: Option<usize>) -> Result<(), AllocError>
+    ensures { OnOk result (held reply.new ≡ held reply.old ++ taken_text number) }
+{
+    match number {
+        Some(number) => {
+            let mut digits = Buffer::new();
+            let digits = digits.format(number).as_bytes();
+            push_parts(reply, &[b"ok job ", digits, b"\n"])
+        }
+        None => push_parts(reply, &[b"none\n"]),
+    }
 }
 
 /// Appends the parts, one behind the other.

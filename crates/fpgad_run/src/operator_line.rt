@@ -1,5 +1,5 @@
 ghost use Rattle.std.specs.Prelude.{◌≡◌, map};
-ghost use Rattle.fpgad_run.specs.Script.{admission, named_form, operator_form, stepping};
+ghost use Rattle.fpgad_run.specs.Script.{admission, named_form, operator_form, putting, stepping};
 
 use crate::form::Form;
 use crate::item::Act;
@@ -14,6 +14,10 @@ pub enum OperatorLine<N> {
     List,
     /// So many steps of its running job.
     Step(N, u32),
+    /// Its running job's next step is taken, and held.
+    Take(N),
+    /// The job of that number is stepped and put.
+    Put(u32),
 }
 
 /// What the words after `op` ask.
@@ -31,6 +35,10 @@ pub(crate) fn operator_form<'t>(words: &[&'t [u8]]) -> Form<&'t [u8]>
         [verb, name] => {
             if *verb == b"evict".as_slice() && is_name(*name) {
                 Form::Asks(Act::Operator(OperatorLine::Evict(*name)))
+            } else if *verb == b"take".as_slice() && is_name(*name) {
+                Form::Asks(Act::Operator(OperatorLine::Take(*name)))
+            } else if *verb == b"put".as_slice() {
+                putting(decimal_u32(*name))
             } else {
                 Form::Faulty
             }
@@ -62,6 +70,15 @@ fn stepping<'t>(name: &'t [u8], count: Option<u32>) -> Form<&'t [u8]>
 {
     match count {
         Some(count) => Form::Asks(Act::Operator(OperatorLine::Step(name, count))),
+        None => Form::Faulty,
+    }
+}
+
+fn putting<'t>(number: Option<u32>) -> Form<&'t [u8]>
+    ensures { named_form result ≡ putting number }
+{
+    match number {
+        Some(number) => Form::Asks(Act::Operator(OperatorLine::Put(number))),
         None => Form::Faulty,
     }
 }

@@ -3,6 +3,7 @@ ghost use Rattle.arch_file.specs.Arch.{IsArch, arch_of};
 ghost use Rattle.fpgad_run.specs.Script.{named_act, script_of};
 ghost use Rattle.fpgad_run.specs.Program.{Decides, IsReplies, Replies, Writes, checked, start_of};
 
+use crate::held_jobs::HeldJobs;
 use crate::item::{Act, Item};
 use crate::lines::split_architecture;
 use crate::operator::Operator;
@@ -144,25 +145,25 @@ fn serve(
         },
     )?;
     let mut running = Running::new(alloc, core);
-    let mut items = script.into_items();
-    items.reverse();
-    while let Some(item) = items.pop() {
-        running.serve(item)?;
-    }
-    headline();
-    running.output(alloc)
+    let output = running.serve_all(alloc, script);
+    running.end();
+    output
 }
 
-/// A script that runs: the core, the operator's names, and what was told so far.
-#[derive(Drop)]
+/// A script that runs: the core, the operator's names and jobs, and what was told so far.
 struct Running<'t> {
     core: Core,
     operator: Operator<'t>,
+    jobs: HeldJobs,
     operator_text: MemorySink,
     sections: Sections<'t>,
 }
 
 impl<'t> Running<'t> {
+    ghost use Rattle.arch_file.specs.declared.arch.Arch.{Arch};
+    ghost use Rattle.service_core.specs.Service.{empty};
+    ghost use Rattle.fpgad_run.specs.declared.options.Options.{Options};
+    ghost use Rattle.fpgad_run.specs.Program.{device_of};
     ghost use Rattle.fpgad_run.specs.Told.{Begins, IsEven, Serves, told_so_far};
 
     fn new(alloc: Global, core: Core) -> Self
@@ -172,9 +173,40 @@ impl<'t> Running<'t> {
         Running {
             core,
             operator: Operator::new(alloc),
+            jobs: HeldJobs::new(alloc),
             operator_text: MemorySink::new(alloc),
             sections: Sections::new(alloc),
         }
+    }
+
+    /// Serves the items of a script in order, and gives all that was told.
+    fn serve_all(&mut self, alloc: Global, script: Script<'t>) -> Result<Vec<u8>, AllocError>
+        requires { Begins self.old.core self.old }
+        ensures { (options : Options) (arch : Arch) → self.old.core ≡ empty (device_of options arch) → IfOk result (λ output. IsReplies options (Ok (arch, script.entry)) output.items) }
+    {
+        let mut items = script.into_items();
+        items.reverse();
+        while let Some(item) = items.pop() {
+            self.serve(item)?;
+        }
+        headline();
+        self.output(alloc)
+    }
+
+    /// Ends the service: jobs that are still held are given back.
+    fn end(self) {
+        let Running {
+            mut core,
+            operator,
+            jobs,
+            operator_text,
+            sections,
+        } = self;
+        jobs.give_back(&mut core);
+        drop(core);
+        drop(operator);
+        drop(operator_text);
+        drop(sections);
     }
 
     /// Serves one item.
@@ -185,8 +217,12 @@ impl<'t> Running<'t> {
         let Item { line: _, act } = item;
         match act {
             Act::Operator(line) => {
-                self.operator
-                    .serve(&mut self.core, line, &mut self.operator_text)
+                self.operator.serve(
+                    &mut self.core,
+                    &mut self.jobs,
+                    line,
+                    &mut self.operator_text,
+                )
             }
             Act::Session(name, line) => {
                 let id = self.operator.last_id(name);

@@ -1,51 +1,49 @@
 -- Each tenancy is served as if it were alone, over every run.
 use Rattle.std.proofs.Common.{◌≡◌, ℕ, ◌+◌, List, [], ◌∷◌, ◌++◌, length, map, Bool, true, false, eqb, Option, Some, None, Ok, Err, refl, sym, ap, ◌∙◌, subst, arith}
-use Rattle.std.specs.Prelude.{option_map, if◌then◌else◌, All, IfSome, IsSomeAnd}
+use Rattle.std.specs.Prelude.{option_map, if◌then◌else◌, IfSome, IsSomeAnd}
 use Rattle.std.proofs.lemmas.Bool.Decides.{nat_tests, Decides-eqb}
 use Rattle.std.proofs.lemmas.List.{map-append}
-use Rattle.std.proofs.lemmas.List.Elements.{All-nil}
 use Rattle.grid.specs.declared.Strip.{Strip}
-use Rattle.tenant_slot.specs.declared.command.Command.{Command}
-use Rattle.tenant_slot.specs.declared.command.Event.{Event}
-use Rattle.tenant_slot.specs.declared.command.Event.TheVariants.{Command as Asked, Advance as AdvanceEvent}
+use Rattle.job_state.specs.Job.{JobState}
+use Rattle.tenant_slot.specs.declared.event.Event.{Event}
+use Rattle.tenant_slot.specs.declared.event.Event.TheVariants.{Command as Asked}
 use Rattle.tenant_slot.specs.declared.reply.Reply.{Reply}
-use Rattle.tenant_slot.specs.declared.reply.Reply.TheVariants.{Step}
 use Rattle.tenant_slot.specs.SingleUser.{State, start, step, state_after, replies_to, run}
 use Rattle.tenant_slot.proofs.Runs.{state_after-append, replies_to-append, step-full}
 use Rattle.service_core.specs.declared.device.Device.{Device}
 use Rattle.service_core.specs.declared.entry.Entry.{Entry}
 use Rattle.service_core.specs.declared.not_served.NotServed.TheVariants.{NoMemory, JournalFull, NoSuchTenancy}
-use Rattle.service_core.specs.History.{History, IsReplayed, StepMade, entry_of, events_of, state_of, with_entry, closed}
-use Rattle.service_core.specs.Receipt.{Receipted}
-use Rattle.service_core.specs.Kept.{IsOn, IsService}
-use Rattle.service_core.specs.Service.{ServiceState, admitted, empty, entries_in, history_of, journal_of, live_of, modified, strip_on, with_tenancy, without_tenancy, with_entry_of}
-use Rattle.service_core.specs.Calls.{IsAdvanced, IsServed}
-use Rattle.service_core.specs.Run.{Call, Admit, Advance, Evict, Tenant, Happens, Run}
-use Rattle.service_core.specs.OwnEvents.{own_exchange, own_exchanges, own_events, own_replies}
+use Rattle.service_core.specs.declared.put_reply.PutReply.TheVariants.{Recorded, Full, Gone}
+use Rattle.service_core.specs.History.{History, closed, events_of, state_of, with_entry, with_out}
+use Rattle.service_core.specs.Service.{AreAlone, IsAloneOn, ServiceState, admitted, empty, entries_in, history_of, journal_of, live_of, modified, strip_on, with_entry_of, with_out_of, with_tenancy}
+use Rattle.service_core.specs.Calls.{IsGivenBackTo, IsStepOf, step_entry, step_event}
+use Rattle.service_core.specs.Run.{Call, Admit, Evict, GiveBack, Happens, Put, Run, Take, Tenant}
+use Rattle.service_core.specs.OwnEvents.{if_own, own_exchange, own_exchanges, own_events, own_replies}
 use Rattle.service_core.specs.Headline.{EachIsAlone}
 use Rattle.service_core.proofs.Lists.{history_of-past, history_of-modified, history_of-push, All-history_of}
 use Rattle.service_core.proofs.Histories.{state_after-push}
-use Rattle.service_core.proofs.Keeps.{IsService-after, Received, received, Stepped, stepped, if_live_some}
+use Rattle.service_core.proofs.Keeps.{IsService-empty}
+use Rattle.service_core.proofs.Effects.{Admitted, Effect, Entered, Evicted, IsNext, Kept, Nothing, Turned, effect, kept_after, of_live, run_device, run_keeps, served_entry, served_next}
 
 -- the journals after each call
-entries_in-closed : (o : Option History) → entries_in (option_map closed o) ≡ entries_in o
-entries_in-closed None = refl
-entries_in-closed (Some h) = refl
-
 journal_of-with_tenancy : (s : ServiceState) (width offset id : ℕ) → journal_of (with_tenancy s width offset) id ≡ journal_of s id
 journal_of-with_tenancy s width offset id =
-    let h : History = admitted s.device width in
+    let h : History = admitted s.device (length s.histories + 1) width in
     let past : id ≡ length s.histories + 1 → history_of s.histories id ≡ None = λ is. history_of-past s.histories id (omega arith) in
     grind (arith, nat_tests, history_of-push s.histories h id, past)
 
-journal_of-without_tenancy : (s : ServiceState) (t id : ℕ) → journal_of (without_tenancy s t) id ≡ journal_of s id
-journal_of-without_tenancy s t id = grind (arith, nat_tests, history_of-modified s.histories t id closed, entries_in-closed (history_of s.histories id))
+entries_in-kept : (change : History → History) → ((h : History) → (change h).entries ≡ h.entries) → (o : Option History) → entries_in (option_map change o) ≡ entries_in o
+entries_in-kept change keeps None = refl
+entries_in-kept change keeps (Some h) = keeps h
 
-journal_of-with_entry_of_other : (s : ServiceState) (t id : ℕ) (e : Entry) → eqb t id ≡ false → journal_of (with_entry_of s t e) id ≡ journal_of s id
-journal_of-with_entry_of_other s t id e other = grind (arith, nat_tests, history_of-modified s.histories t id (with_entry e))
+journal-kept : (hs : List History) (t id : ℕ) (change : History → History) → ((h : History) → (change h).entries ≡ h.entries) → entries_in (history_of (modified hs t change) id) ≡ entries_in (history_of hs id)
+journal-kept hs t id change keeps = grind (arith, nat_tests, history_of-modified hs t id change, entries_in-kept change keeps (history_of hs id))
 
-journal_of-with_entry_of : (s : ServiceState) (id : ℕ) (h : History) (e : Entry) → history_of s.histories id ≡ Some h → journal_of (with_entry_of s id e) id ≡ h.entries ++ e ∷ []
-journal_of-with_entry_of s id h e here = grind (arith, nat_tests, history_of-modified s.histories id id (with_entry e))
+journal_of-other : (s : ServiceState) (t id : ℕ) (e : Entry) → eqb t id ≡ false → journal_of (with_entry_of s t e) id ≡ journal_of s id
+journal_of-other s t id e other = grind (arith, nat_tests, history_of-modified s.histories t id (with_entry e))
+
+journal_of-own : (s : ServiceState) (id : ℕ) (h : History) (e : Entry) → history_of s.histories id ≡ Some h → journal_of (with_entry_of s id e) id ≡ h.entries ++ e ∷ []
+journal_of-own s id h e here = grind (arith, nat_tests, history_of-modified s.histories id id (with_entry e))
 
 -- a tenancy's first state, if there is that tenancy
 abbrev first_of : History → State
@@ -57,9 +55,6 @@ HasFirst first s id = IfSome (history_of s.histories id) (λ h. first_of h ≡ f
 -- the state that the tenancy of that id is in, alone
 abbrev alone : State → ServiceState → ℕ → State
 alone first s id = state_after first (events_of (journal_of s id))
-
-abbrev AllReplayed : ServiceState → Type 0
-AllReplayed s = All (λ h. IsReplayed h.arch h.strip h.entries) s.histories
 
 abbrev asked : List (Event × Option Reply) → List Event
 asked xs = map (λ x. x.0) xs
@@ -77,79 +72,83 @@ same_journal : (first : State) (old new : ServiceState) (id : ℕ) → journal_o
 same_journal first old new id same = record { replies = refl; state = ap (λ es. state_after first (events_of es)) same }
 
 -- an entry is what was asked and told
-own_entry : (first : State) (old new : ServiceState) (id : ℕ) (h : History) (e : Entry) → history_of old.histories id ≡ Some h → (step (state_of h) e.event).1 ≡ Some e.reply → new ≡ with_entry_of old id e → HasFirst first old id →
-    Exchanged first old new id ((e.event, Some e.reply) ∷ [])
-own_entry first old new id h e here said changes has =
-    let its : first_of h ≡ first = rw here at has in
-    let was : journal_of old id ≡ h.entries = ap entries_in here in
-    let is : journal_of new id ≡ h.entries ++ e ∷ [] = rw changes (journal_of-with_entry_of old id h e here) in
-    let reply : (step (state_after first (events_of h.entries)) e.event).1 ≡ Some e.reply = rw its at said in
+own_entry : (first : State) (old new : ServiceState) (id : ℕ) (h : History) (e : Entry) → IsNext old id e h → new ≡ with_entry_of old id e → HasFirst first old id → Exchanged first old new id ((e.event, Some e.reply) ∷ [])
+own_entry first old new id h e next changes has =
+    let its : first_of h ≡ first = rw next.here at has in
+    let was : journal_of old id ≡ h.entries = ap entries_in next.here in
+    let is : journal_of new id ≡ h.entries ++ e ∷ [] = rw changes (journal_of-own old id h e next.here) in
+    let reply : (step (state_after first (events_of h.entries)) e.event).1 ≡ Some e.reply = rw its at next.told in
     record {
       replies = rw (was, reply) refl;
       state = rw (was, is) (state_after-push first h.entries e);
     }
 
-own_served : (first : State) (old new : ServiceState) (id : ℕ) (command : Command) (r : Receipted) → IsServed old id command (Ok r) new → HasFirst first old id → Exchanged first old new id ((Asked command, Some r.reply) ∷ [])
-own_served first old new id command r served has =
-    let got : (h : History) × Received old id command r h = received old id command r served.0 in
-    own_entry first old new id got.0 (record { event = Asked command; reply = r.reply }) got.1.here got.1.reply served.1 has
-
-own_advanced : (first : State) (old new : ServiceState) (id : ℕ) (made : StepMade) → IsAdvanced old id (Ok (Some made)) new → HasFirst first old id → Exchanged first old new id ((AdvanceEvent made.advance, Some (Step made.reply)) ∷ [])
-own_advanced first old new id made advanced has =
-    let got : (h : History) × Stepped old id made h = stepped old id made advanced.0 in
-    own_entry first old new id got.0 (entry_of made) got.1.here got.1.step.told advanced.1 has
-
--- a full journal
-record AtLimit (old : ServiceState) (id : ℕ) (h : History) : Type 0 where
-  here : history_of old.histories id ≡ Some h
-  full : length h.entries ≡ 65536
-
-at_limit : (old : ServiceState) (id : ℕ) → IsSomeAnd (live_of old.histories id) (λ h. length h.entries ≡ 65536) → (h : History) × AtLimit old id h
-at_limit old id is = at_option (live_of old.histories id) refl is
-  where
-    at_option : (o : Option History) → live_of old.histories id ≡ o → IsSomeAnd o (λ h. length h.entries ≡ 65536) → (h : History) × AtLimit old id h
-    at_option None e never = absurd never
-    at_option (Some h) e said = (h, record { here = if_live_some (history_of old.histories id) h e; full = said })
-
-own_full : (first : State) (old : ServiceState) (id : ℕ) (command : Command) → IsSomeAnd (live_of old.histories id) (λ h. length h.entries ≡ 65536) → AllReplayed old → HasFirst first old id → Exchanged first old old id ((Asked command, None) ∷ [])
-own_full first old id command limit replayed has =
-    let got : (h : History) × AtLimit old id h = at_limit old id limit in
+-- where the journal is full, it is told nothing
+own_full : (first : State) (old new : ServiceState) (id : ℕ) (event : Event) → IsSomeAnd (live_of old.histories id) (λ h. length h.entries ≡ 65536) → new ≡ old → AreAlone old → HasFirst first old id → Exchanged first old new id ((event, None) ∷ [])
+own_full first old new id event limit same alone_all has =
+    let got : (h : History) × (history_of old.histories id ≡ Some h) × (length h.entries ≡ 65536) = of_live (λ h. length h.entries ≡ 65536) old id limit in
     let h : History = got.0 in
-    let here : history_of old.histories id ≡ Some h = got.1.here in
+    let here : history_of old.histories id ≡ Some h = got.1 in
     let its : first_of h ≡ first = rw here at has in
     let was : journal_of old id ≡ h.entries = ap entries_in here in
-    let count : (state_after (first_of h) (events_of h.entries)).entries ≡ 65536 = (All-history_of (λ (g : History). IsReplayed g.arch g.strip g.entries) old.histories id h here replayed).count ∙ got.1.full in
-    let stays : step (state_after first (events_of h.entries)) (Asked command) ≡ (state_after first (events_of h.entries), None) = step-full (state_after first (events_of h.entries)) (Asked command) (rw its at count) in
+    let count : (state_after (first_of h) (events_of h.entries)).entries ≡ 65536 = (All-history_of (IsAloneOn old.device) old.histories id h here alone_all).replayed.count ∙ got.2 in
+    let stays : step (state_after first (events_of h.entries)) event ≡ (state_after first (events_of h.entries), None) = step-full (state_after first (events_of h.entries)) event (rw its at count) in
     record {
       replies = rw (was, stays) refl;
-      state = rw was (sym (ap (λ (p : State × Option Reply). p.0) stays));
+      state = rw (same, was) (sym (ap (λ (p : State × Option Reply). p.0) stays));
     }
 
+-- an event of this tenancy or of another
+either : (first : State) (old new : ServiceState) (t id : ℕ) (event : Event) (reply : Option Reply) → (t ≡ id → Exchanged first old new id ((event, reply) ∷ [])) → (eqb t id ≡ false → journal_of new id ≡ journal_of old id) → Exchanged first old new id (if_own id t event reply)
+either first old new t id event reply own other = by_id (eqb t id) refl
+  where
+    by_id : (b : Bool) → eqb t id ≡ b → Exchanged first old new id (if b then (event, reply) ∷ [] else [])
+    by_id true e = own ((Decides-eqb t id).0 e)
+    by_id false e = same_journal first old new id (other e)
+
+own_next : (first : State) (old new : ServiceState) (t id : ℕ) (h : History) (e : Entry) → IsNext old t e h → new ≡ with_entry_of old t e → HasFirst first old id → Exchanged first old new id (if_own id t e.event (Some e.reply))
+own_next first old new t id h e next changes has =
+    either first old new t id e.event (Some e.reply)
+    (λ same. own_entry first old new id h e (subst (λ x. IsNext old x e h) same next) (subst (λ x. new ≡ with_entry_of old x e) same changes) has)
+    (λ differ. rw changes (journal_of-other old t id e differ))
+
+own_limit : (first : State) (old new : ServiceState) (t id : ℕ) (event : Event) → IsSomeAnd (live_of old.histories t) (λ h. length h.entries ≡ 65536) → new ≡ old → AreAlone old → HasFirst first old id → Exchanged first old new id (if_own id t event None)
+own_limit first old new t id event limit same alone_all has =
+    either first old new t id event None
+    (λ is. own_full first old new id event (subst (λ x. IsSomeAnd (live_of old.histories x) (λ h. length h.entries ≡ 65536)) is limit) same alone_all has)
+    (λ differ. ap (λ s. journal_of s id) same)
+
+unchanged : (first : State) (old new : ServiceState) (id : ℕ) → new ≡ old → Exchanged first old new id []
+unchanged first old new id same = same_journal first old new id (ap (λ s. journal_of s id) same)
+
+turned : (first : State) (old new : ServiceState) (t id : ℕ) (out : Bool) → new ≡ with_out_of old t out → Exchanged first old new id []
+turned first old new t id out is = same_journal first old new id (rw is (journal-kept old.histories t id (with_out out) (λ h. refl)))
+
+given : (first : State) (old : ServiceState) (job : JobState) (new : ServiceState) (id : ℕ) (o : Option History) → IsGivenBackTo o old job new → Exchanged first old new id []
+given first old job new id None is = unchanged first old new id is
+given first old job new id (Some h) is = turned first old new job.step.id id is.0 is.2
+
 -- one call
-exchanged : (first : State) (old : ServiceState) (call : Call) (new : ServiceState) (id : ℕ) → Happens old call new → AllReplayed old → HasFirst first old id → Exchanged first old new id (own_exchange id call)
-exchanged first old (Admit width (Ok given)) new id happens replayed has = same_journal first old new id (rw happens.3 (journal_of-with_tenancy old width given.1 id))
-exchanged first old (Admit width (Err refusal)) new id happens replayed has = same_journal first old new id (rw happens.1 refl)
-exchanged first old (Evict t (Ok nothing)) new id happens replayed has = same_journal first old new id (rw happens.1 (journal_of-without_tenancy old t id))
-exchanged first old (Evict t (Err refusal)) new id happens replayed has = same_journal first old new id (rw happens.2 refl)
-exchanged first old (Tenant t command (Err NoMemory)) new id happens replayed has = same_journal first old new id (rw happens.1 refl)
-exchanged first old (Tenant t command (Err (NoSuchTenancy note))) new id happens replayed has = same_journal first old new id (rw happens.2 refl)
-exchanged first old (Tenant t command (Ok r)) new id happens replayed has = by_id (eqb t id) refl
-  where
-    by_id : (b : Bool) → eqb t id ≡ b → Exchanged first old new id (if b then (Asked command, Some r.reply) ∷ [] else [])
-    by_id true e = own_served first old new id command r (subst (λ x. IsServed old x command (Ok r) new) ((Decides-eqb t id).0 e) happens) has
-    by_id false e = same_journal first old new id (rw happens.1 (journal_of-with_entry_of_other old t id (record { event = Asked command; reply = r.reply }) e))
-exchanged first old (Tenant t command (Err (JournalFull note))) new id happens replayed has = by_id (eqb t id) refl
-  where
-    by_id : (b : Bool) → eqb t id ≡ b → Exchanged first old new id (if b then (Asked command, None) ∷ [] else [])
-    by_id true e = rw happens.2 (own_full first old id command (subst (λ x. IsSomeAnd (live_of old.histories x) (λ h. length h.entries ≡ 65536)) ((Decides-eqb t id).0 e) happens.1) replayed has)
-    by_id false e = same_journal first old new id (rw happens.2 refl)
-exchanged first old (Advance t (Ok None)) new id happens replayed has = same_journal first old new id (rw happens.1 refl)
-exchanged first old (Advance t (Err error)) new id happens replayed has = same_journal first old new id (rw happens.1 refl)
-exchanged first old (Advance t (Ok (Some made))) new id happens replayed has = by_id (eqb t id) refl
-  where
-    by_id : (b : Bool) → eqb t id ≡ b → Exchanged first old new id (if b then (AdvanceEvent made.advance, Some (Step made.reply)) ∷ [] else [])
-    by_id true e = own_advanced first old new id made (subst (λ x. IsAdvanced old x (Ok (Some made)) new) ((Decides-eqb t id).0 e) happens) has
-    by_id false e = same_journal first old new id (rw happens.1 (journal_of-with_entry_of_other old t id (entry_of made) e))
+exchanged : (first : State) (old : ServiceState) (call : Call) (new : ServiceState) (id : ℕ) → Happens old call new → AreAlone old → HasFirst first old id → Exchanged first old new id (own_exchange id call)
+exchanged first old (Admit width (Ok given)) new id happens alone_all has = same_journal first old new id (rw happens.3 (journal_of-with_tenancy old width given.1 id))
+exchanged first old (Admit width (Err refusal)) new id happens alone_all has = unchanged first old new id happens.1
+exchanged first old (Evict t (Ok nothing)) new id happens alone_all has = same_journal first old new id (rw happens.1 (journal-kept old.histories t id closed (λ h. refl)))
+exchanged first old (Evict t (Err refusal)) new id happens alone_all has = unchanged first old new id happens.2
+exchanged first old (Tenant t command (Ok r)) new id happens alone_all has =
+    let next : (h : History) × IsNext old t (served_entry command r) h = served_next old t command r happens.0 in
+    own_next first old new t id next.0 (served_entry command r) next.1 happens.1 has
+exchanged first old (Tenant t command (Err NoMemory)) new id happens alone_all has = unchanged first old new id happens.1
+exchanged first old (Tenant t command (Err (JournalFull note))) new id happens alone_all has = own_limit first old new t id (Asked command) happens.1 happens.2 alone_all has
+exchanged first old (Tenant t command (Err (NoSuchTenancy note))) new id happens alone_all has = unchanged first old new id happens.2
+exchanged first old (Take t (Some job)) new id happens alone_all has = turned first old new t id true happens.1
+exchanged first old (Take t None) new id happens alone_all has = unchanged first old new id happens.1
+exchanged first old (Put done foreign (Ok (Recorded reply))) new id happens alone_all has =
+    let got : (h : History) × (history_of old.histories done.id ≡ Some h) × IsStepOf h done foreign reply = of_live (λ h. IsStepOf h done foreign reply) old done.id happens.0 in
+    own_next first old new done.id id got.0 (step_entry done foreign reply) (record { here = got.1; told = got.2.told }) happens.1 has
+exchanged first old (Put done foreign (Ok Full)) new id happens alone_all has = own_limit first old new done.id id (step_event done foreign) happens.0 happens.1 alone_all has
+exchanged first old (Put done foreign (Ok Gone)) new id happens alone_all has = unchanged first old new id happens.1
+exchanged first old (Put done foreign (Err back)) new id happens alone_all has = unchanged first old new id happens.2
+exchanged first old (GiveBack job) new id happens alone_all has = given first old job new id (live_of old.histories job.step.id) happens
 
 -- a tenancy keeps its first state
 first_in-change : (first : State) (change : History → History) → ((h : History) → first_of (change h) ≡ first_of h) → (o : Option History) → IfSome (option_map change o) (λ h. first_of h ≡ first) → IfSome o (λ h. first_of h ≡ first)
@@ -170,48 +169,17 @@ pushed_back first hs h id has = by_id (eqb id (length hs + 1)) refl (rw (history
     by_id true e new = let none : history_of hs id ≡ None = history_of-past hs id (grind (arith, nat_tests)) in rw none tt
     by_id false e same = same
 
-back : (first : State) (old : ServiceState) (call : Call) (new : ServiceState) (id : ℕ) → Happens old call new → HasFirst first new id → HasFirst first old id
-back first old (Admit width (Ok given)) new id happens has = pushed_back first old.histories (admitted old.device width) id (rw happens.3 at has)
-back first old (Admit width (Err refusal)) new id happens has = rw happens.1 at has
-back first old (Evict t (Ok nothing)) new id happens has = modified_back first old.histories t id closed (λ h. refl) (rw happens.1 at has)
-back first old (Evict t (Err refusal)) new id happens has = rw happens.2 at has
-back first old (Tenant t command (Ok r)) new id happens has = modified_back first old.histories t id (with_entry (record { event = Asked command; reply = r.reply })) (λ h. refl) (rw happens.1 at has)
-back first old (Tenant t command (Err NoMemory)) new id happens has = rw happens.1 at has
-back first old (Tenant t command (Err (JournalFull note))) new id happens has = rw happens.2 at has
-back first old (Tenant t command (Err (NoSuchTenancy note))) new id happens has = rw happens.2 at has
-back first old (Advance t (Ok (Some made))) new id happens has = modified_back first old.histories t id (with_entry (entry_of made)) (λ h. refl) (rw happens.1 at has)
-back first old (Advance t (Ok None)) new id happens has = rw happens.1 at has
-back first old (Advance t (Err error)) new id happens has = rw happens.1 at has
-
--- the device stays
-device_after : (old : ServiceState) (call : Call) (new : ServiceState) → Happens old call new → new.device ≡ old.device
-device_after old (Admit width (Ok given)) new happens = rw happens.3 refl
-device_after old (Admit width (Err refusal)) new happens = rw happens.1 refl
-device_after old (Evict t (Ok nothing)) new happens = rw happens.1 refl
-device_after old (Evict t (Err refusal)) new happens = rw happens.2 refl
-device_after old (Tenant t command (Ok r)) new happens = rw happens.1 refl
-device_after old (Tenant t command (Err NoMemory)) new happens = rw happens.1 refl
-device_after old (Tenant t command (Err (JournalFull note))) new happens = rw happens.2 refl
-device_after old (Tenant t command (Err (NoSuchTenancy note))) new happens = rw happens.2 refl
-device_after old (Advance t (Ok (Some made))) new happens = rw happens.1 refl
-device_after old (Advance t (Ok None)) new happens = rw happens.1 refl
-device_after old (Advance t (Err error)) new happens = rw happens.1 refl
+back : (first : State) (old new : ServiceState) (id : ℕ) → Effect old new → HasFirst first new id → HasFirst first old id
+back first old new id (Nothing same) has = rw same at has
+back first old new id (Admitted width offset can fits is) has = pushed_back first old.histories (admitted old.device (length old.histories + 1) width) id (rw is at has)
+back first old new id (Evicted t is) has = modified_back first old.histories t id closed (λ h. refl) (rw is at has)
+back first old new id (Entered t e h next is) has = modified_back first old.histories t id (with_entry e) (λ h. refl) (rw is at has)
+back first old new id (Turned t out is) has = modified_back first old.histories t id (with_out out) (λ h. refl) (rw is at has)
 
 -- over a run
-pub run_device : (old : ServiceState) (calls : List Call) (new : ServiceState) → Run old calls new → new.device ≡ old.device
-run_device old [] new run = rw run refl
-run_device old (call ∷ calls) new run = run_device run.0 calls new run.2 ∙ device_after old call run.0 run.1
-
-pub run_keeps : (old : ServiceState) (calls : List Call) (new : ServiceState) → Run old calls new → IsService old.device old.plan.strips old.histories → IsService new.device new.plan.strips new.histories
-run_keeps old [] new run was = rw run was
-run_keeps old (call ∷ calls) new run was = run_keeps run.0 calls new run.2 (IsService-after old call run.0 run.1 was)
-
-pub IsService-empty : (device : Device) → IsService device [] []
-IsService-empty device = record { linked = λ id. refl; few = omega arith; on_device = All-nil (IsOn device); replayed = All-nil (λ (h : History). IsReplayed h.arch h.strip h.entries) }
-
 run_back : (first : State) (old : ServiceState) (calls : List Call) (new : ServiceState) (id : ℕ) → Run old calls new → HasFirst first new id → HasFirst first old id
 run_back first old [] new id run has = rw run at has
-run_back first old (call ∷ calls) new id run has = back first old call run.0 id run.1 (run_back first run.0 calls new id run.2 has)
+run_back first old (call ∷ calls) new id run has = back first old run.0 id (effect old call run.0 run.1) (run_back first run.0 calls new id run.2 has)
 
 -- first these exchanges, then those
 Exchanged-append : (first : State) (old mid new : ServiceState) (id : ℕ) (xs ys : List (Event × Option Reply)) → Exchanged first old mid id xs → Exchanged first mid new id ys → Exchanged first old new id (xs ++ ys)
@@ -223,15 +191,15 @@ Exchanged-append first old mid new id xs ys one rest =
       state = rw (both, state_after-append (alone first old id) (asked xs) (asked ys), ← one.state) rest.state;
     }
 
-run_exchanged : (first : State) (old : ServiceState) (calls : List Call) (new : ServiceState) (id : ℕ) → Run old calls new → IsService old.device old.plan.strips old.histories → HasFirst first new id → Exchanged first old new id (own_exchanges id calls)
+run_exchanged : (first : State) (old : ServiceState) (calls : List Call) (new : ServiceState) (id : ℕ) → Run old calls new → Kept old → HasFirst first new id → Exchanged first old new id (own_exchanges id calls)
 run_exchanged first old [] new id run was has = same_journal first old new id (rw run refl)
 run_exchanged first old (call ∷ calls) new id run was has =
     let mid : ServiceState = run.0 in
     let before : HasFirst first old id = run_back first old (call ∷ calls) new id run has in
-    Exchanged-append first old mid new id (own_exchange id call) (own_exchanges id calls) (exchanged first old call mid id run.1 was.replayed before) (run_exchanged first mid calls new id run.2 (IsService-after old call mid run.1 was) has)
+    Exchanged-append first old mid new id (own_exchange id call) (own_exchanges id calls) (exchanged first old call mid id run.1 was.alone before) (run_exchanged first mid calls new id run.2 (kept_after old call mid run.1 was) has)
 
 -- each tenancy's first state is the one that it has alone
-first_on : (device : Device) (h : History) → IsOn device h → first_of h ≡ start device.arch (strip_on device h.strip.width)
+first_on : (device : Device) (h : History) → IsAloneOn device h → first_of h ≡ start device.arch (strip_on device h.strip.width)
 first_on device h is = rw is.arch (ap (λ (strip : Strip). start device.arch strip) is.strip)
 
 pub each_alone : (device : Device) (calls : List Call) (state : ServiceState) → Run (empty device) calls state → EachIsAlone device calls state
@@ -243,7 +211,7 @@ each_alone device calls state runs id = by_history (history_of state.histories i
         let its : Exchanged (first_of h) (empty device) state id (own_exchanges id calls) = run_exchanged (first_of h) (empty device) calls state id runs (IsService-empty device) (rw e refl) in
         let after : state_of h ≡ state_after (first_of h) (own_events id calls) = rw e at its.state in
         let answers : own_replies id calls ≡ replies_to (first_of h) (own_events id calls) = its.replies in
-        let kept : IsService state.device state.plan.strips state.histories = run_keeps (empty device) calls state runs (IsService-empty device) in
-        let on : IsOn device h = rw (run_device (empty device) calls state runs) at (All-history_of (IsOn state.device) state.histories id h e kept.on_device) in
+        let kept : Kept state = run_keeps (empty device) calls state runs (IsService-empty device) in
+        let on : IsAloneOn device h = rw (run_device (empty device) calls state runs) at (All-history_of (IsAloneOn state.device) state.histories id h e kept.alone) in
         let first : first_of h ≡ start device.arch (strip_on device h.strip.width) = first_on device h on in
         rw (after, answers, first) refl

@@ -1,16 +1,21 @@
 -- What the definitions say of small cases, computed by the checker.
-use Rattle.std.proofs.Common.{◌≡◌, List, [], ◌∷◌, Ok, Err, Some, None, refl}
+use Rattle.std.proofs.Common.{◌≡◌, List, [], ◌∷◌, true, false, Ok, Err, Some, None, refl}
 use Rattle.tenant_slot.specs.declared.reply.StateName.TheVariants.{Empty}
 use Rattle.tenant_slot.specs.declared.command.Command.TheVariants.{Status, Withdraw}
-use Rattle.tenant_slot.specs.declared.command.Event.TheVariants.{Command as Asked, Advance as Stepped}
+use Rattle.tenant_slot.specs.declared.event.Event.TheVariants.{Command as Asked}
+use Rattle.job_state.specs.declared.step.JobStep.{JobStep}
+use Rattle.job_state.specs.Job.{JobState}
 use Rattle.tenant_slot.specs.declared.reply.Reply.TheVariants.{Refused, Step}
+use Rattle.tenant_slot.specs.declared.reply.StepReply.TheVariants.{Advanced, Stale}
 use Rattle.tenant_slot.specs.declared.reply.Refusal.TheVariants.{WrongState}
 use Rattle.service_core.specs.declared.device.Device.{Device}
 use Rattle.service_core.specs.declared.not_served.NoteCause.TheVariants as cause
 use Rattle.service_core.specs.declared.not_served.NotServed.TheVariants.{NoMemory, JournalFull, NoSuchTenancy}
-use Rattle.service_core.specs.History.{History, StepMade, closed}
+use Rattle.service_core.specs.declared.put_reply.PutReply.TheVariants.{Recorded, Full, Gone}
+use Rattle.service_core.specs.History.{History, closed}
+use Rattle.service_core.specs.Calls.{step_event}
 use Rattle.service_core.specs.Service.{admitted, empty, history_of, live_of, modified, strip_on, with_tenancy, without_tenancy}
-use Rattle.service_core.specs.Run.{Call, Admit, Advance, Evict, Tenant}
+use Rattle.service_core.specs.Run.{Call, Admit, Evict, GiveBack, Put, Take, Tenant}
 use Rattle.service_core.specs.OwnEvents.{own_events, own_replies}
 
 -- the strip of a tenancy has its own width, and the device's rows and pads
@@ -24,10 +29,10 @@ second_history first second = refl
 no_history_at_zero : (first second : History) → history_of (first ∷ second ∷ []) 0 ≡ None
 no_history_at_zero first second = refl
 
-one_closed : (device : Device) → live_of (modified (admitted device 4 ∷ admitted device 3 ∷ []) 2 closed) 2 ≡ None
+one_closed : (device : Device) → live_of (modified (admitted device 1 4 ∷ admitted device 2 3 ∷ []) 2 closed) 2 ≡ None
 one_closed device = refl
 
-other_live : (device : Device) → live_of (modified (admitted device 4 ∷ admitted device 3 ∷ []) 2 closed) 1 ≡ Some (admitted device 4)
+other_live : (device : Device) → live_of (modified (admitted device 1 4 ∷ admitted device 2 3 ∷ []) 2 closed) 1 ≡ Some (admitted device 1 4)
 other_live device = refl
 
 -- two tenancies admitted, the first evicted: its id stays its own
@@ -36,7 +41,7 @@ admitted_and_evicted : (device : Device) →
     ≡ record {
       device = device;
       plan = record { columns = device.columns; strips = record { id = 2; offset = 5; width = 4 } ∷ [] };
-      histories = closed (admitted device 4) ∷ admitted device 4 ∷ [];
+      histories = closed (admitted device 1 4) ∷ admitted device 2 4 ∷ [];
     }
 admitted_and_evicted device = refl
 
@@ -61,12 +66,22 @@ own_replies_of_one = refl
 own_events_of_another : own_events 2 calls ≡ []
 own_events_of_another = refl
 
--- and the steps of its job that were made
-abbrev steps : StepMade → StepMade → List Call
-steps first other = Advance 1 (Ok (Some first)) ∷ Advance 2 (Ok (Some other)) ∷ Advance 1 (Ok None) ∷ []
+-- and the steps of its jobs that were put and recorded, or found its journal full; not what was taken or given back, nor what
+-- others' jobs did
+abbrev steps : JobState → JobStep → JobStep → List Call
+steps job own other =
+    Take own.id (Some job)
+    ∷ GiveBack job
+    ∷ Put own false (Ok (Recorded Advanced))
+    ∷ Put other false (Ok (Recorded Advanced))
+    ∷ Put own true (Ok (Recorded Stale))
+    ∷ Put own false (Ok Full)
+    ∷ Evict own.id (Ok tt)
+    ∷ Put own false (Ok Gone)
+    ∷ []
 
-own_steps : (first other : StepMade) → own_events 1 (steps first other) ≡ Stepped first.advance ∷ []
-own_steps first other = refl
+own_steps : (job : JobState) (own other : JobStep) → own_events 1 (steps job (record own { id = 1 }) (record other { id = 2 })) ≡ step_event own false ∷ step_event own true ∷ step_event own false ∷ []
+own_steps job own other = refl
 
-own_step_replies : (first other : StepMade) → own_replies 1 (steps first other) ≡ Some (Step first.reply) ∷ []
-own_step_replies first other = refl
+own_step_replies : (job : JobState) (own other : JobStep) → own_replies 1 (steps job (record own { id = 1 }) (record other { id = 2 })) ≡ Some (Step Advanced) ∷ Some (Step Stale) ∷ None ∷ []
+own_step_replies job own other = refl

@@ -1,5 +1,5 @@
 -- One more entry.
-use Rattle.std.proofs.Common.{◌≡◌, ◌+◌, ◌≢◌, List, [], ◌∷◌, ◌++◌, Option, Some, sym, ap, ◌∙◌, arith, length-append}
+use Rattle.std.proofs.Common.{◌≡◌, ℕ, ◌+◌, ◌≢◌, List, [], ◌∷◌, ◌++◌, Option, Some, sym, ap, ◌∙◌, arith, length-append}
 use Rattle.std.proofs.lemmas.List.{map-append}
 use Rattle.arch_file.specs.declared.arch.Arch.{Arch}
 use Rattle.grid.specs.declared.Strip.{Strip}
@@ -30,10 +30,11 @@ IsReplayed-push arch strip es e was told =
       few = omega (arith, length-append es (e ∷ []), was.few, was.count, served.1);
     }
 
-pub IsHistory-push : (arch : Arch) (strip : Strip) (es : List Entry) (e : Entry) (here : State) (new : SlotState) → IsReplayed arch strip es → here ≡ state_after (start arch strip) (events_of es) → step here e.event ≡ (new.state, Some e.reply) → IsHistory arch strip (Some new) (es ++ e ∷ [])
-IsHistory-push arch strip es e here new was is steps =
+pub IsHistory-push : (id : ℕ) (arch : Arch) (strip : Strip) (es : List Entry) (e : Entry) (here : State) (new : SlotState) → IsReplayed arch strip es → here ≡ state_after (start arch strip) (events_of es) → step here e.event ≡ (new.state, Some e.reply) → new.id ≡ id → IsHistory id arch strip (Some new) (es ++ e ∷ [])
+IsHistory-push id arch strip es e here new was is steps its_id =
     let same : step (state_after (start arch strip) (events_of es)) e.event ≡ (new.state, Some e.reply) = rw (← is) steps in
     record {
       replayed = IsReplayed-push arch strip es e was (ap (λ (p : State × Option Reply). p.1) same);
+      same_id = its_id;
       state = sym (state_after-push (start arch strip) es e ∙ ap (λ (p : State × Option Reply). p.0) same);
     }

@@ -1,17 +1,16 @@
 -- The strips stay parted, over every run.
-use Rattle.std.proofs.Common.{◌≡◌, ◌+◌, ◌≤◌, ℕ, List, [], ◌∷◌, Bool, not, eqb, Ok, Err, Some, None, refl, arith}
+use Rattle.std.proofs.Common.{◌≡◌, ◌+◌, ◌≤◌, ℕ, List, [], ◌∷◌, Bool, not, eqb, refl, arith}
 use Rattle.std.proofs.lemmas.List.Elements.{All-filter, All-nil}
 use Rattle.std.proofs.lemmas.List.Kept.{AllPairs-filter}
 use Rattle.strips.specs.declared.placed_strip.PlacedStrip.{PlacedStrip}
 use Rattle.strips.specs.Plan.{Plan, AreApart, IsParted, without}
 use Rattle.strips.proofs.Laid.{IsParted-with, IsParted-with-inside, IsParted-with-apart}
 use Rattle.service_core.specs.declared.device.Device.{Device}
-use Rattle.service_core.specs.declared.not_served.NotServed.TheVariants.{NoMemory, JournalFull, NoSuchTenancy}
 use Rattle.service_core.specs.Service.{ServiceState, empty}
-use Rattle.service_core.specs.Kept.{IsService}
-use Rattle.service_core.specs.Run.{Call, Admit, Advance, Evict, Tenant, Happens, Run}
+use Rattle.service_core.specs.Run.{Call, Run}
 use Rattle.service_core.specs.Headline.{AreParted}
-use Rattle.service_core.proofs.Alone.{IsService-empty, run_keeps}
+use Rattle.service_core.proofs.Keeps.{IsService-empty}
+use Rattle.service_core.proofs.Effects.{Admitted, Effect, Entered, Evicted, Kept, Nothing, Turned, effect, run_keeps}
 
 IsParted-without : (plan : Plan) (id : ℕ) → IsParted plan → IsParted (record plan { strips = without plan.strips id })
 IsParted-without plan id parted =
@@ -26,28 +25,22 @@ record IsPartedOn (columns : ℕ) (state : ServiceState) : Type 0 where
   same : state.plan.columns ≡ columns
   parted : IsParted state.plan
 
-parted_after : (columns : ℕ) (old : ServiceState) (call : Call) (new : ServiceState) → Happens old call new → IsPartedOn columns old → IsPartedOn columns new
-parted_after columns old (Admit width (Ok given)) new happens was =
-    let nameless : PlacedStrip = record { id = 0; offset = given.1; width = width } in
-    let with_it : IsParted _ = happens.2.0.parted in
-    rw happens.3 (record { same = was.same; parted = IsParted-with old.plan _ was.parted (IsParted-with-inside old.plan nameless with_it) (IsParted-with-apart old.plan nameless with_it) })
-parted_after columns old (Admit width (Err refusal)) new happens was = rw happens.1 was
-parted_after columns old (Evict id (Ok nothing)) new happens was = rw happens.1 (record { same = was.same; parted = IsParted-without old.plan id was.parted })
-parted_after columns old (Evict id (Err refusal)) new happens was = rw happens.2 was
-parted_after columns old (Tenant id command (Ok r)) new happens was = rw happens.1 (record { same = was.same; parted = was.parted })
-parted_after columns old (Tenant id command (Err NoMemory)) new happens was = rw happens.1 was
-parted_after columns old (Tenant id command (Err (JournalFull note))) new happens was = rw happens.2 was
-parted_after columns old (Tenant id command (Err (NoSuchTenancy note))) new happens was = rw happens.2 was
-parted_after columns old (Advance id (Ok (Some made))) new happens was = rw happens.1 (record { same = was.same; parted = was.parted })
-parted_after columns old (Advance id (Ok None)) new happens was = rw happens.1 was
-parted_after columns old (Advance id (Err error)) new happens was = rw happens.1 was
+parted_after : (columns : ℕ) (old new : ServiceState) → Effect old new → IsPartedOn columns old → IsPartedOn columns new
+parted_after columns old new (Nothing same) was = rw same was
+parted_after columns old new (Admitted width offset can fits is) was =
+    let nameless : PlacedStrip = record { id = 0; offset = offset; width = width } in
+    let with_it : IsParted _ = fits.0.parted in
+    rw is (record { same = was.same; parted = IsParted-with old.plan _ was.parted (IsParted-with-inside old.plan nameless with_it) (IsParted-with-apart old.plan nameless with_it) })
+parted_after columns old new (Evicted id is) was = rw is (record { same = was.same; parted = IsParted-without old.plan id was.parted })
+parted_after columns old new (Entered id e h next is) was = rw is (record { same = was.same; parted = was.parted })
+parted_after columns old new (Turned id out is) was = rw is (record { same = was.same; parted = was.parted })
 
 run_parted : (columns : ℕ) (old : ServiceState) (calls : List Call) (new : ServiceState) → Run old calls new → IsPartedOn columns old → IsPartedOn columns new
 run_parted columns old [] new run was = rw run was
-run_parted columns old (call ∷ calls) new run was = run_parted columns run.0 calls new run.2 (parted_after columns old call run.0 run.1 was)
+run_parted columns old (call ∷ calls) new run was = run_parted columns run.0 calls new run.2 (parted_after columns old run.0 (effect old call run.0 run.1) was)
 
 pub are_parted : (device : Device) (calls : List Call) (state : ServiceState) → Run (empty device) calls state → AreParted device state
 are_parted device calls state run =
-    let kept : IsService state.device state.plan.strips state.histories = run_keeps (empty device) calls state run (IsService-empty device) in
+    let kept : Kept state = run_keeps (empty device) calls state run (IsService-empty device) in
     let parted : IsPartedOn device.columns state = run_parted device.columns (empty device) calls state run (record { same = refl; parted = record { inside = All-nil (λ (s : PlacedStrip). s.offset + s.width ≤ device.columns); apart = λ i k d low high. absurd (omega arith) } }) in
     record { columns = parted.same; parted = parted.parted; of_live = kept.linked }

@@ -1,20 +1,27 @@
 -- What each call may answer, with the states before and after it. A refused call changes nothing.
-use Rattle.std.specs.Prelude.{ℕ, ◌≡◌, ◌+◌, ◌<◌, length, true, false, Option, Some, None, IsSome, IsSomeAnd, Result, Ok, Err, option_map, option_and_then}
+use Rattle.std.specs.Prelude.{ℕ, ◌≡◌, ◌+◌, ◌<◌, length, Bool, true, false, Option, Some, None, IsSome, IsSomeAnd, Result, Ok, Err}
 use Rattle.std.specs.declared.alloc.AllocError.{AllocError}
-use Rattle.tenant_slot.specs.declared.advance.Advance.{Advance}
-use Rattle.tenant_slot.specs.declared.advance.StepReply.{StepReply}
-use Rattle.tenant_slot.specs.declared.command.Command.{Command}
-use Rattle.tenant_slot.specs.declared.command.Event.TheVariants.{Command as Asked}
-use Rattle.tenant_slot.specs.SingleUser.{next_step, step}
 use Rattle.strips.specs.Plan.{IsFirstFit, is_bad_width}
+use Rattle.job_state.specs.declared.step.JobStep.{JobStep}
+use Rattle.job_state.specs.Job.{JobState}
+use Rattle.tenant_slot.specs.declared.command.Command.{Command}
+use Rattle.tenant_slot.specs.declared.event.Event.{Event}
+use Rattle.tenant_slot.specs.declared.event.Event.TheVariants.{Command as Asked, Advance as Stepped}
+use Rattle.tenant_slot.specs.declared.reply.Reply.TheVariants.{Step}
+use Rattle.tenant_slot.specs.declared.reply.StepReply.{StepReply}
+use Rattle.tenant_slot.specs.SingleUser.{step}
+use Rattle.tenant_slot.specs.Slot.{GivesBack, IsAdvanceOf, is_takeable, next_job}
+use Rattle.service_core.specs.declared.entry.Entry.{Entry}
 use Rattle.service_core.specs.declared.op_refusal.OpRefusal.{OpRefusal}
 use Rattle.service_core.specs.declared.op_refusal.OpRefusal.TheVariants.{NoMemory, NoRoom, TooManyStrips, BadWidth, NoSuchTenancy, IdsSpent}
 use Rattle.service_core.specs.declared.not_served.NoteCause.TheVariants.{JournalFull as CauseJournalFull, NoSuchTenancy as CauseNoSuchTenancy}
 use Rattle.service_core.specs.declared.not_served.NotServed.{NotServed}
 use Rattle.service_core.specs.declared.not_served.NotServed.TheVariants.{NoMemory as NotServedNoMemory, JournalFull as NotServedJournalFull, NoSuchTenancy as NotServedNoSuchTenancy}
-use Rattle.service_core.specs.History.{History, IsStep, StepMade, entry_of, state_of}
+use Rattle.service_core.specs.declared.put_reply.PutReply.{PutReply}
+use Rattle.service_core.specs.declared.put_reply.PutReply.TheVariants.{Recorded, Full, Gone}
+use Rattle.service_core.specs.History.{History, slot_of, state_of, with_out}
 use Rattle.service_core.specs.Receipt.{Receipted}
-use Rattle.service_core.specs.Service.{ServiceState, live_of, with_tenancy, without_tenancy, with_entry_of}
+use Rattle.service_core.specs.Service.{ServiceState, live_of, with_entry_of, with_out_of, with_tenancy, without_tenancy}
 
 -- a tenancy of that width is admitted, if there is room and memory
 pub record CanAdmit (state : ServiceState) (width : ℕ) : Type 0 where
@@ -54,21 +61,43 @@ IsServed old id command (Err (NotServedJournalFull note)) new = (note ≡ record
 IsServed old id command (Err (NotServedNoSuchTenancy note)) new = (note ≡ record { id = id; cause = CauseNoSuchTenancy }) × (live_of old.histories id ≡ None) × (new ≡ old)
 IsServed old id command (Err NotServedNoMemory) new = IsSomeAnd (live_of old.histories id) (λ h. length h.entries < 65536) × (new ≡ old)
 
--- the next step of a live tenancy's running job, where its journal has room
-abbrev pub next_step_of : ServiceState → ℕ → Option Advance
-next_step_of state id = option_and_then (λ h. next_step (state_of h)) (live_of state.histories id)
+-- a live tenancy's job runs, its next step isn't out, and its journal has room
+abbrev pub takeable_in : Option History → Bool
+takeable_in None = false
+takeable_in (Some h) = is_takeable (slot_of h)
 
--- a step that is made adds its entry to the tenancy's journal, and nothing else changes. None is made exactly where there is none
-abbrev pub IsAdvanced : ServiceState → ℕ → Result (Option StepMade) AllocError → ServiceState → Type 0
-IsAdvanced old id (Ok (Some made)) new = IsSomeAnd (live_of old.histories id) (λ h. IsStep (state_of h) made) × (new ≡ with_entry_of old id (entry_of made))
-IsAdvanced old id (Ok None) new = (next_step_of old id ≡ None) × (new ≡ old)
-IsAdvanced old id (Err error) new = IsSome (next_step_of old id) × (new ≡ old)
+-- a job is given exactly where there is a step to take. It is that step, which is out then
+abbrev pub IsTaken : ServiceState → ℕ → Option JobState → ServiceState → Type 0
+IsTaken old id (Some job) new = IsSomeAnd (live_of old.histories id) (λ h. (h.id ≡ id) × (is_takeable (slot_of h) ≡ true) × (next_job (slot_of h) ≡ Some job.step)) × (new ≡ with_out_of old id true)
+IsTaken old id None new = (takeable_in (live_of old.histories id) ≡ false) × (new ≡ old)
 
--- what the caller is told of it
-abbrev pub told_of : Result (Option StepMade) AllocError → Result (Option StepReply) AllocError
-told_of (Ok made) = Ok (option_map (λ m. m.reply) made)
-told_of (Err error) = Err error
+-- a step that was made, as an event, and as an entry with its reply
+abbrev pub step_event : JobStep → Bool → Event
+step_event done foreign = Stepped (record { generation = done.generation; number = done.number; foreign = foreign })
 
--- what a call that makes the next step may answer
-abbrev pub Advances : ServiceState → ℕ → Result (Option StepReply) AllocError → ServiceState → Type 0
-Advances old id answer new = (made : Result (Option StepMade) AllocError) × (answer ≡ told_of made) × IsAdvanced old id made new
+abbrev pub step_entry : JobStep → Bool → StepReply → Entry
+step_entry done foreign reply = record { event = step_event done foreign; reply = Step reply }
+
+-- the flag says whether the sources are others than the running job's, and the reply is the one that the tenancy gets alone
+pub record IsStepOf (h : History) (done : JobStep) (foreign : Bool) (reply : StepReply) : Type 0 where
+  pub flag : IsAdvanceOf (state_of h) done (record { generation = done.generation; number = done.number; foreign = foreign })
+  pub told : (step (state_of h) (step_event done foreign)).1 ≡ Some (Step reply)
+
+-- a step that is put adds its entry to its tenancy's journal, and nothing else changes
+abbrev pub IsPut : ServiceState → JobStep → Bool → Result PutReply (JobStep × AllocError) → ServiceState → Type 0
+IsPut old done foreign (Ok (Recorded reply)) new = IsSomeAnd (live_of old.histories done.id) (λ h. IsStepOf h done foreign reply) × (new ≡ with_entry_of old done.id (step_entry done foreign reply))
+IsPut old done foreign (Ok Full) new = IsSomeAnd (live_of old.histories done.id) (λ h. length h.entries ≡ 65536) × (new ≡ old)
+IsPut old done foreign (Ok Gone) new = (live_of old.histories done.id ≡ None) × (new ≡ old)
+IsPut old done foreign (Err back) new = IsSomeAnd (live_of old.histories done.id) (λ h. length h.entries < 65536) × (back.0 ≡ done) × (new ≡ old)
+
+-- what a put may answer; the flag of its event isn't told
+abbrev pub Puts : ServiceState → JobStep → Result PutReply (JobStep × AllocError) → ServiceState → Type 0
+Puts old done answer new = (foreign : Bool) × IsPut old done foreign answer new
+
+-- a job that is given back to a live tenancy is to be taken again where it is the next step of the running one, and is dropped else
+abbrev pub IsGivenBackTo : Option History → ServiceState → JobState → ServiceState → Type 0
+IsGivenBackTo None old job new = new ≡ old
+IsGivenBackTo (Some h) old job new = (out : Bool) × GivesBack (slot_of h) job (slot_of (with_out out h)) × (new ≡ with_out_of old job.step.id out)
+
+abbrev pub IsGivenBack : ServiceState → JobState → ServiceState → Type 0
+IsGivenBack old job new = IsGivenBackTo (live_of old.histories job.step.id) old job new

@@ -1,20 +1,20 @@
 -- One tenancy's history: its journal, and what the replies in it have to be.
-use Rattle.std.specs.Prelude.{◌≡◌, ◌≤◌, List, [], ◌∷◌, ◌++◌, length, map, Bool, false, Some}
+use Rattle.std.specs.Prelude.{ℕ, ◌≡◌, ◌≤◌, List, [], ◌∷◌, ◌++◌, length, map, Bool, false, Some}
 use Rattle.arch_file.specs.declared.arch.Arch.{Arch}
 use Rattle.grid.specs.declared.Strip.{Strip}
-use Rattle.tenant_slot.specs.declared.command.Event.{Event}
-use Rattle.tenant_slot.specs.declared.command.Event.TheVariants.{Advance as Stepped}
-use Rattle.tenant_slot.specs.declared.advance.Advance.{Advance}
-use Rattle.tenant_slot.specs.declared.advance.StepReply.{StepReply}
-use Rattle.tenant_slot.specs.declared.reply.Reply.TheVariants.{Step}
-use Rattle.tenant_slot.specs.SingleUser.{State, start, step, next_step, state_after, replies_to}
+use Rattle.tenant_slot.specs.declared.event.Event.{Event}
+use Rattle.tenant_slot.specs.SingleUser.{State, start, state_after, replies_to}
+use Rattle.tenant_slot.specs.Slot.{SlotState, after_event}
 use Rattle.service_core.specs.declared.entry.Entry.{Entry}
 
--- a tenancy, live or closed: what its device is made of, its strip's size, and its journal
+-- a tenancy, live or closed: its id, what its device is made of, its strip's size, whether the next step of its running job is
+-- out, and its journal
 pub record History : Type 0 where
+  pub id : ℕ
   pub arch : Arch
   pub strip : Strip
   pub live : Bool
+  pub out : Bool
   pub entries : List Entry
 
 abbrev pub events_of : List Entry → List Event
@@ -24,6 +24,10 @@ events_of entries = map (λ entry. entry.event) entries
 abbrev pub state_of : History → State
 state_of h = state_after (start h.arch h.strip) (events_of h.entries)
 
+-- the same as a slot
+abbrev pub slot_of : History → SlotState
+slot_of h = record { id = h.id; state = state_of h; out = h.out }
+
 -- the stored replies are those that the service for a single user gives to the stored events
 pub record IsReplayed (arch : Arch) (strip : Strip) (entries : List Entry) : Type 0 where
   pub told : replies_to (start arch strip) (events_of entries) ≡ map (λ entry. Some entry.reply) entries
@@ -32,21 +36,11 @@ pub record IsReplayed (arch : Arch) (strip : Strip) (entries : List Entry) : Typ
 
 -- one entry more
 abbrev pub with_entry : Entry → History → History
-with_entry entry h = record h { entries = h.entries ++ entry ∷ [] }
+with_entry entry h = record h { entries = h.entries ++ entry ∷ []; out = (after_event (slot_of h) entry.event).out }
+
+-- a step that is out, or isn't
+abbrev pub with_out : Bool → History → History
+with_out out h = record h { out = out }
 
 abbrev pub closed : History → History
-closed h = record h { live = false }
-
--- a step that was made, and its reply
-pub record StepMade : Type 0 where
-  pub advance : Advance
-  pub reply : StepReply
-
--- the step as an entry
-abbrev pub entry_of : StepMade → Entry
-entry_of made = record { event = Stepped made.advance; reply = Step made.reply }
-
--- the step is the next of the running job, and its reply the one that the tenancy gets alone
-pub record IsStep (state : State) (made : StepMade) : Type 0 where
-  pub next : next_step state ≡ Some made.advance
-  pub told : (step state (Stepped made.advance)).1 ≡ Some (Step made.reply)
+closed h = record h { live = false; out = false }

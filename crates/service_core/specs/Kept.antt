@@ -6,8 +6,8 @@ use Rattle.strips.specs.Plan.{IsFirstFit}
 use Rattle.service_core.specs.declared.device.Device.{Device}
 use Rattle.service_core.specs.declared.op_refusal.OpRefusal.{OpRefusal}
 use Rattle.service_core.specs.Calls.{CanAdmit, RefusesAdmission}
-use Rattle.service_core.specs.History.{History, IsReplayed}
-use Rattle.service_core.specs.Service.{ServiceState, history_of, live_width, placed_width, strip_on}
+use Rattle.service_core.specs.History.{History}
+use Rattle.service_core.specs.Service.{IsAloneOn, ServiceState, history_of, live_width, placed_width}
 
 -- the device keeps the limits
 pub record IsDevice (device : Device) : Type 0 where
@@ -15,17 +15,12 @@ pub record IsDevice (device : Device) : Type 0 where
   pub columns : IsWithin 1 device.columns 256
   pub rows : IsWithin 1 device.rows 64
 
--- the tenancy is one of that device
-pub record IsOn (device : Device) (h : History) : Type 0 where
-  pub arch : h.arch ≡ device.arch
-  pub strip : h.strip ≡ strip_on device h.strip.width
-
--- just the live tenancies have strips, each of its width, and each journal is that of its tenancy alone
+-- just the live tenancies have strips, each of its width; each id stands at its place; and each tenancy is alone on that device
 pub record IsService (device : Device) (strips : List PlacedStrip) (histories : List History) : Type 0 where
   pub linked : (id : ℕ) → placed_width strips id ≡ live_width histories id
   pub few : length histories ≤ 65535
-  pub on_device : All (IsOn device) histories
-  pub replayed : All (λ h. IsReplayed h.arch h.strip h.entries) histories
+  pub ids : (id : ℕ) (h : History) → history_of histories id ≡ Some h → h.id ≡ id
+  pub alone : All (IsAloneOn device) histories
 
 -- and the device keeps the limits
 pub record IsSound (device : Device) (strips : List PlacedStrip) (histories : List History) : Type 0 where

@@ -1,21 +1,35 @@
 -- What a tenancy sees of a list of calls.
 use Rattle.std.specs.Prelude.{ℕ, List, [], ◌∷◌, map, Ok, Err, Option, Some, None, ◌==◌, if◌then◌else◌}
 use Rattle.std.specs.List.{flat_map}
-use Rattle.tenant_slot.specs.declared.command.Event.{Event}
-use Rattle.tenant_slot.specs.declared.command.Event.TheVariants.{Command as Asked, Advance as Stepped}
+use Rattle.tenant_slot.specs.declared.event.Event.{Event}
+use Rattle.tenant_slot.specs.declared.event.Event.TheVariants.{Command as Asked}
 use Rattle.tenant_slot.specs.declared.reply.Reply.{Reply}
 use Rattle.tenant_slot.specs.declared.reply.Reply.TheVariants.{Step}
-use Rattle.service_core.specs.declared.not_served.NotServed.TheVariants.{JournalFull}
+use Rattle.service_core.specs.declared.not_served.NotServed.TheVariants.{NoMemory, JournalFull, NoSuchTenancy}
+use Rattle.service_core.specs.declared.put_reply.PutReply.TheVariants.{Recorded, Full, Gone}
+use Rattle.service_core.specs.Calls.{step_event}
 use Rattle.service_core.specs.Run.{Call}
-use Rattle.service_core.specs.Run.Call.{Advance, Tenant}
+use Rattle.service_core.specs.Run.Call.{Admit, Evict, Tenant, Take, Put, GiveBack}
 
--- a call as an event of that tenancy, with its reply, none where its journal was full; a call that found no memory, no step to
--- make, or the tenancy not live, is none of its events
+-- an event of the tenancy `t` with its reply, where that is the one of `id`
+abbrev pub if_own : ℕ → ℕ → Event → Option Reply → List (Event × Option Reply)
+if_own id t event reply = if t == id then (event, reply) ∷ [] else []
+
+-- a call as an event of that tenancy, with its reply, none where its journal was full. A call that found no memory, or the tenancy
+-- not live, is none of its events
 abbrev pub own_exchange : ℕ → Call → List (Event × Option Reply)
-own_exchange id (Tenant other command (Ok receipt)) = if other == id then (Asked command, Some receipt.reply) ∷ [] else []
-own_exchange id (Tenant other command (Err (JournalFull note))) = if other == id then (Asked command, None) ∷ [] else []
-own_exchange id (Advance other (Ok (Some made))) = if other == id then (Stepped made.advance, Some (Step made.reply)) ∷ [] else []
-own_exchange id call = []
+own_exchange id (Tenant t command (Ok receipt)) = if_own id t (Asked command) (Some receipt.reply)
+own_exchange id (Tenant t command (Err (JournalFull note))) = if_own id t (Asked command) None
+own_exchange id (Tenant t command (Err (NoSuchTenancy note))) = []
+own_exchange id (Tenant t command (Err NoMemory)) = []
+own_exchange id (Put done foreign (Ok (Recorded reply))) = if_own id done.id (step_event done foreign) (Some (Step reply))
+own_exchange id (Put done foreign (Ok Full)) = if_own id done.id (step_event done foreign) None
+own_exchange id (Put done foreign (Ok Gone)) = []
+own_exchange id (Put done foreign (Err back)) = []
+own_exchange id (Admit width answer) = []
+own_exchange id (Evict t answer) = []
+own_exchange id (Take t answer) = []
+own_exchange id (GiveBack job) = []
 
 abbrev pub own_exchanges : ℕ → List Call → List (Event × Option Reply)
 own_exchanges id calls = flat_map (own_exchange id) calls

@@ -1,11 +1,11 @@
 -- All tenancies on one device.
-use Rattle.std.specs.Prelude.{ℕ, ◌+◌, ◌-◌, List, [], ◌∷◌, ◌++◌, length, true, Option, Some, None, option_map, ◌==◌, if◌then◌else◌}
+use Rattle.std.specs.Prelude.{ℕ, ◌≡◌, ◌+◌, ◌-◌, List, [], ◌∷◌, ◌++◌, length, Bool, true, false, Option, Some, None, option_map, All, ◌==◌, if◌then◌else◌}
 use Rattle.grid.specs.declared.Strip.{Strip}
 use Rattle.strips.specs.declared.placed_strip.PlacedStrip.{PlacedStrip}
 use Rattle.strips.specs.Plan.{Plan, strip_of, with_strip, without}
 use Rattle.service_core.specs.declared.device.Device.{Device}
 use Rattle.service_core.specs.declared.entry.Entry.{Entry}
-use Rattle.service_core.specs.History.{History, with_entry, closed}
+use Rattle.service_core.specs.History.{History, IsReplayed, with_entry, with_out, closed}
 
 -- the device, where the live tenancies' strips stand, and the history of each id from 1 on
 pub record ServiceState : Type 0 where
@@ -47,15 +47,15 @@ journal_of state id = entries_in (history_of state.histories id)
 abbrev pub strip_on : Device → ℕ → Strip
 strip_on device width = record { width = width; rows = device.rows; io_rat = device.arch.io_rat }
 
--- a tenancy of that width as it is admitted
-abbrev pub admitted : Device → ℕ → History
-admitted device width = record { arch = device.arch; strip = strip_on device width; live = true; entries = [] }
+-- a tenancy of that id and width as it is admitted
+abbrev pub admitted : Device → ℕ → ℕ → History
+admitted device id width = record { id = id; arch = device.arch; strip = strip_on device width; live = true; out = false; entries = [] }
 
 -- one tenancy more, of the next id
 abbrev pub with_tenancy : ServiceState → ℕ → ℕ → ServiceState
 with_tenancy state width offset = record state {
   plan = with_strip state.plan (record { id = length state.histories + 1; offset = offset; width = width });
-  histories = state.histories ++ admitted state.device width ∷ [];
+  histories = state.histories ++ admitted state.device (length state.histories + 1) width ∷ [];
 }
 
 -- that tenancy ended: its strip is free, its history is closed
@@ -68,6 +68,20 @@ without_tenancy state id = record state {
 -- one entry more in that tenancy's journal
 abbrev pub with_entry_of : ServiceState → ℕ → Entry → ServiceState
 with_entry_of state id entry = record state { histories = modified state.histories id (with_entry entry) }
+
+-- that tenancy's running job has its next step out, or hasn't
+abbrev pub with_out_of : ServiceState → ℕ → Bool → ServiceState
+with_out_of state id out = record state { histories = modified state.histories id (with_out out) }
+
+-- the tenancy is one of that device, and its journal is that of the tenancy alone
+pub record IsAloneOn (device : Device) (h : History) : Type 0 where
+  pub arch : h.arch ≡ device.arch
+  pub strip : h.strip ≡ strip_on device h.strip.width
+  pub replayed : IsReplayed h.arch h.strip h.entries
+
+-- so are all
+abbrev pub AreAlone : ServiceState → Type 0
+AreAlone state = All (IsAloneOn state.device) state.histories
 
 -- the width of that id's strip, as it is placed and as its tenancy has it
 abbrev pub placed_width : List PlacedStrip → ℕ → Option ℕ

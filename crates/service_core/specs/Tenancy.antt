@@ -1,22 +1,30 @@
 -- Private: what a tenancy keeps, and what its calls do.
-use Rattle.std.specs.Prelude.{◌≡◌, ◌<◌, List, length, Result, Ok, Err, Option, Some, None, IfSome, IsSome}
+use Rattle.std.specs.Prelude.{ℕ, ◌≡◌, ◌<◌, List, length, Bool, true, false, Result, Ok, Err, Option, Some, None, IfSome}
 use Rattle.std.specs.declared.alloc.AllocError.{AllocError}
 use Rattle.arch_file.specs.declared.arch.Arch.{Arch}
 use Rattle.grid.specs.declared.Strip.{Strip}
+use Rattle.job_state.specs.declared.step.JobStep.{JobStep}
+use Rattle.job_state.specs.Job.{JobState}
 use Rattle.tenant_slot.specs.declared.command.Command.{Command}
-use Rattle.tenant_slot.specs.declared.command.Event.TheVariants.{Command as Asked}
-use Rattle.tenant_slot.specs.declared.advance.StepReply.{StepReply}
+use Rattle.tenant_slot.specs.declared.event.Event.TheVariants.{Command as Asked}
+use Rattle.tenant_slot.specs.declared.reply.StepReply.{StepReply}
 use Rattle.tenant_slot.specs.declared.reply.Reply.{Reply}
 use Rattle.tenant_slot.specs.declared.not_served.NotServed.{NotServed}
 use Rattle.tenant_slot.specs.declared.not_served.NotServed.TheVariants.{NoMemory, JournalFull}
-use Rattle.tenant_slot.specs.SingleUser.{start, step, next_step, state_after}
-use Rattle.tenant_slot.specs.Slot.{SlotState}
+use Rattle.tenant_slot.specs.SingleUser.{start, step, state_after}
+use Rattle.tenant_slot.specs.Slot.{GivesBack, SlotState, is_takeable, next_job}
 use Rattle.service_core.specs.declared.entry.Entry.{Entry}
-use Rattle.service_core.specs.History.{History, IsReplayed, IsStep, StepMade, entry_of, events_of, state_of, with_entry}
+use Rattle.service_core.specs.History.{History, IsReplayed, events_of, slot_of, state_of, with_entry, with_out}
+use Rattle.service_core.specs.Calls.{IsStepOf, step_entry}
+
+abbrev pub slot_out : Option SlotState → Bool
+slot_out None = false
+slot_out (Some slot) = slot.out
 
 -- the journal is that of the tenancy alone, and a live tenancy's slot is in the state that it leads to
-pub record IsHistory (arch : Arch) (strip : Strip) (slot : Option SlotState) (entries : List Entry) : Type 0 where
+pub record IsHistory (id : ℕ) (arch : Arch) (strip : Strip) (slot : Option SlotState) (entries : List Entry) : Type 0 where
   pub replayed : IsReplayed arch strip entries
+  pub same_id : IfSome slot (λ s. s.id ≡ id)
   pub state : IfSome slot (λ s. s.state ≡ state_after (start arch strip) (events_of entries))
 
 -- what a command of a live tenancy may be answered: the command and its reply, which are one entry more
@@ -25,8 +33,16 @@ ServesHistory old command (Ok told) new = (told.0 ≡ command) × ((step (state_
 ServesHistory old command (Err JournalFull) new = (length old.entries ≡ 65536) × (new ≡ old)
 ServesHistory old command (Err NoMemory) new = (length old.entries < 65536) × (new ≡ old)
 
--- what the making of a live tenancy's next step may lead to: it is one entry more
-abbrev pub AdvancesHistory : History → Result (Option StepReply) AllocError → History → Type 0
-AdvancesHistory old (Ok (Some reply)) new = (made : StepMade) × (made.reply ≡ reply) × IsStep (state_of old) made × (new ≡ with_entry (entry_of made) old)
-AdvancesHistory old (Ok None) new = (next_step (state_of old) ≡ None) × (new ≡ old)
-AdvancesHistory old (Err error) new = IsSome (next_step (state_of old)) × (new ≡ old)
+-- what a take of a live tenancy's next step may be answered
+abbrev pub TakesHistory : History → Option JobState → History → Type 0
+TakesHistory old (Some job) new = (is_takeable (slot_of old) ≡ true) × (next_job (slot_of old) ≡ Some job.step) × (new ≡ with_out true old)
+TakesHistory old None new = (is_takeable (slot_of old) ≡ false) × (new ≡ old)
+
+-- what a put of a step of a live tenancy whose journal has room may be answered
+abbrev pub PutsHistory : History → JobStep → Result StepReply (JobStep × AllocError) → History → Type 0
+PutsHistory old done (Ok reply) new = (foreign : Bool) × IsStepOf old done foreign reply × (new ≡ with_entry (step_entry done foreign reply) old)
+PutsHistory old done (Err back) new = (back.0 ≡ done) × (new ≡ old)
+
+-- what a job that is given back leads to
+abbrev pub GivesHistoryBack : History → JobState → History → Type 0
+GivesHistoryBack old job new = (out : Bool) × GivesBack (slot_of old) job (slot_of (with_out out old)) × (new ≡ with_out out old)

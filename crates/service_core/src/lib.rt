@@ -1,7 +1,8 @@
 //! All tenancies on one device: who is admitted and where, and what each is answered.
 //!
-//! - `Core` is the machine. The operator's calls are `admit` and `evict`, a tenant's is `tenant`, and `advance` makes a step of
-//!   a tenancy's running job.
+//! - `Core` is the machine. The operator's calls are `admit` and `evict`, a tenant's is `tenant`.
+//! - The next step of a tenancy's running job leaves the core by `take`, is made anywhere, and comes back by `put`, or by
+//!   `give_back` if it wasn't made: at once, late or never.
 //! - A tenancy has a journal of its own, kept when it ends: each event that was served, with its reply.
 //! - Each tenancy is answered as if it were alone on a device of its strip's size (`headline`). `specs/`
 //!   says what one call does (`Calls`), and what any list of them does (`Run`, `Headline`).
@@ -12,15 +13,17 @@ mod entry;
 mod law;
 mod not_served;
 mod op_refusal;
+mod put_reply;
 mod receipt;
 mod service;
 mod tenancy;
 
 pub use device::Device;
 pub use entry::Entry;
-pub use law::headline;
+pub use law::{believed, headline};
 pub use not_served::{NotServed, Note, NoteCause};
 pub use op_refusal::OpRefusal;
+pub use put_reply::PutReply;
 pub use receipt::Receipt;
 pub use service::{MAX_ADMISSIONS, Service};
 

@@ -1,9 +1,9 @@
 ghost use Rattle.std.specs.Prelude.{◌≡◌, ◌≤◌, ◌+◌, IfOk, None, All, MatchBool, length, option_map, option_copied, slice_get};
 ghost use Rattle.arch_file.specs.Arch.{IsArch};
 ghost use Rattle.strips.specs.Plan.{offset_of};
-ghost use Rattle.service_core.specs.History.{IsReplayed, state_of};
-ghost use Rattle.service_core.specs.Service.{empty, journal_of, live_of};
-ghost use Rattle.service_core.specs.Calls.{Advances, IsAdmitted, IsEvicted, IsServed};
+ghost use Rattle.service_core.specs.History.{state_of};
+ghost use Rattle.service_core.specs.Service.{AreAlone, empty, journal_of, live_of};
+ghost use Rattle.service_core.specs.Calls.{IsAdmitted, IsEvicted, IsGivenBack, IsServed, IsTaken, Puts};
 ghost use Rattle.service_core.specs.Kept.{ChecksAdmission, IsLiveIn};
 ghost use Rattle.service_core.specs.Headline.{AreParted};
 
@@ -11,14 +11,16 @@ use crate::device::Device;
 use crate::entry::Entry;
 use crate::not_served::{NotServed, Note, NoteCause};
 use crate::op_refusal::OpRefusal;
+use crate::put_reply::PutReply;
 use crate::receipt::Receipt;
 use crate::tenancy::Tenancy;
 use arch_file::SharedArch;
 use grid::Strip;
+use job_state::{AnyJob, Back, Done};
 use std::alloc::{AllocError, Global};
 use std::marker::Model;
 use strips::{Layout, PlacedStrip};
-use tenant_slot::{Command, StateName, StepReply};
+use tenant_slot::{Command, MAX_ENTRIES, StateName};
 
 /// The most admissions: ids are 1 to 65,535, and no id is given twice.
 pub const MAX_ADMISSIONS: usize = 65_535;
@@ -77,13 +79,15 @@ impl Service {
     pub fn admissions(&self) -> u32
         ensures value { result ≡ length self.now.histories }
         ensures few { result ≤ 65535 }
+        ensures alone { AreAlone self.now }
     {
         self.tenancies.len() as u32
     }
 
     /// The state of a live tenancy.
     pub fn state(&self, id: u32) -> Option<StateName>
-        ensures { result ≡ option_map (λ h. (state_of h).name) (live_of self.now.histories id) }
+        ensures value { result ≡ option_map (λ h. (state_of h).name) (live_of self.now.histories id) }
+        ensures alone { AreAlone self.now }
     {
         if !is_live(&self.tenancies, id) {
             return None;
@@ -93,7 +97,8 @@ impl Service {
 
     /// The width of a live tenancy's strip, in columns.
     pub fn width(&self, id: u32) -> Option<u32>
-        ensures { result ≡ option_map (λ h. h.strip.width) (live_of self.now.histories id) }
+        ensures value { result ≡ option_map (λ h. h.strip.width) (live_of self.now.histories id) }
+        ensures alone { AreAlone self.now }
     {
         if !is_live(&self.tenancies, id) {
             return None;
@@ -105,6 +110,7 @@ impl Service {
     pub fn offset(&self, id: u32) -> Option<u32>
         ensures value { result ≡ offset_of self.now.plan.strips id }
         ensures parted { AreParted self.now.device self.now }
+        ensures alone { AreAlone self.now }
     {
         self.layout.offset(id)
     }
@@ -113,7 +119,7 @@ impl Service {
     #[tactic(auto, using(crate::proofs::Lists::by_id))]
     pub fn entry(&self, id: u32, place: u32) -> Option<&Entry>
         ensures value { option_copied result ≡ slice_get (journal_of self.now id) place }
-        ensures replayed { All (λ h. IsReplayed h.arch h.strip h.entries) self.now.histories }
+        ensures alone { AreAlone self.now }
     {
         if id == 0 || id as usize > self.tenancies.len() {
             return None;
@@ -195,15 +201,48 @@ impl Service {
         }
     }
 
-    /// Makes the next step of a live tenancy's running job, as if the tenancy were alone. None where the tenancy isn't
-    /// live, no job of it runs or its journal is full.
-    pub fn advance(&mut self, id: u32) -> Result<Option<StepReply>, AllocError>
-        ensures { Advances self.old id result self.new }
+    /// The next step of a live tenancy's running job, which is out then. None where no job of it runs, that step is out, or the
+    /// journal is full. Takes no memory.
+    pub fn take(&mut self, id: u32) -> Option<AnyJob>
+        ensures { IsTaken self.old id result self.new }
     {
         if !is_live(&self.tenancies, id) {
-            return Ok(None);
+            return None;
         }
-        self.tenancies[id as usize - 1].advance()
+        self.tenancies[id as usize - 1].take()
+    }
+
+    /// Puts a step that was made, as if its tenancy were alone. Without memory it comes back.
+    pub fn put(&mut self, done: Done) -> Result<PutReply, (Done, AllocError)>
+        ensures { Puts self.old done result self.new }
+    {
+        let id = done.id();
+        if !is_live(&self.tenancies, id) {
+            drop(done.park());
+            return Ok(PutReply::Gone);
+        }
+        let tenancy = &mut self.tenancies[id as usize - 1];
+        if tenancy.len() == MAX_ENTRIES {
+            drop(done.park());
+            return Ok(PutReply::Full);
+        }
+        match tenancy.put(done) {
+            Ok(reply) => Ok(PutReply::Recorded(reply)),
+            Err(back) => Err(back),
+        }
+    }
+
+    /// Takes back a job that wasn't stepped, or whose step couldn't be put. It is to be taken again where it is the next step of the
+    /// running one, and is dropped else. It is never recorded, and takes no memory.
+    pub fn give_back(&mut self, back: Back)
+        ensures { IsGivenBack self.old back self.new }
+    {
+        let id = back.id();
+        if is_live(&self.tenancies, id) {
+            self.tenancies[id as usize - 1].give_back(back);
+        } else {
+            drop(back.park());
+        }
     }
 }
 

@@ -1,11 +1,12 @@
-ghost use Rattle.std.specs.Prelude.{◌≡◌, ◌≤◌, [], true, IfErr, IfOk, length, option_copied, slice_get};
+ghost use Rattle.std.specs.Prelude.{◌≡◌, ◌≤◌, ◌<◌, [], true, false, IfErr, IfOk, length, option_copied, slice_get};
 ghost use Rattle.tenant_slot.specs.Answer.{Answers};
-ghost use Rattle.service_core.specs.History.{closed, state_of};
-ghost use Rattle.service_core.specs.Tenancy.{AdvancesHistory, ServesHistory};
+ghost use Rattle.service_core.specs.History.{closed, slot_of, state_of};
+ghost use Rattle.service_core.specs.Tenancy.{GivesHistoryBack, PutsHistory, ServesHistory, TakesHistory};
 
 use crate::entry::Entry;
 use arch_file::SharedArch;
 use grid::Strip;
+use job_state::{AnyJob, Back, Done};
 use std::alloc::{AllocError, Global};
 use std::marker::Model;
 use tenant_slot::{
@@ -15,6 +16,7 @@ use tenant_slot::{
 /// One tenancy with its journal, which is kept when the tenancy ends.
 #[derive(Drop)]
 pub(crate) struct Tenancy {
+    id: u32,
     arch: SharedArch,
     strip: Strip,
     slot: Option<Slot>,
@@ -24,13 +26,13 @@ pub(crate) struct Tenancy {
 impl Model for Tenancy {
     ghost use Rattle.std.specs.Prelude.{is_some};
     ghost use Rattle.service_core.specs.History.{History};
-    ghost use Rattle.service_core.specs.Tenancy.{IsHistory};
+    ghost use Rattle.service_core.specs.Tenancy.{IsHistory, slot_out};
 
     ghost Value = { History };
 
-    ghost view = { λ t. record { arch = t.arch; strip = t.strip; live = is_some t.slot; entries = t.journal.items } };
+    ghost view = { λ t. record { id = t.id; arch = t.arch; strip = t.strip; live = is_some t.slot; out = slot_out t.slot; entries = t.journal.items } };
 
-    ghost invariant = { λ t. IsHistory t.arch t.strip t.slot t.journal.items };
+    ghost invariant = { λ t. IsHistory t.id t.arch t.strip t.slot t.journal.items };
 }
 
 impl Tenancy {
@@ -41,9 +43,10 @@ impl Tenancy {
         arch: &SharedArch,
         strip: Strip,
     ) -> Result<Self, AllocError>
-        ensures { IfOk result (λ t. t ≡ record { arch = arch.now; strip = strip; live = true; entries = [] }) }
+        ensures { IfOk result (λ t. t ≡ record { id = id; arch = arch.now; strip = strip; live = true; out = false; entries = [] }) }
     {
         Ok(Tenancy {
+            id,
             arch: arch.clone()?,
             strip,
             slot: Some(Slot::new(alloc, id, arch.clone()?, strip)),
@@ -105,25 +108,49 @@ impl Tenancy {
         Ok(told)
     }
 
-    /// Makes the running job's next step, and keeps it with its reply; None where there is none to make.
-    pub(crate) fn advance(&mut self) -> Result<Option<StepReply>, AllocError>
+    /// The next step of the running job, where it isn't out.
+    pub(crate) fn take(&mut self) -> Option<AnyJob>
         requires { self.old.live ≡ true }
-        ensures { AdvancesHistory self.old result self.new }
+        ensures { TakesHistory self.old result self.new }
     {
         let Some(slot) = &mut self.slot else {
             unreachable!()
         };
-        if !slot.has_step() {
-            return Ok(None);
+        slot.take()
+    }
+
+    /// Puts a step that was made, and keeps it with its reply. Without memory it is handed back.
+    pub(crate) fn put(&mut self, done: Done) -> Result<StepReply, (Done, AllocError)>
+        requires live { self.old.live ≡ true }
+        requires id { done.id ≡ self.old.id }
+        requires room { length self.old.entries < 65536 }
+        ensures { PutsHistory self.old done result self.new }
+    {
+        let Some(slot) = &mut self.slot else {
+            unreachable!()
+        };
+        if let Err(error) = self.journal.reserve(1) {
+            return Err((done, error));
         }
-        self.journal.reserve(1)?;
-        let (advance, reply) = slot.advance()?;
+        let (advance, reply) = slot.put(done);
         let entry = Entry {
             event: Event::Advance(advance),
             reply: Reply::Step(reply),
         };
         self.journal.push(entry).unwrap();
-        Ok(Some(reply))
+        Ok(reply)
+    }
+
+    /// Takes a job back: it is to be taken again where it is the next step of the running one.
+    pub(crate) fn give_back(&mut self, back: Back)
+        requires live { self.old.live ≡ true }
+        requires id { back.step.id ≡ self.old.id }
+        ensures { GivesHistoryBack self.old back self.new }
+    {
+        let Some(slot) = &mut self.slot else {
+            unreachable!()
+        };
+        slot.give_back(back);
     }
 
     /// Ends the tenancy. Its journal stays.
@@ -136,8 +163,8 @@ impl Tenancy {
 
 /// The answer to a command, and what is told of it. Nothing changes yet.
 fn answered(slot: &Slot, command: &Command) -> Result<(Answer, (Command, Reply)), NotServed>
-    ensures ok { IfOk result (λ r. Answers slot.now.state command.now (Ok r.0) × (r.1.0 ≡ command.now) × (r.1.1 ≡ r.0.reply)) }
-    ensures err { IfErr result (λ e. Answers slot.now.state command.now (Err e)) }
+    ensures ok { IfOk result (λ r. Answers slot.now command.now (Ok r.0) × (r.1.0 ≡ command.now) × (r.1.1 ≡ r.0.reply)) }
+    ensures err { IfErr result (λ e. Answers slot.now command.now (Err e)) }
 {
     let answer = slot.answer(command)?;
     let told = told(command, &answer)?;

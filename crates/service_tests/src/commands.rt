@@ -1,5 +1,5 @@
 //! What a tenant asks, and what its journal keeps.
-use crate::cores::{new_core, served, upload};
+use crate::cores::{is_served, new_core, text};
 use fixtures::AND;
 use service_core::{Core, NotServed, Note, NoteCause};
 use std::alloc::Global;
@@ -22,9 +22,9 @@ fn shared_core(alloc: Global) -> Option<Core> {
 #[test]
 fn a_netlist_is_uploaded(rt: HostRuntime) -> Result<(), Fail> {
     let mut core = shared_core(rt.alloc()).ok_or("no core")?;
-    served(&mut core, 2, Command::Withdraw).ok_or("not served")?;
-    let upload = upload(rt.alloc()).ok_or("no text")?;
-    let receipt = served(&mut core, 2, upload).ok_or("not served")?;
+    assert!(rt; is_served(&mut core, 2, Command::Withdraw));
+    let upload = Command::Upload(text(rt.alloc(), AND).ok_or("no text")?);
+    let receipt = core.tenant(2, upload).ok().ok_or("not served")?;
     assert_eq!(rt; receipt.id(), 2);
     assert_eq!(rt; receipt.place(), 1);
     assert!(rt; matches!(receipt.reply(), Reply::Accepted(StateName::Loaded)));
@@ -50,7 +50,7 @@ fn gone(core: &mut Core, id: u32) -> Option<(Note, u32, &'static str)> {
 #[test]
 fn a_journal_is_kept_when_its_tenancy_ends(rt: HostRuntime) -> Result<(), Fail> {
     let mut core = shared_core(rt.alloc()).ok_or("no core")?;
-    served(&mut core, 2, Command::Status).ok_or("not served")?;
+    assert!(rt; is_served(&mut core, 2, Command::Status));
     assert!(rt; core.evict(2).is_ok());
     let (note, number, name) = gone(&mut core, 2).ok_or("it is served")?;
     assert_eq!(rt; note.id(), 2);

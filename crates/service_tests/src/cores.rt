@@ -2,11 +2,21 @@
 ghost use Rattle.std.specs.Prelude.{◌≤◌};
 
 use arch_file::read_arch;
-use fixtures::{AND, ARCHITECTURE};
+use fixtures::ARCHITECTURE;
+use job_state::AnyJob;
 use line_text::Text;
-use service_core::{Core, Device, Receipt};
+use service_core::{Core, Device, PutReply};
 use std::alloc::Global;
 use tenant_slot::{Command, SharedText};
+
+/// Two tables without inputs, which no cluster of one element holds: two steps pack it.
+pub(crate) const TWO_TABLES: &str = "\
+.model b
+.names f
+1
+.names g
+1
+";
 
 /// The core of a device of so many columns, one row and two tracks.
 pub(crate) fn new_core(alloc: Global, columns: u32) -> Option<Core>
@@ -26,15 +36,67 @@ pub(crate) fn new_core(alloc: Global, columns: u32) -> Option<Core>
     }
 }
 
-/// The upload of a netlist of one table.
-pub(crate) fn upload(alloc: Global) -> Option<Command> {
-    match Text::from_slice(alloc, AND.as_bytes()) {
-        Ok(text) => SharedText::new(alloc, text).ok().map(Command::Upload),
+pub(crate) fn text(alloc: Global, netlist: &str) -> Option<SharedText> {
+    match Text::from_slice(alloc, netlist.as_bytes()) {
+        Ok(text) => SharedText::new(alloc, text).ok(),
         Err(_) => None,
     }
 }
 
-/// The receipt of a command that is served.
-pub(crate) fn served(core: &mut Core, id: u32, command: Command) -> Option<Receipt> {
-    core.tenant(id, command).ok()
+/// Whether a command is served.
+pub(crate) fn is_served(core: &mut Core, id: u32, command: Command) -> bool {
+    core.tenant(id, command).is_ok()
+}
+
+/// Whether the netlist is uploaded, and its packing begins.
+pub(crate) fn begins_packing(alloc: Global, core: &mut Core, id: u32, netlist: &str) -> bool {
+    match text(alloc, netlist) {
+        Some(text) => {
+            is_served(core, id, Command::Upload(text)) && is_served(core, id, Command::Pack)
+        }
+        None => false,
+    }
+}
+
+/// A core of one column, whose only tenancy packs two tables.
+pub(crate) fn packing_core(alloc: Global) -> Option<Core> {
+    let mut core = new_core(alloc, 1)?;
+    let begins = core.admit(1).is_ok() && begins_packing(alloc, &mut core, 1, TWO_TABLES);
+    begins.then_some(core)
+}
+
+/// Makes a job's step, and puts it. Without memory the job is given back, and there is no answer.
+pub(crate) fn step_and_put(core: &mut Core, job: AnyJob) -> Option<PutReply> {
+    match job.step() {
+        Ok(done) => match core.put(done) {
+            Ok(reply) => Some(reply),
+            Err((done, _)) => {
+                core.give_back(done.into_back());
+                None
+            }
+        },
+        Err(back) => {
+            core.give_back(back);
+            None
+        }
+    }
+}
+
+/// Takes the running job's next step, makes it and puts it.
+pub(crate) fn step(core: &mut Core, id: u32) -> Option<PutReply> {
+    match core.take(id) {
+        Some(job) => step_and_put(core, job),
+        None => None,
+    }
+}
+
+/// Whether there is a step to take. One that is taken is given back.
+pub(crate) fn has_step(core: &mut Core, id: u32) -> bool {
+    match core.take(id) {
+        Some(job) => {
+            core.give_back(job.into_back());
+            true
+        }
+        None => false,
+    }
 }

@@ -4,7 +4,9 @@
 //! - `layouts`: where strips stand.
 //! - `admissions`: tenancies that come and go.
 //! - `commands`: what a tenant asks, and what its journal keeps.
-//! - `steps`: steps of a job.
+//! - `jobs`: jobs that leave the core and come back.
+//! - `late_jobs`: what happens to a tenancy while a step of it is out.
+//! - `full_journals`: a journal that fills while a step is out.
 #![tactic(auto)]
 
 #[cfg(test)]
@@ -14,6 +16,10 @@ mod commands;
 #[cfg(test)]
 mod cores;
 #[cfg(test)]
-mod layouts;
+mod full_journals;
 #[cfg(test)]
-mod steps;
+mod jobs;
+#[cfg(test)]
+mod late_jobs;
+#[cfg(test)]
+mod layouts;

@@ -1,2 +1,3 @@
 mod CommandLemmas
 mod Examples
+pub mod StepLemmas

@@ -1,5 +1,7 @@
 -- What a session's line asks of the core, and is answered.
-use Rattle.std.specs.Prelude.{ℕ, ◌≡◌, List, [], ◌∷◌, Result, Ok, Err}
+use Rattle.std.specs.Prelude.{ℕ, ◌≡◌, List, [], ◌∷◌, ◌++◌, Result, Ok, Err}
+use Rattle.tenant_slot.specs.declared.command.Command.{Command as TenantCommand}
+use Rattle.tenant_slot.specs.declared.command.Command.TheVariants.{Status}
 use Rattle.service_core.specs.declared.not_served.NotServed.{NotServed}
 use Rattle.service_core.specs.declared.not_served.NotServed.TheVariants.{NoMemory as NotServedNoMemory, JournalFull, NoSuchTenancy}
 use Rattle.service_core.specs.Receipt.{Receipted}
@@ -7,7 +9,10 @@ use Rattle.service_core.specs.Run.{Call, Run}
 use Rattle.service_core.specs.Run.Call.{Tenant}
 use Rattle.service_core.specs.Service.{ServiceState}
 use Rattle.sessions.specs.declared.line.SessionLine.{SessionLine}
-use Rattle.sessions.specs.declared.line.SessionLine.TheVariants.{Blank, Command, Refused}
+use Rattle.sessions.specs.declared.line.SessionLine.TheVariants.{Blank, Command, Wait, Refused}
+use Rattle.sessions.specs.declared.steps.StepOutcome.{StepOutcome}
+use Rattle.sessions.specs.declared.steps.StepOutcome.TheVariants.{NoMemory as StepNoMemory}
+use Rattle.sessions.specs.Steps.{Waits}
 use Rattle.sessions.specs.declared.told.Answer.{Answer}
 use Rattle.sessions.specs.declared.told.Answer.TheVariants.{Nothing, Receipt, Note, Refused as RefusedAnswer, NoMemory}
 
@@ -18,11 +23,21 @@ answer_of (Err (JournalFull note)) = Note note
 answer_of (Err (NoSuchTenancy note)) = Note note
 answer_of (Err NotServedNoMemory) = NoMemory
 
+-- the command is asked of the core, for the tenancy of that id, and answered so
+abbrev pub AsksCommand : ℕ → TenantCommand → List Call → Answer → Type 0
+AsksCommand id command calls answer = (served : Result Receipted NotServed) × (calls ≡ Tenant id command served ∷ []) × (answer ≡ answer_of served)
+
+-- the steps that a wait made came to that: where the last found no memory so does the wait, else it goes on as `status`
+abbrev pub EndsWait : ℕ → StepOutcome → List Call → Answer → Type 0
+EndsWait id StepNoMemory calls answer = (calls ≡ []) × (answer ≡ NoMemory)
+EndsWait id last calls answer = AsksCommand id Status calls answer
+
 -- the line makes those calls of the core, for the tenancy of that id, and is answered so
 abbrev pub Asks : ℕ → SessionLine → List Call → Answer → Type 0
 Asks id Blank calls answer = (calls ≡ []) × (answer ≡ Nothing)
 Asks id (Refused refusal) calls answer = (calls ≡ []) × (answer ≡ RefusedAnswer refusal)
-Asks id (Command command) calls answer = (served : Result Receipted NotServed) × (calls ≡ Tenant id command served ∷ []) × (answer ≡ answer_of served)
+Asks id (Command command) calls answer = AsksCommand id command calls answer
+Asks id Wait calls answer = (last : StepOutcome) × (steps : List Call) × (more : List Call) × Waits id steps last × EndsWait id last more answer × (calls ≡ steps ++ more)
 
 -- and the calls lead from one state of the core to the other
 abbrev pub IsAnswer : ServiceState → ℕ → SessionLine → Answer → ServiceState → Type 0

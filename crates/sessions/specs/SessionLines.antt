@@ -3,9 +3,9 @@ use Rattle.std.specs.Prelude.{ℕ, List, [], ◌∷◌, length, codes, nat_lt, i
 use Rattle.std.specs.Str.{bytes_eq}
 use Rattle.line_text.specs.Words.{words_of}
 use Rattle.tenant_slot.specs.declared.command.Command.{Command as TenantCommand}
-use Rattle.tenant_slot.specs.declared.command.Command.TheVariants.{Upload as UploadText, Change as ChangeText, Pack, Net, Status, Withdraw}
+use Rattle.tenant_slot.specs.declared.command.Command.TheVariants.{Upload as UploadText, Change as ChangeText, Pack, Net, Status, Cancel, Withdraw}
 use Rattle.sessions.specs.declared.refusal.SessionRefusal.TheVariants.{UnknownCommand}
-use Rattle.sessions.specs.declared.line.SessionLine.TheVariants.{Blank, Command, Refused}
+use Rattle.sessions.specs.declared.line.SessionLine.TheVariants.{Blank, Command, Wait, Refused}
 use Rattle.sessions.specs.declared.line.TextKind.{TextKind}
 use Rattle.sessions.specs.declared.line.TextKind.TheVariants.{Upload, Change}
 use Rattle.sessions.specs.declared.line.LineForm.{LineForm}
@@ -19,7 +19,9 @@ verb_form verb =
     if bytes_eq verb (codes "status") then Asks (Command Status) else
     if bytes_eq verb (codes "pack") then Asks (Command Pack) else
     if bytes_eq verb (codes "net") then Asks (Command Net) else
+    if bytes_eq verb (codes "cancel") then Asks (Command Cancel) else
     if bytes_eq verb (codes "withdraw") then Asks (Command Withdraw) else
+    if bytes_eq verb (codes "wait") then Asks Wait else
     Asks (Refused UnknownCommand)
 
 -- the words of a line of that length

@@ -7,8 +7,8 @@ use Rattle.tenant_slot.specs.declared.reply.Reply.TheVariants.{Accepted, Status,
 use Rattle.tenant_slot.specs.declared.reply.Refusal.{Refusal}
 use Rattle.tenant_slot.specs.declared.reply.Refusal.TheVariants.{WrongState, BadBlif, CannotPack}
 use Rattle.tenant_slot.specs.Names.{file_text, state_text, refusal_number, refusal_text}
-use Rattle.tenant_slot.specs.declared.advance.StepReply.{StepReply}
-use Rattle.tenant_slot.specs.declared.advance.StepReply.TheVariants.{Advanced, Finished, Stale}
+use Rattle.tenant_slot.specs.declared.reply.StepReply.{StepReply}
+use Rattle.tenant_slot.specs.declared.reply.StepReply.TheVariants.{Advanced, Finished, Stale}
 use Rattle.service_core.specs.declared.not_served.NoteCause.{NoteCause}
 use Rattle.service_core.specs.declared.not_served.NoteCause.TheVariants.{JournalFull, NoSuchTenancy}
 use Rattle.sessions.specs.declared.told.Answer.{Answer}

@@ -1,12 +1,15 @@
-ghost use Rattle.std.specs.Prelude.{◌≡◌};
+ghost use Rattle.std.specs.Prelude.{List};
+ghost use Rattle.service_core.specs.Run.{Call, Run};
 ghost use Rattle.vpr_files.specs.Writing.{Writes};
-ghost use Rattle.sessions.specs.SessionAnswer.{IsAnswer};
+ghost use Rattle.sessions.specs.SessionAnswer.{AsksCommand, IsAnswer};
 ghost use Rattle.sessions.specs.SessionText.{answer_text};
 
 use crate::line::SessionLine;
+use crate::steps::{StepOutcome, run_steps};
 use crate::told::{Answer, write_answer};
 use line_text::{Failed, Sink};
 use service_core::{Core, NotServed};
+use tenant_slot::Command;
 
 /// Asks the core what a session's line asks, for the tenancy of that id, and writes what the session is told. The answer
 /// stands also where the writer fails: it has then taken a beginning of the text.
@@ -31,11 +34,22 @@ fn ask(core: &mut Core, id: u32, line: SessionLine) -> Answer
     match line {
         SessionLine::Blank => Answer::Nothing,
         SessionLine::Refused(refusal) => Answer::Refused(refusal),
-        SessionLine::Command(command) => match core.tenant(id, command) {
-            Ok(receipt) => Answer::Receipt(receipt),
-            Err(NotServed::JournalFull(note)) => Answer::Note(note),
-            Err(NotServed::NoSuchTenancy(note)) => Answer::Note(note),
-            Err(NotServed::NoMemory) => Answer::NoMemory,
+        SessionLine::Command(command) => command_answer(core, id, command),
+        SessionLine::Wait => match run_steps(core, id) {
+            StepOutcome::NoMemory => Answer::NoMemory,
+            _ => command_answer(core, id, Command::Status),
         },
+    }
+}
+
+/// Asks the core for a command.
+fn command_answer(core: &mut Core, id: u32, command: Command) -> Answer
+    ensures { (calls : List Call) × AsksCommand id command calls result × Run core.old calls core.new }
+{
+    match core.tenant(id, command) {
+        Ok(receipt) => Answer::Receipt(receipt),
+        Err(NotServed::JournalFull(note)) => Answer::Note(note),
+        Err(NotServed::NoSuchTenancy(note)) => Answer::Note(note),
+        Err(NotServed::NoMemory) => Answer::NoMemory,
     }
 }

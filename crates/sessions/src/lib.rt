@@ -3,6 +3,7 @@
 //! - `read_line` tells what a session's line asks: a command, nothing, or a text that follows.
 //! - `answer` asks the core, and writes what the session is told to any [`line_text::Sink`]: exactly the text, or a
 //!   beginning of it where the sink fails. The entry stands then.
+//! - `make_step` takes, steps and puts a tenancy's job; `step_and_put` does the last two of a job that was taken.
 //! - `write_reply`, `write_refused`, `write_session_refusal`, `step_word` and `write_parts` are how answers are spelled.
 //! - In `specs/`, `SessionLines` says what a line asks, and `SessionText` how answers are spelled.
 #![tactic(auto)]
@@ -10,11 +11,13 @@
 mod asking;
 mod line;
 mod refusal;
+mod steps;
 mod text;
 mod told;
 
 pub use asking::answer;
 pub use line::{LineForm, SessionLine, TextKind, read_line};
 pub use refusal::SessionRefusal;
+pub use steps::{StepOutcome, make_step, step_and_put};
 pub use text::{step_word, write_parts, write_refused, write_reply, write_session_refusal};
 pub use told::Answer;

@@ -15,6 +15,8 @@ pub enum SessionLine {
     /// No words: it is answered nothing.
     Blank,
     Command(Command),
+    /// The steps of the running job, and then what `status` does.
+    Wait,
     Refused(SessionRefusal),
 }
 
@@ -86,8 +88,12 @@ fn verb_form(verb: &[u8]) -> LineForm
         SessionLine::Command(Command::Pack)
     } else if verb == b"net".as_slice() {
         SessionLine::Command(Command::Net)
+    } else if verb == b"cancel".as_slice() {
+        SessionLine::Command(Command::Cancel)
     } else if verb == b"withdraw".as_slice() {
         SessionLine::Command(Command::Withdraw)
+    } else if verb == b"wait".as_slice() {
+        SessionLine::Wait
     } else {
         SessionLine::Refused(SessionRefusal::UnknownCommand)
     })

@@ -63,3 +63,23 @@ fn a_text_is_shared(rt: HostRuntime) -> Result<(), Fail> {
     assert_eq!(rt; copy.as_bytes(), AND.as_bytes());
     Ok(())
 }
+
+#[test]
+fn commands_are_compared(rt: HostRuntime) -> Result<(), Fail> {
+    let command = Command::Upload(text(rt.alloc(), AND)?);
+    let copy = command.clone()?;
+    assert!(rt; command.same(&copy));
+    assert!(rt; !command.same(&Command::Change(text(rt.alloc(), AND)?)));
+    assert!(rt; !command.same(&Command::Upload(text(rt.alloc(), THREE_INPUTS)?)));
+    Ok(())
+}
+
+#[test]
+fn replies_are_compared(rt: HostRuntime) -> Result<(), Fail> {
+    let reply = Reply::Refused(Refusal::WrongState(StateName::Packed));
+    let copy = reply.clone()?;
+    assert!(rt; reply.same(&copy));
+    assert!(rt; !reply.same(&Reply::Refused(Refusal::WrongState(StateName::Empty))));
+    assert!(rt; !reply.same(&Reply::Accepted(StateName::Packed)));
+    Ok(())
+}

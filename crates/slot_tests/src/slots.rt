@@ -1,32 +1,46 @@
-//! A slot to be tested, and how it is asked. No allocator fails on demand inside a test: where a command or a step finds no
-//! memory, nothing may have changed, and it is tried once more.
+//! A slot to be tested, and how it is asked. No allocator fails on demand inside a test: where a command finds no memory,
+//! nothing may have changed, and it is tried once more.
 //!
 //! A slot is dropped by a call, `drop`, where no `?` comes before: each drop in place would be proved anew.
+ghost use Rattle.std.specs.Prelude.{◌≡◌, ◌+◌, ◌<◌, ◌≤◌, IfOk};
+
 use arch_file::{SharedArch, read_arch};
 use grid::Strip;
+use job_state::AnyJob;
 use line_text::Text;
 use std::alloc::Global;
 use std::test::Fail;
-use tenant_slot::{Advance, Command, Reply, SharedText, Slot, StateName, Status, StepReply};
+use tenant_slot::{Command, Reply, SharedText, Slot, StateName, Status, StepReply};
 
 /// A shared text of these bytes.
 pub(crate) fn text(alloc: Global, bytes: &str) -> Result<SharedText, Fail> {
     Ok(SharedText::new(alloc, Text::from_slice(alloc, bytes.as_bytes())?)?)
 }
 
-/// An empty slot of a strip of one place, with an architecture of this text and two tracks.
-pub(crate) fn slot(alloc: Global, arch: &str) -> Result<Slot, Fail> {
+/// The architecture of this text, with two tracks.
+pub(crate) fn architecture(alloc: Global, arch: &str) -> Result<SharedArch, Fail> {
     match read_arch(alloc, arch.as_bytes(), 2) {
-        Ok(arch) => {
-            let strip = Strip {
-                width: 1,
-                rows: 1,
-                io_rat: arch.io_rat,
-            };
-            Ok(Slot::new(alloc, 7, SharedArch::new(alloc, arch)?, strip))
-        }
+        Ok(arch) => Ok(SharedArch::new(alloc, arch)?),
         Err(_) => Err("the architecture isn't read".into()),
     }
+}
+
+/// A strip of one place.
+pub(crate) fn strip(arch: &SharedArch) -> Strip {
+    Strip {
+        width: 1,
+        rows: 1,
+        io_rat: arch.arch().io_rat,
+    }
+}
+
+/// An empty slot of a strip of one place, with an architecture of this text.
+pub(crate) fn slot(alloc: Global, arch: &str) -> Result<Slot, Fail>
+    ensures { IfOk result (λ slot. slot.state.entries ≡ 0) }
+{
+    let arch = architecture(alloc, arch)?;
+    let strip = strip(&arch);
+    Ok(Slot::new(alloc, 7, arch, strip))
 }
 
 /// What `status` tells. Nothing changes, since the answer isn't accepted.
@@ -43,7 +57,11 @@ pub(crate) fn status(slot: &Slot) -> Result<Status, &'static str> {
 }
 
 /// Asks a command, once more where there is no memory.
-pub(crate) fn ask(slot: &mut Slot, command: &Command) -> Result<Reply, &'static str> {
+#[tactic(auto, using(crate::proofs::Entries::asked))]
+pub(crate) fn ask(slot: &mut Slot, command: &Command) -> Result<Reply, &'static str>
+    ensures id { slot.new.id ≡ slot.old.id }
+    ensures few { slot.new.state.entries ≤ slot.old.state.entries + 1 }
+{
     let before = status(slot)?;
     if let Ok(reply) = slot.command(command) {
         return Ok(reply);
@@ -57,26 +75,10 @@ pub(crate) fn ask(slot: &mut Slot, command: &Command) -> Result<Reply, &'static 
     }
 }
 
-/// Makes a step, once more where there is no memory.
-pub(crate) fn step(slot: &mut Slot) -> Result<(Advance, StepReply), &'static str> {
-    if !slot.has_step() {
-        return Err("there is no step to make");
-    }
-    let before = status(slot)?;
-    if let Ok(made) = slot.advance() {
-        return Ok(made);
-    }
-    if status(slot)? != before {
-        return Err("a step without memory changes the status");
-    }
-    match slot.advance() {
-        Ok(made) => Ok(made),
-        Err(_) => Err("the step isn't made"),
-    }
-}
-
 /// A slot that has this netlist.
-pub(crate) fn loaded(alloc: Global, arch: &str, netlist: &str) -> Result<Slot, Fail> {
+pub(crate) fn loaded(alloc: Global, arch: &str, netlist: &str) -> Result<Slot, Fail>
+    ensures { IfOk result (λ slot. slot.state.entries ≤ 1) }
+{
     let upload = Command::Upload(text(alloc, netlist)?);
     let mut slot = slot(alloc, arch)?;
     let reply = ask(&mut slot, &upload);
@@ -88,7 +90,9 @@ pub(crate) fn loaded(alloc: Global, arch: &str, netlist: &str) -> Result<Slot, F
 }
 
 /// A slot whose packing has begun.
-pub(crate) fn packing(alloc: Global, arch: &str, netlist: &str) -> Result<Slot, Fail> {
+pub(crate) fn packing(alloc: Global, arch: &str, netlist: &str) -> Result<Slot, Fail>
+    ensures { IfOk result (λ slot. slot.state.entries ≤ 2) }
+{
     let mut slot = loaded(alloc, arch, netlist)?;
     let reply = ask(&mut slot, &Command::Pack);
     if matches!(reply, Ok(Reply::Accepted(StateName::Packing))) {
@@ -96,4 +100,29 @@ pub(crate) fn packing(alloc: Global, arch: &str, netlist: &str) -> Result<Slot, 
     }
     drop(slot);
     Err("the packing doesn't begin".into())
+}
+
+/// Steps a job of the slot and puts it. Without memory it is given back.
+pub(crate) fn step_and_put(slot: &mut Slot, job: AnyJob) -> Result<StepReply, &'static str>
+    requires id { job.step.id ≡ slot.old.id }
+    requires room { slot.old.state.entries < 65536 }
+{
+    match job.step() {
+        Ok(done) => {
+            let (_, reply) = slot.put(done);
+            Ok(reply)
+        }
+        Err(back) => {
+            slot.give_back(back);
+            Err("the step isn't made")
+        }
+    }
+}
+
+/// Makes the running job's next step.
+pub(crate) fn step(slot: &mut Slot) -> Result<StepReply, &'static str> {
+    let Some(job) = slot.take() else {
+        return Err("there is no step to take");
+    };
+    step_and_put(slot, job)
 }

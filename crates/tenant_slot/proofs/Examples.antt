@@ -1,24 +1,28 @@
 -- What the definitions say of small cases, computed by the checker.
-use Rattle.std.proofs.Common.{◌≡◌, ℕ, List, [], ◌∷◌, Ok, Err, Some, None, refl}
+use Rattle.std.proofs.Common.{◌≡◌, ℕ, List, [], ◌∷◌, Ok, Err, Some, None, true, false, refl}
 use Rattle.arch_file.specs.declared.arch.Arch.{Arch}
 use Rattle.blif.specs.declared.circuit.Circuit.{Circuit}
 use Rattle.blif.specs.declared.fault.BlifFaultKind.TheVariants.{TooWide}
 use Rattle.grid.specs.declared.Strip.{Strip}
-use Rattle.tenant_slot.specs.declared.reply.StateName.TheVariants.{Empty, Loaded, Packing}
-use Rattle.tenant_slot.specs.declared.command.Command.TheVariants.{Upload, Change, Net, Status, Withdraw}
-use Rattle.tenant_slot.specs.declared.command.Event.TheVariants.{Command as Asked, Advance as Stepped}
-use Rattle.tenant_slot.specs.declared.advance.Advance.{Advance}
-use Rattle.tenant_slot.specs.declared.advance.JobKind.TheVariants.{Packing as PackingJob}
-use Rattle.tenant_slot.specs.declared.advance.Sources.{Sources}
-use Rattle.tenant_slot.specs.declared.advance.StepReply.TheVariants.{Stale}
+use Rattle.job_state.specs.JobValue.{packing_sources}
+use Rattle.tenant_slot.specs.declared.reply.StateName.TheVariants.{Empty, Loaded, Packing, Packed}
+use Rattle.tenant_slot.specs.declared.command.Command.TheVariants.{Upload, Change, Cancel, Net, Status, Withdraw}
+use Rattle.tenant_slot.specs.declared.event.Event.TheVariants.{Command as Asked, Advance as Stepped}
+use Rattle.tenant_slot.specs.declared.event.Advance.{Advance}
+use Rattle.tenant_slot.specs.declared.reply.StepReply.TheVariants.{Stale}
 use Rattle.tenant_slot.specs.declared.reply.Reply.TheVariants.{Accepted, Status as InState, Refused, Step}
 use Rattle.tenant_slot.specs.declared.reply.Refusal.TheVariants.{WrongState, BadBlif, CannotPack}
-use Rattle.tenant_slot.specs.SingleUser.{start, loaded, next_step, packs_unless, run, step}
+use Rattle.tenant_slot.specs.SingleUser.{State, load, pack_unless, run, start, step}
+use Rattle.tenant_slot.specs.Slot.{after_event, is_takeable, next_job}
+
+-- a tenancy whose packing has made two steps, in its fourth generation
+abbrev packing : Arch → Strip → List ℕ → State
+packing arch strip text = record (start arch strip) { name = Packing; text = text; generation = 4; steps = 2; entries = 9 }
 
 -- what isn't lawful in the state Empty is refused, and `status` tells it, each as one entry
 empty_refuses : (arch : Arch) (strip : Strip) →
-    (run arch strip (Asked Withdraw ∷ Asked (Change []) ∷ Asked Status ∷ []))
-    ≡ (record (start arch strip) { entries = 3 }, Some (Refused (WrongState Empty)) ∷ Some (Refused (WrongState Empty)) ∷ Some (InState (record { state = Empty; steps = 0 })) ∷ [])
+    (run arch strip (Asked Withdraw ∷ Asked (Change []) ∷ Asked Cancel ∷ Asked Status ∷ []))
+    ≡ (record (start arch strip) { entries = 4 }, Some (Refused (WrongState Empty)) ∷ Some (Refused (WrongState Empty)) ∷ Some (Refused (WrongState Empty)) ∷ Some (InState (record { state = Empty; steps = 0 })) ∷ [])
 empty_refuses arch strip = refl
 
 -- a second upload is refused, and a withdrawal raises the generation
@@ -27,50 +31,67 @@ second_upload : (arch : Arch) (strip : Strip) (text other : List ℕ) →
     ≡ (record (start arch strip) { generation = 1; entries = 3 }, Some (Accepted Empty))
 second_upload arch strip text other = refl
 
-second_upload_refused : (arch : Arch) (strip : Strip) (text other : List ℕ) →
-    (step (record (start arch strip) { name = Loaded; text = text; entries = 1 }) (Asked (Upload other))).1 ≡ Some (Refused (WrongState Loaded))
-second_upload_refused arch strip text other = refl
-
 -- a netlist with a fault changes nothing, and tells the fault
-too_wide : (generation : ℕ) (text : List ℕ) → loaded generation text (Err (record { line = 4; kind = TooWide })) ≡ (None, Refused (BadBlif (record { line = 4; kind = TooWide })))
-too_wide generation text = refl
+too_wide : (state : State) (text : List ℕ) → load state text (Err (record { line = 4; kind = TooWide })) ≡ (None, Refused (BadBlif (record { line = 4; kind = TooWide })))
+too_wide state text = refl
 
--- any other is kept with its generation
-circuit_loaded : (text : List ℕ) (circuit : Circuit) → loaded 7 text (Ok circuit) ≡ (Some (record { name = Loaded; text = text; generation = 7; steps = 0 }), Accepted Loaded)
-circuit_loaded text circuit = refl
+-- any other is kept
+circuit_loaded : (arch : Arch) (strip : Strip) (text : List ℕ) (circuit : Circuit) → load (start arch strip) text (Ok circuit) ≡ (Some (record (start arch strip) { name = Loaded; text = text }), Accepted Loaded)
+circuit_loaded arch strip text circuit = refl
 
 -- with all its entries, a journal takes none, not even `withdraw`
 full_journal : (arch : Arch) (strip : Strip) → step (record (start arch strip) { entries = 65536 }) (Asked Withdraw) ≡ (record (start arch strip) { entries = 65536 }, None)
 full_journal arch strip = refl
 
 -- a packing begins with a new generation and no steps, or tells the element that fits into no cluster
-packing_begins : (text : List ℕ) → packs_unless text 3 None ≡ (Some (record { name = Packing; text = text; generation = 3; steps = 0 }), Accepted Packing)
-packing_begins text = refl
+packing_begins : (arch : Arch) (strip : Strip) (text : List ℕ) → pack_unless (record (start arch strip) { name = Loaded; text = text; generation = 2 }) None ≡ (Some (record (start arch strip) { name = Packing; text = text; generation = 3 }), Accepted Packing)
+packing_begins arch strip text = refl
 
-cannot_pack : (text : List ℕ) → packs_unless text 3 (Some 0) ≡ (None, Refused (CannotPack 0))
-cannot_pack text = refl
+cannot_pack : (state : State) → pack_unless state (Some 0) ≡ (None, Refused (CannotPack 0))
+cannot_pack state = refl
 
--- while nothing is packed there is no step to make, and one that comes is an entry that changes nothing else
-no_step : (arch : Arch) (strip : Strip) → next_step (start arch strip) ≡ None
-no_step arch strip = refl
+-- where it is given up, the netlist stays
+cancelled : (arch : Arch) (strip : Strip) (text : List ℕ) → step (packing arch strip text) (Asked Cancel) ≡ (record (start arch strip) { name = Loaded; text = text; generation = 5; entries = 10 }, Some (Accepted Loaded))
+cancelled arch strip text = refl
 
-late_step : (arch : Arch) (strip : Strip) (advance : Advance) → step (record (start arch strip) { name = Loaded; entries = 5 }) (Stepped advance) ≡ (record (start arch strip) { name = Loaded; entries = 6 }, Some (Step Stale))
-late_step arch strip advance = refl
+nothing_to_cancel : (arch : Arch) (strip : Strip) (text : List ℕ) → (step (record (packing arch strip text) { name = Packed }) (Asked Cancel)).1 ≡ Some (Refused (WrongState Packed))
+nothing_to_cancel arch strip text = refl
 
--- a running job's next step follows those that are made
+-- while it runs its steps are told, and its file isn't there yet
+steps_told : (arch : Arch) (strip : Strip) (text : List ℕ) → (step (packing arch strip text) (Asked Status)).1 ≡ Some (InState (record { state = Packing; steps = 2 }))
+steps_told arch strip text = refl
+
+no_file : (arch : Arch) (strip : Strip) (text : List ℕ) → (step (packing arch strip text) (Asked Net)).1 ≡ Some (Refused (WrongState Packing))
+no_file arch strip text = refl
+
+-- a step that comes where no job runs is an entry that changes nothing else
+late_step : (arch : Arch) (strip : Strip) (made : Advance) → step (record (start arch strip) { name = Loaded; entries = 5 }) (Stepped made) ≡ (record (start arch strip) { name = Loaded; entries = 6 }, Some (Step Stale))
+late_step arch strip made = refl
+
+-- so is one of another generation, one of another number, and one of other sources
+other_generation : (arch : Arch) (strip : Strip) (text : List ℕ) → (step (packing arch strip text) (Stepped (record { generation = 3; number = 3; foreign = false }))).1 ≡ Some (Step Stale)
+other_generation arch strip text = refl
+
+other_number : (arch : Arch) (strip : Strip) (text : List ℕ) → (step (packing arch strip text) (Stepped (record { generation = 4; number = 2; foreign = false }))).1 ≡ Some (Step Stale)
+other_number arch strip text = refl
+
+other_sources : (arch : Arch) (strip : Strip) (text : List ℕ) → (step (packing arch strip text) (Stepped (record { generation = 4; number = 3; foreign = true }))).1 ≡ Some (Step Stale)
+other_sources arch strip text = refl
+
+-- the running job's next step follows those that are made, and can be taken while it isn't out
 third_step : (arch : Arch) (strip : Strip) (text : List ℕ) →
-    (next_step (record (start arch strip) { name = Packing; text = text; generation = 4; steps = 2; entries = 9 }))
-    ≡ Some (record { generation = 4; number = 3; sources = record { kind = PackingJob; arch = arch; strip = strip; text = text } })
+    (next_job (record { id = 7; state = packing arch strip text; out = false })) ≡ Some (record { id = 7; generation = 4; number = 3; sources = packing_sources arch strip text })
 third_step arch strip text = refl
 
--- and none of another generation counts
-other_generation : (arch : Arch) (strip : Strip) (text : List ℕ) (sources : Sources) →
-    (step (record (start arch strip) { name = Packing; text = text; generation = 4; steps = 2; entries = 9 }) (Stepped (record { generation = 3; number = 3; sources = sources }))).1 ≡ Some (Step Stale)
-other_generation arch strip text sources = refl
+takeable : (arch : Arch) (strip : Strip) (text : List ℕ) → is_takeable (record { id = 7; state = packing arch strip text; out = false }) ≡ true
+takeable arch strip text = refl
 
--- while a job runs its steps are told, and its file isn't there yet
-steps_told : (arch : Arch) (strip : Strip) → (step (record (start arch strip) { name = Packing; steps = 2; entries = 9 }) (Asked Status)).1 ≡ Some (InState (record { state = Packing; steps = 2 }))
-steps_told arch strip = refl
+taken : (arch : Arch) (strip : Strip) (text : List ℕ) → is_takeable (record { id = 7; state = packing arch strip text; out = true }) ≡ false
+taken arch strip text = refl
 
-no_file : (arch : Arch) (strip : Strip) → (step (record (start arch strip) { name = Packing; steps = 2; entries = 9 }) (Asked Net)).1 ≡ Some (Refused (WrongState Packing))
-no_file arch strip = refl
+-- a job that is given up is out no longer; one whose steps are told still is
+given_up : (arch : Arch) (strip : Strip) (text : List ℕ) → (after_event (record { id = 7; state = packing arch strip text; out = true }) (Asked Cancel)).out ≡ false
+given_up arch strip text = refl
+
+still_out : (arch : Arch) (strip : Strip) (text : List ℕ) → (after_event (record { id = 7; state = packing arch strip text; out = true }) (Asked Status)).out ≡ true
+still_out arch strip text = refl

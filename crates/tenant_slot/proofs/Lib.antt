@@ -1,5 +1,3 @@
-mod Examples
 pub mod Runs
-pub mod SameSources
-pub mod NextSteps
-pub mod Stepping
+mod Putting
+mod Examples

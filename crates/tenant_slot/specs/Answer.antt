@@ -1,36 +1,56 @@
 -- A reply before it is given.
-use Rattle.std.specs.Prelude.{ℕ, ◌≡◌, ◌+◌, ◌<◌, ◌≤◌, List, Result, Ok, Err, Option, IfSome}
-use Rattle.arch_file.specs.declared.arch.Arch.{Arch}
+use Rattle.std.specs.Prelude.{ℕ, ◌≡◌, ◌+◌, ◌<◌, Result, Ok, Err, Option, Some, option_map, false, ⊤}
+use Rattle.job_state.specs.Job.{first_step}
+use Rattle.job_state.specs.JobValue.{is_last}
+use Rattle.tenant_slot.specs.declared.standing.Change.{Change}
+use Rattle.tenant_slot.specs.declared.standing.Change.TheVariants.{Load, Replace, Begin, Stop, Empty}
+use Rattle.tenant_slot.specs.declared.standing.Running.{Running}
 use Rattle.tenant_slot.specs.declared.command.Command.{Command}
-use Rattle.tenant_slot.specs.declared.command.Event.TheVariants.{Command as Asked}
+use Rattle.tenant_slot.specs.declared.event.Event.TheVariants.{Command as Asked}
 use Rattle.tenant_slot.specs.declared.reply.Reply.{Reply}
 use Rattle.tenant_slot.specs.declared.not_served.NotServed.{NotServed}
 use Rattle.tenant_slot.specs.declared.not_served.NotServed.TheVariants.{NoMemory, JournalFull}
-use Rattle.tenant_slot.specs.SingleUser.{State, Changed, changed, answer_to, packs_unless}
+use Rattle.tenant_slot.specs.SingleUser.{State, after, answer_to, begun, emptied, loaded, risen, sources_of, stopped}
+use Rattle.tenant_slot.specs.Slot.{SlotState, out_after}
+use Rattle.tenant_slot.specs.JobNames.{before, during}
 
--- an answer that isn't given yet: for which tables and for which architecture, if its packing begins, it is computed, what it
--- changes, and the reply
+-- an answer that isn't given yet: for tables of how many inputs it is computed, what it changes, and the reply
 pub record Outcome : Type 0 where
   pub lut_size : ℕ
-  pub arch : Option Arch
-  pub change : Option Changed
+  pub change : Option Change
   pub reply : Reply
 
+-- what a change makes of a state
+abbrev pub changed : State → Change → State
+changed state (Load netlist) = loaded state netlist.text
+changed state (Replace netlist) = loaded (risen state) netlist.text
+changed state (Begin job) = begun state (during job.sources.kind)
+changed state Stop = stopped state
+changed state Empty = emptied state
+
+-- a job that begins is computed from what the slot has, and stands before its first step
+pub record IsBegun (slot : SlotState) (job : Running) : Type 0 where
+  pub name : slot.state.name ≡ before job.sources.kind
+  pub sources : job.sources ≡ sources_of slot.state job.sources.kind
+  pub ready : job.ready ≡ Some (first_step slot.id (slot.state.generation + 1) job.sources)
+  pub going : is_last job.sources 0 ≡ false
+
+abbrev pub Begins : SlotState → Option Change → Type 0
+Begins slot (Some (Begin job)) = IsBegun slot job
+Begins slot change = ⊤
+
 -- the answer may be accepted in that state
-pub record IsAnswerIn (state : State) (answer : Outcome) : Type 0 where
-  pub lut_size : answer.lut_size ≡ state.arch.lut_size
-  pub arch : IfSome answer.arch (λ arch. arch ≡ state.arch)
-  pub room : state.entries < 65536
-  pub generation : (changed state answer.change).generation ≤ state.entries + 1
+pub record IsAnswerTo (slot : SlotState) (answer : Outcome) : Type 0 where
+  pub lut_size : answer.lut_size ≡ slot.state.arch.lut_size
+  pub room : slot.state.entries < 65536
+  pub begins : Begins slot answer.change
 
 -- what a command may be answered, before anything changes
-abbrev pub Answers : State → Command → Result Outcome NotServed → Type 0
-Answers state command (Ok answer) = IsAnswerIn state answer × (answer_to state (Asked command) ≡ (answer.change, answer.reply))
-Answers state command (Err JournalFull) = state.entries ≡ 65536
-Answers state command (Err NoMemory) = state.entries < 65536
+abbrev pub Answers : SlotState → Command → Result Outcome NotServed → Type 0
+Answers slot command (Ok answer) = IsAnswerTo slot answer × (answer_to slot.state (Asked command) ≡ (option_map (changed slot.state) answer.change, answer.reply))
+Answers slot command (Err JournalFull) = slot.state.entries ≡ 65536
+Answers slot command (Err NoMemory) = slot.state.entries < 65536
 
--- private: the answer to `pack`, where that is the least logic element that fits into no cluster
-pub record IsPackAnswer (arch : Arch) (text : List ℕ) (generation : ℕ) (unfit : Option ℕ) (answer : Outcome) : Type 0 where
-  pub lut_size : answer.lut_size ≡ arch.lut_size
-  pub arch_is : IfSome answer.arch (λ packed. packed ≡ arch)
-  pub is : packs_unless text generation unfit ≡ (answer.change, answer.reply)
+-- the slot once the answer is accepted
+abbrev pub accepted : SlotState → Outcome → SlotState
+accepted slot answer = record slot { state = after slot.state (option_map (changed slot.state) answer.change); out = out_after slot (option_map (changed slot.state) answer.change) }

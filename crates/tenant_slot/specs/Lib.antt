@@ -1,6 +1,7 @@
-pub mod Sources
 pub mod SingleUser
 pub mod Names
-pub mod Answer
 pub mod Slot
-pub mod Phase
+pub mod Answer
+pub mod JobNames
+pub mod Standing
+pub mod Outcomes

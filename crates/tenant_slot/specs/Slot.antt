@@ -1,33 +1,71 @@
--- A slot: one tenancy by its id.
-use Rattle.std.specs.Prelude.{ℕ, ◌≡◌, ◌<◌, Result, Ok, Err, Some, None}
+-- A slot: one tenancy by its id, and its running job, which may be out.
+use Rattle.std.specs.Prelude.{ℕ, ◌≡◌, ◌+◌, ◌<◌, ◌↔◌, Result, Ok, Err, Option, Some, None, option_map, is_some, Bool, true, false, not, ◌&&◌, nat_lt}
+use Rattle.job_state.specs.declared.step.JobStep.{JobStep}
+use Rattle.job_state.specs.declared.sources.Sources.{Sources}
+use Rattle.job_state.specs.Job.{JobState}
 use Rattle.tenant_slot.specs.declared.command.Command.{Command}
-use Rattle.std.specs.declared.alloc.AllocError.{AllocError}
-use Rattle.tenant_slot.specs.declared.advance.Advance.{Advance}
-use Rattle.tenant_slot.specs.declared.advance.StepReply.{StepReply}
-use Rattle.tenant_slot.specs.declared.command.Event.TheVariants.{Command as Asked, Advance as Stepped}
+use Rattle.tenant_slot.specs.declared.event.Advance.{Advance}
+use Rattle.tenant_slot.specs.declared.event.Event.{Event}
+use Rattle.tenant_slot.specs.declared.event.Event.TheVariants.{Command as Asked, Advance as Stepped}
 use Rattle.tenant_slot.specs.declared.reply.Reply.{Reply}
 use Rattle.tenant_slot.specs.declared.reply.Reply.TheVariants.{Step}
+use Rattle.tenant_slot.specs.declared.reply.StepReply.{StepReply}
 use Rattle.tenant_slot.specs.declared.not_served.NotServed.{NotServed}
 use Rattle.tenant_slot.specs.declared.not_served.NotServed.TheVariants.{NoMemory, JournalFull}
-use Rattle.tenant_slot.specs.SingleUser.{State, after, next_step, step}
-use Rattle.tenant_slot.specs.Answer.{Outcome}
+use Rattle.tenant_slot.specs.SingleUser.{State, answer_to, running, sources_of, step}
 
--- a tenancy with its id
+-- a tenancy with its id; and whether the running job's next step is out
 pub record SlotState : Type 0 where
   pub id : ℕ
   pub state : State
+  pub out : Bool
 
--- the slot once the answer is accepted
-abbrev pub accepted : SlotState → Outcome → SlotState
-accepted slot answer = record slot { state = after slot.state answer.change }
+-- an event that changes the state leaves no step of the running job out
+abbrev pub out_after : SlotState → Option State → Bool
+out_after slot None = slot.out
+out_after slot (Some new) = false
+
+-- the slot after an event that has a reply
+abbrev pub after_event : SlotState → Event → SlotState
+after_event slot event = record slot { state = (step slot.state event).0; out = out_after slot (answer_to slot.state event).0 }
 
 -- what a command may be answered, with the slots before and after it: without memory nothing changes
 abbrev pub Serves : SlotState → Command → Result Reply NotServed → SlotState → Type 0
-Serves old command (Ok reply) new = (step old.state (Asked command) ≡ (new.state, Some reply)) × (new.id ≡ old.id)
-Serves old command (Err JournalFull) new = (step old.state (Asked command) ≡ (old.state, None)) × (new ≡ old)
+Serves old command (Ok reply) new = ((step old.state (Asked command)).1 ≡ Some reply) × (new ≡ after_event old (Asked command))
+Serves old command (Err JournalFull) new = (old.state.entries ≡ 65536) × (new ≡ old)
 Serves old command (Err NoMemory) new = (old.state.entries < 65536) × (new ≡ old)
 
--- what the making of the next step may lead to, with the slots before and after it: without memory nothing changes
-abbrev pub Advances : SlotState → Result (Advance × StepReply) AllocError → SlotState → Type 0
-Advances old (Ok made) new = (next_step old.state ≡ Some made.0) × (step old.state (Stepped made.0) ≡ (new.state, Some (Step made.1))) × (new.id ≡ old.id)
-Advances old (Err error) new = new ≡ old
+-- what the running job is computed from, if one runs
+abbrev pub running_sources : State → Option Sources
+running_sources state = option_map (sources_of state) (running state.name)
+
+-- the running job's next step
+abbrev pub next_job : SlotState → Option JobStep
+next_job slot = option_map (λ sources. record { id = slot.id; generation = slot.state.generation; number = slot.state.steps + 1; sources = sources }) (running_sources slot.state)
+
+-- there is a step to take: a job runs, its next step isn't out, and the journal has room for an entry
+abbrev pub is_takeable : SlotState → Bool
+is_takeable slot = is_some (running slot.state.name) && (not slot.out && nat_lt slot.state.entries 65536)
+
+-- what a take may answer: the running job's next step, which is out then, exactly where there is one to take
+abbrev pub Takes : SlotState → Option JobState → SlotState → Type 0
+Takes old None new = (is_takeable old ≡ false) × (new ≡ old)
+Takes old (Some job) new = (is_takeable old ≡ true) × (next_job old ≡ Some job.step) × (new ≡ record old { out = true })
+
+-- how a step that was made is written down: it is foreign unless its sources are those of the running job
+pub record IsAdvanceOf (state : State) (done : JobStep) (made : Advance) : Type 0 where
+  pub generation : made.generation ≡ done.generation
+  pub number : made.number ≡ done.number
+  pub foreign : (made.foreign ≡ false) ↔ (running_sources state ≡ Some done.sources)
+
+-- what a put may be answered
+pub record Puts (old : SlotState) (done : JobStep) (made : Advance) (reply : StepReply) (new : SlotState) : Type 0 where
+  pub advance : IsAdvanceOf old.state done made
+  pub told : (step old.state (Stepped made)).1 ≡ Some (Step reply)
+  pub after : new ≡ after_event old (Stepped made)
+
+-- a job that is given back can be taken again where its step is the running job's next one, and is dropped elsewhere
+pub record GivesBack (old : SlotState) (back : JobState) (new : SlotState) : Type 0 where
+  pub only_out : new ≡ record old { out = new.out }
+  pub ready : next_job old ≡ Some back.step → new.out ≡ false
+  pub dropped : (next_job old ≡ Some back.step → ⊥) → new.out ≡ old.out

@@ -1,7 +1,7 @@
-ghost use Rattle.std.specs.Prelude.{◌≡◌};
+//! What a tenant asks.
+ghost use Rattle.std.specs.Prelude.{◌≡◌, ◌↔◌, IsTrue};
 
-use crate::advance::Advance;
-use crate::shared_text::SharedText;
+use job_state::SharedText;
 use std::alloc::AllocError;
 
 /// What a tenant asks.
@@ -13,6 +13,8 @@ pub enum Command {
     Change(SharedText),
     /// The packing of the netlist, in the state Loaded.
     Pack,
+    /// The running job is given up, in the states in which one runs.
+    Cancel,
     /// The packed netlist's `.net` file, in the state Packed.
     Net,
     /// The state, which stays.
@@ -29,6 +31,7 @@ impl Clone for Command {
             Command::Upload(text) => Ok(Command::Upload(text.clone()?)),
             Command::Change(text) => Ok(Command::Change(text.clone()?)),
             Command::Pack => Ok(Command::Pack),
+            Command::Cancel => Ok(Command::Cancel),
             Command::Net => Ok(Command::Net),
             Command::Status => Ok(Command::Status),
             Command::Withdraw => Ok(Command::Withdraw),
@@ -36,10 +39,20 @@ impl Clone for Command {
     }
 }
 
-/// What happens to one tenancy, and is an entry of its journal.
-#[derive(Drop)]
-pub enum Event {
-    Command(Command),
-    /// A step of its job.
-    Advance(Advance),
+impl Command {
+    /// Whether both are the same command, with the same text.
+    pub fn same(&self, other: &Command) -> bool
+        ensures { IsTrue result ↔ (self.now ≡ other.now) }
+    {
+        match (self, other) {
+            (Command::Upload(text), Command::Upload(same)) => text.same(same),
+            (Command::Change(text), Command::Change(same)) => text.same(same),
+            (Command::Pack, Command::Pack) => true,
+            (Command::Cancel, Command::Cancel) => true,
+            (Command::Net, Command::Net) => true,
+            (Command::Status, Command::Status) => true,
+            (Command::Withdraw, Command::Withdraw) => true,
+            _ => false,
+        }
+    }
 }

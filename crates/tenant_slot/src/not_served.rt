@@ -1,3 +1,4 @@
+//! Why a command has no reply.
 ghost use Rattle.std.specs.Prelude.{◌≡◌};
 ghost use Rattle.tenant_slot.specs.declared.not_served.NotServed.TheVariants.{NoMemory};
 

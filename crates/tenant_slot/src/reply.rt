@@ -1,9 +1,12 @@
-ghost use Rattle.std.specs.Prelude.{◌≡◌};
+//! What a command or a step is answered.
+ghost use Rattle.std.specs.Prelude.{◌≡◌, ◌↔◌, IsTrue};
+ghost use Rattle.tenant_slot.specs.SingleUser.{is_lawful};
 ghost use Rattle.tenant_slot.specs.Names.{file_text, refusal_number, refusal_text, state_text};
 
-use crate::advance::StepReply;
-use crate::shared_text::SharedText;
+use crate::command::Command;
+use crate::faults::same_faults;
 use blif::BlifFault;
+use job_state::SharedText;
 use std::alloc::AllocError;
 
 /// The name of a state of one tenancy.
@@ -25,6 +28,25 @@ impl StateName {
             StateName::Loaded => "Loaded",
             StateName::Packing => "Packing",
             StateName::Packed => "Packed",
+        }
+    }
+
+    /// Whether a command is lawful in this state.
+    pub fn admits(self, command: &Command) -> bool
+        ensures { result ≡ is_lawful self command.now }
+    {
+        match (self, command) {
+            (StateName::Empty, Command::Upload(_)) => true,
+            (_, Command::Upload(_)) => false,
+            (StateName::Empty, Command::Change(_) | Command::Withdraw) => false,
+            (_, Command::Change(_) | Command::Withdraw) => true,
+            (StateName::Loaded, Command::Pack) => true,
+            (_, Command::Pack) => false,
+            (StateName::Packing, Command::Cancel) => true,
+            (_, Command::Cancel) => false,
+            (StateName::Packed, Command::Net) => true,
+            (_, Command::Net) => false,
+            (_, Command::Status) => true,
         }
     }
 }
@@ -71,6 +93,20 @@ impl Refusal {
     }
 }
 
+impl Refusal {
+    /// Whether both are the same refusal, for the same reason.
+    pub fn same(&self, other: &Refusal) -> bool
+        ensures { IsTrue result ↔ (self.now ≡ other.now) }
+    {
+        match (self, other) {
+            (Refusal::WrongState(state), Refusal::WrongState(same)) => state == same,
+            (Refusal::BadBlif(fault), Refusal::BadBlif(same)) => same_faults(fault, same),
+            (Refusal::CannotPack(ble), Refusal::CannotPack(same)) => ble == same,
+            _ => false,
+        }
+    }
+}
+
 impl Clone for Refusal {
     ghost is_clone = { λ refusal copy. copy ≡ refusal };
 
@@ -101,6 +137,17 @@ impl FileKind {
     }
 }
 
+/// What a step that was made is answered.
+#[derive(Clone, Copy, Debug, PartialEq, Eq)]
+pub enum StepReply {
+    /// The job goes on.
+    Advanced,
+    /// It was the job's last step.
+    Finished,
+    /// It isn't the running job's next step, and changes nothing.
+    Stale,
+}
+
 /// What a command or a step is answered.
 #[derive(Debug, Drop)]
 pub enum Reply {
@@ -111,6 +158,28 @@ pub enum Reply {
     File { kind: FileKind, text: SharedText },
     Refused(Refusal),
     Step(StepReply),
+}
+
+impl Reply {
+    /// Whether both are the same reply, with the same text.
+    pub fn same(&self, other: &Reply) -> bool
+        ensures { IsTrue result ↔ (self.now ≡ other.now) }
+    {
+        match (self, other) {
+            (Reply::Accepted(state), Reply::Accepted(same)) => state == same,
+            (Reply::Status(status), Reply::Status(same)) => status == same,
+            (
+                Reply::File { kind, text },
+                Reply::File {
+                    kind: same,
+                    text: bytes,
+                },
+            ) => { kind == same && text.same(bytes) }
+            (Reply::Refused(refusal), Reply::Refused(same)) => refusal.same(same),
+            (Reply::Step(reply), Reply::Step(same)) => reply == same,
+            _ => false,
+        }
+    }
 }
 
 impl Clone for Reply {

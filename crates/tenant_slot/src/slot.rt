@@ -1,64 +1,63 @@
-ghost use Rattle.std.specs.Prelude.{◌≡◌, IfOk, IsSome, Some, is_some};
-ghost use Rattle.tenant_slot.specs.SingleUser.{next_step, start};
-ghost use Rattle.tenant_slot.specs.Answer.{Answers, IsAnswerIn};
-ghost use Rattle.tenant_slot.specs.Slot.{Advances, Serves, accepted};
+//! One tenancy: its commands, and its job that leaves and comes back.
+ghost use Rattle.std.specs.Prelude.{◌≡◌, ◌<◌, false, true};
+ghost use Rattle.tenant_slot.specs.SingleUser.{is_lawful, is_next, start};
+ghost use Rattle.tenant_slot.specs.Answer.{Answers, IsAnswerTo, accepted};
+ghost use Rattle.tenant_slot.specs.Slot.{GivesBack, IsAdvanceOf, Puts, Serves, Takes, is_takeable};
 
-use crate::advance::{Advance, JobKind, Sources, StepReply};
 use crate::answer::Answer;
 use crate::command::Command;
+use crate::event::Advance;
 use crate::not_served::NotServed;
-use crate::phase::{Change, Phase, pack_step};
-use crate::reply::{Refusal, Reply, StateName, Status};
+use crate::reply::{Refusal, Reply, StateName, Status, StepReply};
+use crate::standing::{Change, Content, Standing};
 use arch_file::SharedArch;
 use grid::Strip;
-use std::alloc::{AllocError, Global};
+use job_state::{AnyJob, Back, Done};
+use std::alloc::Global;
 use std::marker::Model;
-use std::mem;
 
 /// The most entries of one tenancy's journal.
 pub const MAX_ENTRIES: u32 = 65_536;
 
-/// One tenancy. Its value is its id and the state of the service for a single user.
+/// One tenancy. Its value is its id, the state of the service for a single user, and whether the running job's next step is
+/// out.
 #[derive(Drop)]
 pub struct Slot {
     alloc: Global,
     id: u32,
     arch: SharedArch,
     strip: Strip,
-    phase: Phase,
-    generation: u32,
-    /// How many steps of the running job are made, 0 where none runs.
-    steps: u32,
+    standing: Standing,
     entries: u32,
 }
 
 impl Model for Slot {
     ghost use Rattle.tenant_slot.specs.Slot.{SlotState};
-    ghost use Rattle.tenant_slot.specs.Phase.{IsSlot, name_of, text_of};
+    ghost use Rattle.tenant_slot.specs.Standing.{IsSlot, seen};
 
     ghost Value = { SlotState };
 
-    ghost view = { λ a. record {
-      id = a.id;
-      state = record { arch = a.arch; strip = a.strip; name = name_of a.phase; text = text_of a.phase; generation = a.generation; steps = a.steps; entries = a.entries };
-    } };
+    ghost view = { λ s. seen s.id s.arch s.strip s.standing s.entries };
 
-    ghost invariant = { λ a. IsSlot a.arch a.phase a.generation a.steps a.entries };
+    ghost invariant = { λ s. IsSlot s.id s.arch s.strip s.standing s.entries };
 }
 
 impl Slot {
     /// A tenancy as it is admitted, in the state Empty. Takes no memory.
     pub fn new(alloc: Global, id: u32, arch: SharedArch, strip: Strip) -> Self
-        ensures { result ≡ record { id = id; state = start arch strip } }
+        ensures { result ≡ record { id = id; state = start arch strip; out = false } }
     {
         Slot {
             alloc,
             id,
             arch,
             strip,
-            phase: Phase::Empty,
-            generation: 0,
-            steps: 0,
+            standing: Standing {
+                content: Content::Empty,
+                running: None,
+                generation: 0,
+                steps: 0,
+            },
             entries: 0,
         }
     }
@@ -72,63 +71,78 @@ impl Slot {
     pub fn state(&self) -> StateName
         ensures { result ≡ self.now.state.name }
     {
-        self.phase.name()
+        self.standing.name()
+    }
+
+    /// Whether there is a step to take: a job runs, its next step isn't out, and the journal has room for an entry.
+    pub fn has_step(&self) -> bool
+        ensures { result ≡ is_takeable self.now }
+    {
+        self.entries < MAX_ENTRIES && self.standing.is_ready()
     }
 
     /// The answer to a command. Nothing changes until it is accepted, so all that takes memory comes first.
     pub fn answer(&self, command: &Command) -> Result<Answer, NotServed>
-        ensures { Answers self.now.state command.now result }
+        ensures { Answers self.now command.now result }
     {
         if self.entries == MAX_ENTRIES {
             return Err(NotServed::JournalFull);
         }
         let lut_size = self.arch.arch().lut_size;
         let state = self.state();
-        match (&self.phase, command) {
-            (Phase::Empty, Command::Upload(text)) => {
-                Answer::load(self.alloc, lut_size, text, self.generation)
+        if !state.admits(command) {
+            let refusal = Refusal::WrongState(state);
+            return Ok(Answer::unchanged(lut_size, Reply::Refused(refusal)));
+        }
+        self.serve(command)
+    }
+
+    /// The answer to a lawful command.
+    fn serve(&self, command: &Command) -> Result<Answer, NotServed>
+        requires lawful { is_lawful self.now.state.name command.now ≡ true }
+        requires room { self.now.state.entries < 65536 }
+        ensures { Answers self.now command.now result }
+    {
+        let lut_size = self.arch.arch().lut_size;
+        match (command, &self.standing.content) {
+            (Command::Upload(text), _) => Answer::load(self.alloc, lut_size, text, false),
+            (Command::Change(text), _) => Answer::load(self.alloc, lut_size, text, true),
+            (Command::Pack, Content::Loaded(netlist)) => {
+                let generation = self.standing.generation + 1;
+                Answer::pack(
+                    self.alloc, self.id, generation, &self.arch, self.strip, netlist,
+                )
             }
-            (_, Command::Status) => {
-                let steps = self.steps;
-                Ok(Answer::unchanged(lut_size, Reply::Status(Status { state, steps })))
+            (Command::Cancel, content) => {
+                let reply = Reply::Accepted(content.name());
+                Ok(Answer::changing(lut_size, Change::Stop, reply))
             }
-            (Phase::Empty, _) => Ok(Answer::unchanged(
-                lut_size,
-                Reply::Refused(Refusal::WrongState(state)),
-            )),
-            (_, Command::Change(text)) => {
-                Answer::load(self.alloc, lut_size, text, self.generation + 1)
+            (Command::Net, Content::Packed(_, packing)) => {
+                Answer::net(self.alloc, lut_size, packing.packed())
             }
-            (_, Command::Withdraw) => Ok(Answer {
-                lut_size,
-                change: Some(Change {
-                    phase: Phase::Empty,
-                    generation: self.generation + 1,
-                }),
-                reply: Reply::Accepted(StateName::Empty),
-            }),
-            (Phase::Loaded(text, circuit), Command::Pack) => {
-                let generation = self.generation + 1;
-                Answer::pack(self.alloc, &self.arch, text, circuit, generation)
+            (Command::Withdraw, _) => {
+                let reply = Reply::Accepted(StateName::Empty);
+                Ok(Answer::changing(lut_size, Change::Empty, reply))
             }
-            (Phase::Packed(_, packed), Command::Net) => Answer::net(self.alloc, lut_size, packed),
-            _ => Ok(Answer::unchanged(lut_size, Reply::Refused(Refusal::WrongState(state)))),
+            (Command::Status, _) => {
+                let state = self.state();
+                let steps = self.standing.steps;
+                let reply = Reply::Status(Status { state, steps });
+                Ok(Answer::unchanged(lut_size, reply))
+            }
+            _ => unreachable!(),
         }
     }
 
     /// Makes an answer come true, and counts its entry. Takes no memory.
     pub fn accept(&mut self, answer: Answer) -> Reply
-        requires { IsAnswerIn self.old.state answer }
+        requires { IsAnswerTo self.old answer }
         ensures reply { result ≡ answer.reply }
-        ensures state { self.new ≡ accepted self.old answer }
+        ensures slot { self.new ≡ accepted self.old answer }
     {
         let Answer { change, reply, .. } = answer;
-        if let Some(change) = change {
-            self.phase.set(change.phase);
-            self.generation = change.generation;
-            self.steps = 0;
-        }
         self.entries += 1;
+        self.standing.accept(change);
         reply
     }
 
@@ -140,58 +154,65 @@ impl Slot {
         Ok(self.accept(answer))
     }
 
-    /// Whether there is a step to make: a job runs, and the journal has room for an entry.
-    pub fn has_step(&self) -> bool
-        ensures { result ≡ is_some (next_step self.now.state) }
+    /// The running job's next step, where it isn't out and the journal has room for its entry. Takes no memory.
+    pub fn take(&mut self) -> Option<AnyJob>
+        ensures { Takes self.old result self.new }
     {
-        self.entries < MAX_ENTRIES && matches!(&self.phase, Phase::Packing(..))
+        if self.entries == MAX_ENTRIES {
+            return None;
+        }
+        let job = self.standing.take()?;
+        Some(job.leave())
     }
 
-    /// Makes the running job's next step, exactly as the service for a single user does, and counts its entry.
-    /// Without memory nothing changes.
-    pub fn advance(&mut self) -> Result<(Advance, StepReply), AllocError>
-        requires { IsSome (next_step self.old.state) }
-        ensures { Advances self.old result self.new }
+    /// Puts a step that was made: the running job goes on where it is its next one. It is an entry. Takes no memory.
+    pub fn put(&mut self, done: Done) -> (Advance, StepReply)
+        requires id { done.id ≡ self.old.id }
+        requires room { self.old.state.entries < 65536 }
+        ensures { Puts self.old done result.0 result.1 self.new }
     {
-        let advance = self.next_step()?;
-        let Phase::Packing(text, packing) = mem::replace(&mut self.phase, Phase::Empty) else {
-            unreachable!()
-        };
-        match pack_step(text, packing) {
-            Ok((phase, reply)) => {
-                self.phase.set(phase);
-                self.steps = match reply {
-                    StepReply::Advanced => self.steps + 1,
-                    _ => 0,
-                };
-                self.entries += 1;
-                Ok((advance, reply))
-            }
-            Err(phase) => {
-                self.phase.set(phase);
-                drop(advance);
-                Err(AllocError)
-            }
+        let made = self.advance_of(&done);
+        let counts = self.is_next(made);
+        let last = done.is_last();
+        self.entries += 1;
+        let reply = self.standing.put(done.park(), counts, last);
+        (made, reply)
+    }
+
+    /// Takes a job back whose step wasn't made or couldn't be put: it can be taken again where its step is the running job's
+    /// next one, and is dropped elsewhere. Takes no memory.
+    pub fn give_back(&mut self, back: Back)
+        requires { back.step.id ≡ self.old.id }
+        ensures { GivesBack self.old back self.new }
+    {
+        let runs = back.generation() == self.standing.generation
+            && back.number() == self.standing.steps + 1
+            && self.standing.runs_on(back.sources());
+        let job = back.park();
+        if runs {
+            self.standing.stand_ready(job);
+        } else {
+            drop(job);
         }
     }
 
-    /// The running job's next step, that isn't made yet.
-    fn next_step(&self) -> Result<Advance, AllocError>
-        requires { IsSome (next_step self.now.state) }
-        ensures { IfOk result (λ advance. next_step self.now.state ≡ Some advance) }
+    /// How a step that was made is written down.
+    fn advance_of(&self, done: &Done) -> Advance
+        ensures { IsAdvanceOf self.now.state done.now result }
     {
-        let Phase::Packing(text, _) = &self.phase else {
-            unreachable!()
-        };
-        Ok(Advance {
-            generation: self.generation,
-            number: self.steps + 1,
-            sources: Sources {
-                kind: JobKind::Packing,
-                arch: self.arch.clone()?,
-                strip: self.strip,
-                text: text.clone()?,
-            },
-        })
+        Advance {
+            generation: done.generation(),
+            number: done.number(),
+            foreign: !self.standing.runs_on(done.sources()),
+        }
+    }
+
+    /// Whether a step that was made is the running job's next one.
+    fn is_next(&self, made: Advance) -> bool
+        ensures { result ≡ is_next self.now.state made }
+    {
+        made.generation == self.standing.generation
+            && made.number == self.standing.steps + 1
+            && !made.foreign
     }
 }

@@ -13,6 +13,8 @@ fn script_faults(rt: HostRuntime) -> Result<(), Fail> {
         ("op admit T\n", "script: line 19"),
         ("op admit T 1 1\n", "script: line 19"),
         ("op admit T x\nop admit T -\n", "script: line 19"),
+        ("op put 4294967295\nop put T\n", "script: line 20"),
+        ("op take\n", "script: line 19"),
         (
             "op admit T 4294967295\nop admit T 4294967296\n",
             "script: line 20",

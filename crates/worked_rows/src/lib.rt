@@ -11,7 +11,8 @@
 //! - `sessions`: lines that are repeated, unknown, awkward or cut short.
 //! - `packing`: circuits that are packed, with their `.net` files.
 //! - `many_elements`: a circuit of forty logic elements.
-//! - `journals`: a full journal, beside a neighbour that goes on.
+//! - `jobs`: jobs that are taken, and come back late, twice or after an eviction.
+//! - `journals`: full journals, beside a neighbour that goes on, and while a job is out.
 //! - `faults`: inputs that end with a status and a message, and write nothing.
 //! - `devices`: readers and writers that fail.
 //!
@@ -31,6 +32,8 @@ mod devices;
 mod faults;
 #[cfg(test)]
 mod first_run;
+#[cfg(test)]
+mod jobs;
 #[cfg(test)]
 mod journals;
 #[cfg(test)]

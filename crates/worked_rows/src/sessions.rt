@@ -22,6 +22,9 @@ op admit T 1
 .
 @T place 1
 @T fly
+@T pack
+op step T 1
+@T cancel
 @T status
 @T upload
 .model x
@@ -69,12 +72,15 @@ fn repeats_and_ends(rt: HostRuntime) -> Result<(), Fail> {
     let written = "\
 == op
 ok 1 0
+finished
 == T
 ok Loaded
 refused 3 WrongState Loaded
 line 1 UnknownCommand
 line 1 UnknownCommand
-status Loaded 0
+ok Packing
+refused 3 WrongState Packed
+status Packed 0
 line 3 UnfinishedUpload
 ";
     assert_writes(&rt, 1, REPEATS_AND_ENDS, written)

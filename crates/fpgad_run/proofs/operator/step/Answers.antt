@@ -1,11 +1,15 @@
 use Rattle.std.proofs.Common.{◌≡◌, ◌++◌, rules}
 use Rattle.fpgad_run.specs.Held.{held}
 use Rattle.fpgad_run.specs.OperatorText.{outcome_text}
-use Rattle.fpgad_run.proofs.Stepping.{steps_more}
+use Rattle.fpgad_run.proofs.Stepping.{steps_more, steps_none}
 use Rattle.fpgad_run.proofs.operator.step.Goals as goal
+
+pub loop-number-init : goal.loop-number-init
+loop-number-init c = steps_none c.args.core.now c.args.id (held c.args.reply.now)
 
 pub loop-number-preserved : goal.loop-number-preserved
 loop-number-preserved c =
-    let told : held c.push_outcome.new.reply ≡ held c.loop-number.reply ++ outcome_text c.advance-outcome.result = search rules in
-    steps_more c.args.core.now c.loop-number.core c.advance-outcome.new.self c.args.id c.loop-number.number (held c.args.reply.now) (held c.loop-number.reply) (held c.push_outcome.new.reply)
-    c.advance-outcome.result c.loop-number.invariant c.advance-outcome.ensures told
+    let step = c.make_step-outcome.ensures in
+    let told : held c.push_outcome.new.reply ≡ held c.loop-number.reply ++ outcome_text c.make_step-outcome.result = search rules in
+    steps_more c.args.core.now c.loop-number.core c.make_step-outcome.new.core c.args.id c.loop-number.number (held c.args.reply.now) (held c.loop-number.reply) (held c.push_outcome.new.reply)
+    step.0 c.make_step-outcome.result c.loop-number.invariant step.1 step.2 told

@@ -1,16 +1,17 @@
-use Rattle.std.proofs.Common.{◌∙◌, ap, Ok, Err}
-use Rattle.service_core.specs.declared.not_served.NotServed.TheVariants.{JournalFull, NoMemory, NoSuchTenancy}
-use Rattle.sessions.proofs.CommandLemmas.{command_asks}
+use Rattle.std.proofs.Common.{[], refl}
+use Rattle.sessions.specs.declared.told.Answer.TheVariants.{NoMemory}
+use Rattle.sessions.proofs.StepLemmas.{ends_as_status, ends_without_memory, wait_asks}
 use Rattle.sessions.proofs.asking.ask.Goals as goal
 
-pub returns-in-Ok : goal.returns-in-Ok
-returns-in-Ok c = command_asks c.args.core.now c.tenant.new.self c.args.id c.args.line c.in-Command.command c.tenant.result (Ok c.in-Ok.receipt) c.in-Command.is c.in-Ok.is c.tenant.ensures
+pub returns-in-NoMemory : goal.returns-in-NoMemory
+returns-in-NoMemory c =
+    let steps = c.run_steps.ensures in
+    wait_asks c.args.core.now c.run_steps.new.core c.run_steps.new.core c.args.id c.args.line c.run_steps.result steps.0 [] NoMemory c.in-Wait.is steps.1 steps.2
+    (ends_without_memory c.args.id c.run_steps.result c.in-NoMemory.is) refl
 
-pub returns-in-Err-JournalFull : goal.returns-in-Err-JournalFull
-returns-in-Err-JournalFull c = command_asks c.args.core.now c.tenant.new.self c.args.id c.args.line c.in-Command.command c.tenant.result (Err (JournalFull c.in-Err-JournalFull.note)) c.in-Command.is (c.in-Err-JournalFull.is ∙ ap Err c.in-Err-JournalFull.field-0-is) c.tenant.ensures
-
-pub returns-in-Err-NoSuchTenancy : goal.returns-in-Err-NoSuchTenancy
-returns-in-Err-NoSuchTenancy c = command_asks c.args.core.now c.tenant.new.self c.args.id c.args.line c.in-Command.command c.tenant.result (Err (NoSuchTenancy c.in-Err-NoSuchTenancy.note)) c.in-Command.is (c.in-Err-NoSuchTenancy.is ∙ ap Err c.in-Err-NoSuchTenancy.field-0-is) c.tenant.ensures
-
-pub returns-in-Err-NoMemory : goal.returns-in-Err-NoMemory
-returns-in-Err-NoMemory c = command_asks c.args.core.now c.tenant.new.self c.args.id c.args.line c.in-Command.command c.tenant.result (Err NoMemory) c.in-Command.is (c.in-Err-NoMemory.is ∙ ap Err c.in-Err-NoMemory.field-0-is) c.tenant.ensures
+pub returns-in_default : goal.returns-in_default
+returns-in_default c =
+    let steps = c.run_steps.ensures in
+    let told = c.command_answer-in_default.ensures in
+    wait_asks c.args.core.now c.run_steps.new.core c.command_answer-in_default.new.core c.args.id c.args.line c.run_steps.result steps.0 told.0 c.command_answer-in_default.result c.in-Wait.is steps.1 steps.2
+    (ends_as_status c.args.id c.run_steps.result told.0 c.command_answer-in_default.result c.in_default.not-NoMemory told.1) told.2

@@ -1,6 +1,6 @@
 use Rattle.std.proofs.Common.{◌≡◌, ◌-◌, get_or, rules}
 use Rattle.service_core.specs.Kept.{IsLiveIn}
-use Rattle.service_core.proofs.Keeps.{IsService-served, IsServed-ok, IsServed-full, IsServed-no_memory}
+use Rattle.service_core.proofs.Serving.{IsService-served, IsServed-ok, IsServed-full, IsServed-no_memory}
 use Rattle.service_core.proofs.service.Service.tenant.Goals as goal
 use Rattle.service_core.proofs.service.Service.tenant.Goals.{in-Ok, in-Err-NoMemory, in-Err-JournalFull}
 

@@ -1,0 +1,29 @@
+-- Jobs that the operator holds, numbered from 1 in the order in which they were taken; none stands where one was put.
+use Rattle.std.specs.Prelude.{ℕ, ◌≡◌, ◌-◌, List, [], ◌∷◌, ◌++◌, Option, Some, None, ◌==◌, if◌then◌else◌}
+use Rattle.job_state.specs.Job.{JobState}
+use Rattle.service_core.specs.Run.{Call}
+use Rattle.sessions.specs.declared.steps.StepOutcome.{StepOutcome}
+use Rattle.sessions.specs.declared.steps.StepOutcome.TheVariants.{Nothing}
+use Rattle.sessions.specs.Steps.{StepsAndPuts}
+
+abbrev pub HeldList : Type 0
+HeldList = List (Option JobState)
+
+-- the job of that number
+abbrev pub job_at : HeldList → ℕ → Option JobState
+job_at [] number = None
+job_at (job ∷ jobs) number = if number == 1 then job else job_at jobs (number - 1)
+
+abbrev pub without_job : HeldList → ℕ → HeldList
+without_job [] number = []
+without_job (job ∷ jobs) number = if number == 1 then None ∷ jobs else job ∷ without_job jobs (number - 1)
+
+-- with one that was taken
+abbrev pub with_job : HeldList → Option JobState → HeldList
+with_job jobs None = jobs
+with_job jobs (Some job) = jobs ++ Some job ∷ []
+
+-- the job is stepped and put, if it is held
+abbrev pub PutsHeld : Option JobState → List Call → StepOutcome → Type 0
+PutsHeld None calls outcome = (calls ≡ []) × (outcome ≡ Nothing)
+PutsHeld (Some job) calls outcome = StepsAndPuts job calls outcome

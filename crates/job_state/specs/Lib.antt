@@ -1,0 +1,3 @@
+pub mod JobValue
+pub mod Job
+pub mod Held

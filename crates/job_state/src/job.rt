@@ -1,0 +1,227 @@
+//! A job that is out of its slot: before its step, after it, and without it.
+ghost use Rattle.std.specs.Prelude.{◌≡◌, true};
+ghost use Rattle.job_state.specs.Job.{Steps, next_step};
+ghost use Rattle.job_state.specs.JobValue.{is_last};
+
+use crate::parked::Parked;
+use crate::sources::Sources;
+use crate::step::JobStep;
+use crate::work::Work;
+use std::marker::Model;
+
+/// A job with a step to make. It must be spent. Its value is the step, and whether it was made already, by a [`Done`] that
+/// couldn't be put.
+pub struct AnyJob {
+    pub(crate) step: JobStep,
+    pub(crate) work: Work,
+    pub(crate) made: bool,
+}
+
+impl Model for AnyJob {
+    ghost use Rattle.job_state.specs.Job.{JobState};
+    ghost use Rattle.job_state.specs.Held.{IsJob};
+
+    ghost Value = { JobState };
+
+    ghost view = { λ j. record { step = j.step; made = j.made } };
+
+    ghost invariant = { λ j. IsJob j.step j.work j.made };
+}
+
+/// A step that was made. It must be spent. Its value is the step.
+pub struct Done {
+    step: JobStep,
+    work: Work,
+}
+
+impl Model for Done {
+    ghost use Rattle.job_state.specs.declared.step.JobStep.{JobStep};
+    ghost use Rattle.job_state.specs.Held.{IsDone};
+
+    ghost Value = { JobStep };
+
+    ghost view = { λ d. d.step };
+
+    ghost invariant = { λ d. IsDone d.step d.work };
+}
+
+/// A job whose step wasn't made, or couldn't be put. It must be spent. Its value is the job's.
+pub struct Back {
+    job: AnyJob,
+}
+
+impl Model for Back {
+    ghost use Rattle.job_state.specs.Job.{JobState};
+
+    ghost Value = { JobState };
+
+    ghost view = { λ b. b.job };
+}
+
+impl AnyJob {
+    /// The tenancy whose job it is.
+    pub fn id(&self) -> u32
+        ensures { result ≡ self.now.step.id }
+    {
+        self.step.id
+    }
+
+    /// The tenancy's generation when the job began.
+    pub fn generation(&self) -> u32
+        ensures { result ≡ self.now.step.generation }
+    {
+        self.step.generation
+    }
+
+    /// The number of its step, from 1.
+    pub fn number(&self) -> u32
+        ensures { result ≡ self.now.step.number }
+    {
+        self.step.number
+    }
+
+    /// What it is computed from.
+    pub fn sources(&self) -> &Sources
+        ensures { result.now ≡ self.now.step.sources }
+    {
+        &self.step.sources
+    }
+
+    /// Makes the step. Without memory the job comes back as it was. A step that was made already is answered at once, and
+    /// takes none.
+    pub fn step(self) -> Result<Done, Back>
+        ensures { Steps self result }
+    {
+        let AnyJob { step, work, made } = self;
+        if made {
+            return Ok(Done { step, work });
+        }
+        match work.next() {
+            Ok(work) => Ok(Done { step, work }),
+            Err(work) => {
+                let job = AnyJob { step, work, made };
+                Err(Back { job })
+            }
+        }
+    }
+
+    /// The job, not to be stepped. Takes no memory.
+    pub fn into_back(self) -> Back
+        ensures { result ≡ self }
+    {
+        Back { job: self }
+    }
+}
+
+impl Done {
+    /// The tenancy whose job it is.
+    pub fn id(&self) -> u32
+        ensures { result ≡ self.now.id }
+    {
+        self.step.id
+    }
+
+    /// The tenancy's generation when the job began.
+    pub fn generation(&self) -> u32
+        ensures { result ≡ self.now.generation }
+    {
+        self.step.generation
+    }
+
+    /// The number of the step, from 1.
+    pub fn number(&self) -> u32
+        ensures { result ≡ self.now.number }
+    {
+        self.step.number
+    }
+
+    /// What the job is computed from.
+    pub fn sources(&self) -> &Sources
+        ensures { result.now ≡ self.now.sources }
+    {
+        &self.step.sources
+    }
+
+    /// Whether the job is over with this step.
+    pub fn is_last(&self) -> bool
+        ensures { result ≡ is_last self.now.sources self.now.number }
+    {
+        self.work.is_whole()
+    }
+
+    /// The job with its step made, which couldn't be put: its next step is answered at once. Takes no memory.
+    pub fn into_back(self) -> Back
+        ensures { result ≡ record { step = self; made = true } }
+    {
+        let Done { step, work } = self;
+        let job = AnyJob {
+            step,
+            work,
+            made: true,
+        };
+        Back { job }
+    }
+
+    /// The job as a slot keeps it, before its next step or finished. Takes no memory.
+    pub fn park(self) -> Parked
+        ensures { result ≡ next_step self }
+    {
+        let Done { step, work } = self;
+        let JobStep {
+            id,
+            generation,
+            number,
+            sources,
+        } = step;
+        let step = JobStep {
+            id,
+            generation,
+            number: number + 1,
+            sources,
+        };
+        Parked {
+            step,
+            work,
+            made: false,
+        }
+    }
+}
+
+impl Back {
+    /// The tenancy whose job it is.
+    pub fn id(&self) -> u32
+        ensures { result ≡ self.now.step.id }
+    {
+        self.job.id()
+    }
+
+    /// The tenancy's generation when the job began.
+    pub fn generation(&self) -> u32
+        ensures { result ≡ self.now.step.generation }
+    {
+        self.job.generation()
+    }
+
+    /// The number of its step, from 1.
+    pub fn number(&self) -> u32
+        ensures { result ≡ self.now.step.number }
+    {
+        self.job.number()
+    }
+
+    /// What it is computed from.
+    pub fn sources(&self) -> &Sources
+        ensures { result.now ≡ self.now.step.sources }
+    {
+        self.job.sources()
+    }
+
+    /// The job as a slot keeps it. Takes no memory.
+    pub fn park(self) -> Parked
+        ensures { result ≡ self }
+    {
+        let Back { job } = self;
+        let AnyJob { step, work, made } = job;
+        Parked { step, work, made }
+    }
+}

@@ -1,0 +1,94 @@
+//! What a job is computed from.
+ghost use Rattle.std.specs.Prelude.{◌≡◌, ◌↔◌, IfOk, IsTrue};
+ghost use Rattle.job_state.specs.JobValue.{packing_sources};
+
+use crate::shared_text::SharedText;
+use arch_file::{Arch, Pin, SharedArch};
+use grid::Strip;
+use std::alloc::AllocError;
+
+/// What kind of work a job is.
+#[derive(Clone, Copy, Debug, PartialEq, Eq)]
+pub enum JobKind {
+    /// One cluster a step.
+    Packing,
+}
+
+/// What a job is computed from.
+#[derive(Drop)]
+pub struct Sources {
+    pub kind: JobKind,
+    pub arch: SharedArch,
+    pub strip: Strip,
+    /// The netlist.
+    pub text: SharedText,
+    /// The seed of a placing, 0 for a packing.
+    pub seed: u64,
+    /// The effort of a placing, 0 for a packing.
+    pub effort: u32,
+}
+
+impl Sources {
+    /// The sources of a packing. Shares the architecture and the netlist.
+    pub fn packing(arch: &SharedArch, strip: Strip, text: &SharedText) -> Result<Self, AllocError>
+        ensures { IfOk result (λ sources. sources ≡ packing_sources arch.now strip text.now) }
+    {
+        Ok(Sources {
+            kind: JobKind::Packing,
+            arch: arch.clone()?,
+            strip,
+            text: text.clone()?,
+            seed: 0,
+            effort: 0,
+        })
+    }
+
+    /// Whether both are the same, by value.
+    pub fn same(&self, other: &Sources) -> bool
+        ensures { IsTrue result ↔ (self.now ≡ other.now) }
+    {
+        self.kind == other.kind
+            && self.strip == other.strip
+            && self.seed == other.seed
+            && self.effort == other.effort
+            && same_arch(self.arch.arch(), other.arch.arch())
+            && self.text.same(&other.text)
+    }
+}
+
+impl Clone for Sources {
+    ghost is_clone = { λ sources copy. copy ≡ sources };
+
+    /// One more owner of the architecture and the netlist. Copies neither.
+    fn clone(&self) -> Result<Self, AllocError> {
+        Ok(Sources {
+            kind: self.kind,
+            arch: self.arch.clone()?,
+            strip: self.strip,
+            text: self.text.clone()?,
+            seed: self.seed,
+            effort: self.effort,
+        })
+    }
+}
+
+/// Whether both architectures have the same numbers and the same pins.
+fn same_arch(arch: &Arch, other: &Arch) -> bool
+    ensures { IsTrue result ↔ (arch.now ≡ other.now) }
+{
+    arch.io_rat == other.io_rat
+        && arch.cluster_size == other.cluster_size
+        && arch.lut_size == other.lut_size
+        && arch.tracks == other.tracks
+        && arch.fc_output == other.fc_output
+        && arch.fc_input == other.fc_input
+        && arch.fc_pad == other.fc_pad
+        && same_pins(arch.pins.as_slice(), other.pins.as_slice())
+}
+
+/// Whether both have the same pins, in order.
+fn same_pins(pins: &[Pin], others: &[Pin]) -> bool
+    ensures { IsTrue result ↔ (pins.now ≡ others.now) }
+{
+    pins == others
+}

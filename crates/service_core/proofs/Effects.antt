@@ -1,0 +1,103 @@
+-- What a call makes of the state: one of five changes, whatever was called.
+use Rattle.std.proofs.Common.{◌≡◌, ℕ, List, [], ◌∷◌, Bool, true, Option, Some, None, Ok, Err, refl, ap, ◌∙◌}
+use Rattle.std.specs.Prelude.{IsSomeAnd}
+use Rattle.strips.specs.Plan.{IsFirstFit}
+use Rattle.tenant_slot.specs.declared.command.Command.{Command}
+use Rattle.tenant_slot.specs.declared.event.Event.TheVariants.{Command as Asked}
+use Rattle.tenant_slot.specs.SingleUser.{step}
+use Rattle.job_state.specs.Job.{JobState}
+use Rattle.service_core.specs.declared.entry.Entry.{Entry}
+use Rattle.service_core.specs.declared.not_served.NotServed.TheVariants.{NoMemory, JournalFull, NoSuchTenancy}
+use Rattle.service_core.specs.declared.put_reply.PutReply.TheVariants.{Recorded, Full, Gone}
+use Rattle.service_core.specs.History.{History, state_of}
+use Rattle.service_core.specs.Receipt.{Receipted}
+use Rattle.service_core.specs.Service.{ServiceState, history_of, live_of, with_entry_of, with_out_of, with_tenancy, without_tenancy}
+use Rattle.service_core.specs.Calls.{CanAdmit, IsGivenBackTo, IsReceipt, IsStepOf, step_entry}
+use Rattle.service_core.specs.Run.{Call, Admit, Evict, GiveBack, Happens, Put, Run, Take, Tenant}
+use Rattle.service_core.specs.Kept.{IsService}
+use Rattle.service_core.proofs.Keeps.{IsService-admitted, IsService-entry, IsService-evicted, IsService-out, if_live_some}
+
+-- an entry is the next one of a tenancy's journal
+pub record IsNext (old : ServiceState) (id : ℕ) (e : Entry) (h : History) : Type 0 where
+  pub here : history_of old.histories id ≡ Some h
+  pub told : (step (state_of h) e.event).1 ≡ Some e.reply
+
+pub data Effect (old new : ServiceState) : Type 0 where
+  Nothing : new ≡ old → Effect old new
+  Admitted : (width offset : ℕ) → CanAdmit old width → IsFirstFit old.plan width (Some offset) → new ≡ with_tenancy old width offset → Effect old new
+  Evicted : (id : ℕ) → new ≡ without_tenancy old id → Effect old new
+  Entered : (id : ℕ) (e : Entry) (h : History) → IsNext old id e h → new ≡ with_entry_of old id e → Effect old new
+  Turned : (id : ℕ) (out : Bool) → new ≡ with_out_of old id out → Effect old new
+
+-- what holds of the live tenancy
+pub of_live : (P : History → Type 0) (old : ServiceState) (id : ℕ) → IsSomeAnd (live_of old.histories id) P → (h : History) × (history_of old.histories id ≡ Some h) × P h
+of_live P old id is = at_option (live_of old.histories id) refl is
+  where
+    at_option : (o : Option History) → live_of old.histories id ≡ o → IsSomeAnd o P → (h : History) × (history_of old.histories id ≡ Some h) × P h
+    at_option None e never = absurd never
+    at_option (Some h) e said = (h, if_live_some (history_of old.histories id) h e, said)
+
+-- a command that is served is the next entry
+abbrev pub served_entry : Command → Receipted → Entry
+served_entry command r = record { event = Asked command; reply = r.reply }
+
+pub served_next : (old : ServiceState) (id : ℕ) (command : Command) (r : Receipted) → IsReceipt (live_of old.histories id) id command r → (h : History) × IsNext old id (served_entry command r) h
+served_next old id command r is = at_option (live_of old.histories id) refl is
+  where
+    at_option : (o : Option History) → live_of old.histories id ≡ o → IsReceipt o id command r → (h : History) × IsNext old id (served_entry command r) h
+    at_option None e never = absurd never
+    at_option (Some h) e said = (h, record { here = if_live_some (history_of old.histories id) h e; told = said.3 })
+
+given_effect : (o : Option History) (old : ServiceState) (job : JobState) (new : ServiceState) → IsGivenBackTo o old job new → Effect old new
+given_effect None old job new given = Nothing given
+given_effect (Some h) old job new given = Turned job.step.id given.0 given.2
+
+pub effect : (old : ServiceState) (call : Call) (new : ServiceState) → Happens old call new → Effect old new
+effect old (Admit width (Ok given)) new happens = Admitted width given.1 happens.0 happens.2 happens.3
+effect old (Admit width (Err refusal)) new happens = Nothing happens.1
+effect old (Evict id (Ok nothing)) new happens = Evicted id happens.1
+effect old (Evict id (Err refusal)) new happens = Nothing happens.2
+effect old (Tenant id command (Ok r)) new happens = let next : (h : History) × IsNext old id (served_entry command r) h = served_next old id command r happens.0 in Entered id (served_entry command r) next.0 next.1 happens.1
+effect old (Tenant id command (Err NoMemory)) new happens = Nothing happens.1
+effect old (Tenant id command (Err (JournalFull note))) new happens = Nothing happens.2
+effect old (Tenant id command (Err (NoSuchTenancy note))) new happens = Nothing happens.2
+effect old (Take id (Some job)) new happens = Turned id true happens.1
+effect old (Take id None) new happens = Nothing happens.1
+effect old (Put done foreign (Ok (Recorded reply))) new happens =
+    let got : (h : History) × (history_of old.histories done.id ≡ Some h) × IsStepOf h done foreign reply = of_live (λ h. IsStepOf h done foreign reply) old done.id happens.0 in
+    Entered done.id (step_entry done foreign reply) got.0 (record { here = got.1; told = got.2.told }) happens.1
+effect old (Put done foreign (Ok Full)) new happens = Nothing happens.1
+effect old (Put done foreign (Ok Gone)) new happens = Nothing happens.1
+effect old (Put done foreign (Err back)) new happens = Nothing happens.2
+effect old (GiveBack job) new happens = given_effect (live_of old.histories job.step.id) old job new happens
+
+-- the device stays
+effect_device : (old new : ServiceState) → Effect old new → new.device ≡ old.device
+effect_device old new (Nothing same) = ap (λ (s : ServiceState). s.device) same
+effect_device old new (Admitted width offset can fits is) = ap (λ (s : ServiceState). s.device) is
+effect_device old new (Evicted id is) = ap (λ (s : ServiceState). s.device) is
+effect_device old new (Entered id e h next is) = ap (λ (s : ServiceState). s.device) is
+effect_device old new (Turned id out is) = ap (λ (s : ServiceState). s.device) is
+
+-- no call breaks what the core keeps
+abbrev pub Kept : ServiceState → Type 0
+Kept s = IsService s.device s.plan.strips s.histories
+
+effect_keeps : (old new : ServiceState) → Effect old new → Kept old → Kept new
+effect_keeps old new (Nothing same) was = rw same was
+effect_keeps old new (Admitted width offset can fits is) was = rw is (IsService-admitted old.device old.plan.strips old.histories width offset was can.ids_left)
+effect_keeps old new (Evicted id is) was = rw is (IsService-evicted old.device old.plan.strips old.histories id was)
+effect_keeps old new (Entered id e h next is) was = rw is (IsService-entry old.device old.plan.strips old.histories id h e was next.here next.told)
+effect_keeps old new (Turned id out is) was = rw is (IsService-out old.device old.plan.strips old.histories id out was)
+
+pub kept_after : (old : ServiceState) (call : Call) (new : ServiceState) → Happens old call new → Kept old → Kept new
+kept_after old call new happens was = effect_keeps old new (effect old call new happens) was
+
+-- over a run
+pub run_device : (old : ServiceState) (calls : List Call) (new : ServiceState) → Run old calls new → new.device ≡ old.device
+run_device old [] new run = rw run refl
+run_device old (call ∷ calls) new run = run_device run.0 calls new run.2 ∙ effect_device old run.0 (effect old call run.0 run.1)
+
+pub run_keeps : (old : ServiceState) (calls : List Call) (new : ServiceState) → Run old calls new → Kept old → Kept new
+run_keeps old [] new run was = rw run was
+run_keeps old (call ∷ calls) new run was = run_keeps run.0 calls new run.2 (kept_after old call run.0 run.1 was)

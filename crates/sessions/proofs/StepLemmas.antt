@@ -1,0 +1,106 @@
+-- The calls of the core that the making of a step comes to.
+use Rattle.std.proofs.Common.{◌≡◌, ◌∙◌, ℕ, ◌+◌, List, [], ◌∷◌, ◌++◌, length, Bool, true, Option, Some, Result, Err, inl, refl, sym, ap, subst, append-nil, length-append}
+use Rattle.std.specs.Prelude.{All}
+use Rattle.std.specs.declared.alloc.AllocError.{AllocError}
+use Rattle.std.specs.List.{flat_map}
+use Rattle.std.proofs.lemmas.Grind.{flat_map-append}
+use Rattle.std.proofs.lemmas.List.Elements.{All-push}
+use Rattle.tenant_slot.specs.declared.reply.StepReply.{StepReply}
+use Rattle.job_state.specs.declared.step.JobStep.{JobStep}
+use Rattle.job_state.specs.Job.{JobState}
+use Rattle.service_core.specs.declared.put_reply.PutReply.{PutReply}
+use Rattle.service_core.specs.Calls.{IsGivenBack, IsPut, IsTaken, Puts}
+use Rattle.service_core.specs.Run.{Call, Run}
+use Rattle.service_core.specs.Run.Call.{Take, Put, GiveBack}
+use Rattle.service_core.specs.Service.{ServiceState}
+use Rattle.sessions.specs.declared.steps.StepOutcome.{StepOutcome}
+use Rattle.sessions.specs.declared.steps.StepOutcome.TheVariants.{Recorded, Full, Gone, NoMemory, Nothing}
+use Rattle.tenant_slot.specs.declared.command.Command.TheVariants.{Status}
+use Rattle.sessions.specs.declared.line.SessionLine.{SessionLine}
+use Rattle.sessions.specs.declared.line.SessionLine.TheVariants.{Wait}
+use Rattle.sessions.specs.declared.told.Answer.{Answer}
+use Rattle.sessions.specs.declared.told.Answer.TheVariants.{NoMemory as NoMemoryAnswer}
+use Rattle.sessions.specs.SessionAnswer.{AsksCommand, EndsWait, IsAnswer}
+use Rattle.sessions.specs.Steps.{MadeStep, MakesStep, StepsAndPuts, Waits}
+
+pub Run-append : (a : ServiceState) (xs : List Call) (b : ServiceState) (ys : List Call) (c : ServiceState) → Run a xs b → Run b ys c → Run a (xs ++ ys) c
+Run-append a [] b ys c first next = let P : ServiceState → Type 0 = λ s. Run s ys c in subst P first next
+Run-append a (x ∷ xs) b ys c first next = (first.0, first.1, Run-append first.0 xs b ys c first.2 next)
+
+abbrev pub PutAnswer : Type 0
+PutAnswer = Result PutReply (JobStep × AllocError)
+
+answered : (old new : ServiceState) (done : JobStep) (result answer : PutAnswer) → result ≡ answer → Puts old done result new → (foreign : Bool) × IsPut old done foreign answer new
+answered old new done result answer same puts = (puts.0, (let P : PutAnswer → Type 0 = λ r. IsPut old done puts.0 r new in subst P same puts.1))
+
+-- a put
+pub put_runs : (old new : ServiceState) (job : JobState) (done : JobStep) (result answer : PutAnswer) → done ≡ job.step → result ≡ answer → Puts old done result new →
+    (foreign : Bool) × Run old (Put job.step foreign answer ∷ []) new
+put_runs old new job done result answer made same puts =
+    let put = answered old new done result answer same puts in
+    (put.0, (new, (let P : JobStep → Type 0 = λ d. IsPut old d put.0 answer new in subst P made put.1), refl))
+
+-- one that found no memory
+pub back_runs : (old mid new : ServiceState) (job returned : JobState) (done : JobStep) (result : PutAnswer) (back : JobStep × AllocError) → done ≡ job.step → result ≡ Err back → Puts old done result mid →
+    returned ≡ record { step = back.0; made = true } → IsGivenBack mid returned new →
+    (foreign : Bool) × Run old (Put job.step foreign (Err back) ∷ GiveBack (record { step = job.step; made = true }) ∷ []) new
+back_runs old mid new job returned done result back made same puts is gives =
+    let put = answered old mid done result (Err back) same puts in
+    let e : returned ≡ record { step = job.step; made = true } = is ∙ ap (λ (s : JobStep). record { step = s; made = true }) (put.1.1 ∙ made) in (
+      put.0,
+      (mid, (let P : JobStep → Type 0 = λ d. IsPut old d put.0 (Err back) mid in subst P made put.1), (new, (let P : JobState → Type 0 = λ b. IsGivenBack mid b new in subst P e gives), refl)),
+    )
+
+-- a step that found none
+pub given_runs : (old new : ServiceState) (job back : JobState) → back ≡ job → IsGivenBack old back new → Run old (GiveBack job ∷ []) new
+given_runs old new job back same gives = (new, (let P : JobState → Type 0 = λ b. IsGivenBack old b new in subst P same gives), refl)
+
+-- the take before it
+pub taken : (id : ℕ) (job : JobState) (more : List Call) (outcome : StepOutcome) → StepsAndPuts job more outcome → MakesStep id (Take id (Some job) ∷ more) outcome
+taken id job more (Recorded reply) s = (job, more, s, refl)
+taken id job more Full s = (job, more, s, refl)
+taken id job more Gone s = (job, more, s, refl)
+taken id job more NoMemory s = (job, more, s, refl)
+taken id job more Nothing s = absurd s
+
+pub take_happens : (old new : ServiceState) (id : ℕ) (result : Option JobState) (job : JobState) → result ≡ Some job → IsTaken old id result new → IsTaken old id (Some job) new
+take_happens old new id result job same is = let P : Option JobState → Type 0 = λ j. IsTaken old id j new in subst P same is
+
+-- steps that were recorded so far
+abbrev pub Made : ℕ → ServiceState → ℕ → ServiceState → Type 0
+Made id old count new = (made : List MadeStep) × All (λ (m : MadeStep). MakesStep id m.0 (Recorded m.1)) made × (length made ≡ count) × Run old (flat_map (λ (m : MadeStep). m.0) made) new
+
+pub made_more : (id : ℕ) (old mid new : ServiceState) (count : ℕ) (calls : List Call) (outcome : StepOutcome) (reply : StepReply) → Made id old count mid → outcome ≡ Recorded reply → MakesStep id calls outcome → Run mid calls new →
+    Made id old (count + 1) new
+made_more id old mid new count calls outcome reply so_far is makes runs =
+    let step : MakesStep id calls (Recorded reply) = (let P : StepOutcome → Type 0 = λ o. MakesStep id calls o in subst P is makes) in
+    let m : MadeStep = (calls, reply) in
+    let flat : flat_map (λ (m : MadeStep). m.0) (so_far.0 ++ m ∷ []) ≡ flat_map (λ (m : MadeStep). m.0) so_far.0 ++ calls =
+    flat_map-append (λ (m : MadeStep). m.0) so_far.0 (m ∷ []) ∙ ap (λ cs. flat_map (λ (m : MadeStep). m.0) so_far.0 ++ cs) (append-nil calls) in (
+      so_far.0 ++ m ∷ [],
+      All-push (λ (m : MadeStep). MakesStep id m.0 (Recorded m.1)) so_far.0 m so_far.1 step,
+      length-append so_far.0 (m ∷ []) ∙ ap (λ n. n + 1) so_far.2,
+      (let P : List Call → Type 0 = λ cs. Run old cs new in subst P (sym flat) (Run-append old (flat_map (λ (m : MadeStep). m.0) so_far.0) mid calls new so_far.3 runs)),
+    )
+
+-- and one that was not
+pub made_ends : (id : ℕ) (old mid new : ServiceState) (count : ℕ) (calls : List Call) (outcome : StepOutcome) → Made id old count mid → MakesStep id calls outcome → Run mid calls new →
+    (all : List Call) × Waits id all outcome × Run old all new
+made_ends id old mid new count calls outcome so_far makes runs =
+    let flat = flat_map (λ (m : MadeStep). m.0) so_far.0 in
+    (flat ++ calls, (so_far.0, calls, so_far.1, refl, inl makes), Run-append old flat mid calls new so_far.3 runs)
+
+-- what a wait is answered
+pub wait_asks : (old mid new : ServiceState) (id : ℕ) (line : SessionLine) (last : StepOutcome) (steps more : List Call) (answer : Answer) → line ≡ Wait → Waits id steps last → Run old steps mid →
+    EndsWait id last more answer → Run mid more new → IsAnswer old id line answer new
+wait_asks old mid new id line last steps more answer is waits first ends next = rw is (steps ++ more, (last, steps, more, waits, ends, refl), Run-append old steps mid more new first next)
+
+pub ends_as_status : (id : ℕ) (last : StepOutcome) (calls : List Call) (answer : Answer) → (last ≡ NoMemory → ⊥) → AsksCommand id Status calls answer → EndsWait id last calls answer
+ends_as_status id (Recorded reply) calls answer not asks = asks
+ends_as_status id Full calls answer not asks = asks
+ends_as_status id Gone calls answer not asks = asks
+ends_as_status id NoMemory calls answer not asks = absurd (not refl)
+ends_as_status id Nothing calls answer not asks = asks
+
+pub ends_without_memory : (id : ℕ) (last : StepOutcome) → last ≡ NoMemory → EndsWait id last [] NoMemoryAnswer
+ends_without_memory id last is = rw is (refl, refl)

@@ -1,0 +1,42 @@
+-- What the making of a step asks of the core.
+use Rattle.std.specs.Prelude.{ℕ, ◌≡◌, ◌⊎◌, List, [], ◌∷◌, ◌++◌, length, All, Bool, true, Some, None, Result, Ok, Err}
+use Rattle.std.specs.declared.alloc.AllocError.{AllocError}
+use Rattle.std.specs.List.{flat_map}
+use Rattle.job_state.specs.declared.step.JobStep.{JobStep}
+use Rattle.job_state.specs.Job.{JobState}
+use Rattle.tenant_slot.specs.declared.reply.StepReply.{StepReply}
+use Rattle.service_core.specs.declared.put_reply.PutReply.{PutReply}
+use Rattle.service_core.specs.declared.put_reply.PutReply.TheVariants.{Recorded as PutRecorded, Full as PutFull, Gone as PutGone}
+use Rattle.service_core.specs.Run.{Call}
+use Rattle.service_core.specs.Run.Call.{Take, Put, GiveBack}
+use Rattle.sessions.specs.declared.steps.StepOutcome.{StepOutcome}
+use Rattle.sessions.specs.declared.steps.StepOutcome.TheVariants.{Recorded, Full, Gone, NoMemory, Nothing}
+
+-- the job's step is put, and answered so; the flag of its event isn't told
+abbrev pub IsOnePut : JobState → List Call → Result PutReply (JobStep × AllocError) → Type 0
+IsOnePut job calls answer = (foreign : Bool) × (calls ≡ Put job.step foreign answer ∷ [])
+
+-- the calls of the core that a job is stepped and put by, and what comes of it: without memory it is given back, unstepped, or with
+-- its step made
+abbrev pub StepsAndPuts : JobState → List Call → StepOutcome → Type 0
+StepsAndPuts job calls (Recorded reply) = IsOnePut job calls (Ok (PutRecorded reply))
+StepsAndPuts job calls Full = IsOnePut job calls (Ok PutFull)
+StepsAndPuts job calls Gone = IsOnePut job calls (Ok PutGone)
+StepsAndPuts job calls NoMemory =
+    (calls ≡ GiveBack job ∷ [])
+    ⊎ ((foreign : Bool) × (back : JobStep × AllocError) × (calls ≡ Put job.step foreign (Err back) ∷ GiveBack (record { step = job.step; made = true }) ∷ []))
+StepsAndPuts job calls Nothing = ⊥
+
+-- the same with the take before it
+abbrev pub MakesStep : ℕ → List Call → StepOutcome → Type 0
+MakesStep id calls Nothing = calls ≡ Take id None ∷ []
+MakesStep id calls outcome = (job : JobState) × (more : List Call) × StepsAndPuts job more outcome × (calls ≡ Take id (Some job) ∷ more)
+
+-- a step that was recorded, with its calls
+abbrev pub MadeStep : Type 0
+MadeStep = List Call × StepReply
+
+-- steps that were recorded, and one that was not, or so many that the journal has no room left
+abbrev pub Waits : ℕ → List Call → StepOutcome → Type 0
+Waits id calls last = (made : List MadeStep) × (end : List Call)
+    × All (λ m. MakesStep id m.0 (Recorded m.1)) made × (calls ≡ flat_map (λ m. m.0) made ++ end) × (MakesStep id end last ⊎ (length made ≡ 65537) × (end ≡ []))

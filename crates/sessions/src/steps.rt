@@ -1,0 +1,69 @@
+ghost use Rattle.std.specs.Prelude.{List};
+ghost use Rattle.service_core.specs.Run.{Call, Run};
+ghost use Rattle.sessions.specs.Steps.{MakesStep, StepsAndPuts, Waits};
+
+use job_state::AnyJob;
+use service_core::{Core, PutReply};
+use tenant_slot::StepReply;
+
+/// More steps than a journal has entries.
+const MAX_STEPS: u32 = 65_537;
+
+/// What the making of a step of a tenancy's job came to.
+#[derive(Clone, Copy, Debug, PartialEq, Eq)]
+pub enum StepOutcome {
+    /// The step was put, and is an entry of the journal.
+    Recorded(StepReply),
+    /// The journal is full, and the job is spent.
+    Full,
+    /// The tenancy isn't live, and the job is spent.
+    Gone,
+    /// The job was given back.
+    NoMemory,
+    /// There was no job to take.
+    Nothing,
+}
+
+/// Takes the next step of that tenancy's job, makes it and puts it.
+pub fn make_step(core: &mut Core, id: u32) -> StepOutcome
+    ensures { (calls : List Call) × MakesStep id calls result × Run core.old calls core.new }
+{
+    match core.take(id) {
+        Some(job) => step_and_put(core, job),
+        None => StepOutcome::Nothing,
+    }
+}
+
+/// Makes the step of a job, and puts it. A job whose step finds no memory, or can't be put for want of it, is given back.
+pub fn step_and_put(core: &mut Core, job: AnyJob) -> StepOutcome
+    ensures { (calls : List Call) × StepsAndPuts job calls result × Run core.old calls core.new }
+{
+    match job.step() {
+        Ok(done) => match core.put(done) {
+            Ok(PutReply::Recorded(reply)) => StepOutcome::Recorded(reply),
+            Ok(PutReply::Full) => StepOutcome::Full,
+            Ok(PutReply::Gone) => StepOutcome::Gone,
+            Err((done, _)) => {
+                core.give_back(done.into_back());
+                StepOutcome::NoMemory
+            }
+        },
+        Err(back) => {
+            core.give_back(back);
+            StepOutcome::NoMemory
+        }
+    }
+}
+
+/// Makes steps of that tenancy's job until there is none to take, or memory lacks. Tells what the last came to.
+pub(crate) fn run_steps(core: &mut Core, id: u32) -> StepOutcome
+    ensures { (calls : List Call) × Waits id calls result × Run core.old calls core.new }
+{
+    for _made in 0..MAX_STEPS {
+        match make_step(core, id) {
+            StepOutcome::Recorded(_) => {}
+            outcome => return outcome,
+        }
+    }
+    StepOutcome::Nothing
+}

@@ -1,0 +1,19 @@
+//! What happens to a tenancy.
+use crate::command::Command;
+
+/// A step that was made: the tenancy's generation when its job began, the how many-th of the job's steps it is, from 1, and
+/// whether its sources weren't those of the running job. A foreign step is never the running job's.
+#[derive(Clone, Copy, Debug, PartialEq, Eq)]
+pub struct Advance {
+    pub generation: u32,
+    pub number: u32,
+    pub foreign: bool,
+}
+
+/// What happens to one tenancy, and is an entry of its journal.
+#[derive(Drop)]
+pub enum Event {
+    Command(Command),
+    /// A step of a job that was put.
+    Advance(Advance),
+}

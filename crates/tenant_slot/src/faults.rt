@@ -1,0 +1,32 @@
+//! Whether two netlists have the same fault.
+ghost use Rattle.std.specs.Prelude.{◌≡◌, ◌↔◌, IsTrue};
+
+use blif::{BlifFault, BlifFaultKind};
+
+/// Whether both are the same fault, on the same line, of the same net.
+pub(crate) fn same_faults(fault: &BlifFault, other: &BlifFault) -> bool
+    ensures { IsTrue result ↔ (fault.now ≡ other.now) }
+{
+    fault.line == other.line && same_kind(&fault.kind, &other.kind)
+}
+
+/// Whether both are the same, of the same net.
+fn same_kind(kind: &BlifFaultKind, other: &BlifFaultKind) -> bool
+    ensures { IsTrue result ↔ (kind.now ≡ other.now) }
+{
+    match (kind, other) {
+        (BlifFaultKind::Unknown, BlifFaultKind::Unknown) => true,
+        (BlifFaultKind::BadCover, BlifFaultKind::BadCover) => true,
+        (BlifFaultKind::MixedCover, BlifFaultKind::MixedCover) => true,
+        (BlifFaultKind::TooWide, BlifFaultKind::TooWide) => true,
+        (BlifFaultKind::TwoDrivers(net), BlifFaultKind::TwoDrivers(same)) => net.same(same),
+        (BlifFaultKind::Undriven(net), BlifFaultKind::Undriven(same)) => net.same(same),
+        (BlifFaultKind::RepeatedOutput(net), BlifFaultKind::RepeatedOutput(same)) => net.same(same),
+        (BlifFaultKind::BadLatch, BlifFaultKind::BadLatch) => true,
+        (BlifFaultKind::NoModel, BlifFaultKind::NoModel) => true,
+        (BlifFaultKind::OverLimit, BlifFaultKind::OverLimit) => true,
+        (BlifFaultKind::NotAscii, BlifFaultKind::NotAscii) => true,
+        (BlifFaultKind::LineTooLong, BlifFaultKind::LineTooLong) => true,
+        _ => false,
+    }
+}

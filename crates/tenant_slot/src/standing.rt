@@ -1,0 +1,224 @@
+//! What a slot carries along, so that it is not computed again, and how it changes.
+ghost use Rattle.std.specs.Prelude.{◌≡◌, ◌+◌, ◌<◌, ◌↔◌, IsTrue, None, option_map, true};
+ghost use Rattle.tenant_slot.specs.JobNames.{during};
+ghost use Rattle.tenant_slot.specs.Standing.{RunsOn, accepted_in, finished_with, is_ready, name_at_rest, name_of, put_in, put_reply, ready_of, ready_with, without_ready};
+ghost use Rattle.tenant_slot.specs.declared.reply.StateName.TheVariants.{Loaded};
+
+use crate::reply::{StateName, StepReply};
+use blif::SharedCircuit;
+use job_state::{JobKind, Parked, SharedText, Sources};
+use std::mem;
+
+/// A netlist with the circuit that it says.
+#[derive(Drop)]
+pub(crate) struct Netlist {
+    pub(crate) text: SharedText,
+    pub(crate) circuit: SharedCircuit,
+}
+
+/// What is there where no job runs, and stays while one does.
+#[derive(Drop)]
+pub(crate) enum Content {
+    Empty,
+    Loaded(Netlist),
+    /// With the finished packing of the netlist.
+    Packed(Netlist, Parked),
+}
+
+/// The running job: what it is computed from, and its next step where that isn't out.
+#[derive(Drop)]
+pub(crate) struct Running {
+    pub(crate) sources: Sources,
+    pub(crate) ready: Option<Parked>,
+}
+
+/// Where a tenancy stands.
+#[derive(Drop)]
+pub(crate) struct Standing {
+    pub(crate) content: Content,
+    pub(crate) running: Option<Running>,
+    pub(crate) generation: u32,
+    /// How many steps of the running job are made, 0 where none runs.
+    pub(crate) steps: u32,
+}
+
+/// What an accepted command changes.
+#[derive(Drop)]
+pub(crate) enum Change {
+    /// A first netlist.
+    Load(Netlist),
+    /// Another netlist.
+    Replace(Netlist),
+    Begin(Running),
+    /// The running job is given up.
+    Stop,
+    Empty,
+}
+
+impl Content {
+    pub(crate) fn name(&self) -> StateName
+        ensures { result ≡ name_at_rest self.now }
+    {
+        match self {
+            Content::Empty => StateName::Empty,
+            Content::Loaded(_) => StateName::Loaded,
+            Content::Packed(..) => StateName::Packed,
+        }
+    }
+
+    /// The netlist with its finished packing.
+    fn with_packing(self, packing: Parked) -> Self
+        requires { name_at_rest self ≡ Loaded }
+        ensures { result ≡ finished_with self packing }
+    {
+        match self {
+            Content::Loaded(netlist) => Content::Packed(netlist, packing),
+            _ => unreachable!(),
+        }
+    }
+}
+
+/// The name of the state in which a job of that kind runs.
+fn name_during(kind: JobKind) -> StateName
+    ensures { result ≡ during kind }
+{
+    match kind {
+        JobKind::Packing => StateName::Packing,
+    }
+}
+
+impl Standing {
+    /// The name of the state.
+    pub(crate) fn name(&self) -> StateName
+        ensures { result ≡ name_of self.now.content self.now.running }
+    {
+        match &self.running {
+            None => self.content.name(),
+            Some(job) => name_during(job.sources.kind),
+        }
+    }
+
+    /// Changes what an accepted command changes.
+    pub(crate) fn accept(&mut self, change: Option<Change>)
+        requires { self.old.generation < 65536 }
+        ensures { self.new ≡ accepted_in self.old change }
+    {
+        match change {
+            None => {}
+            Some(Change::Load(netlist)) => self.rest_with(Content::Loaded(netlist)),
+            Some(Change::Replace(netlist)) => {
+                self.rise();
+                self.rest_with(Content::Loaded(netlist));
+            }
+            Some(Change::Begin(job)) => {
+                self.rise();
+                self.run(Some(job));
+            }
+            Some(Change::Stop) => {
+                self.rise();
+                self.run(None);
+            }
+            Some(Change::Empty) => {
+                self.rise();
+                self.rest_with(Content::Empty);
+            }
+        }
+    }
+
+    /// A generation begins.
+    fn rise(&mut self)
+        requires { self.old.generation < 65536 }
+        ensures { self.new ≡ record self.old { generation = self.old.generation + 1; steps = 0 } }
+    {
+        self.generation += 1;
+        self.steps = 0;
+    }
+
+    /// Another job runs, or none. The old one is dropped by a call, since a drop in place is proved anew wherever it stands.
+    fn run(&mut self, job: Option<Running>)
+        ensures { self.new ≡ record self.old { running = job } }
+    {
+        drop(mem::replace(&mut self.running, job));
+    }
+
+    /// No job runs, and this is there.
+    fn rest_with(&mut self, content: Content)
+        ensures { self.new ≡ record self.old { content = content; running = None } }
+    {
+        drop(mem::replace(&mut self.content, content));
+        self.run(None);
+    }
+
+    /// Whether the running job's next step is here.
+    pub(crate) fn is_ready(&self) -> bool
+        ensures { result ≡ is_ready self.now.running }
+    {
+        match &self.running {
+            Some(job) => job.ready.is_some(),
+            None => false,
+        }
+    }
+
+    /// Whether a job runs that is computed from these sources.
+    pub(crate) fn runs_on(&self, sources: &Sources) -> bool
+        ensures { IsTrue result ↔ RunsOn self.now.running sources.now }
+    {
+        match &self.running {
+            Some(job) => job.sources.same(sources),
+            None => false,
+        }
+    }
+
+    /// The running job's next step, which is out then.
+    pub(crate) fn take(&mut self) -> Option<Parked>
+        ensures job { result ≡ ready_of self.old.running }
+        ensures out { self.new ≡ record self.old { running = option_map without_ready self.old.running } }
+    {
+        match &mut self.running {
+            Some(job) => job.ready.take(),
+            None => None,
+        }
+    }
+
+    /// The running job's next step stands here again.
+    pub(crate) fn stand_ready(&mut self, job: Parked)
+        ensures { self.new ≡ record self.old { running = option_map (ready_with job) self.old.running } }
+    {
+        match &mut self.running {
+            Some(running) => drop(mem::replace(&mut running.ready, Some(job))),
+            None => drop(job),
+        }
+    }
+
+    /// Takes a job whose step was made, and stands before the next one or finished: where the step counts, the running job
+    /// goes on, or is over with its last step.
+    pub(crate) fn put(&mut self, job: Parked, counts: bool, last: bool) -> StepReply
+        requires loaded { counts ≡ true → last ≡ true → name_at_rest self.old.content ≡ Loaded }
+        requires few { self.old.steps < 65536 }
+        ensures standing { self.new ≡ put_in self.old job counts last }
+        ensures reply { result ≡ put_reply counts last }
+    {
+        if !counts {
+            drop(job);
+            return StepReply::Stale;
+        }
+        if !last {
+            self.steps += 1;
+            self.stand_ready(job);
+            return StepReply::Advanced;
+        }
+        self.finish(job);
+        StepReply::Finished
+    }
+
+    /// The running packing is finished.
+    fn finish(&mut self, packing: Parked)
+        requires { name_at_rest self.old.content ≡ Loaded }
+        ensures { self.new ≡ record self.old { content = finished_with self.old.content packing; running = None; steps = 0 } }
+    {
+        self.steps = 0;
+        self.run(None);
+        let content = mem::replace(&mut self.content, Content::Empty);
+        self.content = content.with_packing(packing);
+    }
+}
