@@ -8,7 +8,7 @@
 //! - `accepted_netlists`: netlists in the forms that tools and people write.
 //! - `refused_netlists`: netlists with a fault, which is told with its line.
 //! - `layouts`: where tenancies are admitted, and why not.
-//! - `sessions`: lines that are repeated, unknown, awkward or cut short.
+//! - `session_lines`: lines that are repeated, unknown, awkward or cut short.
 //! - `packing`: circuits that are packed, with their `.net` files.
 //! - `many_elements`: a circuit of forty logic elements.
 //! - `jobs`: jobs that are taken, and come back late, twice or after an eviction.
@@ -49,4 +49,4 @@ mod refused_netlists;
 #[cfg(test)]
 mod runs;
 #[cfg(test)]
-mod sessions;
+mod session_lines;
