@@ -1,5 +1,6 @@
 //! Placing, pass by pass.
 ghost use Rattle.std.specs.Prelude.{◌≡◌, ◌*◌, ◌<◌, ◌≤◌, length, IfOk, slice_get, Some};
+ghost use Rattle.cluster.specs.Blocks.{blocks_of};
 ghost use Rattle.grid.specs.declared.fit.Fit.TheVariants.{Fits};
 ghost use Rattle.grid.specs.Fits.{fit_of};
 ghost use Rattle.grid.specs.Sizes.{IsStripSize};
@@ -10,7 +11,7 @@ ghost use Rattle.strip_place.specs.Pass.{pass_of};
 
 use crate::board::{Board, Words};
 use crate::start::start_board;
-use cluster::Packed;
+use cluster::{Packed, SharedPacked};
 use grid::{Place, Strip};
 use rand_core::utils::NextWord;
 use rand_pcg::Pcg32;
@@ -29,6 +30,7 @@ pub enum PassEnd {
 /// The blocks of a packed circuit on a strip, after so many passes.
 #[derive(Drop)]
 pub struct Placing {
+    packed: SharedPacked,
     board: Board,
     seed: u64,
     effort: u32,
@@ -44,16 +46,16 @@ impl Model for Placing {
 
     ghost Value = { PlacingUnderWay };
 
-    ghost view = { λ p. record { strip = p.board.strip; task = p.board.task; seed = p.seed; effort = p.effort; passes = p.passes } };
+    ghost view = { λ p. record { packed = p.packed; strip = p.board.strip; seed = p.seed; effort = p.effort; passes = p.passes } };
 
-    ghost invariant = { λ p. IsUnderWay p.board p.seed p.effort p.passes p.words p.temperature p.finished };
+    ghost invariant = { λ p. IsUnderWay p.packed p.board p.seed p.effort p.passes p.words p.temperature p.finished };
 }
 
 impl Placing {
     /// The packed circuit with each block at the start: on the next place of its kind.
     pub fn start(
         alloc: Global,
-        packed: &Packed,
+        packed: &SharedPacked,
         strip: Strip,
         seed: u64,
         effort: u32,
@@ -61,10 +63,12 @@ impl Placing {
         requires size { IsStripSize strip }
         requires fits { fit_of strip packed.now ≡ Fits }
         requires effort { effort ≤ 100 }
-        ensures { IfOk result (λ placing. placing ≡ record { strip = strip; task = task_of packed.now; seed = seed; effort = effort; passes = 0 }) }
+        ensures { IfOk result (λ placing. placing ≡ record { packed = packed.now; strip = strip; seed = seed; effort = effort; passes = 0 }) }
     {
-        let board = start_board(alloc, packed, strip)?;
+        let board = start_board(alloc, packed.packed(), strip)?;
+        let packed = packed.clone()?;
         Ok(Placing {
+            packed,
             board,
             seed,
             effort,
@@ -94,11 +98,26 @@ impl Placing {
         PassEnd::More
     }
 
+    /// The packed circuit whose blocks are placed.
+    pub fn packed(&self) -> &Packed
+        ensures { result.now ≡ self.now.packed }
+    {
+        self.packed.packed()
+    }
+
+    /// The strip that they are placed on.
+    pub fn strip(&self) -> Strip
+        ensures value { result ≡ self.now.strip }
+        ensures size { IsStripSize result }
+    {
+        self.board.strip()
+    }
+
     /// The place of a block.
     pub fn place_of(&self, block: usize) -> Place
-        requires { block < length self.now.task.kinds }
+        requires { block < length (blocks_of self.now.packed) }
         ensures value { slice_get (places_by_block self.now) block ≡ Some result }
-        ensures one_to_one { AreOneToOne self.now.strip self.now.task.kinds (sites_by_block self.now) }
+        ensures one_to_one { AreOneToOne self.now.strip (task_of self.now.packed).kinds (sites_by_block self.now) }
     {
         self.board.place(block)
     }
