@@ -25,24 +25,25 @@ struct Ended {
     end: IterEnd,
 }
 
-/// Routes a packed circuit on its graph until it ends, for at most 40 iterations.
+/// Routes a packed circuit on its graph until it ends, for at most 40 iterations. One that finds no memory is made again.
 fn routed_on(alloc: Global, packed: &Packed, fabric: &Fabric) -> Result<Ended, Fail>
     requires arch { fabric.now.arch ≡ packed.now.arch }
     requires strip { fabric.now.strip ≡ STRIP }
 {
     let places = placed(alloc, packed, STRIP)?;
     let mut routing = Routing::start(alloc, fabric, packed, &places)?;
-    for done in 0..40 {
+    let mut iterations = 0;
+    for _turn in 0..40u32 {
         match routing.iteration(alloc, fabric) {
-            Ok(IterEnd::Again(next)) => routing = next,
+            Ok(IterEnd::Again(next)) => {
+                routing = next;
+                iterations += 1;
+            }
             Ok(end) => {
-                let iterations = done + 1;
+                iterations += 1;
                 return Ok(Ended { iterations, end });
             }
-            Err((back, error)) => {
-                drop(back);
-                return Err(error.into());
-            }
+            Err((back, _)) => routing = back,
         }
     }
     Err("it goes on".into())
