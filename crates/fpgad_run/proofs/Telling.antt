@@ -20,6 +20,8 @@ use Rattle.fpgad_run.specs.OperatorText.{last_id}
 use Rattle.fpgad_run.specs.Script.{named_act, named_item}
 use Rattle.sessions.specs.declared.told.Answer.{Answer}
 use Rattle.sessions.specs.SessionAnswer.{Asks, IsAnswer}
+use Rattle.sessions.specs.EndToEnd.{LineIsToldAlone}
+use Rattle.fpgad_run.specs.EndToEnd.{AreToldAlone, IsToldAlone}
 use Rattle.sessions.specs.SessionText.{answer_text}
 use Rattle.fpgad_run.specs.Held.{held}
 use Rattle.fpgad_run.specs.Run.{Stage, Section, Telling, Tells, IsAdmission, IsAnswered, calls_of, output_of, sections_after, told_operator, told_session}
@@ -123,6 +125,24 @@ on_ok_value (Err e) f p = tt
 pub record IsHeadline : Type 0 where
   pub alone : (device : Device) (calls : List Call) (state : ServiceState) → Run (empty device) calls state → EachIsAlone device calls state
   pub parted : (device : Device) (calls : List Call) (state : ServiceState) → Run (empty device) calls state → AreParted device state
+  pub line : (device : Device) (before : List Call) (old new : ServiceState) (id : ℕ) (line : SessionLine) (answer : Answer) → Run (empty device) before old → IsAnswer old id line answer new → LineIsToldAlone device old id before line answer
+
+telling_alone : IsHeadline → (device : Device) (before : List Call) (old new : Stage) (act : Act (List ℕ)) (calls : List Call) (text : List ℕ) → Run (empty device) before old.service → IsAnswered old act calls text new → IsToldAlone device old before act text
+telling_alone headline device before old new (Operator line) calls text runs is = tt
+telling_alone headline device before old new (Session name line) calls text runs is =
+    (is.0, headline.line device before old.service new.service (last_id old.names name) line is.0 runs (calls, is.1, is.2), is.5)
+
+tellings_alone : IsHeadline → (device : Device) (before : List Call) (old : Stage) (ts : List Telling) (last : Stage) → Run (empty device) before old.service → Tells old ts last → AreToldAlone device old before ts
+tellings_alone headline device before old [] last runs told = tt
+tellings_alone headline device before old (t ∷ ts) last runs told = (
+  telling_alone headline device before old told.0 t.act t.calls t.text runs told.1,
+  (
+    told.0,
+    told.1,
+    tellings_alone headline device (before ++ t.calls) told.0 ts last
+        (Run-append (empty device) before old.service t.calls (told.0).service runs (answered_runs old t.act t.calls t.text told.0 told.1)) told.2,
+  ),
+)
 
 -- all that was told is what is written
 pub replies_all : (options : Options) (arch : Arch) (items : List (Item (List ℕ))) (running : Running) (acts : List (Act (List ℕ))) (output : List ℕ) → IsHeadline →
@@ -139,6 +159,7 @@ replies_all options arch items running acts output headline p all is =
       last = stage_of running;
       all = p.all ∙ all;
       told = p.told;
+      each_alone = tellings_alone headline (device_of options arch) [] (record { names = []; jobs = []; service = empty (device_of options arch) }) p.tellings (stage_of running) refl p.told;
       runs = runs;
       alone = headline.alone _ _ _ runs;
       parted = headline.parted _ _ _ runs;

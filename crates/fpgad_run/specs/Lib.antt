@@ -1,4 +1,5 @@
 pub mod Commands
+pub mod EndToEnd
 pub mod Held
 pub mod HeldJobs
 pub mod Ids

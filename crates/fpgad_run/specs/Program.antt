@@ -19,6 +19,7 @@ use Rattle.fpgad_run.specs.declared.item.Item.{Item}
 use Rattle.line_text.specs.Lines.{physical_lines}
 use Rattle.fpgad_run.specs.Lines.{ends_text}
 use Rattle.fpgad_run.specs.Script.{Items, items_from, script_of}
+use Rattle.fpgad_run.specs.EndToEnd.{AreToldAlone}
 use Rattle.fpgad_run.specs.Run.{Stage, Telling, Tells, calls_of, written}
 
 -- the architecture's text before the first line that is `.` alone, the number of the next line, and the lines from that one on
@@ -53,8 +54,8 @@ start_of tracks Unreadable input = Err ArchUnreadable
 abbrev pub device_of : Options → Arch → Device
 device_of options arch = record { arch = arch; columns = options.columns; rows = options.rows }
 
--- the bytes are what a run of the items from the empty device writes; of its calls each tenancy was told what it is told alone, and
--- the strips are parted
+-- the bytes are what a run of the items from the empty device writes. Each session's line is told what its tenancy is told alone, by
+-- the service for a single user; of the run's calls so is each tenancy, and the strips are parted
 pub record IsReplies (options : Options) (start : Start) (output : List ℕ) : Type 0 where
   pub arch : Arch
   pub items : List (Item (List ℕ))
@@ -63,6 +64,7 @@ pub record IsReplies (options : Options) (start : Start) (output : List ℕ) : T
   pub last : Stage
   pub all : map (λ t. t.act) tellings ≡ map (λ item. item.act) items
   pub told : Tells (record { names = []; jobs = []; service = empty (device_of options arch) }) tellings last
+  pub each_alone : AreToldAlone (device_of options arch) (record { names = []; jobs = []; service = empty (device_of options arch) }) [] tellings
   pub runs : Run (empty (device_of options arch)) (calls_of tellings) last.service
   pub alone : EachIsAlone (device_of options arch) (calls_of tellings) last.service
   pub parted : AreParted (device_of options arch) last.service

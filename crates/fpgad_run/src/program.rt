@@ -14,6 +14,7 @@ use crate::sections::{Sections, push_section};
 use arch_file::{Arch, ArchError, read_arch};
 use line_text::{MemorySink, ReadError, Sink, Source, read_all, write_all};
 use service_core::{Core, Device, headline};
+use sessions::end_to_end;
 use std::alloc::{AllocError, Global};
 
 /// Where the architecture's text is.
@@ -190,6 +191,7 @@ impl<'t> Running<'t> {
             self.serve(item)?;
         }
         headline();
+        end_to_end();
         self.output(alloc)
     }
 

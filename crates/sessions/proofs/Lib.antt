@@ -1,3 +1,4 @@
 mod CommandLemmas
+mod EndToEndLemmas
 mod Examples
 pub mod StepLemmas

@@ -1,3 +1,4 @@
+pub mod EndToEnd
 pub mod SessionAnswer
 pub mod SessionLines
 pub mod SessionText

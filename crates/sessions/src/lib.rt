@@ -3,12 +3,14 @@
 //! - `read_line` tells what a session's line asks: a command, nothing, or a text that follows.
 //! - `answer` asks the core, and writes what the session is told to any [`line_text::Sink`]: exactly the text, or a
 //!   beginning of it where the sink fails. The entry stands then.
+//! - `end_to_end` is the law of a session: what it is told is what the service for a single user tells.
 //! - `make_step` takes, steps and puts a tenancy's job; `step_and_put` does the last two of a job that was taken.
 //! - `write_reply`, `write_refused`, `write_session_refusal`, `step_word` and `write_parts` are how answers are spelled.
 //! - In `specs/`, `SessionLines` says what a line asks, and `SessionText` how answers are spelled.
 #![tactic(auto)]
 
 mod asking;
+mod law;
 mod line;
 mod refusal;
 mod steps;
@@ -16,6 +18,7 @@ mod text;
 mod told;
 
 pub use asking::answer;
+pub use law::end_to_end;
 pub use line::{LineForm, SessionLine, TextKind, read_line};
 pub use refusal::SessionRefusal;
 pub use steps::{StepOutcome, make_step, step_and_put};

@@ -31,4 +31,4 @@ returns c = λ options arch starts.
     let all : was.0 ≡ map (λ (i : Item (List ℕ)). i.act) c.args.script =
     sym (append-nil was.0) ∙ ap (λ items. was.0 ++ map (λ (i : Item (List ℕ)). i.act) (map named_item (reverse items))) (sym none) ∙ was.2 in
     let progress = (let P : ServiceState → Type 0 = λ s. Progress (record { names = []; jobs = []; service = s }) c.loop-item.self was.0 in subst P starts was.1) in
-    on_ok_value c.output.result (λ output is. replies_all options arch c.args.script c.loop-item.self was.0 output.items (record { alone = c.headline.ensures.alone; parted = c.headline.ensures.parted }) progress all is) c.output.ensures
+    on_ok_value c.output.result (λ output is. replies_all options arch c.args.script c.loop-item.self was.0 output.items (record { alone = c.headline.ensures.alone; parted = c.headline.ensures.parted; line = c.end_to_end.ensures }) progress all is) c.output.ensures

@@ -1,0 +1,23 @@
+-- What each name's session is told, by the service for a single user.
+use Rattle.std.specs.Prelude.{ℕ, ◌≡◌, List, [], ◌∷◌, ◌++◌, ⊤}
+use Rattle.service_core.specs.declared.device.Device.{Device}
+use Rattle.service_core.specs.Run.{Call}
+use Rattle.sessions.specs.declared.told.Answer.{Answer}
+use Rattle.sessions.specs.EndToEnd.{LineIsToldAlone}
+use Rattle.sessions.specs.SessionText.{answer_text}
+use Rattle.fpgad_run.specs.declared.item.Act.{Act}
+use Rattle.fpgad_run.specs.declared.item.Act.TheVariants.{Operator, Session}
+use Rattle.fpgad_run.specs.OperatorText.{last_id}
+use Rattle.fpgad_run.specs.Run.{Stage, Telling, IsAnswered}
+
+-- a session's line is told what its name's last tenancy is told alone, after its own events of the calls before
+abbrev pub IsToldAlone : Device → Stage → List Call → Act (List ℕ) → List ℕ → Type 0
+IsToldAlone device stage before (Operator line) text = ⊤
+IsToldAlone device stage before (Session name line) text =
+    (answer : Answer) × LineIsToldAlone device stage.service (last_id stage.names name) before line answer × (text ≡ answer_text answer)
+
+-- and so is each, one after another
+abbrev pub AreToldAlone : Device → Stage → List Call → List Telling → Type 0
+AreToldAlone device stage before [] = ⊤
+AreToldAlone device stage before (t ∷ ts) =
+    IsToldAlone device stage before t.act t.text × ((mid : Stage) × IsAnswered stage t.act t.calls t.text mid × AreToldAlone device mid (before ++ t.calls) ts)
