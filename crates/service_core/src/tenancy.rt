@@ -157,7 +157,7 @@ impl Tenancy {
     pub(crate) fn close(&mut self)
         ensures { self.new ≡ closed self.old }
     {
-        self.slot = None;
+        drop(self.slot.take());
     }
 }
 
@@ -176,5 +176,11 @@ fn told(command: &Command, answer: &Answer) -> Result<(Command, Reply), AllocErr
     ensures { IfOk result (λ told. (told.0 ≡ command.now) × (told.1 ≡ answer.now.reply)) }
 {
     let reply = answer.reply().clone()?;
-    Ok((command.clone()?, reply))
+    match command.clone() {
+        Ok(command) => Ok((command, reply)),
+        Err(error) => {
+            drop(reply);
+            Err(error)
+        }
+    }
 }
