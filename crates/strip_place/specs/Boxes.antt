@@ -28,14 +28,14 @@ at_row points net = count_at (rows_at points) net
 pub record IsBox (points : List Point) (net : List ℕ) (box : NetBox) : Type 0 where
   pub columns : IsReach (at_column points net) box.x.low.value box.x.high.value
   pub rows : IsReach (at_row points net) box.y.low.value box.y.high.value
-  pub across : 4 < length net → IsExtent (at_column points net) box.x
-  pub up : 4 < length net → IsExtent (at_row points net) box.y
+  pub across : 12 < length net → IsExtent (at_column points net) box.x
+  pub up : 12 < length net → IsExtent (at_row points net) box.y
 
 -- it told that before a block went; where another block of the net went the other way, it still does
 pub record HasStood (points : List Point) (net : List ℕ) (both : Bool) (step : Step) (box : NetBox) : Type 0 where
-  pub same : 4 < length net → both ≡ true → IsBox points net box
-  pub across : 4 < length net → both ≡ false → WasExtent (at_column points net) step.from.x step.to.x box.x
-  pub up : 4 < length net → both ≡ false → WasExtent (at_row points net) step.from.y step.to.y box.y
+  pub same : 12 < length net → both ≡ true → IsBox points net box
+  pub across : 12 < length net → both ≡ false → WasExtent (at_column points net) step.from.x step.to.x box.x
+  pub up : 12 < length net → both ≡ false → WasExtent (at_row points net) step.from.y step.to.y box.y
   pub wide : box.x.low.value ≤ box.x.high.value
   pub high : box.y.low.value ≤ box.y.high.value
 

@@ -6,7 +6,7 @@ use crate::extent::{End, Extent};
 use crate::point::{Point, Step};
 
 /// A net of so many blocks is looked at anew when one of them goes, and the blocks at its ends aren't counted.
-const FEW_BLOCKS: usize = 4;
+const FEW_BLOCKS: usize = 12;
 
 /// How far a net reaches across and up.
 #[derive(Clone, Copy, Debug)]
@@ -63,7 +63,7 @@ impl NetBox {
 
     /// The box of a net of more than few blocks, once one of them went, or where `both`, two changed places.
     fn after(self, net: &[u32], points: &[Point], both: bool, step: Step) -> Self
-        requires many { 4 < length net.now }
+        requires many { 12 < length net.now }
         requires within { All (λ block. block < length points.now) net.now }
         requires short { length net.now + 2 < 2 ^ 16 }
         requires stood { HasStood points.now net.now both step self }
@@ -84,7 +84,7 @@ impl NetBox {
     fn around(net: &[u32], points: &[Point]) -> Self
         requires some { 0 < length net.now }
         requires within { All (λ block. block < length points.now) net.now }
-        requires few { length net.now ≤ 4 }
+        requires few { length net.now ≤ 12 }
         ensures { IsBox points.now net.now result }
     {
         let mut left = u16::MAX;
