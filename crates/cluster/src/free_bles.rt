@@ -90,7 +90,8 @@ impl FreeBles {
 
     /// Whether a BLE is free.
     pub(crate) fn has_free(&self) -> bool
-        ensures { IsTrue result ↔ (0 < length self.now.free) }
+        ensures found { IsTrue result ↔ (0 < length self.now.free) }
+        ensures few { length self.now.elements ≤ 8192 }
     {
         self.seed.is_some()
     }

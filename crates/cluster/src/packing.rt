@@ -55,7 +55,8 @@ pub struct Packing {
     alloc: Global,
     circuit: SharedCircuit,
     arch: SharedArch,
-    grower: FreeBles,
+    /// Apart, so that a packing moves at little cost.
+    grower: Box<FreeBles>,
     clusters: Rows,
     made: usize,
 }
@@ -68,7 +69,7 @@ impl Model for Packing {
 
     ghost view = { λ p. record { circuit = p.circuit; arch = p.arch; made = p.made } };
 
-    ghost invariant = { λ p. IsUnderWay p.circuit p.arch p.grower p.clusters p.made };
+    ghost invariant = { λ p. IsUnderWay p.circuit p.arch p.grower.value p.clusters p.made };
 }
 
 /// What a step of packing leads to.
@@ -95,7 +96,7 @@ impl Packing {
             alloc,
             circuit: circuit.clone()?,
             arch: arch.clone()?,
-            grower,
+            grower: Box::new(alloc, grower)?,
             clusters,
             made: 0,
         })
@@ -150,7 +151,7 @@ impl Packing {
             Ok(tables) => Ok(PackEnd::Last(Packed::new(
                 self.circuit,
                 self.arch,
-                self.grower.into_bles(),
+                Box::into_inner(self.grower).into_bles(),
                 self.clusters,
                 tables,
             ))),
