@@ -1,5 +1,5 @@
 -- A packing that goes on by one cluster.
-use Rattle.std.proofs.Common.{◌≡◌, ℕ, suc, ◌+◌, ◌<◌, ◌≤◌, Bool, true, false, not, ◌||◌, ◌&&◌, List, [], ◌∷◌, ◌++◌, ◌==◌, None, IsTrue, filter, length, max, refl, sym, ap, subst, ◌∙◌, arith}
+use Rattle.std.proofs.Common.{◌≡◌, ℕ, suc, ◌+◌, ◌<◌, Bool, true, false, not, ◌||◌, ◌&&◌, List, [], ◌∷◌, ◌++◌, ◌==◌, None, IsTrue, filter, length, max, refl, sym, ap, subst, ◌∙◌, arith}
 use Rattle.std.specs.List.{list_any, range_with_len}
 use Rattle.std.proofs.lemmas.List.Elements.{filter_agree}
 use Rattle.std.proofs.lemmas.List.Folds.{list_any-append}
@@ -162,20 +162,3 @@ none_left (number ∷ free) found says is = let yes = says (omega arith) in absu
 pub none_taken : (free cluster : List ℕ) → (length cluster == 0) ≡ true → free ≡ filter (λ number. not (has cluster number)) free
 none_taken free [] is = free_same free
 none_taken free (number ∷ cluster) is = absurd (grind (arith, nat_tests, is))
-
--- a packing under way, by the state that is found
-pub begun : (circuit : Circuit) (arch : Arch) (found state : GrowerState) (clusters : List (List ℕ)) (made : ℕ) → found ≡ state → IsUnderWay circuit arch state clusters made → IsUnderWay circuit arch found clusters made
-begun circuit arch found state clusters made is way = subst (λ (growth : GrowerState). IsUnderWay circuit arch growth clusters made) (sym is) way
-
--- what is free, by the state that is found
-pub some_free : (found state : GrowerState) → found ≡ state → 0 < length found.free → 0 < length state.free
-some_free found state is some = subst (λ (growth : GrowerState). 0 < length growth.free) is some
-
-pub all_taken : (found state : GrowerState) → found ≡ state → found.free ≡ [] → state.free ≡ []
-all_taken found state is none = ap (λ (growth : GrowerState). growth.free) (sym is) ∙ none
-
--- there are few steps
-pub few_steps : (circuit : Circuit) (arch : Arch) (found state : GrowerState) (clusters : List (List ℕ)) (made : ℕ) → IsStepped circuit arch state clusters made → found ≡ state → length found.elements ≤ 8192 → made ≤ 8192
-few_steps circuit arch found state clusters made s is few =
-    let elements : length found.elements ≡ length (bles_of circuit) = ap (λ (growth : GrowerState). length growth.elements) is ∙ ap length s.elements in
-    omega (arith, elements, s.going.taken, few)

@@ -90,8 +90,7 @@ impl FreeBles {
 
     /// Whether a BLE is free.
     pub(crate) fn has_free(&self) -> bool
-        ensures found { IsTrue result ↔ (0 < length self.now.free) }
-        ensures few { length self.now.elements ≤ 8192 }
+        ensures { IsTrue result ↔ (0 < length self.now.free) }
     {
         self.seed.is_some()
     }

@@ -20,7 +20,7 @@ pub struct Packed {
     arch: SharedArch,
     bles: Bles,
     clusters: Rows,
-    tables: Box<PackedTables>,
+    tables: PackedTables,
 }
 
 impl Model for Packed {
@@ -31,7 +31,7 @@ impl Model for Packed {
 
     ghost view = { λ p. record { circuit = p.circuit; arch = p.arch; clusters = p.clusters } };
 
-    ghost invariant = { λ p. ArePartsOf (record { circuit = p.circuit; arch = p.arch; clusters = p.clusters }) p.bles p.tables.value };
+    ghost invariant = { λ p. ArePartsOf (record { circuit = p.circuit; arch = p.arch; clusters = p.clusters }) p.bles p.tables };
 }
 
 impl Packed {
@@ -41,11 +41,11 @@ impl Packed {
         arch: SharedArch,
         bles: Bles,
         clusters: Rows,
-        tables: Box<PackedTables>,
+        tables: PackedTables,
     ) -> Self
         requires bles { bles ≡ bles_of circuit }
         requires packed { IsPacked (record { circuit = circuit; arch = arch; clusters = clusters }) }
-        requires tables { AreTablesOf (record { circuit = circuit; arch = arch; clusters = clusters }) tables.value }
+        requires tables { AreTablesOf (record { circuit = circuit; arch = arch; clusters = clusters }) tables }
         ensures { result ≡ record { circuit = circuit; arch = arch; clusters = clusters } }
     {
         Packed {

@@ -27,17 +27,17 @@ pub(crate) struct PackedTables {
 }
 
 impl PackedTables {
-    /// The tables of a packed circuit, apart, so that it moves at little cost. Takes time in proportion to its size.
+    /// The tables of a packed circuit. Takes time in proportion to its size.
     pub(crate) fn new(
         alloc: Global,
         circuit: &Circuit,
         arch: &Arch,
         bles: &Bles,
         clusters: &Rows,
-    ) -> Result<Box<Self>, AllocError>
+    ) -> Result<Self, AllocError>
         requires bles { bles.now ≡ bles_of circuit.now }
         requires packed { IsPacked (record { circuit = circuit.now; arch = arch.now; clusters = clusters.now }) }
-        ensures { IfOk result (λ tables. AreTablesOf (record { circuit = circuit.now; arch = arch.now; clusters = clusters.now }) tables.value) }
+        ensures { IfOk result (λ tables. AreTablesOf (record { circuit = circuit.now; arch = arch.now; clusters = clusters.now }) tables) }
     {
         let PinNets {
             inputs,
@@ -49,13 +49,12 @@ impl PackedTables {
         add_input_nets(&mut nets, circuit, &uses)?;
         add_cluster_nets(&mut nets, circuit, &uses, bles, clusters)?;
         let ranks = ranks_of(alloc, arch.pins.as_slice())?;
-        let tables = PackedTables {
+        Ok(PackedTables {
             inputs,
             clocks,
             uses,
             nets,
             ranks,
-        };
-        Ok(Box::new(alloc, tables)?)
+        })
     }
 }

@@ -55,8 +55,7 @@ pub struct Packing {
     alloc: Global,
     circuit: SharedCircuit,
     arch: SharedArch,
-    /// Apart, so that a packing moves at little cost.
-    grower: Box<FreeBles>,
+    grower: FreeBles,
     clusters: Rows,
     made: usize,
 }
@@ -69,7 +68,7 @@ impl Model for Packing {
 
     ghost view = { λ p. record { circuit = p.circuit; arch = p.arch; made = p.made } };
 
-    ghost invariant = { λ p. IsUnderWay p.circuit p.arch p.grower.value p.clusters p.made };
+    ghost invariant = { λ p. IsUnderWay p.circuit p.arch p.grower p.clusters p.made };
 }
 
 /// What a step of packing leads to.
@@ -96,7 +95,7 @@ impl Packing {
             alloc,
             circuit: circuit.clone()?,
             arch: arch.clone()?,
-            grower: Box::new(alloc, grower)?,
+            grower,
             clusters,
             made: 0,
         })
@@ -151,7 +150,7 @@ impl Packing {
             Ok(tables) => Ok(PackEnd::Last(Packed::new(
                 self.circuit,
                 self.arch,
-                Box::into_inner(self.grower).into_bles(),
+                self.grower.into_bles(),
                 self.clusters,
                 tables,
             ))),

@@ -21,17 +21,17 @@ overflow_cast-block c =
     omega (arith, few, pads, clusters, c.pad_count.ensures, c.requires)
 
 pub leaves-requires-clause-global : goal.leaves-requires-clause-global
-leaves-requires-clause-global c = (ble_within _ c.self.inside.bles c.self.inside.tables.value _ _ c.self.invariant c.ble-net.ensures).0
+leaves-requires-clause-global c = (ble_within _ c.self.inside.bles c.self.inside.tables _ _ c.self.invariant c.ble-net.ensures).0
 
 pub leaves-requires-clause-reader : goal.leaves-requires-clause-reader
-leaves-requires-clause-reader c = (ble_within _ c.self.inside.bles c.self.inside.tables.value _ _ c.self.invariant c.ble-net.ensures).1
+leaves-requires-clause-reader c = (ble_within _ c.self.inside.bles c.self.inside.tables _ _ c.self.invariant c.ble-net.ensures).1
 
 pub returns-then-leaves : goal.returns-then-leaves
 returns-then-leaves c =
     let packed : PackedCircuit = record { circuit = c.self.inside.circuit; arch = c.self.inside.arch; clusters = c.self.inside.clusters } in
     let pads = ap (λ (packed : PackedCircuit). length packed.circuit.inputs + length packed.circuit.outputs) c.self.view_is in
     let block : c.pad_count.result + c.args.cluster ≡ cluster_block packed c.args.cluster = omega (arith, pads, c.pad_count.ensures) in
-    let told = leaves_told packed c.self.inside.bles c.self.inside.tables.value _ _ c.self.invariant c.ble-net.ensures (c.pad_count.result + c.args.cluster) (cluster_block packed c.args.cluster) block in
+    let told = leaves_told packed c.self.inside.bles c.self.inside.tables _ _ c.self.invariant c.ble-net.ensures (c.pad_count.result + c.args.cluster) (cluster_block packed c.args.cluster) block in
     rw (← c.self.view_is) (output_leaves packed c.self.inside.bles c.args.cluster c.args.place c.row-members.result.now _ c.self.invariant.bles c.row-members.ensures (omega arith) c.ble-net.ensures (sym told ∙ sym c.leaves.ensures ∙ c.if-leaves.true))
 
 pub returns-else-leaves : goal.returns-else-leaves
@@ -39,5 +39,5 @@ returns-else-leaves c =
     let packed : PackedCircuit = record { circuit = c.self.inside.circuit; arch = c.self.inside.arch; clusters = c.self.inside.clusters } in
     let pads = ap (λ (packed : PackedCircuit). length packed.circuit.inputs + length packed.circuit.outputs) c.self.view_is in
     let block : c.pad_count.result + c.args.cluster ≡ cluster_block packed c.args.cluster = omega (arith, pads, c.pad_count.ensures) in
-    let told = leaves_told packed c.self.inside.bles c.self.inside.tables.value _ _ c.self.invariant c.ble-net.ensures (c.pad_count.result + c.args.cluster) (cluster_block packed c.args.cluster) block in
+    let told = leaves_told packed c.self.inside.bles c.self.inside.tables _ _ c.self.invariant c.ble-net.ensures (c.pad_count.result + c.args.cluster) (cluster_block packed c.args.cluster) block in
     rw (← c.self.view_is) (output_stays packed c.self.inside.bles c.args.cluster c.args.place c.row-members.result.now _ c.self.invariant.bles c.row-members.ensures (omega arith) c.ble-net.ensures (sym told ∙ sym c.leaves.ensures ∙ c.if-leaves.false))

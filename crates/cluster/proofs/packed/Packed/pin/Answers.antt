@@ -11,7 +11,7 @@ pub index-rank-requires : goal.index-rank-requires
 index-rank-requires c =
     let ranks = ap (λ (ranks : List ℕ). length ranks) c.self.invariant.kept.ranks in
     let pins = ap (λ (packed : PackedCircuit). length packed.arch.pins) c.self.view_is in
-    omega (arith, ranks, pins, length-pin_ranks c.self.inside.arch.pins, c.self.inside.tables.value.ranks.ok, c.requires.pin)
+    omega (arith, ranks, pins, length-pin_ranks c.self.inside.arch.pins, c.self.inside.tables.ranks.ok, c.requires.pin)
 
 pub returns-in-Input : goal.returns-in-Input
 returns-in-Input c =
@@ -21,8 +21,8 @@ returns-in-Input c =
     let class = ap (λ (pins : List Pin). (get_or pins c.args.pin none).class) (sym pins) ∙ c.in-Input.is in
     let pin_count = ap (λ (packed : PackedCircuit). length packed.arch.pins) c.self.view_is in
     let cluster_count = ap (λ (packed : PackedCircuit). length packed.clusters) c.self.view_is in
-    rw (← c.self.view_is) (pin_at packed c.args.cluster c.args.pin c.index-rank.result.now Input c.self.inside.tables.value.ranks.items none _ (omega (arith, pin_count, c.requires.pin)) class c.self.invariant.kept.ranks c.index-rank.ensures
-    (c.entry.ensures ∙ input_entry packed c.self.inside.tables.value c.args.cluster _ _ (omega (arith, cluster_count, c.requires.cluster)) c.self.invariant.kept c.row.ensures))
+    rw (← c.self.view_is) (pin_at packed c.args.cluster c.args.pin c.index-rank.result.now Input c.self.inside.tables.ranks.items none _ (omega (arith, pin_count, c.requires.pin)) class c.self.invariant.kept.ranks c.index-rank.ensures
+    (c.entry.ensures ∙ input_entry packed c.self.inside.tables c.args.cluster _ _ (omega (arith, cluster_count, c.requires.cluster)) c.self.invariant.kept c.row.ensures))
 
 pub returns-in-Output : goal.returns-in-Output
 returns-in-Output c =
@@ -32,7 +32,7 @@ returns-in-Output c =
     let class = ap (λ (pins : List Pin). (get_or pins c.args.pin none).class) (sym pins) ∙ c.in-Output.is in
     let pin_count = ap (λ (packed : PackedCircuit). length packed.arch.pins) c.self.view_is in
     let net = c.leaving_output.ensures ∙ ap (λ (packed : PackedCircuit). carried (nets_of_cluster packed c.args.cluster) Output c.index-rank.result.now) (sym c.self.view_is) in
-    rw (← c.self.view_is) (pin_at packed c.args.cluster c.args.pin c.index-rank.result.now Output c.self.inside.tables.value.ranks.items none _ (omega (arith, pin_count, c.requires.pin)) class c.self.invariant.kept.ranks c.index-rank.ensures net)
+    rw (← c.self.view_is) (pin_at packed c.args.cluster c.args.pin c.index-rank.result.now Output c.self.inside.tables.ranks.items none _ (omega (arith, pin_count, c.requires.pin)) class c.self.invariant.kept.ranks c.index-rank.ensures net)
 
 pub returns-in-Clock : goal.returns-in-Clock
 returns-in-Clock c =
@@ -42,5 +42,5 @@ returns-in-Clock c =
     let class = ap (λ (pins : List Pin). (get_or pins c.args.pin none).class) (sym pins) ∙ c.in-Clock.is in
     let pin_count = ap (λ (packed : PackedCircuit). length packed.arch.pins) c.self.view_is in
     let cluster_count = ap (λ (packed : PackedCircuit). length packed.clusters) c.self.view_is in
-    rw (← c.self.view_is) (pin_at packed c.args.cluster c.args.pin c.index-rank.result.now Clock c.self.inside.tables.value.ranks.items none _ (omega (arith, pin_count, c.requires.pin)) class c.self.invariant.kept.ranks c.index-rank.ensures
-    (c.entry-in-Clock.ensures ∙ clock_entry packed c.self.inside.tables.value c.args.cluster _ _ (omega (arith, cluster_count, c.requires.cluster)) c.self.invariant.kept c.row-in-Clock.ensures))
+    rw (← c.self.view_is) (pin_at packed c.args.cluster c.args.pin c.index-rank.result.now Clock c.self.inside.tables.ranks.items none _ (omega (arith, pin_count, c.requires.pin)) class c.self.invariant.kept.ranks c.index-rank.ensures
+    (c.entry-in-Clock.ensures ∙ clock_entry packed c.self.inside.tables c.args.cluster _ _ (omega (arith, cluster_count, c.requires.cluster)) c.self.invariant.kept c.row-in-Clock.ensures))

@@ -37,5 +37,4 @@ add_cluster_nets-requires-clause-few c = few_blocks _ c.requires.packed
 
 pub returns : goal.returns
 returns c =
-    let tables = c.in_ok-new.ensures.ok in
-    rw tables (tables_made c.args.circuit.now c.args.arch.now c.args.bles.now c.args.clusters.now _ c.new-nets.result c.add_input_nets.new.nets c.requires.bles c.requires.packed c.in_ok-inputs.ensures.inputs c.in_ok-inputs.ensures.clocks c.in_ok-uses.ensures.globals (c.in_ok-uses.ensures.readers ∙ c.in_ok-inputs.ensures.readers) c.new-nets.ensures c.in_ok-add_input_nets.ensures c.in_ok-add_cluster_nets.ensures (c.in_ok-ranks.ensures ∙ ap (λ (pins : List Pin). pin_ranks pins) c.as_slice.ensures))
+    tables_made c.args.circuit.now c.args.arch.now c.args.bles.now c.args.clusters.now _ c.new-nets.result c.add_input_nets.new.nets c.requires.bles c.requires.packed c.in_ok-inputs.ensures.inputs c.in_ok-inputs.ensures.clocks c.in_ok-uses.ensures.globals (c.in_ok-uses.ensures.readers ∙ c.in_ok-inputs.ensures.readers) c.new-nets.ensures c.in_ok-add_input_nets.ensures c.in_ok-add_cluster_nets.ensures (c.in_ok-ranks.ensures ∙ ap (λ (pins : List Pin). pin_ranks pins) c.as_slice.ensures)
