@@ -86,6 +86,10 @@ fn towards_a_sink(rt: HostRuntime) -> Result<(), Fail> {
         .ok_or("no wire")?;
     assert_eq!(rt; fabric.further_to(beside, sink), Some(2));
     assert_eq!(rt; fabric.ends_towards(beside, sink).list.len(), 6);
+    let pin = fabric
+        .number(node(NodeKind::Opin, 2, 0, 0))
+        .ok_or("no pin")?;
+    assert_eq!(rt; fabric.further_to(pin, sink), Some(6));
     Ok(())
 }
 

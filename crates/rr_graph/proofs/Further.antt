@@ -11,7 +11,7 @@ use Rattle.rr_graph.specs.declared.node.NodeKind.TheVariants.{Source, Sink, Opin
 use Rattle.rr_graph.specs.declared.node.Node.{Node}
 use Rattle.rr_graph.specs.Geometry.{is_node, is_edge, is_slot, is_chan_y, is_read, is_pad_row, is_block_number, IsWire, is_wire, is_block_row, is_together, joins, meets, meets_track, flexibility_of, runs_along, sides_at, across_of, up_of, gap}
 use Rattle.rr_graph.specs.Graph.{Basis, RoutingGraph, IsRoutingGraph}
-use Rattle.rr_graph.specs.Ways.{is_own, is_met, from_sink, wire_further, further_by, further_to, FallsByOne, is_passing, ends_towards}
+use Rattle.rr_graph.specs.Ways.{is_own, is_met, from_sink, wire_further, blocks_apart, further_by, further_to, FallsByOne, is_passing, ends_towards}
 use Rattle.rr_graph.proofs.GeometryLaws.{own_track}
 use Rattle.rr_graph.proofs.ReadTracks.{read_by}
 use Rattle.rr_graph.proofs.Distances.{joined_apart}
@@ -159,9 +159,35 @@ own_met arch strip sink wire pin kind there h own = elim (cases_Bool (is_block_r
   | inr pad ↦ rw pad (pad_reads arch strip sink wire pin pad kind there (rw pad at own) h)
 ]
 
-from_none : (met : Bool) (apart : ℕ) → FallsByOne (Some 0) (wire_further met apart)
-from_none true apart = omega arith
-from_none false apart = tt
+-- a block is no further from the sink than a wire beside it, but for one half step
+double_gap : (a b : ℕ) → gap (2 * a) (2 * b) ≡ 2 * gap a b
+double_gap a b = omega arith
+
+gap_back : (a b : ℕ) → gap a b ≡ gap b a
+gap_back a b = omega arith
+
+half_apart : (u v a b gx gy : ℕ) → u + v ≡ 1 → 2 * gx ≤ u + a → 2 * gy ≤ v + b → gx + gy + 2 ≤ 1 + (a + b + 3) / 2
+half_apart u v a b gx gy e lx ly = omega (arith, e, lx, ly)
+
+beside_apart : (p q x y s t : ℕ) → gap p (2 * x) + gap q (2 * y) ≡ 1 → gap x s + gap y t + 2 ≤ 1 + (gap p (2 * s) + gap q (2 * t) + 3) / 2
+beside_apart p q x y s t e =
+    half_apart (gap p (2 * x)) (gap q (2 * y)) (gap p (2 * s)) (gap q (2 * t)) (gap x s) (gap y t) e
+    (rw (gap_back p (2 * x), sym (double_gap x s)) (gap_over (2 * x) p (2 * s)))
+    (rw (gap_back q (2 * y), sym (double_gap y t)) (gap_over (2 * y) q (2 * t)))
+
+-- from an output pin to a wire
+from_opin : (arch : Arch) (strip : Strip) (met : Bool) (sink pin wire : Node) → meets arch strip pin wire ≡ true → FallsByOne (Some (blocks_apart sink pin + 2)) (wire_further met (from_sink sink wire.kind wire.x wire.y))
+from_opin arch strip true sink pin wire h =
+    let along = (and_parts (runs_along (sides_at arch strip pin) pin wire.kind wire.x wire.y) (meets_track (flexibility_of arch strip pin) arch.tracks pin.n wire.n) h).0 in
+    beside_apart (across_of wire.kind wire.x) (up_of wire.kind wire.y) pin.x pin.y sink.x sink.y (beside (sides_at arch strip pin) pin wire.kind wire.x wire.y along)
+from_opin arch strip false sink pin wire h = tt
+
+-- from a source to an output pin
+from_source : (strip : Strip) (sink source pin : Node) → is_together strip source pin ≡ true → blocks_apart sink source + 3 ≤ 1 + (blocks_apart sink pin + 2)
+from_source strip sink source pin h =
+    let parts = and_parts (source.x == pin.x) ((source.y == pin.y) && (is_block_row strip source.y || (source.n == pin.n))) h in
+    let more = and_parts (source.y == pin.y) (is_block_row strip source.y || (source.n == pin.n)) parts.1 in
+    rw (eqb-true source.x pin.x parts.0, eqb-true source.y pin.y more.0) (omega arith)
 
 falls_by : (arch : Arch) (strip : Strip) (met : ℕ → Bool) (is_block : Bool) (sink : Node) (ka kb : NodeKind) (a b : Node) → is_block ≡ is_block_row strip sink.y → a.kind ≡ ka → b.kind ≡ kb
     → ((wire pin : Node) → pin.kind ≡ Ipin → is_node arch strip pin ≡ true → meets arch strip pin wire ≡ true → is_own is_block sink pin ≡ true → met wire.n ≡ true)
@@ -169,7 +195,7 @@ falls_by : (arch : Arch) (strip : Strip) (met : ℕ → Bool) (is_block : Bool) 
     → joins arch strip ka kb a b ≡ true → FallsByOne (further_by (met a.n) is_block sink ka a) (further_by (met b.n) is_block sink kb b)
 falls_by arch strip met is_block sink Source Source a b block ea eb reads there h = absurd (false≢true h)
 falls_by arch strip met is_block sink Source Sink a b block ea eb reads there h = absurd (false≢true h)
-falls_by arch strip met is_block sink Source Opin a b block ea eb reads there h = omega arith
+falls_by arch strip met is_block sink Source Opin a b block ea eb reads there h = from_source strip sink a b h
 falls_by arch strip met is_block sink Source Ipin a b block ea eb reads there h = absurd (false≢true h)
 falls_by arch strip met is_block sink Source ChanX a b block ea eb reads there h = absurd (false≢true h)
 falls_by arch strip met is_block sink Source ChanY a b block ea eb reads there h = absurd (false≢true h)
@@ -183,8 +209,8 @@ falls_by arch strip met is_block sink Opin Source a b block ea eb reads there h 
 falls_by arch strip met is_block sink Opin Sink a b block ea eb reads there h = absurd (false≢true h)
 falls_by arch strip met is_block sink Opin Opin a b block ea eb reads there h = absurd (false≢true h)
 falls_by arch strip met is_block sink Opin Ipin a b block ea eb reads there h = absurd (false≢true h)
-falls_by arch strip met is_block sink Opin ChanX a b block ea eb reads there h = from_none (met b.n) (from_sink sink ChanX b.x b.y)
-falls_by arch strip met is_block sink Opin ChanY a b block ea eb reads there h = from_none (met b.n) (from_sink sink ChanY b.x b.y)
+falls_by arch strip met is_block sink Opin ChanX a b block ea eb reads there h = rw eb at (from_opin arch strip (met b.n) sink a b h)
+falls_by arch strip met is_block sink Opin ChanY a b block ea eb reads there h = rw eb at (from_opin arch strip (met b.n) sink a b h)
 falls_by arch strip met is_block sink Ipin Source a b block ea eb reads there h = absurd (false≢true h)
 falls_by arch strip met is_block sink Ipin Sink a b block ea eb reads there h = to_sink strip is_block sink a b block h
 falls_by arch strip met is_block sink Ipin Opin a b block ea eb reads there h = absurd (false≢true h)

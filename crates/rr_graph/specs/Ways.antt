@@ -25,9 +25,14 @@ from_sink sink kind x y = gap (across_of kind x) (2 * sink.x) + gap (up_of kind 
 abbrev pub wire_further : Bool → ℕ → Option ℕ
 wire_further met apart = if met then Some ((apart + 3) / 2) else None
 
+-- how many columns and rows lie between a block or pad and that of the sink
+abbrev pub blocks_apart : Node → Node → ℕ
+blocks_apart sink node = gap node.x sink.x + gap node.y sink.y
+
+-- an output pin is followed by a wire beside its block
 abbrev pub further_by : Bool → Bool → Node → NodeKind → Node → Option ℕ
-further_by met is_block sink Source node = Some 0
-further_by met is_block sink Opin node = Some 0
+further_by met is_block sink Source node = Some (blocks_apart sink node + 3)
+further_by met is_block sink Opin node = Some (blocks_apart sink node + 2)
 further_by met is_block sink Ipin node = if is_own is_block sink node then Some 1 else None
 further_by met is_block sink Sink node = if is_own is_block sink node then Some 0 else None
 further_by met is_block sink ChanX node = wire_further met (from_sink sink ChanX node.x node.y)

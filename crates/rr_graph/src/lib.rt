@@ -23,6 +23,7 @@ mod laws;
 mod met;
 mod node;
 mod numbering;
+mod resource;
 mod table;
 mod ways;
 
@@ -31,3 +32,4 @@ pub use fabric::Fabric;
 pub use graph::{Ends, StripGraph, one_graph};
 pub use laws::{laws_of_geometry, laws_of_ways};
 pub use node::{Node, NodeKind};
+pub use resource::{Resource, ResourceKind};

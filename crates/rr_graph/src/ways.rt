@@ -1,7 +1,7 @@
 //! Ways to a sink: how many nodes at least follow a node, and whether its ends that are no wires matter.
 ghost use Rattle.std.specs.Prelude.{◌≡◌, ◌+◌, ◌*◌};
 ghost use Rattle.rr_graph.specs.Geometry.{is_wire, gap, across_of, up_of};
-ghost use Rattle.rr_graph.specs.Ways.{is_own, from_sink, wire_further, further_by, is_passing};
+ghost use Rattle.rr_graph.specs.Ways.{is_own, from_sink, wire_further, blocks_apart, further_by, is_passing};
 
 use crate::node::{Node, NodeKind};
 
@@ -67,6 +67,13 @@ fn wire_further(met: bool, sink: Node, wire: Node) -> Option<u64>
     Some((from_sink(sink, wire) + 3) / 2)
 }
 
+/// How many columns and rows lie between a block or pad and that of the sink.
+fn blocks_apart(sink: Node, node: Node) -> u64
+    ensures { result ≡ blocks_apart sink node }
+{
+    gap(node.x as u64, sink.x as u64) + gap(node.y as u64, sink.y as u64)
+}
+
 /// How many nodes at least follow a node on any way to the sink, by whether a wire's track is met there.
 pub(crate) fn further(met: bool, is_block: bool, sink: Node, node: Node) -> Option<u64>
     ensures { result ≡ further_by met is_block sink node.kind node }
@@ -76,7 +83,8 @@ pub(crate) fn further(met: bool, is_block: bool, sink: Node, node: Node) -> Opti
         NodeKind::Ipin if is_own(is_block, sink, node) => Some(1),
         NodeKind::Sink if is_own(is_block, sink, node) => Some(0),
         NodeKind::Ipin | NodeKind::Sink => None,
-        NodeKind::Source | NodeKind::Opin => Some(0),
+        NodeKind::Source => Some(blocks_apart(sink, node) + 3),
+        NodeKind::Opin => Some(blocks_apart(sink, node) + 2),
     }
 }
 
