@@ -1,14 +1,13 @@
 -- Private: the boxes of nets whose blocks stand at points.
-use Rattle.std.specs.Prelude.{ℕ, ◌≡◌, ◌≢◌, ◌+◌, ◌*◌, ◌^◌, ◌<◌, ◌≤◌, ◌==◌, nat_le, Bool, true, false, List, length, map, take, sum_by, slice_index}
-use Rattle.std.specs.List.{slice_index_or, list_any}
+use Rattle.std.specs.Prelude.{ℕ, ◌≡◌, ◌≢◌, ◌+◌, ◌-◌, ◌*◌, ◌<◌, ◌≤◌, ◌==◌, List, length, map, take, sum_by, slice_index, if◌then◌else◌}
+use Rattle.std.specs.List.{slice_index_or}
 use Rattle.strip_place.specs.declared.net_box.NetBox.{NetBox}
-use Rattle.strip_place.specs.declared.boxes.BoxPair.{BoxPair}
-use Rattle.strip_place.specs.declared.boxes.Lengths.{Lengths}
 use Rattle.strip_place.specs.declared.point.Point.{Point}
-use Rattle.strip_place.specs.declared.point.Step.{Step}
-use Rattle.strip_place.specs.Extents.{IsReach, IsExtent, WasExtent, count_at, end_at, width_of}
+use Rattle.strip_place.specs.declared.sides.Sides.{Sides}
+use Rattle.strip_place.specs.Extents.{IsNear, count_at, mirrored}
 use Rattle.strip_place.specs.Nets.{net_at}
 use Rattle.strip_place.specs.Pass.{spread}
+use Rattle.strip_place.specs.Sides.{farther, nearer, sum_of}
 
 -- the columns, and the rows, of points
 abbrev pub columns_at : List Point → List ℕ
@@ -24,83 +23,87 @@ at_column points net = count_at (columns_at points) net
 abbrev pub at_row : List Point → List ℕ → ℕ → ℕ
 at_row points net = count_at (rows_at points) net
 
--- a box tells how far a net reaches; where its blocks are more than few, it tells how many stand at each end
-pub record IsBox (points : List Point) (net : List ℕ) (box : NetBox) : Type 0 where
-  pub columns : IsReach (at_column points net) box.x.low.value box.x.high.value
-  pub rows : IsReach (at_row points net) box.y.low.value box.y.high.value
-  pub across : 12 < length net → IsExtent (at_column points net) box.x
-  pub up : 12 < length net → IsExtent (at_row points net) box.y
+-- a box tells what is near each side, by how many blocks stand in each column and in each row
+pub record IsBoxBy (columns rows : ℕ → ℕ) (box : NetBox) : Type 0 where
+  pub left : IsNear columns box.near.left box.next.left
+  pub right : IsNear (mirrored columns) box.near.right box.next.right
+  pub bottom : IsNear rows box.near.bottom box.next.bottom
+  pub top : IsNear (mirrored rows) box.near.top box.next.top
+  pub columns_inside : (column : ℕ) → 65535 < column → columns column ≡ 0
+  pub rows_inside : (row : ℕ) → 65535 < row → rows row ≡ 0
 
--- it told that before a block went; where another block of the net went the other way, it still does
-pub record HasStood (points : List Point) (net : List ℕ) (both : Bool) (step : Step) (box : NetBox) : Type 0 where
-  pub same : 12 < length net → both ≡ true → IsBox points net box
-  pub across : 12 < length net → both ≡ false → WasExtent (at_column points net) step.from.x step.to.x box.x
-  pub up : 12 < length net → both ≡ false → WasExtent (at_row points net) step.from.y step.to.y box.y
-  pub wide : box.x.low.value ≤ box.x.high.value
-  pub high : box.y.low.value ≤ box.y.high.value
+-- it tells that of the blocks of a net
+abbrev pub IsBox : List Point → List ℕ → NetBox → Type 0
+IsBox points net box = IsBoxBy (at_column points net) (at_row points net) box
 
 -- the width plus the height
 abbrev pub half_of : NetBox → ℕ
-half_of box = width_of box.x + width_of box.y
+half_of box = 131070 - sum_of box.near
+
+-- what is nearest once one that is so far goes
+abbrev pub rest : ℕ → ℕ → ℕ → ℕ
+rest near next gone = if near == gone then next else near
+
+-- the same at each side
+abbrev pub rest_of : NetBox → Sides → Sides
+rest_of box gone = record {
+  left = rest box.near.left box.next.left gone.left;
+  right = rest box.near.right box.next.right gone.right;
+  bottom = rest box.near.bottom box.next.bottom gone.bottom;
+  top = rest box.near.top box.next.top gone.top;
+}
+
+-- the width plus the height once a block goes from there to there
+abbrev pub half_after : NetBox → Sides → Sides → ℕ
+half_after box from to = 131070 - sum_of (nearer (rest_of box from) to)
+
+-- a box with one block more
+abbrev pub met : NetBox → Sides → NetBox
+met box block = record { near = nearer block box.near; next = nearer box.next (farther box.near block) }
 
 -- the width plus the height of the box of a net whose blocks stand at these points
 abbrev pub reach_of : List Point → List ℕ → ℕ
 reach_of points net = spread (map (slice_index (columns_at points)) net) + spread (map (slice_index (rows_at points)) net)
 
-abbrev pub no_box : NetBox
-no_box = record { x = record { low = end_at 0 0; high = end_at 0 0 }; y = record { low = end_at 0 0; high = end_at 0 0 } }
+abbrev pub no_sides : Sides
+no_sides = record { left = 0; right = 0; bottom = 0; top = 0 }
 
-abbrev pub pair_at : List BoxPair → ℕ → BoxPair
-pair_at pairs number = slice_index_or pairs number (record { now = no_box; next = no_box })
+abbrev pub box_at : List NetBox → ℕ → NetBox
+box_at boxes number = slice_index_or boxes number (record { near = no_sides; next = no_sides })
 
--- the net of that number is among the partners
-abbrev pub is_among : List ℕ → ℕ → Bool
-is_among partners number = list_any (λ other. other == number) partners
+-- how long the nets of these numbers are by their boxes, by these once a block went, and by where their blocks stand
+abbrev pub boxed_length : List NetBox → List ℕ → ℕ
+boxed_length boxes numbers = sum_by (λ number. half_of (box_at boxes number)) numbers
 
-abbrev pub reversed : Step → Step
-reversed step = record { from = step.to; to = step.from }
-
--- the boxes of the nets that a block is on which went stood before; a partner, on its own nets, went the other way
-pub record AreReady (points : List Point) (nets : List (List ℕ)) (touched partners : List ℕ) (step : Step) (pairs : List BoxPair) : Type 0 where
-  pub few : length touched ≤ 2 ^ 31
-  pub within : (k : ℕ) → k < length touched → slice_index touched k < length nets
-  pub stood : (k : ℕ) → k < length touched → HasStood points (net_at nets (slice_index touched k)) (is_among partners (slice_index touched k)) step (pair_at pairs (slice_index touched k)).now
-
--- how long the nets of these numbers are by their boxes, and by where their blocks stand
-abbrev pub boxed_length : List BoxPair → List ℕ → ℕ
-boxed_length pairs numbers = sum_by (λ number. half_of (pair_at pairs number).now) numbers
+abbrev pub length_after : List NetBox → Sides → Sides → List ℕ → ℕ
+length_after boxes from to numbers = sum_by (λ number. half_after (box_at boxes number) from to) numbers
 
 abbrev pub reached_length : List Point → List (List ℕ) → List ℕ → ℕ
 reached_length points nets numbers = sum_by (λ number. reach_of points (net_at nets number)) numbers
 
--- of the nets of these numbers the first so many have their next boxes; and how long they were and are
-pub record AreWorkedOut (points : List Point) (nets : List (List ℕ)) (touched : List ℕ) (count : ℕ) (old new : List BoxPair) (lengths : Lengths) : Type 0 where
+-- of the nets of these numbers the first so many have the boxes of where their blocks stand, which are so long together
+pub record AreRenewed (points : List Point) (nets : List (List ℕ)) (touched : List ℕ) (count : ℕ) (old new : List NetBox) (total : ℕ) : Type 0 where
   pub long : length new ≡ length old
-  pub same : (number : ℕ) → (pair_at new number).now ≡ (pair_at old number).now
-  pub done : (k : ℕ) → k < count → IsBox points (net_at nets (slice_index touched k)) (pair_at new (slice_index touched k)).next
-  pub kept : (number : ℕ) → IsBox points (net_at nets number) (pair_at old number).next → IsBox points (net_at nets number) (pair_at new number).next
-  pub before : lengths.before ≡ boxed_length old (take count touched)
-  pub after : lengths.after ≡ reached_length points nets (take count touched)
-  pub before_small : lengths.before ≤ 131072 * count
-  pub after_small : lengths.after ≤ 131072 * count
+  pub done : (k : ℕ) → k < count → IsBox points (net_at nets (slice_index touched k)) (box_at new (slice_index touched k))
+  pub kept : (number : ℕ) → IsBox points (net_at nets number) (box_at old number) → IsBox points (net_at nets number) (box_at new number)
+  pub others : (number : ℕ) → ((k : ℕ) → k < count → slice_index touched k ≢ number) → box_at new number ≡ box_at old number
+  pub total_is : total ≡ reached_length points nets (take count touched)
+  pub small : total ≤ 131072 * count
 
--- of the nets of these numbers the first so many have taken their next boxes
-pub record HaveTaken (touched : List ℕ) (count : ℕ) (old new : List BoxPair) : Type 0 where
+-- so have those of two lists
+pub record AreBothRenewed (points : List Point) (nets : List (List ℕ)) (first second : List ℕ) (old new : List NetBox) (total : ℕ) : Type 0 where
   pub long : length new ≡ length old
-  pub same : (number : ℕ) → (pair_at new number).next ≡ (pair_at old number).next
-  pub taken : (k : ℕ) → k < count → (pair_at new (slice_index touched k)).now ≡ (pair_at old (slice_index touched k)).next
-  pub others : (number : ℕ) → ((k : ℕ) → k < count → slice_index touched k ≢ number) → (pair_at new number).now ≡ (pair_at old number).now
+  pub firsts : (k : ℕ) → k < length first → IsBox points (net_at nets (slice_index first k)) (box_at new (slice_index first k))
+  pub seconds : (k : ℕ) → k < length second → IsBox points (net_at nets (slice_index second k)) (box_at new (slice_index second k))
+  pub others : (number : ℕ) → ((k : ℕ) → k < length first → slice_index first k ≢ number) → ((k : ℕ) → k < length second → slice_index second k ≢ number) → box_at new number ≡ box_at old number
+  pub total_is : total ≡ reached_length points nets first + reached_length points nets second
 
--- the nets of two blocks have taken their next boxes, unless together they grew by more than so much
-pub record AreTakenWithin (points : List Point) (nets : List (List ℕ)) (first second : List ℕ) (allowance : ℕ) (old new : List BoxPair) (taken : Bool) : Type 0 where
-  pub fits : taken ≡ nat_le (reached_length points nets first + reached_length points nets second) (boxed_length old first + boxed_length old second + allowance)
-  pub long : length new ≡ length old
-  pub undone : taken ≡ false → (number : ℕ) → (pair_at new number).now ≡ (pair_at old number).now
-  pub firsts : taken ≡ true → (k : ℕ) → k < length first → IsBox points (net_at nets (slice_index first k)) (pair_at new (slice_index first k)).now
-  pub seconds : taken ≡ true → (k : ℕ) → k < length second → IsBox points (net_at nets (slice_index second k)) (pair_at new (slice_index second k)).now
-  pub others : taken ≡ true → (number : ℕ) → ((k : ℕ) → k < length first → slice_index first k ≢ number) → ((k : ℕ) → k < length second → slice_index second k ≢ number) → (pair_at new number).now ≡ (pair_at old number).now
+-- the numbers are few, and numbers of nets
+pub record AreFewOf (count : ℕ) (touched : List ℕ) : Type 0 where
+  pub few : length touched ≤ 2147483648
+  pub within : (k : ℕ) → k < length touched → slice_index touched k < count
 
 -- each net has its box
-pub record AreBoxes (points : List Point) (nets : List (List ℕ)) (pairs : List BoxPair) : Type 0 where
-  pub long : length pairs ≡ length nets
-  pub exact : (number : ℕ) → number < length nets → IsBox points (net_at nets number) (pair_at pairs number).now
+pub record AreBoxes (points : List Point) (nets : List (List ℕ)) (boxes : List NetBox) : Type 0 where
+  pub long : length boxes ≡ length nets
+  pub exact : (number : ℕ) → number < length nets → IsBox points (net_at nets number) (box_at boxes number)

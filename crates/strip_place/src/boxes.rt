@@ -1,94 +1,72 @@
-//! The boxes of all nets, as they are and as a draw would make them.
-ghost use Rattle.std.specs.Prelude.{◌≡◌, ℕ, ◌<◌, ◌≤◌, ◌^◌, length, slice_index};
-ghost use Rattle.strip_place.specs.Boxes.{AreReady, AreTakenWithin, AreWorkedOut, HaveTaken, reversed};
+//! The boxes of all nets, and how long nets are by them.
+ghost use Rattle.std.specs.Prelude.{◌≡◌, ℕ, ◌*◌, ◌<◌, ◌≤◌, length};
+ghost use Rattle.strip_place.specs.Boxes.{AreBothRenewed, AreFewOf, AreRenewed, boxed_length, box_at, length_after};
 ghost use Rattle.strip_place.specs.Nets.{AreNets};
+ghost use Rattle.strip_place.specs.Sides.{sum_of};
 
 use crate::net_box::NetBox;
-use crate::point::{Point, Step};
+use crate::point::Point;
+use crate::sides::Sides;
 use rows::Rows;
 
-/// The box of a net, and the one that it is to have.
-#[derive(Clone, Copy, Debug)]
-pub(crate) struct BoxPair {
-    pub(crate) now: NetBox,
-    pub(crate) next: NetBox,
-}
-
-/// How long some nets were together, and how long they are to be.
+/// How long some nets are together, and how long they come to be at least.
 #[derive(Clone, Copy, Debug)]
 pub(crate) struct Lengths {
     pub(crate) before: u64,
     pub(crate) after: u64,
 }
 
-/// Works out the next boxes of the nets of two blocks that changed places, and has these nets take them unless together
-/// they grew by more than so much; tells whether they took them.
-pub(crate) fn take_within(
-    boxes: &mut [BoxPair],
-    nets: &Rows,
-    points: &[Point],
-    first: &[u32],
-    second: &[u32],
-    step: Step,
-    allowance: u64,
-) -> bool
-    requires lawful { AreNets (length points.now) nets.now }
-    requires long { length boxes.old ≡ length nets.now }
-    requires small { allowance < 2 ^ 40 }
-    requires first { AreReady points.now nets.now first.now second.now step boxes.old }
-    requires second { AreReady points.now nets.now second.now first.now (reversed step) boxes.old }
-    ensures { AreTakenWithin points.now nets.now first.now second.now allowance boxes.old boxes.new result }
-{
-    let one = work_out(boxes, nets, points, first, second, step);
-    let back = Step {
-        from: step.to,
-        to: step.from,
-    };
-    let two = work_out(boxes, nets, points, second, first, back);
-    if one.before + two.before + allowance < one.after + two.after {
-        return false;
-    }
-    take_next(boxes, first);
-    take_next(boxes, second);
-    true
-}
-
-/// Works out the next boxes of the nets that a block is on which went; a partner, on its own nets, went the other way.
-fn work_out(
-    boxes: &mut [BoxPair],
-    nets: &Rows,
-    points: &[Point],
-    touched: &[u32],
-    partners: &[u32],
-    step: Step,
-) -> Lengths
-    requires lawful { AreNets (length points.now) nets.now }
-    requires long { length boxes.old ≡ length nets.now }
-    requires ready { AreReady points.now nets.now touched.now partners.now step boxes.old }
-    ensures { AreWorkedOut points.now nets.now touched.now (length touched.now) boxes.old boxes.new result }
+/// How long the nets of these numbers are, and come to be at least once a block on each of them goes from there to there.
+pub(crate) fn weigh(boxes: &[NetBox], touched: &[u32], from: Sides, to: Sides) -> Lengths
+    requires touched { AreFewOf (length boxes.now) touched.now }
+    requires boxes { (number : ℕ) → number < length boxes.now → sum_of (box_at boxes.now number).near ≤ 131070 }
+    requires to { sum_of to ≤ 131070 }
+    ensures before { result.before ≡ boxed_length boxes.now touched.now }
+    ensures after { result.after ≡ length_after boxes.now from to touched.now }
+    ensures before_small { result.before ≤ 131072 * length touched.now }
+    ensures after_small { result.after ≤ 131072 * length touched.now }
 {
     let mut lengths = Lengths {
         before: 0,
         after: 0,
     };
     for number in touched {
-        let net = nets.row(*number as usize);
-        let now = boxes[*number as usize].now;
-        let next = now.next(net, points, partners, *number, step);
-        boxes[*number as usize].next = next;
-        lengths.before += u64::from(now.half_perimeter());
-        lengths.after += u64::from(next.half_perimeter());
+        let found = boxes[*number as usize];
+        lengths.before += u64::from(found.half_perimeter());
+        lengths.after += u64::from(found.half_after(from, to));
     }
     lengths
 }
 
-/// The nets of these numbers take their next boxes.
-fn take_next(boxes: &mut [BoxPair], touched: &[u32])
-    requires { (k : ℕ) → k < length touched.now → slice_index touched.now k < length boxes.old }
-    ensures { HaveTaken touched.now (length touched.now) boxes.old boxes.new }
+/// Works out the boxes of the nets on two lists, and tells how long they are together.
+pub(crate) fn renew_both(
+    boxes: &mut [NetBox],
+    nets: &Rows,
+    points: &[Point],
+    first: &[u32],
+    second: &[u32],
+) -> u64
+    requires lawful { AreNets (length points.now) nets.now }
+    requires long { length boxes.old ≡ length nets.now }
+    requires first { AreFewOf (length nets.now) first.now }
+    requires second { AreFewOf (length nets.now) second.now }
+    ensures { AreBothRenewed points.now nets.now first.now second.now boxes.old boxes.new result }
 {
+    renew(boxes, nets, points, first) + renew(boxes, nets, points, second)
+}
+
+/// Works out the boxes of the nets of these numbers, and tells how long they are together.
+fn renew(boxes: &mut [NetBox], nets: &Rows, points: &[Point], touched: &[u32]) -> u64
+    requires lawful { AreNets (length points.now) nets.now }
+    requires long { length boxes.old ≡ length nets.now }
+    requires touched { AreFewOf (length nets.now) touched.now }
+    ensures { AreRenewed points.now nets.now touched.now (length touched.now) boxes.old boxes.new result }
+{
+    let mut total = 0;
     for number in touched {
-        let pair = &mut boxes[*number as usize];
-        pair.now = pair.next;
+        let found = NetBox::of(nets.row(*number as usize), points);
+        boxes[*number as usize] = found;
+        total += u64::from(found.half_perimeter());
     }
+    total
 }

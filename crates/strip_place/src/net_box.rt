@@ -1,18 +1,16 @@
 //! The box of a net.
-ghost use Rattle.std.specs.Prelude.{◌≡◌, ◌+◌, ◌<◌, ◌≤◌, ◌^◌, All, length};
-ghost use Rattle.strip_place.specs.Boxes.{HasStood, IsBox, half_of, is_among};
+ghost use Rattle.std.specs.Prelude.{◌≡◌, ◌<◌, ◌≤◌, All, length};
+ghost use Rattle.strip_place.specs.Sides.{sum_of};
+ghost use Rattle.strip_place.specs.Boxes.{IsBox, half_after, half_of, met, rest};
 
-use crate::extent::{End, Extent};
-use crate::point::{Point, Step};
+use crate::point::Point;
+use crate::sides::{FAR, Sides};
 
-/// A net of so many blocks is looked at anew when one of them goes, and the blocks at its ends aren't counted.
-const FEW_BLOCKS: usize = 12;
-
-/// How far a net reaches across and up.
+/// How far the blocks of a net are from each side: the nearest one, and another that is near too, or [`FAR`].
 #[derive(Clone, Copy, Debug)]
 pub(crate) struct NetBox {
-    pub(crate) x: Extent,
-    pub(crate) y: Extent,
+    pub(crate) near: Sides,
+    pub(crate) next: Sides,
 }
 
 impl NetBox {
@@ -20,117 +18,64 @@ impl NetBox {
     pub(crate) fn of(net: &[u32], points: &[Point]) -> Self
         requires some { 0 < length net.now }
         requires within { All (λ block. block < length points.now) net.now }
-        requires short { length net.now + 2 < 2 ^ 16 }
         ensures { IsBox points.now net.now result }
     {
-        if net.len() <= FEW_BLOCKS {
-            NetBox::around(net, points)
-        } else {
-            NetBox::counted(net, points)
+        let nowhere = Sides {
+            left: FAR,
+            right: FAR,
+            bottom: FAR,
+            top: FAR,
+        };
+        let mut found = NetBox {
+            near: nowhere,
+            next: nowhere,
+        };
+        for block in net {
+            found = found.met(Sides::of(points[*block as usize]));
         }
+        found
     }
 
     /// The width plus the height.
     pub(crate) fn half_perimeter(self) -> u32
-        requires x { self.x.low.value ≤ self.x.high.value }
-        requires y { self.y.low.value ≤ self.y.high.value }
+        requires { sum_of self.near ≤ 131070 }
         ensures value { result ≡ half_of self }
         ensures small { result < 131072 }
     {
-        self.x.width() + self.y.width()
+        self.near.half_perimeter()
     }
 
-    /// The box of the net of that number once a block of it went; a partner, on its own nets, went the other way.
-    pub(crate) fn next(
-        self,
-        net: &[u32],
-        points: &[Point],
-        partners: &[u32],
-        number: u32,
-        step: Step,
-    ) -> Self
-        requires some { 0 < length net.now }
-        requires within { All (λ block. block < length points.now) net.now }
-        requires short { length net.now + 2 < 2 ^ 16 }
-        requires stood { HasStood points.now net.now (is_among partners.now number) step self }
-        ensures { IsBox points.now net.now result }
+    /// At most what width and height come to once a block of the net goes from there to there, whatever other block of it
+    /// goes the other way.
+    pub(crate) fn half_after(self, from: Sides, to: Sides) -> u32
+        requires { sum_of to ≤ 131070 }
+        ensures value { result ≡ half_after self from to }
+        ensures small { result < 131072 }
     {
-        if net.len() <= FEW_BLOCKS {
-            return NetBox::around(net, points);
+        Sides {
+            left: rest(self.near.left, self.next.left, from.left),
+            right: rest(self.near.right, self.next.right, from.right),
+            bottom: rest(self.near.bottom, self.next.bottom, from.bottom),
+            top: rest(self.near.top, self.next.top, from.top),
         }
-        self.after(net, points, partners.contains(&number), step)
+        .nearer(to)
+        .half_perimeter()
     }
 
-    /// The box of a net of more than few blocks, once one of them went, or where `both`, two changed places.
-    fn after(self, net: &[u32], points: &[Point], both: bool, step: Step) -> Self
-        requires many { 12 < length net.now }
-        requires within { All (λ block. block < length points.now) net.now }
-        requires short { length net.now + 2 < 2 ^ 16 }
-        requires stood { HasStood points.now net.now both step self }
-        ensures { IsBox points.now net.now result }
+    /// The box with one block more.
+    fn met(self, block: Sides) -> Self
+        ensures { result ≡ met self block }
     {
-        if both {
-            return self;
-        }
-        let x = self.x.after(step.from.x, step.to.x);
-        let y = self.y.after(step.from.y, step.to.y);
-        if x.lacks_an_end() || y.lacks_an_end() {
-            return NetBox::counted(net, points);
-        }
-        NetBox { x, y }
-    }
-
-    /// The box of a net of few blocks.
-    fn around(net: &[u32], points: &[Point]) -> Self
-        requires some { 0 < length net.now }
-        requires within { All (λ block. block < length points.now) net.now }
-        requires few { length net.now ≤ 12 }
-        ensures { IsBox points.now net.now result }
-    {
-        let mut left = u16::MAX;
-        let mut right = 0;
-        let mut bottom = u16::MAX;
-        let mut top = 0;
-        for block in net {
-            let Point { x, y } = points[*block as usize];
-            left = x.min(left);
-            right = x.max(right);
-            bottom = y.min(bottom);
-            top = y.max(top);
-        }
         NetBox {
-            x: Extent::uncounted(left, right),
-            y: Extent::uncounted(bottom, top),
+            near: block.nearer(self.near),
+            next: self.next.nearer(self.near.farther(block)),
         }
     }
+}
 
-    /// The box of a net, with the blocks at its ends counted.
-    fn counted(net: &[u32], points: &[Point]) -> Self
-        requires some { 0 < length net.now }
-        requires within { All (λ block. block < length points.now) net.now }
-        requires short { length net.now + 2 < 2 ^ 16 }
-        ensures { IsBox points.now net.now result }
-    {
-        let mut left = End::BEYOND;
-        let mut right = End::BEFORE;
-        let mut bottom = End::BEYOND;
-        let mut top = End::BEFORE;
-        for block in net {
-            let Point { x, y } = points[*block as usize];
-            left = left.met_low(x);
-            right = right.met_high(x);
-            bottom = bottom.met_low(y);
-            top = top.met_high(y);
-        }
-        NetBox {
-            x: Extent {
-                low: left,
-                high: right,
-            },
-            y: Extent {
-                low: bottom,
-                high: top,
-            },
-        }
-    }
+/// What is nearest once one that is so far goes.
+fn rest(near: u32, next: u32, gone: u32) -> u32
+    ensures { result ≡ rest near next gone }
+{
+    if near == gone { next } else { near }
 }

@@ -7,12 +7,13 @@ ghost use Rattle.grid.specs.Sizes.{IsStripSize};
 ghost use Rattle.strip_place.specs.Task.{task_of};
 ghost use Rattle.strip_place.specs.Anneal.{one_more, end_of, after_words, draw_of, places_by_block, sites_by_block};
 ghost use Rattle.strip_place.specs.Sites.{AreOneToOne};
+ghost use Rattle.strip_place.specs.Placed.{ArePlaced};
 ghost use Rattle.strip_place.specs.Pass.{pass_of};
 
 use crate::board::{Board, Words};
 use crate::start::start_board;
 use cluster::{Packed, SharedPacked};
-use grid::{Place, Strip};
+use grid::{Place, Strip, laws_of_places};
 use rand_core::utils::NextWord;
 use rand_pcg::Pcg32;
 use std::alloc::{AllocError, Global};
@@ -120,6 +121,14 @@ impl Placing {
         ensures one_to_one { AreOneToOne self.now.strip (task_of self.now.packed).kinds (sites_by_block self.now) }
     {
         self.board.place(block)
+    }
+
+    /// Each block has a place of its kind, and no two have the same. Computes nothing.
+    pub fn laws(&self)
+        ensures { ArePlaced self.now.strip self.now.packed (places_by_block self.now) }
+    {
+        laws_of_places();
+        let _ = self.board.len();
     }
 }
 

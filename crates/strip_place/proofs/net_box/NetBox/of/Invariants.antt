@@ -1,0 +1,7 @@
+use Rattle.std.proofs.Common.{take}
+use Rattle.strip_place.specs.Boxes.{at_column, at_row}
+use Rattle.strip_place.proofs.Nearness.{IsBoxSoFar}
+use Rattle.strip_place.proofs.net_box.NetBox.of.Given as goal
+
+abbrev pub invariant-loop-block : goal.invariant-loop-block
+invariant-loop-block l = IsBoxSoFar (at_column l.points (take l.block-index l.net)) (at_row l.points (take l.block-index l.net)) l.block-index l.found

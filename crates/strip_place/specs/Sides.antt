@@ -1,0 +1,18 @@
+-- Private: how far points are from the sides of a field that no strip is larger than.
+use Rattle.std.specs.Prelude.{ℕ, ◌+◌, ◌-◌, max, min}
+use Rattle.strip_place.specs.declared.point.Point.{Point}
+use Rattle.strip_place.specs.declared.sides.Sides.{Sides}
+
+-- how far a point is from each side
+abbrev pub sides_of : Point → Sides
+sides_of point = record { left = point.x; right = 65535 - point.x; bottom = point.y; top = 65535 - point.y }
+
+-- of two, the nearer and the farther one at each side
+abbrev pub nearer : Sides → Sides → Sides
+nearer a b = record { left = min a.left b.left; right = min a.right b.right; bottom = min a.bottom b.bottom; top = min a.top b.top }
+
+abbrev pub farther : Sides → Sides → Sides
+farther a b = record { left = max a.left b.left; right = max a.right b.right; bottom = max a.bottom b.bottom; top = max a.top b.top }
+
+abbrev pub sum_of : Sides → ℕ
+sum_of sides = sides.left + sides.right + sides.bottom + sides.top
