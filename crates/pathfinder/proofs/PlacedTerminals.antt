@@ -1,5 +1,5 @@
 -- The sources and sinks of placed blocks.
-use Rattle.std.proofs.Common.{◌≡◌, ◌≢◌, ℕ, ◌+◌, ◌<◌, ◌≤◌, Bool, true, false, List, [], ◌∷◌, length, get_or, map, cond, refl, sym, ap, subst, ◌∙◌, ◌⊎◌, inl, inr, arith}
+use Rattle.std.proofs.Common.{◌≡◌, ◌≢◌, ℕ, ◌<◌, Bool, true, false, List, [], ◌∷◌, length, get_or, map, cond, sym, ap, subst, ◌∙◌, inl, inr, arith}
 use Rattle.std.specs.Prelude.{All}
 use Rattle.std.specs.List.{AllPairs}
 use Rattle.std.proofs.lemmas.Bool.Decides.{nat_tests, Decides-eqb}
@@ -20,12 +20,13 @@ use Rattle.grid.specs.Sizes.{IsStripSize}
 use Rattle.grid.specs.Places.{place_at, places_of}
 use Rattle.grid.specs.PlaceLaws.{IsInRow, IsPlaceIn}
 use Rattle.grid.specs.Fits.{kind_of}
-use Rattle.rr_graph.specs.declared.node.NodeKind.TheVariants.{Source, Sink}
+use Rattle.rr_graph.specs.declared.node.NodeKind.TheVariants.{Sink}
 use Rattle.rr_graph.specs.declared.node.Node.{Node}
 use Rattle.rr_graph.specs.Geometry.{is_node}
-use Rattle.rr_graph.specs.Graph.{Basis, IsBasis, RoutingGraph, IsRoutingGraph, graph_of, make_node}
-use Rattle.pathfinder.specs.Wiring.{Wiring, Net, IsNet, AreNets}
-use Rattle.pathfinder.specs.PlacedNets.{wiring_of, number_of, source_at, sink_at, block_at, place_of, net_to_route, nets_to_route, ArePlaced}
+use Rattle.rr_graph.specs.Graph.{Basis, IsBasis, IsRoutingGraph, graph_of}
+use Rattle.pathfinder.specs.Wiring.{IsNet, AreNets}
+use Rattle.strip_place.specs.Placed.{block_at, place_of, ArePlaced}
+use Rattle.pathfinder.specs.PlacedNets.{wiring_of, number_of, source_at, sink_at, net_to_route, nets_to_route}
 use Rattle.pathfinder.proofs.NodeNumbers.{number_found}
 
 -- ---- they are nodes

@@ -1,5 +1,5 @@
 //! What each node costs in an iteration, but for the trees that hold it.
-ghost use Rattle.std.specs.Prelude.{◌≡◌, ◌≤◌, ◌^◌, All, IfOk, length};
+ghost use Rattle.std.specs.Prelude.{◌≡◌, ◌+◌, ◌-◌, ◌*◌, ◌<◌, ◌≤◌, ◌^◌, All, IfOk, length};
 ghost use Rattle.pathfinder.specs.PlacedNets.{wiring_of};
 ghost use Rattle.pathfinder.specs.Rates.{AreRates};
 
@@ -13,6 +13,16 @@ pub(crate) struct Rate {
     pub(crate) factor: u32,
     /// How many nets it can carry.
     pub(crate) capacity: u32,
+}
+
+/// What a node costs after so many iterations, while so many trees hold it.
+pub(crate) fn price(rate: Rate, iterations: u32, held: u32) -> u64
+    requires few { iterations < 30 }
+    requires low { held ≤ 8192 }
+    ensures { result ≡ rate.factor * (1 + iterations * (held + 1 - rate.capacity)) }
+{
+    let overused = (held + 1).saturating_sub(rate.capacity);
+    rate.factor as u64 * (1 + iterations as u64 * overused as u64)
 }
 
 /// The rates of all nodes, by their overuse so far.

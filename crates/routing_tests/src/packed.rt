@@ -1,11 +1,14 @@
-//! How a test packs a netlist.
-ghost use Rattle.std.specs.Prelude.{◌≤◌};
+//! How a test packs a netlist, and places it.
+ghost use Rattle.std.specs.Prelude.{◌≡◌, ◌≤◌, IfOk};
+ghost use Rattle.grid.specs.Sizes.{IsStripSize};
 
 use arch_file::{SharedArch, read_arch};
 use blif::{SharedCircuit, read_blif};
-use cluster::{PackEnd, Packed, Packing, check};
+use cluster::{PackEnd, Packed, Packing, SharedPacked, check};
+use grid::{Fit, Strip};
 use std::alloc::{AllocError, Global};
 use std::test::Fail;
+use strip_place::Placing;
 
 /// The architecture of a text, for so many tracks.
 fn architecture(alloc: Global, text: &str, tracks: u32) -> Result<SharedArch, Fail>
@@ -48,4 +51,19 @@ pub(crate) fn packed(
         }
     }
     Err(AllocError.into())
+}
+
+/// The placing of a packed circuit before its first pass: clusters and pads each stand on the next place of their kind.
+pub(crate) fn placed(alloc: Global, packed: Packed, strip: Strip) -> Result<Placing, Fail>
+    requires { IsStripSize strip }
+    ensures arch { IfOk result (λ placing. placing.packed.arch ≡ packed.arch) }
+    ensures strip { IfOk result (λ placing. placing.strip ≡ strip) }
+{
+    let Ok(shared) = SharedPacked::new(alloc, packed) else {
+        return Err(AllocError.into());
+    };
+    match strip.fits(shared.packed()) {
+        Fit::Fits => Ok(Placing::start(alloc, &shared, strip, 1, 1)?),
+        _ => Err("does not fit".into()),
+    }
 }

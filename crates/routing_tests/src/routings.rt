@@ -2,15 +2,14 @@
 ghost use Rattle.std.specs.Prelude.{◌≡◌, ◌≤◌};
 ghost use Rattle.rr_graph.specs.Graph.{Basis};
 
-use crate::packed::packed;
-use crate::placed::placed;
-use cluster::Packed;
+use crate::packed::{packed, placed};
 use fixtures::{AND, ARCHITECTURE, ONE_TRACK_A_PIN};
 use grid::Strip;
 use pathfinder::{IterEnd, Routes, Routing};
 use rr_graph::{Fabric, Node, NodeKind};
 use std::alloc::Global;
 use std::test::Fail;
+use strip_place::Placing;
 
 const STRIP: Strip = Strip {
     width: 1,
@@ -25,13 +24,12 @@ struct Ended {
     end: IterEnd,
 }
 
-/// Routes a packed circuit on its graph until it ends, for at most 40 iterations. One that finds no memory is made again.
-fn routed_on(alloc: Global, packed: &Packed, fabric: &Fabric) -> Result<Ended, Fail>
-    requires arch { fabric.now.arch ≡ packed.now.arch }
-    requires strip { fabric.now.strip ≡ STRIP }
+/// Routes placed blocks on their graph until that ends, for at most 40 iterations. One that finds no memory is made again.
+fn routed_on(alloc: Global, placing: &Placing, fabric: &Fabric) -> Result<Ended, Fail>
+    requires arch { placing.now.packed.arch ≡ fabric.now.arch }
+    requires strip { placing.now.strip ≡ fabric.now.strip }
 {
-    let places = placed(alloc, packed, STRIP)?;
-    let mut routing = Routing::start(alloc, fabric, packed, &places)?;
+    let mut routing = Routing::start(alloc, fabric, placing)?;
     let mut iterations = 0;
     for _turn in 0..40u32 {
         match routing.iteration(alloc, fabric) {
@@ -56,8 +54,9 @@ fn routed(alloc: Global, text: &str, tracks: u32, netlist: &str) -> Result<Ended
 {
     let packed = packed(alloc, text, tracks, netlist)?;
     let fabric = Fabric::new(alloc, packed.arch(), STRIP)?;
-    let ended = routed_on(alloc, &packed, &fabric)?;
-    drop(packed);
+    let placing = placed(alloc, packed, STRIP)?;
+    let ended = routed_on(alloc, &placing, &fabric)?;
+    drop(placing);
     drop(fabric);
     Ok(ended)
 }

@@ -5,6 +5,7 @@ use Rattle.rr_graph.specs.Graph.{graph_of}
 use Rattle.least_path.specs.LowerBound.{IsLowerBound}
 use Rattle.pathfinder.specs.PlacedNets.{wiring_of}
 use Rattle.pathfinder.specs.Tables.{aimed, tabled}
+use Rattle.pathfinder.specs.Entries.{IsNoMore, raised}
 use Rattle.pathfinder.proofs.Aims.{aimed_bound}
 use Rattle.pathfinder.proofs.InRange.{tabled_lawful}
 use Rattle.pathfinder.proofs.Strips.{strip_wiring}
@@ -23,6 +24,6 @@ returns-then-goal-aim g c =
     let few : (graph_of basis).count ≤ 2 ^ 23 = omega (arith, c.count-count.ensures.few, c.count-count.ensures.value) in
     let at_prices = tabled (wiring_of basis) prices.iterations prices.history.now prices.held.now in
     let lawful = tabled_lawful (wiring_of basis) (strip_wiring basis c.count-count.ensures.lawful few) prices.iterations prices.history.now prices.held.now prices.lawful in
-    let bound = aimed_bound basis c.count-count.ensures.lawful prices.goal prices.sink prices.aim at_prices lawful refl (λ node. refl) c.args.node c.requires.node in
-    subst (λ goal. IsLowerBound (aimed basis prices.sink at_prices) goal c.args.node c.further_to.result) (sym c.if-goal-aim.true)
-    (subst (λ further. IsLowerBound (aimed basis prices.sink at_prices) prices.goal c.args.node further) (sym c.further_to.ensures) bound)
+    let bound = aimed_bound basis c.count-count.ensures.lawful prices.goal prices.sink prices.aim at_prices lawful refl (λ node. refl) prices.entry prices.entered c.args.node c.requires.node c.entering.result
+    (subst (λ further. IsNoMore c.entering.result (raised prices.entry further)) (c.further_to.ensures) c.entering.ensures) in
+    subst (λ goal. IsLowerBound (aimed basis prices.sink at_prices) goal c.args.node c.entering.result) (sym c.if-goal-aim.true) bound
