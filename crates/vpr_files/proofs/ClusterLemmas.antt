@@ -98,7 +98,8 @@ pub carried_is : (carried : Option ℕ) (net : ℕ) → option_eq eqb carried (S
 carried_is None net = refl
 carried_is (Some other) net = refl
 
-all_at : {X : Type 0} (P : X → Type 0) (xs : List X) (i : ℕ) (x : X) → slice_get xs i ≡ Some x → All P xs → P x
+-- what holds of all holds at a place
+pub all_at : {X : Type 0} (P : X → Type 0) (xs : List X) (i : ℕ) (x : X) → slice_get xs i ≡ Some x → All P xs → P x
 all_at P xs i x e all = subst P (get_or_from_slice_get xs i x x e) (All-get_or P xs i x (slice_get_within xs i x e) all)
 
 -- the members of a cluster are BLEs

@@ -16,7 +16,7 @@ abbrev pin_of : PinClass → Pin
 pin_of class = record { class = class; sides = record { top = true; bottom = false; left = false; right = false } }
 
 -- tables of two inputs, in clusters of one
-abbrev single : Arch
+abbrev pub single : Arch
 single = record {
   io_rat = 2;
   pins = pin_of Input ∷ pin_of Input ∷ pin_of Output ∷ pin_of Clock ∷ [];
@@ -35,7 +35,7 @@ paired = record single {
   cluster_size = 2;
 }
 
-abbrev circuit : List (List ℕ) → List ℕ → List ℕ → List LookupTable → List Latch → Circuit
+abbrev pub circuit : List (List ℕ) → List ℕ → List ℕ → List LookupTable → List Latch → Circuit
 circuit nets inputs outputs tables latches = record { model = codes "m"; nets = nets; inputs = inputs; outputs = outputs; tables = tables; latches = latches }
 
 -- nothing
@@ -44,16 +44,16 @@ unfolding net_text_of packed_of clusters_after cluster_of bles_of
 empty_circuit = refl
 
 -- digits in decimal
-digit_0 : decimal 0 ≡ codes "0"
+pub digit_0 : decimal 0 ≡ codes "0"
 digit_0 = decimal_digit 0 (lit< tt)
 
-digit_1 : decimal 1 ≡ codes "1"
+pub digit_1 : decimal 1 ≡ codes "1"
 digit_1 = decimal_digit 1 (lit< tt)
 
-digit_2 : decimal 2 ≡ codes "2"
+pub digit_2 : decimal 2 ≡ codes "2"
 digit_2 = decimal_digit 2 (lit< tt)
 
-digit_3 : decimal 3 ≡ codes "3"
+pub digit_3 : decimal 3 ≡ codes "3"
 digit_3 = decimal_digit 3 (lit< tt)
 
 -- one table of two inputs

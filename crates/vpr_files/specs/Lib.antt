@@ -1,4 +1,7 @@
 pub mod TextLines
 pub mod Writing
 pub mod NetFile
+pub mod PlaceFile
+pub mod NodeText
+pub mod RouteFile
 pub mod BlockClusters

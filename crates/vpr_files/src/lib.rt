@@ -4,10 +4,20 @@
 //! small pieces and without memory, so the sink should have a buffer. A sink that fails has taken a beginning of the file.
 //!
 //! - [`net_text`] writes the `.net` file of a packed circuit: its global nets, and its blocks with what their pins carry.
+//! - [`place_text`] writes the `.place` file of a placed circuit: where each block stands.
+//! - [`route_text`] writes the `.route` file of a routed circuit: the nodes of each net, or the blocks that a global net
+//!   connects. [`write_node`] writes a node as it stands there.
 #![tactic(auto)]
 
+mod block_names;
 mod net_file;
+mod node_text;
 mod pin_words;
+mod place_file;
+mod route_file;
 mod writing;
 
 pub use net_file::net_text;
+pub use node_text::write_node;
+pub use place_file::place_text;
+pub use route_file::route_text;

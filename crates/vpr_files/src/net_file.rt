@@ -142,7 +142,7 @@ fn pin_name(circuit: &Circuit, carried: Option<u32>) -> &[u8]
 }
 
 /// The name of a cluster: that of its first BLE.
-fn cluster_name(packed: &Packed, cluster: usize) -> &[u8]
+pub(crate) fn cluster_name(packed: &Packed, cluster: usize) -> &[u8]
     requires { cluster < length packed.now.clusters }
     ensures { result.now ≡ block_name packed.now (Cluster cluster) }
 {

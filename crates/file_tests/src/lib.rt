@@ -1,0 +1,10 @@
+//! Tests of the result files of whole circuits, byte by byte.
+//!
+//! - `circuits`: how a test packs, places and routes a netlist.
+//! - `files`: the three files of circuits, and a sink that fails.
+#![tactic(auto)]
+
+#[cfg(test)]
+mod circuits;
+#[cfg(test)]
+mod files;

@@ -1,0 +1,218 @@
+-- Lines of the `.place` and `.route` files as they are written, part by part.
+use Rattle.std.proofs.Common.{◌≡◌, ℕ, Bool, true, false, List, [], ◌∷◌, ◌++◌, All, Some, cond, sym, ap, ◌∙◌, codes, decimal, map, slice_get, append_assoc, append-nil}
+use Rattle.std.specs.List.{flat_map}
+use Rattle.std.proofs.lemmas.Grind.{flat_map-append}
+use Rattle.std.proofs.lemmas.Option.{get_or_from_slice_get}
+use Rattle.cluster.specs.declared.block.Block.{Block}
+use Rattle.cluster.specs.Clusters.{PackedCircuit}
+use Rattle.cluster.specs.Blocks.{BlockNet, block_name, block_nets, blocks_of, net_name}
+use Rattle.cluster.specs.PackingLaws.{IsBlockNet}
+use Rattle.grid.specs.declared.Strip.{Strip}
+use Rattle.grid.specs.declared.place.Place.{Place}
+use Rattle.rr_graph.specs.declared.node.Node.{Node}
+use Rattle.strip_place.specs.Placed.{block_at, place_of}
+use Rattle.vpr_files.specs.TextLines.{line_of, spaced, text_of}
+use Rattle.vpr_files.specs.PlaceFile.{place_headings, placed_line}
+use Rattle.vpr_files.specs.NodeText.{is_pad_row, kind_word, node_text_of, number_word}
+use Rattle.vpr_files.specs.RouteFile.{connected_line, connected_lines, connections, net_heading, node_line, numbered_net, route_headings}
+use Rattle.vpr_files.proofs.ClusterLemmas.{all_at}
+
+-- lists in a row
+three : (a b c d : List ℕ) → ((a ++ b) ++ c) ++ d ≡ a ++ (b ++ (c ++ d))
+three a b c d = append_assoc (a ++ b) c d ∙ append_assoc a b (c ++ d)
+
+four : (a b c d e : List ℕ) → (((a ++ b) ++ c) ++ d) ++ e ≡ a ++ (b ++ (c ++ (d ++ e)))
+four a b c d e = append_assoc ((a ++ b) ++ c) d e ∙ three a b c (d ++ e)
+
+last : (a b c : List ℕ) → ((a ++ b) ++ []) ++ c ≡ a ++ (b ++ c)
+last a b c = ap (λ t. t ++ c) (append-nil (a ++ b)) ∙ append_assoc a b c
+
+-- a name in two parts
+named : (before net name rest : List ℕ) → before ++ net ≡ name → before ++ (net ++ rest) ≡ name ++ rest
+named before net name rest e = sym (append_assoc before net rest) ∙ ap (λ n. n ++ rest) e
+
+-- two numbers and the end of their line
+size_text : (width rows end rest : List ℕ) → ((width ++ (codes " x " ++ (rows ++ end))) ++ 10 ∷ []) ++ rest ≡ width ++ (codes " x " ++ (rows ++ (end ++ 10 ∷ rest)))
+size_text width rows end rest =
+    append_assoc (width ++ (codes " x " ++ (rows ++ end))) (10 ∷ []) rest
+    ∙ append_assoc width (codes " x " ++ (rows ++ end)) (10 ∷ rest)
+    ∙ ap (λ t. width ++ (codes " x " ++ t)) (append_assoc rows end (10 ∷ rest))
+
+-- what the columns are
+abbrev columns_text : List ℕ
+columns_text = codes "\n#block name x y subblk block number\n#---------- - - ------ ------------\n"
+
+-- the headings of a `.place` file, by the parts that are found
+pub place_headings_text : (strip : Strip) (packed : PackedCircuit) (model width rows : List ℕ) → model ≡ packed.circuit.model → width ≡ decimal strip.width → rows ≡ decimal strip.rows
+    → codes "Netlist file: " ++ (model ++ (codes ".net Architecture file: device.arch\nArray size: " ++ (width ++ (codes " x " ++ (rows ++ codes " logic blocks\n\n#block name x y subblk block number\n#---------- - - ------ ------------\n")))))
+    ≡ text_of (place_headings strip packed)
+place_headings_text strip packed model width rows e f g =
+    let size = (decimal strip.width ++ (codes " x " ++ (decimal strip.rows ++ codes " logic blocks"))) ++ 10 ∷ [] in
+    rw (e, f, g) (sym (
+    ap (λ t. codes "Netlist file: " ++ t) (four packed.circuit.model (codes ".net") (codes " Architecture file: device.arch") (10 ∷ []) (codes "Array size: " ++ (size ++ columns_text)))
+    ∙ ap (λ t. codes "Netlist file: " ++ (packed.circuit.model ++ (codes ".net Architecture file: device.arch\nArray size: " ++ t))) (size_text (decimal strip.width) (decimal strip.rows) (codes " logic blocks") columns_text)))
+
+-- the headings of a `.route` file
+pub route_headings_text : (strip : Strip) (width rows : List ℕ) → width ≡ decimal strip.width → rows ≡ decimal strip.rows
+    → codes "Array size: " ++ (width ++ (codes " x " ++ (rows ++ codes " logic blocks.\n\nRouting:\n\n"))) ≡ text_of (route_headings strip)
+route_headings_text strip width rows f g = rw (f, g) (sym (ap (λ t. codes "Array size: " ++ t) (size_text (decimal strip.width) (decimal strip.rows) (codes " logic blocks.") (codes "\nRouting:\n\n"))))
+
+-- the line of a placed block
+placed_tail : (x y subblock number : List ℕ)
+    → (x ++ (32 ∷ (y ++ (32 ∷ (subblock ++ (codes " #" ++ (number ++ []))))))) ++ 10 ∷ [] ≡ x ++ (32 ∷ (y ++ (32 ∷ (subblock ++ (codes " #" ++ (number ++ 10 ∷ []))))))
+placed_tail x y subblock number =
+    append_assoc x _ (10 ∷ [])
+    ∙ ap (λ t. x ++ 32 ∷ t) (append_assoc y _ (10 ∷ [])
+    ∙ ap (λ t. y ++ 32 ∷ t) (append_assoc subblock _ (10 ∷ [])
+    ∙ ap (λ t. subblock ++ (codes " #" ++ t)) (append_assoc number [] (10 ∷ []))))
+
+placed_text : (before net name x y subblock number : List ℕ) → before ++ net ≡ name
+    → before ++ (net ++ (32 ∷ (x ++ (32 ∷ (y ++ (32 ∷ (subblock ++ (codes " #" ++ (number ++ 10 ∷ [])))))))))
+    ≡ line_of (name ∷ x ∷ y ∷ subblock ∷ (codes "#" ++ number) ∷ [])
+placed_text before net name x y subblock number e = named before net name _ e ∙ ap (λ t. name ++ 32 ∷ t) (sym (placed_tail x y subblock number))
+
+-- a column and a row, and what follows
+position_tail : (x y rest : List ℕ) → (codes "(" ++ x ++ codes "," ++ y ++ codes ")") ++ rest ≡ codes "(" ++ (x ++ (codes "," ++ (y ++ (codes ")" ++ rest))))
+position_tail x y rest = ap (λ t. codes "(" ++ t) (four x (codes ",") y (codes ")") rest)
+
+-- the line of a block that a global net connects
+connected_text : (before net name number x y : List ℕ) → before ++ net ≡ name
+    → codes "Block " ++ (before ++ (net ++ (codes " (#" ++ (number ++ (codes ") at (" ++ (x ++ (codes "," ++ (y ++ codes ").\n"))))))))
+    ≡ line_of (codes "Block" ∷ name ∷ (codes "(#" ++ number ++ codes ")") ∷ codes "at" ∷ ((codes "(" ++ x ++ codes "," ++ y ++ codes ")") ++ codes ".") ∷ [])
+connected_text before net name number x y e =
+    let place = codes "(" ++ x ++ codes "," ++ y ++ codes ")" in
+    let rest = codes " at " ++ ((place ++ codes ".") ++ []) in
+    ap (λ t. codes "Block " ++ t) (named before net name _ e)
+    ∙ ap (λ t. codes "Block " ++ t) (sym (
+    append_assoc name (codes " (#" ++ ((number ++ codes ")") ++ rest)) (10 ∷ [])
+    ∙ ap (λ t. name ++ (codes " (#" ++ t)) (three number (codes ")") rest (10 ∷ [])
+    ∙ ap (λ t. number ++ (codes ") at " ++ t)) (last place (codes ".") (10 ∷ []) ∙ position_tail x y (codes ".\n")))))
+
+-- a node part by part
+node_parts : (start kind x y between label number : List ℕ) → start ≡ kind ++ codes " (" → between ≡ codes ") " ++ label ++ codes " "
+    → start ++ (x ++ (codes "," ++ (y ++ (between ++ (number ++ [])))))
+    ≡ kind ++ spaced (codes "(" ++ x ++ codes "," ++ y ++ codes ")") ++ spaced label ++ spaced number
+node_parts start kind x y between label number e f =
+    ap (λ s. s ++ (x ++ (codes "," ++ (y ++ (between ++ (number ++ [])))))) e
+    ∙ append_assoc kind (codes " (") (x ++ (codes "," ++ (y ++ (between ++ (number ++ [])))))
+    ∙ ap (λ b. kind ++ (codes " (" ++ (x ++ (codes "," ++ (y ++ (b ++ (number ++ []))))))) f
+    ∙ ap (λ t. kind ++ (codes " (" ++ (x ++ (codes "," ++ (y ++ (codes ") " ++ t)))))) (append_assoc label (codes " ") (number ++ []) ∙ ap (λ n. label ++ (codes " " ++ n)) (append-nil number))
+    ∙ sym (three kind (spaced (codes "(" ++ x ++ codes "," ++ y ++ codes ")")) (spaced label) (spaced number)
+    ∙ ap (λ t. kind ++ 32 ∷ t) (position_tail x y (spaced label ++ spaced number)))
+
+-- the first line of a net, and an empty one
+local_text : (number name : List ℕ) → codes "Net " ++ (number ++ (codes " (" ++ (name ++ codes ")\n\n"))) ≡ text_of ((codes "Net" ∷ number ∷ (codes "(" ++ name ++ codes ")") ∷ []) ∷ [] ∷ [])
+local_text number name =
+    sym (ap (λ t. codes "Net " ++ t) (
+    three number (codes " (" ++ ((name ++ codes ")") ++ [])) (10 ∷ []) (10 ∷ [])
+    ∙ ap (λ t. number ++ (codes " (" ++ t)) (last name (codes ")") (codes "\n\n"))))
+
+global_text : (number name : List ℕ) → codes "Net " ++ (number ++ (codes " (" ++ (name ++ codes "): global net connecting:\n\n")))
+    ≡ text_of ((codes "Net" ∷ number ∷ (codes "(" ++ name ++ codes "):") ∷ codes "global" ∷ codes "net" ∷ codes "connecting:" ∷ []) ∷ [] ∷ [])
+global_text number name =
+    sym (ap (λ t. codes "Net " ++ t) (
+    three number (codes " (" ++ ((name ++ codes "):") ++ codes " global net connecting:")) (10 ∷ []) (10 ∷ [])
+    ∙ ap (λ t. number ++ (codes " (" ++ t)) (three name (codes "):") (codes " global net connecting:") (codes "\n\n"))))
+
+-- the lines of a net
+pub net_text : (heading : List (List ℕ)) (lines : List (List (List ℕ))) → text_of (heading ∷ [] ∷ []) ++ (text_of lines ++ 10 ∷ []) ≡ text_of (heading ∷ [] ∷ lines ++ [] ∷ [])
+net_text heading lines =
+    append_assoc (line_of heading) (10 ∷ []) (text_of lines ++ 10 ∷ [])
+    ∙ ap (λ t. line_of heading ++ 10 ∷ t) (sym (flat_map-append line_of lines ([] ∷ [])))
+
+-- a block by its number
+name_is : (packed : PackedCircuit) (block : ℕ) (found : Block) (name : List ℕ) → slice_get (blocks_of packed) block ≡ Some found → name ≡ block_name packed found → name ≡ block_name packed (block_at packed block)
+name_is packed block found name at e = e ∙ ap (block_name packed) (sym (get_or_from_slice_get (blocks_of packed) block found _ at))
+
+-- the line of a placed block, by the parts that are found
+pub placed_line_text : (packed : PackedCircuit) (block : ℕ) (found : Block) (place : Place) (before net x y subblock number : List ℕ)
+    → slice_get (blocks_of packed) block ≡ Some found → before ++ net ≡ block_name packed found
+    → x ≡ decimal place.x → y ≡ decimal place.y → subblock ≡ decimal place.subblock → number ≡ decimal block
+    → before ++ (net ++ (32 ∷ (x ++ (32 ∷ (y ++ (32 ∷ (subblock ++ (codes " #" ++ (number ++ 10 ∷ [])))))))))
+    ≡ line_of (placed_line packed block place)
+placed_line_text packed block found place before net x y subblock number at e f g h k =
+    rw (f, g, h, k) (placed_text before net (block_name packed (block_at packed block)) (decimal place.x) (decimal place.y) (decimal place.subblock) (decimal block) (name_is packed block found (before ++ net) at e))
+
+-- the line of a block that a global net connects
+pub connected_line_text : (packed : PackedCircuit) (block : ℕ) (found : Block) (place : Place) (before net number x y : List ℕ)
+    → slice_get (blocks_of packed) block ≡ Some found → before ++ net ≡ block_name packed found
+    → number ≡ decimal block → x ≡ decimal place.x → y ≡ decimal place.y
+    → codes "Block " ++ (before ++ (net ++ (codes " (#" ++ (number ++ (codes ") at (" ++ (x ++ (codes "," ++ (y ++ codes ").\n"))))))))
+    ≡ line_of (connected_line packed block place)
+connected_line_text packed block found place before net number x y at e f g h =
+    rw (f, g, h) (connected_text before net (block_name packed (block_at packed block)) (decimal block) (decimal place.x) (decimal place.y) (name_is packed block found (before ++ net) at e))
+
+-- a node, by the parts that are found
+pub node_text : (rows : ℕ) (node : Node) (start x y between number : List ℕ)
+    → start ≡ kind_word node.kind ++ codes " (" → x ≡ decimal node.x → y ≡ decimal node.y
+    → between ≡ codes ") " ++ number_word node.kind (is_pad_row rows node.y) ++ codes " " → number ≡ decimal node.n
+    → start ++ (x ++ (codes "," ++ (y ++ (between ++ (number ++ []))))) ≡ node_text_of rows node
+unfolding node_text_of
+node_text rows node start x y between number e f g h k =
+    rw (f, g, k) (node_parts start (kind_word node.kind) (decimal node.x) (decimal node.y) between (number_word node.kind (is_pad_row rows node.y)) (decimal node.n) e h)
+
+-- a net by its parts
+abbrev pub net_value : ℕ → ℕ → List ℕ → Bool → BlockNet
+net_value net driver readers global = record { net = net; driver = driver; readers = readers; global = global }
+
+-- what is said of the net of a number, by the net that is found
+pub by_number : {X : Type 0} (f : BlockNet → X) (packed : PackedCircuit) (number : ℕ) (found : BlockNet) → slice_get (block_nets packed) number ≡ Some found → f found ≡ f (numbered_net packed number)
+by_number f packed number found at = ap f (sym (get_or_from_slice_get (block_nets packed) number found _ at))
+
+-- the first line of a net, and an empty one
+abbrev heading_text : PackedCircuit → ℕ → BlockNet → List ℕ
+heading_text packed number net = text_of (net_heading number (net_name packed.circuit net.net) net.global ∷ [] ∷ [])
+
+pub global_heading_text : (packed : PackedCircuit) (number : ℕ) (found : BlockNet) (digits name : List ℕ)
+    → slice_get (block_nets packed) number ≡ Some found → found.global ≡ true → digits ≡ decimal number → name ≡ net_name packed.circuit found.net
+    → codes "Net " ++ (digits ++ (codes " (" ++ (name ++ codes "): global net connecting:\n\n"))) ≡ heading_text packed number (numbered_net packed number)
+global_heading_text packed number found digits name at is e f =
+    rw (e, f) (global_text (decimal number) (net_name packed.circuit found.net)
+    ∙ ap (λ global. text_of (net_heading number (net_name packed.circuit found.net) global ∷ [] ∷ [])) (sym is)
+    ∙ by_number (heading_text packed number) packed number found at)
+
+pub local_heading_text : (packed : PackedCircuit) (number : ℕ) (found : BlockNet) (digits name : List ℕ)
+    → slice_get (block_nets packed) number ≡ Some found → found.global ≡ false → digits ≡ decimal number → name ≡ net_name packed.circuit found.net
+    → codes "Net " ++ (digits ++ (codes " (" ++ (name ++ codes ")\n\n"))) ≡ heading_text packed number (numbered_net packed number)
+local_heading_text packed number found digits name at is e f =
+    rw (e, f) (local_text (decimal number) (net_name packed.circuit found.net)
+    ∙ ap (λ global. text_of (net_heading number (net_name packed.circuit found.net) global ∷ [] ∷ [])) (sym is)
+    ∙ by_number (heading_text packed number) packed number found at)
+
+-- what a net connects, by whether it is global
+choice_true : {X : Type 0} (global : Bool) (a b : X) → global ≡ true → a ≡ cond global a b
+choice_true global a b e = ap (λ g. cond g a b) (sym e)
+
+choice_false : {X : Type 0} (global : Bool) (a b : X) → global ≡ false → b ≡ cond global a b
+choice_false global a b e = ap (λ g. cond g a b) (sym e)
+
+pub global_connections : (strip : Strip) (packed : PackedCircuit) (places : List Place) (paths : List (List Node)) (number : ℕ) (found : BlockNet)
+    → slice_get (block_nets packed) number ≡ Some found → found.global ≡ true
+    → connected_lines packed places (found.driver ∷ found.readers) ≡ connections strip packed places (numbered_net packed number) paths
+global_connections strip packed places paths number found at is =
+    choice_true found.global (connected_lines packed places (found.driver ∷ found.readers)) _ is
+    ∙ by_number (λ net. connections strip packed places net paths) packed number found at
+
+pub local_connections : (strip : Strip) (packed : PackedCircuit) (places : List Place) (paths : List (List Node)) (number : ℕ) (found : BlockNet)
+    → slice_get (block_nets packed) number ≡ Some found → found.global ≡ false
+    → flat_map (map (node_line strip)) paths ≡ connections strip packed places (numbered_net packed number) paths
+local_connections strip packed places paths number found at is =
+    choice_false found.global _ (flat_map (map (node_line strip)) paths) is
+    ∙ by_number (λ net. connections strip packed places net paths) packed number found at
+
+-- a net between blocks keeps the laws
+pub net_is_lawful : (packed : PackedCircuit) (number : ℕ) (found : BlockNet) → All (IsBlockNet packed) (block_nets packed) → slice_get (block_nets packed) number ≡ Some found → IsBlockNet packed found
+net_is_lawful packed number found all at = all_at (IsBlockNet packed) (block_nets packed) number found at all
+
+-- a line of a block at its place
+pub at_its_place : (line : PackedCircuit → ℕ → Place → List ℕ) (packed found : PackedCircuit) (places : List Place) (block : ℕ) (place : Place) → found ≡ packed → slice_get places block ≡ Some place → line found block place ≡ line packed block (place_of places block)
+at_its_place line packed found places block place e at =
+    ap (λ circuit. line circuit block place) e ∙ ap (line packed block) (sym (get_or_from_slice_get places block place _ at))
+
+-- the headings, by the strip and packing that are found
+pub headings_found : {strip found_strip : Strip} {packed found : PackedCircuit} → found_strip ≡ strip → found ≡ packed → text_of (place_headings found_strip found) ≡ text_of (place_headings strip packed)
+headings_found {strip = strip} {found = found} e f = ap (λ s. text_of (place_headings s found)) e ∙ ap (λ p. text_of (place_headings strip p)) f
+
+-- the first line of a net, by the packing that is found
+pub heading_found : {packed found : PackedCircuit} (number : ℕ) → found ≡ packed → heading_text found number (numbered_net found number) ≡ heading_text packed number (numbered_net packed number)
+heading_found number e = ap (λ p. heading_text p number (numbered_net p number)) e

@@ -1,0 +1,14 @@
+use Rattle.std.proofs.Common.{length, take}
+use Rattle.std.specs.List.{flat_map, range_with_len}
+use Rattle.cluster.specs.Blocks.{blocks_of}
+use Rattle.strip_place.specs.Anneal.{places_by_block}
+use Rattle.strip_place.specs.Placed.{place_of}
+use Rattle.vpr_files.specs.PlaceFile.{placed_line}
+use Rattle.vpr_files.specs.TextLines.{line_of}
+use Rattle.vpr_files.specs.Writing.{TakesAll}
+use Rattle.vpr_files.proofs.place_file.write_places.Given as goal
+
+-- the lines of the blocks before this one are written
+abbrev pub invariant-loop-block : goal.invariant-loop-block
+invariant-loop-block g l =
+    TakesAll g.W.Sink.contents g.W.Sink.has_failed l.initial.sink l.sink (flat_map (λ block. line_of (placed_line l.placing.packed block (place_of (places_by_block l.placing) block))) (take l.block (range_with_len 0 (length (blocks_of l.placing.packed)))))

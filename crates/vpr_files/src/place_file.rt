@@ -1,0 +1,91 @@
+//! The `.place` file: where the blocks of a placed circuit stand.
+ghost use Rattle.std.specs.Prelude.{◌<◌, length};
+ghost use Rattle.cluster.specs.Blocks.{blocks_of};
+ghost use Rattle.strip_place.specs.Anneal.{places_by_block};
+ghost use Rattle.vpr_files.specs.PlaceFile.{place_headings, place_text_of, placed_line, placed_lines};
+ghost use Rattle.vpr_files.specs.TextLines.{line_of, text_of};
+ghost use Rattle.vpr_files.specs.Writing.{Writes};
+
+use crate::block_names::block_name;
+use crate::writing::write_parts;
+use cluster::Packed;
+use grid::{Place, Strip};
+use itoa::Buffer;
+use line_text::{Failed, Sink};
+use strip_place::Placing;
+
+/// Writes the `.place` file of a placed circuit. Where the sink fails, it has taken a beginning of the file.
+///
+/// - `Netlist file: MODEL.net Architecture file: device.arch` and `Array size: WIDTH x ROWS logic blocks`, an empty line, and
+///   two lines that say what the columns of those behind them are.
+/// - For each block, in order: its name, the column and row where it stands, the number of the pad among those of its end of
+///   the column (0 for a logic block), and `#` with its own number.
+pub fn place_text<W: Sink>(placing: &Placing, sink: &mut W) -> Result<(), Failed>
+    ensures { Writes W.contents W.has_failed sink.old sink.new (place_text_of placing.now.strip placing.now.packed (places_by_block placing.now)) result }
+{
+    write_headings(placing.strip(), placing.packed(), sink)?;
+    write_places(placing, sink)
+}
+
+/// Writes the headings.
+fn write_headings<W: Sink>(strip: Strip, packed: &Packed, sink: &mut W) -> Result<(), Failed>
+    ensures { Writes W.contents W.has_failed sink.old sink.new (text_of (place_headings strip packed.now)) result }
+{
+    let mut width = Buffer::new();
+    let mut rows = Buffer::new();
+    write_parts(
+        sink,
+        &[
+            b"Netlist file: ",
+            packed.circuit().model.as_bytes(),
+            b".net Architecture file: device.arch\nArray size: ",
+            width.format(strip.width).as_bytes(),
+            b" x ",
+            rows.format(strip.rows).as_bytes(),
+            b" logic blocks\n\n#block name x y subblk block number\n#---------- - - ------ ------------\n",
+        ],
+    )
+}
+
+/// Writes the lines of the blocks.
+fn write_places<W: Sink>(placing: &Placing, sink: &mut W) -> Result<(), Failed>
+    ensures { Writes W.contents W.has_failed sink.old sink.new (text_of (placed_lines placing.now.packed (places_by_block placing.now))) result }
+{
+    for block in 0..placing.packed().block_count() {
+        write_place(placing.packed(), block, placing.place_of(block), sink)?;
+    }
+    Ok(())
+}
+
+/// Writes the line of a block that stands at a place.
+fn write_place<W: Sink>(
+    packed: &Packed,
+    block: usize,
+    place: Place,
+    sink: &mut W,
+) -> Result<(), Failed>
+    requires { block < length (blocks_of packed.now) }
+    ensures { Writes W.contents W.has_failed sink.old sink.new (line_of (placed_line packed.now block place)) result }
+{
+    let name = block_name(packed, packed.block(block));
+    let mut x = Buffer::new();
+    let mut y = Buffer::new();
+    let mut subblock = Buffer::new();
+    let mut number = Buffer::new();
+    write_parts(
+        sink,
+        &[
+            name.before,
+            name.net,
+            b" ",
+            x.format(place.x).as_bytes(),
+            b" ",
+            y.format(place.y).as_bytes(),
+            b" ",
+            subblock.format(place.subblock).as_bytes(),
+            b" #",
+            number.format(block).as_bytes(),
+            b"\n",
+        ],
+    )
+}
