@@ -9,6 +9,8 @@
 
 mod layout;
 mod placed_strip;
+mod window;
 
 pub use layout::{Layout, MAX_STRIPS};
 pub use placed_strip::PlacedStrip;
+pub use window::{laws_of_windows, shift, unshift};
