@@ -1,0 +1,35 @@
+-- The definitions at small values.
+use Rattle.std.proofs.Common.{◌≡◌, [], ◌∷◌, None, refl, false, true}
+use Rattle.rr_graph.specs.declared.resource.ResourceKind.TheVariants.{Opin, Pad}
+use Rattle.rr_graph.specs.declared.resource.Resource.{Resource}
+use Rattle.device_book.specs.declared.book.Extent.{Extent}
+use Rattle.device_book.specs.Owners.{has, in_book, nobody, number_of, owner_of, size_of}
+
+-- one column, one row, numbers 0 to 3
+abbrev small : Extent
+small = record { columns = 1; rows = 1; numbers = 4 }
+
+-- the output pin of number 2 of its block, and the first pad above it
+abbrev pin : Resource
+pin = record { x = 1; kind = Opin; y = 1; n = 2 }
+
+abbrev pad : Resource
+pad = record { x = 1; kind = Pad; y = 2; n = 0 }
+
+places : size_of small ≡ 120
+places = refl
+
+where_the_pin_stands : number_of small pin ≡ 66
+where_the_pin_stands = refl
+
+where_the_pad_stands : number_of small pad ≡ 116
+where_the_pad_stands = refl
+
+not_there : in_book small (record pin { x = 2 }) ≡ false
+not_there = refl
+
+nobodys : owner_of (nobody small) pin ≡ None
+nobodys = refl
+
+among_both : has (pin ∷ pad ∷ []) pad ≡ true
+among_both = refl

@@ -1,0 +1,4 @@
+pub mod Listing
+pub mod Pins
+pub mod Places
+mod Examples

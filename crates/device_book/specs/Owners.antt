@@ -1,0 +1,76 @@
+-- Who owns which resource of a device.
+use Rattle.std.specs.Prelude.{ℕ, ◌≡◌, ◌+◌, ◌*◌, ◌≤◌, List, length, replicate, Bool, ◌&&◌, ◌==◌, nat_le, nat_lt, max, Option, Some, None, if◌then◌else◌, slice_index_or, AllPairs, Contains, ◌↔◌}
+use Rattle.std.specs.List.{list_any}
+use Rattle.arch_file.specs.declared.arch.Arch.{Arch}
+use Rattle.rr_graph.specs.declared.resource.Resource.{Resource}
+use Rattle.rr_graph.specs.Resources.{IsEarlier, resource_rank}
+use Rattle.device_book.specs.declared.book.Extent.{Extent}
+use Rattle.device_book.specs.declared.book.Owned.{Owned}
+
+-- each resource's owner, in node order
+pub record Owners : Type 0 where
+  pub extent : Extent
+  pub owners : List (Option ℕ)
+
+-- how far the resources of a device reach
+abbrev pub extent_of : Arch → ℕ → ℕ → Extent
+extent_of arch columns rows = record { columns = columns; rows = rows; numbers = max (max (length arch.pins) arch.tracks) arch.io_rat }
+
+-- the book has a place for the resource
+abbrev pub in_book : Extent → Resource → Bool
+in_book extent resource = nat_le resource.x extent.columns && (nat_le resource.y (extent.rows + 1) && nat_lt resource.n extent.numbers)
+
+-- which place that is: by column, kind, row and number, as in node order
+abbrev pub number_of : Extent → Resource → ℕ
+number_of extent resource = ((resource.x * 5 + resource_rank resource.kind) * (extent.rows + 2) + resource.y) * extent.numbers + resource.n
+
+-- how many places there are
+abbrev pub size_of : Extent → ℕ
+size_of extent = (extent.columns + 1) * 5 * (extent.rows + 2) * extent.numbers
+
+-- nobody owns anything
+abbrev pub nobody : Extent → Owners
+nobody extent = record { extent = extent; owners = replicate (size_of extent) None }
+
+-- who owns a resource
+abbrev pub owner_of : Owners → Resource → Option ℕ
+owner_of book resource = if in_book book.extent resource then slice_index_or book.owners (number_of book.extent resource) None else None
+
+abbrev pub IsFree : Owners → Resource → Type 0
+IsFree book resource = owner_of book resource ≡ None
+
+-- two are the same
+abbrev pub is_same : Resource → Resource → Bool
+is_same a b = (a.x == b.x) && ((resource_rank a.kind == resource_rank b.kind) && ((a.y == b.y) && (a.n == b.n)))
+
+-- the resource is one of those
+abbrev pub has : List Resource → Resource → Bool
+has resources resource = list_any (is_same resource) resources
+
+-- those and no others have that owner now
+abbrev pub AreOwned : Owners → List Resource → Option ℕ → Owners → Type 0
+AreOwned old resources owner new = (new.extent ≡ old.extent) × ((resource : Resource) → owner_of new resource ≡ (if has resources resource then owner else owner_of old resource))
+
+-- those and no others become the tenancy's
+abbrev pub Claims : Owners → ℕ → List Resource → Owners → Type 0
+Claims old id resources new = AreOwned old resources (Some id) new
+
+-- those and no others become nobody's
+abbrev pub Releases : Owners → List Resource → Owners → Type 0
+Releases old resources new = AreOwned old resources None new
+
+-- a list has each resource that is owned, with its owner, in node order, and nothing else
+pub record ListsOwners (book : Owners) (list : List Owned) : Type 0 where
+  pub in_order : AllPairs (λ a b. IsEarlier a.resource b.resource) list
+  pub exact : (owned : Owned) → Contains list owned ↔ (owner_of book owned.resource ≡ Some owned.id)
+
+-- a device is no wider, no higher and has no higher numbers
+pub record IsExtent (extent : Extent) : Type 0 where
+  pub columns : extent.columns ≤ 256
+  pub rows : extent.rows ≤ 64
+  pub numbers : extent.numbers ≤ 145
+
+-- the table has an entry for each place
+pub record IsBook (extent : Extent) (owners : List (Option ℕ)) : Type 0 where
+  pub small : IsExtent extent
+  pub long : length owners ≡ size_of extent

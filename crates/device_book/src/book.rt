@@ -1,0 +1,215 @@
+//! The book of owners.
+ghost use Rattle.std.specs.Prelude.{◌≡◌, ◌+◌, ◌<◌, ◌≤◌, ◌*◌, All, IfOk, None, Some, length, max, true};
+ghost use Rattle.arch_file.specs.Arch.{IsArch};
+ghost use Rattle.device_book.specs.Owners.{AreOwned, Claims, IsBook, IsExtent, IsFree, ListsOwners, Releases, extent_of, in_book, nobody, number_of, owner_of, size_of};
+ghost use Rattle.rr_graph.specs.Resources.{resource_rank};
+
+use arch_file::Arch;
+use rr_graph::{Resource, ResourceKind};
+use std::alloc::{AllocError, Global};
+use std::marker::Model;
+
+/// How far a device's resources reach: their columns, their rows, and the numbers in each place.
+#[derive(Clone, Copy, Debug, PartialEq, Eq)]
+pub struct Extent {
+    /// The device's columns. There is one more of wires, to the left of them.
+    pub columns: u32,
+    /// The device's rows. Pads stand below and above them.
+    pub rows: u32,
+    /// More than any number of a pin, of a pad or of a track.
+    pub numbers: u32,
+}
+
+/// The owners of a device's resources. Its value has each resource's owner, or none.
+#[derive(Drop)]
+pub struct Book {
+    extent: Extent,
+    owners: Vec<Option<u16>>,
+}
+
+impl Model for Book {
+    ghost use Rattle.device_book.specs.Owners.{IsBook, Owners};
+
+    ghost Value = { Owners };
+
+    ghost view = { λ b. record { extent = b.extent; owners = b.owners.items } };
+
+    ghost invariant = { λ b. IsBook b.extent b.owners.items };
+}
+
+impl Book {
+    /// The book of a device that nobody uses.
+    pub fn new(alloc: Global, arch: &Arch, columns: u32, rows: u32) -> Result<Self, AllocError>
+        requires arch { IsArch arch.now }
+        requires columns { columns ≤ 256 }
+        requires rows { rows ≤ 64 }
+        ensures { IfOk result (λ book. book ≡ nobody (extent_of arch.now columns rows)) }
+    {
+        let numbers = numbers(arch);
+        let extent = Extent {
+            columns,
+            rows,
+            numbers,
+        };
+        Ok(Book {
+            extent,
+            owners: vec![in alloc; None; size(extent)]?,
+        })
+    }
+
+    /// Who owns a resource. Nobody owns one that the device hasn't.
+    pub fn owner(&self, resource: Resource) -> Option<u32>
+        ensures { result ≡ owner_of self.now resource }
+    {
+        if !in_book(self.extent, resource) {
+            return None;
+        }
+        self.owners[number_of(self.extent, resource)].map(u32::from)
+    }
+
+    /// Each resource that is owned, with its owner, in node order.
+    pub fn owned(&self, alloc: Global) -> Result<Vec<Owned>, AllocError>
+        ensures { IfOk result (λ list. ListsOwners self.now list.items) }
+    {
+        listed(alloc, self.extent, self.owners.as_slice())
+    }
+
+    /// Gives resources that nobody owns to a tenancy.
+    pub fn claim(&mut self, id: u16, resources: &[Resource])
+        requires there { All (λ resource. in_book self.old.extent resource ≡ true) resources.now }
+        requires free { All (IsFree self.old) resources.now }
+        ensures { Claims self.old id resources.now self.new }
+    {
+        let extent = self.extent;
+        write(&mut self.owners, extent, Some(id), resources);
+    }
+
+    /// Takes resources from the tenancy that owns them.
+    pub fn release(&mut self, resources: &[Resource])
+        requires there { All (λ resource. in_book self.old.extent resource ≡ true) resources.now }
+        ensures { Releases self.old resources.now self.new }
+    {
+        let extent = self.extent;
+        write(&mut self.owners, extent, None, resources);
+    }
+}
+
+/// A resource and the tenancy that owns it.
+#[derive(Clone, Copy, Debug, PartialEq, Eq)]
+pub struct Owned {
+    pub resource: Resource,
+    pub id: u32,
+}
+
+/// More than any number of a pin, of a pad or of a track.
+#[tactic(auto, using(crate::proofs::Pins::few_pins))]
+fn numbers(arch: &Arch) -> u32
+    requires { IsArch arch.now }
+    ensures value { result ≡ max (max (length arch.now.pins) arch.now.tracks) arch.now.io_rat }
+    ensures few { result ≤ 145 }
+{
+    let pins = arch.pins.as_slice().len() as u32;
+    pins.max(arch.tracks).max(arch.io_rat)
+}
+
+/// How many places there are.
+fn size(extent: Extent) -> usize
+    requires { IsExtent extent }
+    ensures { result ≡ size_of extent }
+{
+    (extent.columns as usize + 1) * 5 * (extent.rows as usize + 2) * extent.numbers as usize
+}
+
+/// Whether there is a place for the resource.
+fn in_book(extent: Extent, resource: Resource) -> bool
+    requires { IsExtent extent }
+    ensures { result ≡ in_book extent resource }
+{
+    resource.x <= extent.columns && resource.y <= extent.rows + 1 && resource.n < extent.numbers
+}
+
+/// The place of a resource.
+fn number_of(extent: Extent, resource: Resource) -> usize
+    requires extent { IsExtent extent }
+    requires there { in_book extent resource ≡ true }
+    ensures value { result ≡ number_of extent resource }
+    ensures within { result < size_of extent }
+{
+    let kind = rank(resource.kind);
+    let row = (resource.x as usize * 5 + kind) * (extent.rows as usize + 2) + resource.y as usize;
+    row * extent.numbers as usize + resource.n as usize
+}
+
+/// The place of a kind in node order.
+fn rank(kind: ResourceKind) -> usize
+    ensures { result ≡ resource_rank kind }
+{
+    match kind {
+        ResourceKind::Opin => 0,
+        ResourceKind::Ipin => 1,
+        ResourceKind::ChanX => 2,
+        ResourceKind::ChanY => 3,
+        ResourceKind::Pad => 4,
+    }
+}
+
+/// Writes the same owner at each of these.
+fn write(owners: &mut [Option<u16>], extent: Extent, owner: Option<u16>, resources: &[Resource])
+    requires extent { IsExtent extent }
+    requires long { length owners.old ≡ size_of extent }
+    requires there { All (λ resource. in_book extent resource ≡ true) resources.now }
+    ensures long { length owners.new ≡ length owners.old }
+    ensures owned { AreOwned (record { extent = extent; owners = owners.old }) resources.now owner (record { extent = extent; owners = owners.new }) }
+{
+    for resource in resources {
+        owners[number_of(extent, *resource)] = owner;
+    }
+}
+
+/// The resources that are owned, with their owners, in the order of their places.
+fn listed(alloc: Global, extent: Extent, owners: &[Option<u16>]) -> Result<Vec<Owned>, AllocError>
+    requires { IsBook extent owners.now }
+    ensures { IfOk result (λ list. ListsOwners (record { extent = extent; owners = owners.now }) list.items) }
+{
+    let mut list = Vec::new(alloc);
+    for place in 0..owners.len() {
+        if let Some(id) = owners[place] {
+            let resource = resource_at(extent, place);
+            let id = u32::from(id);
+            list.push(Owned { resource, id })?;
+        }
+    }
+    Ok(list)
+}
+
+/// The resource of a place.
+fn resource_at(extent: Extent, place: usize) -> Resource
+    requires extent { IsExtent extent }
+    requires within { place < size_of extent }
+    ensures there { in_book extent result ≡ true }
+    ensures place { number_of extent result ≡ place }
+{
+    let numbers = extent.numbers as usize;
+    let rows = extent.rows as usize + 2;
+    let n = (place % numbers) as u32;
+    let row = place / numbers;
+    let y = (row % rows) as u32;
+    let column = row / rows;
+    let kind = kind_of(column % 5);
+    let x = (column / 5) as u32;
+    Resource { x, kind, y, n }
+}
+
+/// The kind of that place in node order.
+fn kind_of(rank: usize) -> ResourceKind
+    requires { rank < 5 }
+    ensures { resource_rank result ≡ rank }
+{
+    match rank {
+        0 => ResourceKind::Opin,
+        1 => ResourceKind::Ipin,
+        2 => ResourceKind::ChanX,
+        3 => ResourceKind::ChanY,
+        _ => ResourceKind::Pad,
+    }
+}

@@ -1,0 +1,9 @@
+//! Who owns which pin, wire and pad of a device.
+//!
+//! A [`Book`] has an owner, or none, for each [`rr_graph::Resource`] of a device, in one flat table. [`Book::claim`] and
+//! [`Book::release`] change the owners of exactly the resources that they are given. Only [`Book::new`] takes memory.
+#![tactic(auto)]
+
+mod book;
+
+pub use book::{Book, Extent, Owned};
