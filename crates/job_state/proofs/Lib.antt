@@ -1,1 +1,10 @@
 pub mod FewSteps
+pub mod NextStep
+pub mod StepCounts
+pub mod Iterations
+pub mod Ended
+pub mod Routings
+pub mod RoutingSteps
+pub mod Sharing
+pub mod Beginnings
+pub mod Keeping

@@ -1,24 +1,29 @@
 -- Private: what a job carries, and that it is the job's value.
-use Rattle.std.specs.Prelude.{ℕ, ◌≡◌, ◌-◌, ◌≤◌, Bool, false, Ok, IfOk, if◌then◌else◌}
-use Rattle.cluster.specs.Clusters.{packing_steps}
+use Rattle.std.specs.Prelude.{ℕ, ◌≡◌, ◌-◌, ◌<◌, ◌≤◌, Bool, true, false, Ok, if◌then◌else◌}
 use Rattle.job_state.specs.declared.step.JobStep.{JobStep}
 use Rattle.job_state.specs.declared.sources.Sources.{Sources}
 use Rattle.job_state.specs.declared.work.Work.{Work}
-use Rattle.job_state.specs.JobValue.{circuit_in, is_last, job_value}
+use Rattle.job_state.specs.JobValue.{is_last, job_value}
 
 -- the steps that are made where a job stands before that step
 abbrev pub steps_made : JobStep → Bool → ℕ
 steps_made step made = if made then step.number else step.number - 1
 
--- a circuit has at most 8,192 BLEs, and a packing no more steps
+-- the job is over after no more than 8,192 steps: a circuit has no more BLEs, a placing no more passes, and a routing no more
+-- iterations
 abbrev pub HasFewSteps : Sources → Type 0
-HasFewSteps sources = IfOk (circuit_in sources) (λ circuit. packing_steps circuit sources.arch ≤ 8192)
+HasFewSteps sources = (steps : ℕ) × (steps ≤ 8192) × (is_last sources steps ≡ true)
+
+-- the job wasn't over after fewer steps
+abbrev pub IsNotOverBefore : Sources → ℕ → Type 0
+IsNotOverBefore sources steps = (fewer : ℕ) → fewer < steps → is_last sources fewer ≡ false
 
 -- that is the job's value after so many steps
 pub record HasMade (step : JobStep) (work : Work) (steps : ℕ) : Type 0 where
   pub value : job_value step.sources steps ≡ Ok work
   pub from_one : 1 ≤ step.number
   pub few : HasFewSteps step.sources
+  pub going : IsNotOverBefore step.sources steps
 
 -- a job that has that step to make, or made it already
 pub record IsJob (step : JobStep) (work : Work) (made : Bool) : Type 0 where

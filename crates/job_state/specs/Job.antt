@@ -1,6 +1,7 @@
 -- Jobs as their holders see them.
-use Rattle.std.specs.Prelude.{ℕ, ◌≡◌, ◌+◌, ◌-◌, Bool, false, Result, Ok, Err}
+use Rattle.std.specs.Prelude.{ℕ, ◌≡◌, ◌≢◌, ◌+◌, ◌-◌, Bool, false, Result, Ok, Err}
 use Rattle.job_state.specs.declared.step.JobStep.{JobStep}
+use Rattle.job_state.specs.declared.sources.JobKind.TheVariants.{Placing}
 use Rattle.job_state.specs.declared.sources.Sources.{Sources}
 use Rattle.job_state.specs.JobValue.{is_last}
 
@@ -21,7 +22,8 @@ next_step step = record { step = record step { number = step.number + 1 }; made 
 abbrev pub is_over : JobState → Bool
 is_over job = is_last job.step.sources (job.step.number - 1)
 
--- what a step may lead to: it is made, or the job comes back as it was. A step that was made already is not made again
+-- what a step may lead to: it is made, or for want of memory the job comes back as it was. A step that was made already is not
+-- made again, and a placing's takes no memory
 abbrev pub Steps : JobState → Result JobStep JobState → Type 0
 Steps job (Ok done) = done ≡ job.step
-Steps job (Err back) = (back ≡ job) × (job.made ≡ false)
+Steps job (Err back) = (back ≡ job) × (job.made ≡ false) × (job.step.sources.kind ≢ Placing)

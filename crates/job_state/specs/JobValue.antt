@@ -1,20 +1,35 @@
 -- The value of a job: what it has made after so many of its steps, as a function of what it is computed from.
 use Rattle.std.specs.Prelude.{ℕ, Bool, true, false, List, Result, Ok, Err, nat_lt, if◌then◌else◌}
+use Rattle.std.specs.List.{position_or_len, range_with_len}
 use Rattle.arch_file.specs.declared.arch.Arch.{Arch}
 use Rattle.blif.specs.CircuitOf.{circuit_of}
 use Rattle.blif.specs.declared.circuit.Circuit.{Circuit}
 use Rattle.blif.specs.declared.fault.BlifFault.{BlifFault}
 use Rattle.cluster.specs.Clusters.{packed_of, packing_steps}
 use Rattle.grid.specs.declared.Strip.{Strip}
+use Rattle.pathfinder.specs.Negotiation.{Routed as RoutedTrees, Standing, More, Done, GaveUp as GivenUp, NoPath as WithoutPath, routed_after}
+use Rattle.pathfinder.specs.PlacedNets.{nets_to_route, wiring_of}
+use Rattle.pathfinder.specs.Routings.{told_by_node}
+use Rattle.pathfinder.specs.Wiring.{Net}
+use Rattle.rr_graph.specs.Graph.{Basis, graph_of}
+use Rattle.strip_place.specs.Anneal.{PlacingUnderWay, is_finished, is_past_last, places_by_block}
 use Rattle.job_state.specs.declared.sources.JobKind.{JobKind}
-use Rattle.job_state.specs.declared.sources.JobKind.TheVariants.{Packing as PackingJob}
+use Rattle.job_state.specs.declared.sources.JobKind.TheVariants.{Packing as PackingJob, Placing as PlacingJob, Routing as RoutingJob}
 use Rattle.job_state.specs.declared.sources.Sources.{Sources}
 use Rattle.job_state.specs.declared.work.Work.{Work}
-use Rattle.job_state.specs.declared.work.Work.TheVariants.{Packing, Packed}
+use Rattle.job_state.specs.declared.work.Work.TheVariants.{Packing, Packed, Placing, Placed, Routing, Routed, GaveUp, NoPath}
 
 -- what a packing is computed from: it has no seed and no effort
 abbrev pub packing_sources : Arch → Strip → List ℕ → Sources
 packing_sources arch strip text = record { kind = PackingJob; arch = arch; strip = strip; text = text; seed = 0; effort = 0 }
+
+-- what a placing is computed from
+abbrev pub placing_sources : Arch → Strip → List ℕ → ℕ → ℕ → Sources
+placing_sources arch strip text seed effort = record { kind = PlacingJob; arch = arch; strip = strip; text = text; seed = seed; effort = effort }
+
+-- what a routing is computed from: the seed and the effort are those of its placing
+abbrev pub routing_sources : Arch → Strip → List ℕ → ℕ → ℕ → Sources
+routing_sources arch strip text seed effort = record { kind = RoutingJob; arch = arch; strip = strip; text = text; seed = seed; effort = effort }
 
 -- what the netlist says
 abbrev pub circuit_in : Sources → Result Circuit BlifFault
@@ -25,21 +40,77 @@ abbrev pub packing_after : Circuit → Arch → ℕ → Work
 packing_after circuit arch steps =
     if nat_lt steps (packing_steps circuit arch) then Packing (record { circuit = circuit; arch = arch; made = steps }) else Packed (packed_of circuit arch)
 
+-- a placing makes a pass a step
+abbrev pub placing_at : Sources → Circuit → ℕ → PlacingUnderWay
+placing_at sources circuit passes = record { packed = packed_of circuit sources.arch; strip = sources.strip; seed = sources.seed; effort = sources.effort; passes = passes }
+
+-- after the pass at temperature 0 it is whole
+abbrev pub placing_stands : PlacingUnderWay → Work
+placing_stands placing = if is_finished placing then Placed placing else Placing placing
+
+-- the most steps that are counted; no job has as many
+unfoldable pub step_limit : ℕ
+step_limit = 65536
+
+-- how many passes a placing makes: with that many, and not before, the one at temperature 0 was made
+unfoldable pub pass_count : Strip → ℕ
+pass_count strip = position_or_len (is_past_last strip) (range_with_len 0 step_limit)
+
+-- what the graph of a routing stands on
+abbrev pub basis_in : Sources → Basis
+basis_in sources = record { arch = sources.arch; strip = sources.strip }
+
+-- the nets of a routing, between the places at the end of its placing
+unfoldable pub nets_in : Sources → Circuit → List Net
+nets_in sources circuit = nets_to_route (basis_in sources) (packed_of circuit sources.arch) (places_by_block (placing_at sources circuit (pass_count sources.strip)))
+
+-- a routing makes an iteration a step: while it goes on it keeps its trees, at its end it tells them by node
+abbrev pub routing_stands : Basis → List Net → ℕ → RoutedTrees → Standing → Work
+routing_stands basis nets iterations routed More = Routing (record { basis = basis; state = record { nets = nets; iterations = iterations; trees = routed.trees; history = routed.history } })
+routing_stands basis nets iterations routed Done = Routed (told_by_node (graph_of basis) routed.trees)
+routing_stands basis nets iterations routed GivenUp = GaveUp
+routing_stands basis nets iterations routed (WithoutPath net) = NoPath net
+
+abbrev pub routing_after : Basis → List Net → ℕ → Work
+routing_after basis nets iterations = routing_stands basis nets iterations (routed_after (wiring_of basis) nets iterations) (routed_after (wiring_of basis) nets iterations).standing
+
 -- a job of that kind after so many steps
-abbrev pub value_of : JobKind → Result Circuit BlifFault → Arch → ℕ → Result Work BlifFault
-value_of PackingJob (Ok circuit) arch steps = Ok (packing_after circuit arch steps)
-value_of PackingJob (Err fault) arch steps = Err fault
+abbrev pub work_of : JobKind → Sources → Circuit → ℕ → Work
+work_of PackingJob sources circuit steps = packing_after circuit sources.arch steps
+work_of PlacingJob sources circuit steps = placing_stands (placing_at sources circuit steps)
+work_of RoutingJob sources circuit steps = routing_after (basis_in sources) (nets_in sources circuit) steps
+
+abbrev pub value_of : Sources → Result Circuit BlifFault → ℕ → Result Work BlifFault
+value_of sources (Ok circuit) steps = Ok (work_of sources.kind sources circuit steps)
+value_of sources (Err fault) steps = Err fault
 
 -- a job after so many steps, or the fault of its netlist
 abbrev pub job_value : Sources → ℕ → Result Work BlifFault
-job_value sources steps = value_of sources.kind (circuit_in sources) sources.arch steps
+job_value sources steps = value_of sources (circuit_in sources) steps
 
--- a value with no step left to make
-abbrev pub is_whole : Result Work BlifFault → Bool
-is_whole (Ok (Packing packing)) = false
-is_whole (Ok (Packed packed)) = true
-is_whole (Err fault) = true
+-- a work with no step left to make
+abbrev pub is_whole : Work → Bool
+is_whole (Packing packing) = false
+is_whole (Packed packed) = true
+is_whole (Placing placing) = false
+is_whole (Placed placing) = true
+is_whole (Routing routing) = false
+is_whole (Routed routes) = true
+is_whole GaveUp = true
+is_whole (NoPath net) = true
+
+abbrev pub is_whole_value : Result Work BlifFault → Bool
+is_whole_value (Ok work) = is_whole work
+is_whole_value (Err fault) = true
 
 -- the job is over with the step of that number
 abbrev pub is_last : Sources → ℕ → Bool
-is_last sources number = is_whole (job_value sources number)
+is_last sources number = is_whole_value (job_value sources number)
+
+-- how many steps the job makes: the least number with which it is over
+unfoldable pub step_count : Sources → ℕ
+step_count sources = position_or_len (is_last sources) (range_with_len 0 step_limit)
+
+-- what the job has made at its end
+abbrev pub end_value : Sources → Result Work BlifFault
+end_value sources = job_value sources (step_count sources)

@@ -87,8 +87,8 @@ impl AnyJob {
         &self.step.sources
     }
 
-    /// Makes the step. Without memory the job comes back as it was. A step that was made already is answered at once, and
-    /// takes none.
+    /// Makes the step. Without memory the job comes back as it was. A placing's step takes none, and one that was made already
+    /// is answered at once.
     pub fn step(self) -> Result<Done, Back>
         ensures { Steps self result }
     {

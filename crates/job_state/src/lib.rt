@@ -4,20 +4,25 @@
 //! - [`AnyJob`] has a step to make. [`AnyJob::step`] makes it, without a lock and without its slot, and answers a [`Done`], or
 //!   without memory a [`Back`] with the job unchanged. Each tells its tenancy, generation, step number and sources.
 //! - [`Parked`] is a job as its slot keeps it, running or finished; it alone may be dropped. The others must be spent: by a
-//!   step, by a call that takes them, or by `park`.
+//!   step, by a call that takes them, or by `park`. A finished one tells what it has made, and a placing begins with a
+//!   finished packing, a routing with a finished placing, which are only lent.
 //!
 //! What a job carries is a function of what it is computed from: `job_value` of `specs/JobValue.antt` gives it after so many
-//! steps. Each type keeps that: a job has its value after the steps before its own, a `Done` has its own step's too. So no contract
-//! above needs to say what a job has made.
+//! steps. Each type keeps that: a job has its value after the steps before its own, a `Done` has its own step's too, and none was
+//! over before. So no contract above needs to say what a job has made, and a finished one has made its sources' `end_value`.
 #![tactic(auto)]
 
+mod ending;
 mod job;
+mod packing;
 mod parked;
+mod routing;
 mod shared_text;
 mod sources;
 mod step;
 mod work;
 
+pub use ending::RoutingEnd;
 pub use job::{AnyJob, Back, Done};
 pub use parked::Parked;
 pub use shared_text::SharedText;

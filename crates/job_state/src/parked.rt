@@ -1,19 +1,31 @@
 //! A job as its slot keeps it.
-ghost use Rattle.std.specs.Prelude.{◌≡◌, ◌-◌, ◌≤◌, IfOk, None, Ok, false, true};
-ghost use Rattle.cluster.specs.Clusters.{packing_steps, unfit_of};
+ghost use Rattle.std.specs.Prelude.{◌≡◌, ◌≤◌, IfOk, None, Ok, false, true};
+ghost use Rattle.cluster.specs.Clusters.{PackedCircuit, packed_of, packing_steps, unfit_of};
+ghost use Rattle.grid.specs.declared.fit.Fit.TheVariants.{Fits};
+ghost use Rattle.grid.specs.Fits.{fit_of};
+ghost use Rattle.grid.specs.Sizes.{IsStripSize};
+ghost use Rattle.job_state.specs.declared.sources.JobKind.{JobKind};
 ghost use Rattle.job_state.specs.declared.work.Work.{Work};
+ghost use Rattle.job_state.specs.Ends.{IsEndOf, IsOfNets};
+ghost use Rattle.job_state.specs.Held.{HasFewSteps};
 ghost use Rattle.job_state.specs.Job.{first_step, is_over};
-ghost use Rattle.job_state.specs.JobValue.{circuit_in, job_value, packing_sources};
+ghost use Rattle.job_state.specs.JobValue.{circuit_in, end_value, is_whole, job_value, packing_sources, pass_count, placing_at, placing_sources};
 
+use crate::ending::RoutingEnd;
 use crate::job::AnyJob;
+use crate::packing::PackingJob;
+use crate::routing::RoutingJob;
 use crate::sources::Sources;
 use crate::step::JobStep;
 use crate::work::Work;
 use arch_file::SharedArch;
 use blif::SharedCircuit;
-use cluster::{Packed, Packing};
+use cluster::{Packed, Packing, SharedPacked};
+use pathfinder::Routing;
+use rr_graph::Fabric;
 use std::alloc::{AllocError, Global};
 use std::marker::Model;
+use strip_place::{Placing, laws_of_passes};
 
 /// A job as its slot keeps it, before a step or finished. It may be dropped. Its value is the step that it has to make, the
 /// one behind the last where it is finished, and whether that was made already.
@@ -52,16 +64,81 @@ impl Parked {
     {
         packs_in_few_steps(circuit, &sources.arch);
         let packing = Packing::start(alloc, circuit, &sources.arch)?;
-        Ok(Parked {
-            step: JobStep {
-                id,
-                generation,
-                number: 1,
-                sources,
-            },
-            work: Work::Packing(packing),
+        let work = Work::Packing(PackingJob::new(alloc, packing));
+        Ok(Parked::begin(id, generation, sources, work))
+    }
+
+    /// A placing of what a finished packing of the same netlist has made, before its first pass.
+    pub fn place(
+        alloc: Global,
+        id: u32,
+        generation: u32,
+        sources: Sources,
+        packing: &Parked,
+    ) -> Result<Self, AllocError>
+        requires kind { sources.kind ≡ JobKind.Placing }
+        requires from { packing.now.step.sources ≡ packing_sources sources.arch sources.strip sources.text }
+        requires over { is_over packing.now ≡ true }
+        requires put { packing.now.made ≡ false }
+        requires size { IsStripSize sources.strip }
+        requires fit { (packed : PackedCircuit) → end_value packing.now.step.sources ≡ Ok (Work.Packed packed) → fit_of sources.strip packed ≡ Fits }
+        requires effort { sources.effort ≤ 100 }
+        ensures job { IfOk result (λ job. job ≡ first_step id generation sources) }
+        ensures going { IfOk result (λ job. is_over job ≡ false) }
+    {
+        laws_of_passes();
+        let placing = Placing::start(
+            alloc,
+            packing.shared_packed(),
+            sources.strip,
+            sources.seed,
+            sources.effort,
+        )?;
+        Ok(Parked::begin(id, generation, sources, Work::Placing(placing)))
+    }
+
+    /// A routing of what a finished placing of the same seed and effort has made, on its strip's own graph, before its first
+    /// iteration.
+    pub fn route(
+        alloc: Global,
+        id: u32,
+        generation: u32,
+        sources: Sources,
+        placing: &Parked,
+    ) -> Result<Self, AllocError>
+        requires kind { sources.kind ≡ JobKind.Routing }
+        requires from { placing.now.step.sources ≡ placing_sources sources.arch sources.strip sources.text sources.seed sources.effort }
+        requires over { is_over placing.now ≡ true }
+        requires put { placing.now.made ≡ false }
+        ensures job { IfOk result (λ job. job ≡ first_step id generation sources) }
+        ensures going { IfOk result (λ job. is_over job ≡ false) }
+    {
+        let placing = placing.placing();
+        let graph = Fabric::new(alloc, sources.arch.arch(), placing.strip())?;
+        let routing = Routing::start(alloc, &graph, placing)?;
+        let work = Work::Routing(RoutingJob::new(alloc, graph, routing));
+        Ok(Parked::begin(id, generation, sources, work))
+    }
+
+    /// A job before its first step.
+    fn begin(id: u32, generation: u32, sources: Sources, work: Work) -> Self
+        requires value { job_value sources 0 ≡ Ok work }
+        requires more { is_whole work ≡ false }
+        requires few { HasFewSteps sources }
+        ensures job { result ≡ first_step id generation sources }
+        ensures going { is_over result ≡ false }
+    {
+        let step = JobStep {
+            id,
+            generation,
+            number: 1,
+            sources,
+        };
+        Parked {
+            step,
+            work,
             made: false,
-        })
+        }
     }
 
     /// The job, to be stepped. Takes no memory.
@@ -73,15 +150,58 @@ impl Parked {
         AnyJob { step, work, made }
     }
 
-    /// The packing that it made, where it is a finished packing.
+    /// What a finished packing has made.
     pub fn packed(&self) -> &Packed
+        requires kind { self.now.step.sources.kind ≡ JobKind.Packing }
         requires over { is_over self.now ≡ true }
         requires put { self.now.made ≡ false }
-        ensures { job_value self.now.step.sources (self.now.step.number - 1) ≡ Ok (Work.Packed result.now) }
+        ensures value { end_value self.now.step.sources ≡ Ok (Work.Packed result.now) }
+        ensures exact { IfOk (circuit_in self.now.step.sources) (λ circuit. result.now ≡ packed_of circuit self.now.step.sources.arch) }
+    {
+        self.shared_packed().packed()
+    }
+
+    /// The same, as it is shared.
+    fn shared_packed(&self) -> &SharedPacked
+        requires kind { self.now.step.sources.kind ≡ JobKind.Packing }
+        requires over { is_over self.now ≡ true }
+        requires put { self.now.made ≡ false }
+        ensures value { end_value self.now.step.sources ≡ Ok (Work.Packed result.now) }
+        ensures exact { IfOk (circuit_in self.now.step.sources) (λ circuit. result.now ≡ packed_of circuit self.now.step.sources.arch) }
     {
         match &self.work {
             Work::Packed(packed) => packed,
-            Work::Packing(_) => unreachable!(),
+            _ => unreachable!(),
+        }
+    }
+
+    /// What a finished placing has made.
+    pub fn placing(&self) -> &Placing
+        requires kind { self.now.step.sources.kind ≡ JobKind.Placing }
+        requires over { is_over self.now ≡ true }
+        requires put { self.now.made ≡ false }
+        ensures value { end_value self.now.step.sources ≡ Ok (Work.Placed result.now) }
+        ensures exact { IfOk (circuit_in self.now.step.sources) (λ circuit. result.now ≡ placing_at self.now.step.sources circuit (pass_count self.now.step.sources.strip)) }
+    {
+        match &self.work {
+            Work::Placed(placing) => placing,
+            _ => unreachable!(),
+        }
+    }
+
+    /// How a finished routing ended. What it tells is of the nets of the packed circuit, by number.
+    pub fn routing_end(&self) -> RoutingEnd<'_>
+        requires kind { self.now.step.sources.kind ≡ JobKind.Routing }
+        requires over { is_over self.now ≡ true }
+        requires put { self.now.made ≡ false }
+        ensures value { IsEndOf self.now.step.sources result }
+        ensures nets { IfOk (circuit_in self.now.step.sources) (λ circuit. IsOfNets (packed_of circuit self.now.step.sources.arch) result) }
+    {
+        match &self.work {
+            Work::Routed(routes) => RoutingEnd::Routed(routes),
+            Work::GaveUp => RoutingEnd::GaveUp,
+            Work::NoPath(net) => RoutingEnd::NoPath(*net),
+            _ => unreachable!(),
         }
     }
 }

@@ -1,6 +1,6 @@
 //! What a job is computed from.
 ghost use Rattle.std.specs.Prelude.{◌≡◌, ◌↔◌, IfOk, IsTrue};
-ghost use Rattle.job_state.specs.JobValue.{packing_sources};
+ghost use Rattle.job_state.specs.JobValue.{packing_sources, placing_sources, routing_sources};
 
 use crate::shared_text::SharedText;
 use arch_file::{Arch, Pin, SharedArch};
@@ -12,6 +12,10 @@ use std::alloc::AllocError;
 pub enum JobKind {
     /// One cluster a step.
     Packing,
+    /// One pass a step.
+    Placing,
+    /// One iteration a step.
+    Routing,
 }
 
 /// What a job is computed from.
@@ -22,9 +26,9 @@ pub struct Sources {
     pub strip: Strip,
     /// The netlist.
     pub text: SharedText,
-    /// The seed of a placing, 0 for a packing.
+    /// The seed of a placing, and of the placing that a routing goes on from; 0 for a packing.
     pub seed: u64,
-    /// The effort of a placing, 0 for a packing.
+    /// The effort of a placing, and of the placing that a routing goes on from; 0 for a packing.
     pub effort: u32,
 }
 
@@ -40,6 +44,46 @@ impl Sources {
             text: text.clone()?,
             seed: 0,
             effort: 0,
+        })
+    }
+
+    /// The sources of a placing. Shares the architecture and the netlist.
+    pub fn placing(
+        arch: &SharedArch,
+        strip: Strip,
+        text: &SharedText,
+        seed: u64,
+        effort: u32,
+    ) -> Result<Self, AllocError>
+        ensures { IfOk result (λ sources. sources ≡ placing_sources arch.now strip text.now seed effort) }
+    {
+        Ok(Sources {
+            kind: JobKind::Placing,
+            arch: arch.clone()?,
+            strip,
+            text: text.clone()?,
+            seed,
+            effort,
+        })
+    }
+
+    /// The sources of a routing; the seed and the effort are those of its placing. Shares the architecture and the netlist.
+    pub fn routing(
+        arch: &SharedArch,
+        strip: Strip,
+        text: &SharedText,
+        seed: u64,
+        effort: u32,
+    ) -> Result<Self, AllocError>
+        ensures { IfOk result (λ sources. sources ≡ routing_sources arch.now strip text.now seed effort) }
+    {
+        Ok(Sources {
+            kind: JobKind::Routing,
+            arch: arch.clone()?,
+            strip,
+            text: text.clone()?,
+            seed,
+            effort,
         })
     }
 

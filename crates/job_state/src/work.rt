@@ -1,40 +1,78 @@
 //! What a job has made.
-ghost use Rattle.std.specs.Prelude.{◌≡◌, ◌+◌, ℕ, IfErr, IfOk, Ok, false};
-ghost use Rattle.job_state.specs.declared.sources.Sources.{Sources};
-ghost use Rattle.job_state.specs.JobValue.{is_whole, job_value};
+ghost use Rattle.std.specs.Prelude.{◌≡◌, ◌≢◌, IfErr, IfOk, false};
+ghost use Rattle.job_state.specs.declared.sources.JobKind.{JobKind};
+ghost use Rattle.job_state.specs.JobValue.{is_whole, placing_stands};
+ghost use Rattle.job_state.specs.Steps.{kind_of, next_work};
+ghost use Rattle.strip_place.specs.Anneal.{one_more};
 
-use cluster::{PackEnd, Packed, Packing};
+use crate::packing::PackingJob;
+use crate::routing::RoutingJob;
+use cluster::SharedPacked;
+use pathfinder::Routes;
+use strip_place::{PassEnd, Placing};
 
 /// What a job has made.
 #[derive(Drop)]
 pub(crate) enum Work {
     /// A packing under way.
-    Packing(Packing),
+    Packing(PackingJob),
     /// A whole packing.
-    Packed(Packed),
+    Packed(SharedPacked),
+    /// A placing under way.
+    Placing(Placing),
+    /// A placing after its last pass.
+    Placed(Placing),
+    /// A routing under way.
+    Routing(RoutingJob),
+    /// A routing found these routes.
+    Routed(Routes),
+    /// A routing was given up after its last iteration.
+    GaveUp,
+    /// A routing found no path for the net of that number.
+    NoPath(u32),
 }
 
 impl Work {
-    /// Makes one step more. Without memory the work comes back as it was.
+    /// Makes one step more. Without memory the work comes back as it was. A placing takes none.
     pub(crate) fn next(self) -> Result<Work, Work>
-        requires { is_whole (Ok self) ≡ false }
-        ensures made { IfOk result (λ work. (sources : Sources) (steps : ℕ) → job_value sources steps ≡ Ok self → job_value sources (steps + 1) ≡ Ok work) }
+        requires { is_whole self ≡ false }
+        ensures made { IfOk result (λ work. work ≡ next_work self) }
         ensures back { IfErr result (λ work. work ≡ self) }
+        ensures memory { IfErr result (λ work. kind_of self ≢ JobKind.Placing) }
     {
         match self {
             Work::Packing(packing) => match packing.next() {
-                Ok(PackEnd::More(packing)) => Ok(Work::Packing(packing)),
-                Ok(PackEnd::Last(packed)) => Ok(Work::Packed(packed)),
+                Ok(work) => Ok(work),
                 Err(packing) => Err(Work::Packing(packing)),
             },
-            Work::Packed(_) => unreachable!(),
+            Work::Placing(placing) => Ok(passed(placing)),
+            Work::Routing(routing) => match routing.next() {
+                Ok(work) => Ok(work),
+                Err(routing) => Err(Work::Routing(routing)),
+            },
+            Work::Packed(_) | Work::Placed(_) | Work::Routed(_) | Work::GaveUp | Work::NoPath(_) =>
+                unreachable!(),
         }
     }
 
     /// Whether no step is left to make.
     pub(crate) fn is_whole(&self) -> bool
-        ensures { result ≡ is_whole (Ok self.now) }
+        ensures { result ≡ is_whole self.now }
     {
-        matches!(self, Work::Packed(_))
+        match self {
+            Work::Packing(_) | Work::Placing(_) | Work::Routing(_) => false,
+            Work::Packed(_) | Work::Placed(_) | Work::Routed(_) | Work::GaveUp | Work::NoPath(_) =>
+                true,
+        }
+    }
+}
+
+/// The placing after one pass more. Takes no memory.
+fn passed(mut placing: Placing) -> Work
+    ensures { result ≡ placing_stands (one_more placing) }
+{
+    match placing.pass() {
+        PassEnd::More => Work::Placing(placing),
+        PassEnd::Last => Work::Placed(placing),
     }
 }

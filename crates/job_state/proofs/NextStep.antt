@@ -1,0 +1,56 @@
+-- A job's value after one step more.
+use Rattle.std.proofs.Common.{ℕ, ◌+◌, ◌≡◌, Bool, true, false, List, Result, Ok, Err, if◌then◌else◌, nat_lt, refl, ap, ◌∙◌}
+use Rattle.arch_file.specs.declared.arch.Arch.{Arch}
+use Rattle.blif.specs.declared.circuit.Circuit.{Circuit}
+use Rattle.blif.specs.declared.fault.BlifFault.{BlifFault}
+use Rattle.cluster.specs.Clusters.{packed_of, packing_steps}
+use Rattle.pathfinder.specs.Negotiation.{Routed as RoutedTrees, Standing, More, Done, GaveUp as GivenUp, NoPath as WithoutPath, routed_after}
+use Rattle.pathfinder.specs.PlacedNets.{wiring_of}
+use Rattle.pathfinder.specs.Wiring.{Net}
+use Rattle.rr_graph.specs.Graph.{Basis}
+use Rattle.strip_place.specs.Anneal.{PlacingUnderWay, is_finished}
+use Rattle.job_state.specs.declared.sources.JobKind.{JobKind}
+use Rattle.job_state.specs.declared.sources.JobKind.TheVariants.{Packing as PackingJob, Placing as PlacingJob, Routing as RoutingJob}
+use Rattle.job_state.specs.declared.sources.Sources.{Sources}
+use Rattle.job_state.specs.declared.work.Work.{Work}
+use Rattle.job_state.specs.declared.work.Work.TheVariants.{Packing, Packed, Placing, Placed}
+use Rattle.job_state.specs.JobValue.{basis_in, circuit_in, nets_in, is_whole, job_value, packing_after, placing_at, placing_stands, routing_after, routing_stands, value_of, work_of}
+use Rattle.job_state.specs.Steps.{next_work}
+
+packing_next : (circuit : Circuit) (arch : Arch) (steps : ℕ) (goes : Bool) → let now : Work = if goes then Packing (record { circuit = circuit; arch = arch; made = steps }) else Packed (packed_of circuit arch) in
+    is_whole now ≡ false → packing_after circuit arch (steps + 1) ≡ next_work now
+packing_next circuit arch steps true going = refl
+packing_next circuit arch steps false going = absurd (cc)
+
+placing_next : (placing : PlacingUnderWay) (finished : Bool) → is_finished placing ≡ finished → let now : Work = if finished then Placed placing else Placing placing in
+    is_whole now ≡ false → placing_stands (record placing { passes = placing.passes + 1 }) ≡ next_work now
+placing_next placing true is going = absurd (cc)
+placing_next placing false is going = rw is refl
+
+routing_next : (basis : Basis) (nets : List Net) (steps : ℕ) (routed : RoutedTrees) (standing : Standing) → is_whole (routing_stands basis nets steps routed standing) ≡ false →
+    routing_after basis nets (steps + 1) ≡ next_work (routing_stands basis nets steps routed standing)
+routing_next basis nets steps routed More going = refl
+routing_next basis nets steps routed Done going = absurd (cc)
+routing_next basis nets steps routed GivenUp going = absurd (cc)
+routing_next basis nets steps routed (WithoutPath net) going = absurd (cc)
+
+work_next : (kind : JobKind) (sources : Sources) (circuit : Circuit) (steps : ℕ) → is_whole (work_of kind sources circuit steps) ≡ false → work_of kind sources circuit (steps + 1) ≡ next_work (work_of kind sources circuit steps)
+work_next PackingJob sources circuit steps going = packing_next circuit sources.arch steps (nat_lt steps (packing_steps circuit sources.arch)) going
+work_next PlacingJob sources circuit steps going = placing_next (placing_at sources circuit steps) (is_finished (placing_at sources circuit steps)) refl going
+work_next RoutingJob sources circuit steps going =
+    let routed : RoutedTrees = routed_after (wiring_of (basis_in sources)) (nets_in sources circuit) steps in
+    routing_next (basis_in sources) (nets_in sources circuit) steps routed routed.standing going
+
+-- the value of that work
+abbrev pub as_value : Work → Result Work BlifFault
+as_value work = Ok work
+
+value_next : (sources : Sources) (circuit : Result Circuit BlifFault) (steps : ℕ) (work : Work) → value_of sources circuit steps ≡ Ok work → is_whole work ≡ false → value_of sources circuit (steps + 1) ≡ Ok (next_work work)
+value_next sources (Ok circuit) steps work is going =
+    let same : work_of sources.kind sources circuit steps ≡ work = cc in
+    ap as_value (work_next sources.kind sources circuit steps (rw same going) ∙ ap next_work same)
+value_next sources (Err fault) steps work is going = absurd (cc)
+
+-- where it isn't whole, the work after one step more is the job's
+pub next_value : (sources : Sources) (steps : ℕ) (work : Work) → job_value sources steps ≡ Ok work → is_whole work ≡ false → job_value sources (steps + 1) ≡ Ok (next_work work)
+next_value sources steps work is going = value_next sources (circuit_in sources) steps work is going

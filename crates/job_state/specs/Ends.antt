@@ -1,0 +1,21 @@
+-- How a routing ended.
+use Rattle.std.specs.Prelude.{◌≡◌, ◌<◌, ⊤, Ok, length}
+use Rattle.cluster.specs.Blocks.{block_nets}
+use Rattle.cluster.specs.Clusters.{PackedCircuit}
+use Rattle.job_state.specs.declared.ending.RoutingEnd.{RoutingEnd}
+use Rattle.job_state.specs.declared.ending.RoutingEnd.TheVariants.{Routed, GaveUp, NoPath}
+use Rattle.job_state.specs.declared.sources.Sources.{Sources}
+use Rattle.job_state.specs.declared.work.Work.TheVariants as work
+use Rattle.job_state.specs.JobValue.{end_value}
+
+-- that is what a routing of these sources has made at its end
+abbrev pub IsEndOf : Sources → RoutingEnd → Type 0
+IsEndOf sources (Routed routes) = end_value sources ≡ Ok (work.Routed routes.now)
+IsEndOf sources GaveUp = end_value sources ≡ Ok work.GaveUp
+IsEndOf sources (NoPath net) = end_value sources ≡ Ok (work.NoPath net)
+
+-- routes are of all nets of the packed circuit, and the net without a path is one of them
+abbrev pub IsOfNets : PackedCircuit → RoutingEnd → Type 0
+IsOfNets packed (Routed routes) = length routes.now ≡ length (block_nets packed)
+IsOfNets packed GaveUp = ⊤
+IsOfNets packed (NoPath net) = net < length (block_nets packed)

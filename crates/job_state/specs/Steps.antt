@@ -1,0 +1,30 @@
+-- Private: a work after one step more, and whose it is.
+use Rattle.std.specs.Prelude.{◌+◌}
+use Rattle.strip_place.specs.Anneal.{one_more}
+use Rattle.job_state.specs.declared.sources.JobKind.{JobKind}
+use Rattle.job_state.specs.declared.sources.JobKind.TheVariants.{Packing as PackingJob, Placing as PlacingJob, Routing as RoutingJob}
+use Rattle.job_state.specs.declared.work.Work.{Work}
+use Rattle.job_state.specs.declared.work.Work.TheVariants.{Packing, Packed, Placing, Placed, Routing, Routed, GaveUp, NoPath}
+use Rattle.job_state.specs.JobValue.{packing_after, placing_stands, routing_after}
+
+-- what is whole has no step left
+abbrev pub next_work : Work → Work
+next_work (Packing packing) = packing_after packing.circuit packing.arch (packing.made + 1)
+next_work (Packed packed) = Packed packed
+next_work (Placing placing) = placing_stands (one_more placing)
+next_work (Placed placing) = Placed placing
+next_work (Routing routing) = routing_after routing.basis routing.state.nets (routing.state.iterations + 1)
+next_work (Routed routes) = Routed routes
+next_work GaveUp = GaveUp
+next_work (NoPath net) = NoPath net
+
+-- the kind of job that makes such work
+abbrev pub kind_of : Work → JobKind
+kind_of (Packing packing) = PackingJob
+kind_of (Packed packed) = PackingJob
+kind_of (Placing placing) = PlacingJob
+kind_of (Placed placing) = PlacingJob
+kind_of (Routing routing) = RoutingJob
+kind_of (Routed routes) = RoutingJob
+kind_of GaveUp = RoutingJob
+kind_of (NoPath net) = RoutingJob

@@ -1,0 +1,81 @@
+//! A packing under way, as its job keeps it.
+ghost use Rattle.std.specs.Prelude.{◌≡◌, ◌+◌, IfErr, IfOk};
+ghost use Rattle.cluster.specs.Clusters.{packed_of};
+ghost use Rattle.job_state.specs.JobValue.{packing_after};
+ghost use Rattle.job_state.specs.Unshared.{before_last};
+
+use crate::work::Work;
+use cluster::{PackEnd, Packed, Packing, SharedPacked};
+use std::alloc::Global;
+use std::marker::Model;
+
+/// What a packing has made.
+#[derive(Drop)]
+enum Made {
+    /// Some of its clusters.
+    Growing(Packing),
+    /// All of them, but there was no memory to share them.
+    Whole(Packed),
+}
+
+/// A packing under way. Its value is the packing. Where its last step found no memory to share what it made, it is the packing
+/// before that step, and the next try only shares it.
+#[derive(Drop)]
+pub(crate) struct PackingJob {
+    alloc: Global,
+    made: Made,
+}
+
+impl Model for PackingJob {
+    ghost use Rattle.cluster.specs.Clusters.{PackingUnderWay};
+    ghost use Rattle.job_state.specs.Unshared.{counted, IsExact};
+
+    ghost Value = { PackingUnderWay };
+
+    ghost view = { λ p. counted p.made };
+
+    ghost invariant = { λ p. IsExact p.made };
+}
+
+impl PackingJob {
+    /// That packing, whose result will be shared by this allocator.
+    pub(crate) fn new(alloc: Global, packing: Packing) -> Self
+        ensures { result ≡ packing }
+    {
+        PackingJob {
+            alloc,
+            made: Made::Growing(packing),
+        }
+    }
+
+    /// Makes one cluster more. Without memory the packing comes back as it was.
+    pub(crate) fn next(self) -> Result<Work, PackingJob>
+        ensures made { IfOk result (λ work. work ≡ packing_after self.circuit self.arch (self.made + 1)) }
+        ensures back { IfErr result (λ back. back ≡ self) }
+    {
+        let PackingJob { alloc, made } = self;
+        match made {
+            Made::Growing(packing) => match packing.next() {
+                Ok(PackEnd::More(packing)) => Ok(Work::Packing(PackingJob::new(alloc, packing))),
+                Ok(PackEnd::Last(packed)) => shared(alloc, packed),
+                Err(packing) => Err(PackingJob::new(alloc, packing)),
+            },
+            Made::Whole(packed) => shared(alloc, packed),
+        }
+    }
+}
+
+/// A packing that is whole, to be shared. Without memory it stands before its last step.
+fn shared(alloc: Global, packed: Packed) -> Result<Work, PackingJob>
+    requires { packed ≡ packed_of packed.circuit packed.arch }
+    ensures whole { IfOk result (λ work. work ≡ Work.Packed packed) }
+    ensures back { IfErr result (λ back. back ≡ before_last packed) }
+{
+    match SharedPacked::new(alloc, packed) {
+        Ok(packed) => Ok(Work::Packed(packed)),
+        Err(refused) => Err(PackingJob {
+            alloc,
+            made: Made::Whole(refused.value),
+        }),
+    }
+}
