@@ -6,6 +6,8 @@
 //! - `names`: the names and numbers that replies are printed with.
 //! - `commands`: commands and their answers.
 //! - `jobs`: jobs that leave the slot and come back.
+//! - `placing`: placings, and why they don't begin.
+//! - `routing`: routings, and how they end.
 //! - `late_jobs`: what was done to the tenancy before a step, while it was out, and after it came back.
 #![tactic(auto)]
 
@@ -17,5 +19,9 @@ mod jobs;
 mod late_jobs;
 #[cfg(test)]
 mod names;
+#[cfg(test)]
+mod placing;
+#[cfg(test)]
+mod routing;
 #[cfg(test)]
 mod slots;

@@ -4,15 +4,17 @@ use Rattle.arch_file.specs.declared.arch.Arch.{Arch}
 use Rattle.blif.specs.declared.circuit.Circuit.{Circuit}
 use Rattle.blif.specs.declared.fault.BlifFaultKind.TheVariants.{TooWide}
 use Rattle.grid.specs.declared.Strip.{Strip}
-use Rattle.job_state.specs.JobValue.{packing_sources}
-use Rattle.tenant_slot.specs.declared.reply.StateName.TheVariants.{Empty, Loaded, Packing, Packed}
-use Rattle.tenant_slot.specs.declared.command.Command.TheVariants.{Upload, Change, Cancel, Net, Status, Withdraw}
+use Rattle.job_state.specs.JobValue.{packing_sources, placing_sources}
+use Rattle.tenant_slot.specs.declared.reply.StateName.TheVariants.{Empty, Loaded, Packing, Packed, Placing, Placed, Routing, Routed, Unrouted}
+use Rattle.tenant_slot.specs.declared.command.Command.TheVariants.{Upload, Change, Place, Route, Cancel, Net, Status, Withdraw, PlaceFile, RouteFile}
 use Rattle.tenant_slot.specs.declared.event.Event.TheVariants.{Command as Asked, Advance as Stepped}
 use Rattle.tenant_slot.specs.declared.event.Advance.{Advance}
 use Rattle.tenant_slot.specs.declared.reply.StepReply.TheVariants.{Stale}
 use Rattle.tenant_slot.specs.declared.reply.Reply.TheVariants.{Accepted, Status as InState, Refused, Step}
-use Rattle.tenant_slot.specs.declared.reply.Refusal.TheVariants.{WrongState, BadBlif, CannotPack}
-use Rattle.tenant_slot.specs.SingleUser.{State, load, pack_unless, run, start, step}
+use Rattle.tenant_slot.specs.declared.reply.Refusal.TheVariants.{WrongState, BadBlif, CannotPack, DoesNotFit, BadEffort}
+use Rattle.tenant_slot.specs.declared.reply.Misfit.TheVariants.{Blocks}
+use Rattle.tenant_slot.specs.declared.failure.RoutingFailure.TheVariants.{GaveUp}
+use Rattle.tenant_slot.specs.SingleUser.{State, load, pack_unless, place, place_unless, routed_unless, run, start, step}
 use Rattle.tenant_slot.specs.Slot.{after_event, is_takeable, next_job}
 
 -- a tenancy whose packing has made two steps, in its fourth generation
@@ -22,7 +24,7 @@ packing arch strip text = record (start arch strip) { name = Packing; text = tex
 -- what isn't lawful in the state Empty is refused, and `status` tells it, each as one entry
 empty_refuses : (arch : Arch) (strip : Strip) →
     (run arch strip (Asked Withdraw ∷ Asked (Change []) ∷ Asked Cancel ∷ Asked Status ∷ []))
-    ≡ (record (start arch strip) { entries = 4 }, Some (Refused (WrongState Empty)) ∷ Some (Refused (WrongState Empty)) ∷ Some (Refused (WrongState Empty)) ∷ Some (InState (record { state = Empty; steps = 0 })) ∷ [])
+    ≡ (record (start arch strip) { entries = 4 }, Some (Refused (WrongState Empty)) ∷ Some (Refused (WrongState Empty)) ∷ Some (Refused (WrongState Empty)) ∷ Some (InState (record { state = Empty; steps = 0; ending = None })) ∷ [])
 empty_refuses arch strip = refl
 
 -- a second upload is refused, and a withdrawal raises the generation
@@ -58,7 +60,7 @@ nothing_to_cancel : (arch : Arch) (strip : Strip) (text : List ℕ) → (step (r
 nothing_to_cancel arch strip text = refl
 
 -- while it runs its steps are told, and its file isn't there yet
-steps_told : (arch : Arch) (strip : Strip) (text : List ℕ) → (step (packing arch strip text) (Asked Status)).1 ≡ Some (InState (record { state = Packing; steps = 2 }))
+steps_told : (arch : Arch) (strip : Strip) (text : List ℕ) → (step (packing arch strip text) (Asked Status)).1 ≡ Some (InState (record { state = Packing; steps = 2; ending = None }))
 steps_told arch strip text = refl
 
 no_file : (arch : Arch) (strip : Strip) (text : List ℕ) → (step (packing arch strip text) (Asked Net)).1 ≡ Some (Refused (WrongState Packing))
@@ -95,3 +97,45 @@ given_up arch strip text = refl
 
 still_out : (arch : Arch) (strip : Strip) (text : List ℕ) → (after_event (record { id = 7; state = packing arch strip text; out = true }) (Asked Status)).out ≡ true
 still_out arch strip text = refl
+
+-- a tenancy whose netlist is placed
+abbrev placed : Arch → Strip → List ℕ → State
+placed arch strip text = record (start arch strip) { name = Placed; text = text; seed = 7; effort = 1; generation = 4; entries = 9 }
+
+-- an effort above 100 is refused before the places are counted, and then too few places are
+bad_effort : (state : State) (circuit : Circuit) → place state 1 101 (Ok circuit) ≡ (None, Refused BadEffort)
+bad_effort state circuit = refl
+
+does_not_fit : (state : State) → place_unless state 1 0 (Some (Blocks 2 3)) ≡ (None, Refused (DoesNotFit (Blocks 2 3)))
+does_not_fit state = refl
+
+-- a placing keeps its seed and its effort, and what was placed before is given up
+placed_again : (arch : Arch) (strip : Strip) (text : List ℕ) → place_unless (placed arch strip text) 5 100 None ≡ (Some (record (placed arch strip text) { name = Placing; seed = 5; effort = 100; generation = 5 }), Accepted Placing)
+placed_again arch strip text = refl
+
+-- where it is given up, the packing stays
+placing_cancelled : (arch : Arch) (strip : Strip) (text : List ℕ) → step (record (placed arch strip text) { name = Placing; steps = 3 }) (Asked Cancel) ≡ (record (placed arch strip text) { name = Packed; generation = 5; entries = 10 }, Some (Accepted Packed))
+placing_cancelled arch strip text = refl
+
+-- while it runs there is a packing, and no places
+no_places : (arch : Arch) (strip : Strip) (text : List ℕ) → (step (record (placed arch strip text) { name = Placing }) (Asked PlaceFile)).1 ≡ Some (Refused (WrongState Placing))
+no_places arch strip text = refl
+
+-- its next step tells its seed and its effort
+placing_step : (arch : Arch) (strip : Strip) (text : List ℕ) →
+    (next_job (record { id = 7; state = record (placed arch strip text) { name = Placing; steps = 3 }; out = false })) ≡ Some (record { id = 7; generation = 4; number = 4; sources = placing_sources arch strip text 7 1 })
+placing_step arch strip text = refl
+
+-- a routing begins where the netlist is placed, and where it is given up the places stay
+routing_begins : (arch : Arch) (strip : Strip) (text : List ℕ) → step (placed arch strip text) (Asked Route) ≡ (record (placed arch strip text) { name = Routing; generation = 5; entries = 10 }, Some (Accepted Routing))
+routing_begins arch strip text = refl
+
+routing_cancelled : (arch : Arch) (strip : Strip) (text : List ℕ) → step (record (placed arch strip text) { name = Routing; steps = 2 }) (Asked Cancel) ≡ (record (placed arch strip text) { generation = 5; entries = 10 }, Some (Accepted Placed))
+routing_cancelled arch strip text = refl
+
+-- it ends with routes, or tells how it ended, and then has no file
+gave_up : (arch : Arch) (strip : Strip) (text : List ℕ) → routed_unless (record (placed arch strip text) { name = Routing; steps = 29 }) (Some GaveUp) ≡ record (placed arch strip text) { name = Unrouted; ending = Some GaveUp }
+gave_up arch strip text = refl
+
+no_routes : (arch : Arch) (strip : Strip) (text : List ℕ) → (step (record (placed arch strip text) { name = Unrouted; ending = Some GaveUp }) (Asked RouteFile)).1 ≡ Some (Refused (WrongState Unrouted))
+no_routes arch strip text = refl

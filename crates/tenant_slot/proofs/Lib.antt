@@ -1,3 +1,7 @@
 pub mod Runs
+mod Kept
+mod Serving
+mod Accepting
 mod Putting
+mod Taking
 mod Examples

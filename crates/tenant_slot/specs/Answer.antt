@@ -1,16 +1,17 @@
 -- A reply before it is given.
-use Rattle.std.specs.Prelude.{ℕ, ◌≡◌, ◌+◌, ◌<◌, Result, Ok, Err, Option, Some, option_map, false, ⊤}
+use Rattle.std.specs.Prelude.{ℕ, ◌≡◌, ◌+◌, ◌<◌, Result, Ok, Err, Option, Some, option_map, true, false, ⊤}
 use Rattle.job_state.specs.Job.{first_step}
-use Rattle.job_state.specs.JobValue.{is_last}
+use Rattle.job_state.specs.declared.sources.JobKind.TheVariants.{Placing as PlacingJob}
 use Rattle.tenant_slot.specs.declared.standing.Change.{Change}
-use Rattle.tenant_slot.specs.declared.standing.Change.TheVariants.{Load, Replace, Begin, Stop, Empty}
+use Rattle.tenant_slot.specs.declared.standing.Change.TheVariants.{Load, Replace, Begin, Place, Stop, Empty}
 use Rattle.tenant_slot.specs.declared.standing.Running.{Running}
 use Rattle.tenant_slot.specs.declared.command.Command.{Command}
+use Rattle.tenant_slot.specs.declared.command.Command.TheVariants.{Place as Asks}
 use Rattle.tenant_slot.specs.declared.event.Event.TheVariants.{Command as Asked}
 use Rattle.tenant_slot.specs.declared.reply.Reply.{Reply}
 use Rattle.tenant_slot.specs.declared.not_served.NotServed.{NotServed}
 use Rattle.tenant_slot.specs.declared.not_served.NotServed.TheVariants.{NoMemory, JournalFull}
-use Rattle.tenant_slot.specs.SingleUser.{State, after, answer_to, begun, emptied, loaded, risen, sources_of, stopped}
+use Rattle.tenant_slot.specs.SingleUser.{State, after, answer_to, begun, begun_placing, emptied, is_lawful, loaded, risen, sources_of, stopped}
 use Rattle.tenant_slot.specs.Slot.{SlotState, out_after}
 use Rattle.tenant_slot.specs.JobNames.{before, during}
 
@@ -25,18 +26,20 @@ abbrev pub changed : State → Change → State
 changed state (Load netlist) = loaded state netlist.text
 changed state (Replace netlist) = loaded (risen state) netlist.text
 changed state (Begin job) = begun state (during job.sources.kind)
+changed state (Place job) = begun_placing state job.sources.seed job.sources.effort
 changed state Stop = stopped state
 changed state Empty = emptied state
 
--- a job that begins is computed from what the slot has, and stands before its first step
-pub record IsBegun (slot : SlotState) (job : Running) : Type 0 where
-  pub name : slot.state.name ≡ before job.sources.kind
-  pub sources : job.sources ≡ sources_of slot.state job.sources.kind
-  pub ready : job.ready ≡ Some (first_step slot.id (slot.state.generation + 1) job.sources)
-  pub going : is_last job.sources 0 ≡ false
+-- a job that begins in that state is computed from it, and stands before its first step
+pub record IsBegun (id : ℕ) (state : State) (job : Running) : Type 0 where
+  pub sources : job.sources ≡ sources_of state job.sources.kind
+  pub ready : job.ready ≡ Some (first_step id state.generation job.sources)
 
+-- it begins where it can go on from what is there
 abbrev pub Begins : SlotState → Option Change → Type 0
-Begins slot (Some (Begin job)) = IsBegun slot job
+Begins slot (Some (Begin job)) = (slot.state.name ≡ before job.sources.kind) × IsBegun slot.id (changed slot.state (Begin job)) job
+Begins slot (Some (Place job)) =
+    (is_lawful slot.state.name (Asks job.sources.seed job.sources.effort) ≡ true) × (job.sources.kind ≡ PlacingJob) × IsBegun slot.id (changed slot.state (Place job)) job
 Begins slot change = ⊤
 
 -- the answer may be accepted in that state

@@ -1,7 +1,9 @@
+pub mod Results
 pub mod SingleUser
 pub mod Names
 pub mod Slot
 pub mod Answer
 pub mod JobNames
+pub mod Content
 pub mod Standing
 pub mod Outcomes

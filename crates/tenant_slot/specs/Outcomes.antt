@@ -1,17 +1,27 @@
--- Private: the answers of commands that may be refused for what the netlist says.
+-- Private: the answers of commands that may be refused for what the netlist says, begin a job, or give a file.
 use Rattle.std.specs.Prelude.{ℕ, Bool, true, false, List, Result, Ok, Err, Option, Some, None}
 use Rattle.blif.specs.declared.circuit.Circuit.{Circuit}
 use Rattle.blif.specs.declared.fault.BlifFault.{BlifFault}
 use Rattle.job_state.specs.declared.sources.Sources.{Sources}
 use Rattle.job_state.specs.Job.{first_step}
-use Rattle.tenant_slot.specs.declared.reply.StateName.TheVariants.{Loaded, Packing}
-use Rattle.tenant_slot.specs.declared.reply.Reply.TheVariants.{Accepted, Refused}
-use Rattle.tenant_slot.specs.declared.reply.Refusal.TheVariants.{BadBlif, CannotPack}
-use Rattle.tenant_slot.specs.declared.standing.Netlist.{Netlist}
+use Rattle.tenant_slot.specs.declared.content.Netlist.{Netlist}
+use Rattle.tenant_slot.specs.declared.reply.FileKind.{FileKind}
+use Rattle.tenant_slot.specs.declared.reply.Misfit.{Misfit}
+use Rattle.tenant_slot.specs.declared.reply.StateName.TheVariants.{Loaded, Packing, Placing, Routing}
+use Rattle.tenant_slot.specs.declared.reply.Reply.{Reply}
+use Rattle.tenant_slot.specs.declared.reply.Reply.TheVariants.{Accepted, File, Refused}
+use Rattle.tenant_slot.specs.declared.reply.Refusal.TheVariants.{BadBlif, CannotPack, DoesNotFit, BadEffort}
 use Rattle.tenant_slot.specs.declared.standing.Running.{Running}
 use Rattle.tenant_slot.specs.declared.standing.Change.{Change}
-use Rattle.tenant_slot.specs.declared.standing.Change.TheVariants.{Load, Replace, Begin}
+use Rattle.tenant_slot.specs.declared.standing.Change.TheVariants.{Load, Replace, Begin, Place}
 use Rattle.tenant_slot.specs.Answer.{Outcome}
+
+-- what changes nothing, and what does
+abbrev pub told : ℕ → Reply → Outcome
+told lut_size reply = record { lut_size = lut_size; change = None; reply = reply }
+
+abbrev pub changing : ℕ → Change → Reply → Outcome
+changing lut_size change reply = record { lut_size = lut_size; change = Some change; reply = reply }
 
 -- a netlist is loaded, or loaded in place of another
 abbrev pub loading : Netlist → Bool → Change
@@ -19,14 +29,31 @@ loading netlist false = Load netlist
 loading netlist true = Replace netlist
 
 abbrev pub load_outcome : ℕ → List ℕ → Bool → Result Circuit BlifFault → Outcome
-load_outcome lut_size text replaces (Ok circuit) = record { lut_size = lut_size; change = Some (loading (record { text = text; circuit = circuit }) replaces); reply = Accepted Loaded }
-load_outcome lut_size text replaces (Err fault) = record { lut_size = lut_size; change = None; reply = Refused (BadBlif fault) }
+load_outcome lut_size text replaces (Ok circuit) = changing lut_size (loading (record { text = text; circuit = circuit }) replaces) (Accepted Loaded)
+load_outcome lut_size text replaces (Err fault) = told lut_size (Refused (BadBlif fault))
 
--- a packing that begins
-abbrev pub packing_job : ℕ → ℕ → Sources → Running
-packing_job id generation sources = record { sources = sources; ready = Some (first_step id generation sources) }
+-- a job that begins
+abbrev pub job_begun : ℕ → ℕ → Sources → Running
+job_begun id generation sources = record { sources = sources; ready = Some (first_step id generation sources) }
 
--- it begins, unless that is the least BLE that fits into no cluster alone
+-- a packing begins, unless that is the least BLE that fits into no cluster alone
 abbrev pub pack_outcome : ℕ → Running → Option ℕ → Outcome
-pack_outcome lut_size job None = record { lut_size = lut_size; change = Some (Begin job); reply = Accepted Packing }
-pack_outcome lut_size job (Some ble) = record { lut_size = lut_size; change = None; reply = Refused (CannotPack ble) }
+pack_outcome lut_size job None = changing lut_size (Begin job) (Accepted Packing)
+pack_outcome lut_size job (Some ble) = told lut_size (Refused (CannotPack ble))
+
+-- a placing begins, unless its effort is too great or the strip has that too little of
+abbrev pub place_unless : ℕ → Running → Option Misfit → Outcome
+place_unless lut_size job None = changing lut_size (Place job) (Accepted Placing)
+place_unless lut_size job (Some misfit) = told lut_size (Refused (DoesNotFit misfit))
+
+abbrev pub place_outcome : ℕ → Running → Bool → Option Misfit → Outcome
+place_outcome lut_size job true misfit = told lut_size (Refused BadEffort)
+place_outcome lut_size job false misfit = place_unless lut_size job misfit
+
+-- a routing begins
+abbrev pub route_outcome : ℕ → Running → Outcome
+route_outcome lut_size job = changing lut_size (Begin job) (Accepted Routing)
+
+-- a file is told
+abbrev pub file_outcome : ℕ → FileKind → List ℕ → Outcome
+file_outcome lut_size kind text = told lut_size (File kind text)

@@ -1,52 +1,67 @@
 -- The service for a single user: what each event of one tenancy does, and is answered, on a device of the strip's size.
-use Rattle.std.specs.Prelude.{ℕ, ◌+◌, List, [], ◌∷◌, Result, Ok, Err, Bool, true, false, not, ◌&&◌, Option, Some, None, is_some, ◌==◌, if◌then◌else◌}
+use Rattle.std.specs.Prelude.{ℕ, ◌+◌, List, [], ◌∷◌, Result, Ok, Err, Bool, true, false, not, ◌&&◌, Option, Some, None, is_some, option_and_then, nat_lt, ◌==◌, if◌then◌else◌}
 use Rattle.arch_file.specs.declared.arch.Arch.{Arch}
 use Rattle.blif.specs.CircuitOf.{circuit_of}
 use Rattle.blif.specs.declared.circuit.Circuit.{Circuit}
 use Rattle.blif.specs.declared.fault.BlifFault.{BlifFault}
 use Rattle.cluster.specs.Clusters.{packed_of, unfit_of}
+use Rattle.grid.specs.Fits.{fit_of}
 use Rattle.grid.specs.declared.Strip.{Strip}
+use Rattle.grid.specs.declared.fit.Fit.{Fit}
+use Rattle.grid.specs.declared.fit.Fit.TheVariants.{Fits, TooManyBlocks, TooManyPads}
 use Rattle.job_state.specs.declared.sources.JobKind.{JobKind}
-use Rattle.job_state.specs.declared.sources.JobKind.TheVariants.{Packing as PackingJob}
+use Rattle.job_state.specs.declared.sources.JobKind.TheVariants.{Packing as PackingJob, Placing as PlacingJob, Routing as RoutingJob}
 use Rattle.job_state.specs.declared.sources.Sources.{Sources}
-use Rattle.job_state.specs.JobValue.{is_last, packing_sources}
+use Rattle.job_state.specs.JobValue.{end_value, is_last, packing_sources, placing_sources, routing_sources}
 use Rattle.tenant_slot.specs.declared.event.Advance.{Advance}
 use Rattle.tenant_slot.specs.declared.event.Event.{Event}
 use Rattle.tenant_slot.specs.declared.event.Event.TheVariants.{Command as Asked, Advance as Stepped}
 use Rattle.tenant_slot.specs.declared.command.Command.{Command}
-use Rattle.tenant_slot.specs.declared.command.Command.TheVariants.{Upload, Change, Pack, Cancel, Net, Status, Withdraw}
+use Rattle.tenant_slot.specs.declared.command.Command.TheVariants.{Upload, Change, Pack, Place, Route, Cancel, Withdraw, Status, Net, PlaceFile, RouteFile}
 use Rattle.tenant_slot.specs.declared.reply.StateName.{StateName}
-use Rattle.tenant_slot.specs.declared.reply.StateName.TheVariants.{Empty, Loaded, Packing, Packed}
+use Rattle.tenant_slot.specs.declared.reply.StateName.TheVariants.{Empty, Loaded, Packing, Packed, Placing, Placed, Routing, Routed, Unrouted}
 use Rattle.tenant_slot.specs.declared.reply.StepReply.TheVariants.{Advanced, Finished, Stale}
-use Rattle.tenant_slot.specs.declared.reply.FileKind.TheVariants.{Net as NetFile}
+use Rattle.tenant_slot.specs.declared.reply.FileKind.TheVariants.{Net as NetFile, Place as PlacesFile, Route as RoutesFile}
 use Rattle.tenant_slot.specs.declared.reply.Reply.{Reply}
 use Rattle.tenant_slot.specs.declared.reply.Reply.TheVariants.{Accepted, Status as InState, File, Refused, Step}
-use Rattle.tenant_slot.specs.declared.reply.Refusal.TheVariants.{WrongState, BadBlif, CannotPack}
+use Rattle.tenant_slot.specs.declared.reply.Refusal.TheVariants.{WrongState, BadBlif, CannotPack, DoesNotFit, BadEffort}
+use Rattle.tenant_slot.specs.declared.reply.Misfit.{Misfit}
+use Rattle.tenant_slot.specs.declared.reply.Misfit.TheVariants.{Blocks, Pads}
+use Rattle.tenant_slot.specs.declared.failure.RoutingFailure.{RoutingFailure}
+use Rattle.tenant_slot.specs.Results.{ending_told, failure_of, place_file_of, route_file_of}
 use Rattle.vpr_files.specs.NetFile.{net_text_of}
 
--- what the tenancy is in, and no more: the circuit and its packing are those of the text, and aren't kept. The steps are those
--- that the running job has made, 0 where none runs
+-- what the tenancy is in, and no more: the circuit, its packing, its places and its routes are those of the text, the seed and the
+-- effort, and aren't kept. Seed and effort are those of the last accepted `place`, 0 before the first. The steps are those that
+-- the running job has made, 0 where none runs
 pub record State : Type 0 where
   pub arch : Arch
   pub strip : Strip
   pub name : StateName
   pub text : List ℕ
+  pub seed : ℕ
+  pub effort : ℕ
+  pub ending : Option RoutingFailure  -- how a routing ended without routes, in the state Unrouted
   pub generation : ℕ
   pub steps : ℕ
   pub entries : ℕ
 
 -- a tenancy as it is admitted
 abbrev pub start : Arch → Strip → State
-start arch strip = record { arch = arch; strip = strip; name = Empty; text = []; generation = 0; steps = 0; entries = 0 }
+start arch strip = record { arch = arch; strip = strip; name = Empty; text = []; seed = 0; effort = 0; ending = None; generation = 0; steps = 0; entries = 0 }
 
 -- the kind of the job that runs in a state of that name, if one does
 abbrev pub running : StateName → Option JobKind
 running Packing = Some PackingJob
+running Placing = Some PlacingJob
+running Routing = Some RoutingJob
 running name = None
 
--- the name of the state that a job began in, and goes back to where it is given up
+-- the name of the state that a job began in, and goes back to where it is given up; a placing goes back to the packing
 abbrev pub at_rest : StateName → StateName
 at_rest Packing = Loaded
+at_rest Placing = Packed
+at_rest Routing = Placed
 at_rest name = name
 
 -- the commands that are lawful in a state of that name
@@ -57,12 +72,28 @@ is_lawful Empty (Change text) = false
 is_lawful name (Change text) = true
 is_lawful Loaded Pack = true
 is_lawful name Pack = false
+is_lawful Packed (Place seed effort) = true
+is_lawful Placed (Place seed effort) = true
+is_lawful Routed (Place seed effort) = true
+is_lawful Unrouted (Place seed effort) = true
+is_lawful name (Place seed effort) = false
+is_lawful Placed Route = true
+is_lawful name Route = false
 is_lawful name Cancel = is_some (running name)
 is_lawful Empty Withdraw = false
 is_lawful name Withdraw = true
-is_lawful Packed Net = true
-is_lawful name Net = false
 is_lawful name Status = true
+is_lawful Empty Net = false
+is_lawful Loaded Net = false
+is_lawful Packing Net = false
+is_lawful name Net = true
+is_lawful Placed PlaceFile = true
+is_lawful Routing PlaceFile = true
+is_lawful Routed PlaceFile = true
+is_lawful Unrouted PlaceFile = true
+is_lawful name PlaceFile = false
+is_lawful Routed RouteFile = true
+is_lawful name RouteFile = false
 
 -- what an event changes; the rest is kept. What gives up what was asked before begins a generation of its own
 abbrev pub risen : State → State
@@ -70,11 +101,15 @@ risen state = record state { generation = state.generation + 1; steps = 0 }
 
 -- a netlist is loaded
 abbrev pub loaded : State → List ℕ → State
-loaded state text = record state { name = Loaded; text = text }
+loaded state text = record state { name = Loaded; text = text; ending = None }
 
 -- the job of a state of that name begins
 abbrev pub begun : State → StateName → State
 begun state name = record (risen state) { name = name }
+
+-- a placing with that seed and that effort begins; old places and routes are given up, as they are those of the seed and the effort
+abbrev pub begun_placing : State → ℕ → ℕ → State
+begun_placing state seed effort = record (begun state Placing) { seed = seed; effort = effort; ending = None }
 
 -- the running job is given up
 abbrev pub stopped : State → State
@@ -82,15 +117,31 @@ stopped state = record (risen state) { name = at_rest state.name }
 
 -- all is given up
 abbrev pub emptied : State → State
-emptied state = record (risen state) { name = Empty; text = [] }
+emptied state = record (risen state) { name = Empty; text = []; ending = None }
 
 -- the running job goes on by a step
 abbrev pub advanced : State → State
 advanced state = record state { steps = state.steps + 1 }
 
+-- a routing ends with its routes, or so
+abbrev pub routed_unless : State → Option RoutingFailure → State
+routed_unless state None = record state { name = Routed; steps = 0 }
+routed_unless state (Some failure) = record state { name = Unrouted; ending = Some failure; steps = 0 }
+
+-- what a job of that kind is computed from
+abbrev pub sources_from : Arch → Strip → List ℕ → ℕ → ℕ → JobKind → Sources
+sources_from arch strip text seed effort PackingJob = packing_sources arch strip text
+sources_from arch strip text seed effort PlacingJob = placing_sources arch strip text seed effort
+sources_from arch strip text seed effort RoutingJob = routing_sources arch strip text seed effort
+
+abbrev pub sources_of : State → JobKind → Sources
+sources_of state kind = sources_from state.arch state.strip state.text state.seed state.effort kind
+
 -- a job of that kind has made its last step
 abbrev pub finished : State → JobKind → State
 finished state PackingJob = record state { name = Packed; steps = 0 }
+finished state PlacingJob = record state { name = Placed; steps = 0 }
+finished state RoutingJob = routed_unless state (failure_of (end_value (sources_of state RoutingJob)))
 
 -- what the text of a state says
 abbrev pub circuit_in : State → Result Circuit BlifFault
@@ -111,24 +162,47 @@ abbrev pub pack : State → Result Circuit BlifFault → Option State × Reply
 pack state (Ok circuit) = pack_unless state (unfit_of circuit state.arch)
 pack state (Err fault) = (None, Refused (BadBlif fault))
 
+-- what a strip has too little of
+abbrev pub misfit_of : Fit → Option Misfit
+misfit_of Fits = None
+misfit_of (TooManyBlocks have need) = Some (Blocks have need)
+misfit_of (TooManyPads have need) = Some (Pads have need)
+
+-- a placing begins, unless the strip has that too little of
+abbrev pub place_unless : State → ℕ → ℕ → Option Misfit → Option State × Reply
+place_unless state seed effort None = (Some (begun_placing state seed effort), Accepted Placing)
+place_unless state seed effort (Some misfit) = (None, Refused (DoesNotFit misfit))
+
+-- the placing of the packing of what the text says; an effort above 100 is refused first
+abbrev pub place : State → ℕ → ℕ → Result Circuit BlifFault → Option State × Reply
+place state seed effort (Ok circuit) = if nat_lt 100 effort then (None, Refused BadEffort) else place_unless state seed effort (misfit_of (fit_of state.strip (packed_of circuit state.arch)))
+place state seed effort (Err fault) = (None, Refused (BadBlif fault))
+
 -- the `.net` file of the packing of what the text says
 abbrev pub net : State → Result Circuit BlifFault → Option State × Reply
 net state (Ok circuit) = (None, File NetFile (net_text_of (packed_of circuit state.arch)))
 net state (Err fault) = (None, Refused (BadBlif fault))
+
+-- what the last placing has made, and what its routing has
+abbrev pub placed_in : State → List ℕ
+placed_in state = place_file_of (end_value (sources_of state PlacingJob))
+
+abbrev pub routed_in : State → List ℕ
+routed_in state = route_file_of (end_value (sources_of state PlacingJob)) (end_value (sources_of state RoutingJob))
 
 -- a lawful command: the new state, if it changes, and the reply
 abbrev pub serve : State → Command → Option State × Reply
 serve state (Upload text) = load state text (circuit_of text state.arch.lut_size)
 serve state (Change text) = load (risen state) text (circuit_of text state.arch.lut_size)
 serve state Pack = pack state (circuit_in state)
+serve state (Place seed effort) = place state seed effort (circuit_in state)
+serve state Route = (Some (begun state Routing), Accepted Routing)
 serve state Cancel = (Some (stopped state), Accepted (at_rest state.name))
 serve state Withdraw = (Some (emptied state), Accepted Empty)
+serve state Status = (None, InState (record { state = state.name; steps = state.steps; ending = option_and_then (ending_told (circuit_in state) state.arch) state.ending }))
 serve state Net = net state (circuit_in state)
-serve state Status = (None, InState (record { state = state.name; steps = state.steps }))
-
--- what a job of that kind is computed from
-abbrev pub sources_of : State → JobKind → Sources
-sources_of state PackingJob = packing_sources state.arch state.strip state.text
+serve state PlaceFile = (None, File PlacesFile (placed_in state))
+serve state RouteFile = (None, File RoutesFile (routed_in state))
 
 -- a step that was made is the next one of the running job: of its generation, with its number and its sources
 abbrev pub is_next : State → Advance → Bool

@@ -1,26 +1,38 @@
 //! A reply before it is given.
-ghost use Rattle.std.specs.Prelude.{◌≡◌, IfErr, IfOk, None, Some};
+ghost use Rattle.std.specs.Prelude.{◌≡◌, ◌≤◌, ℕ, List, length, nat_lt, IfErr, IfOk, None, Some};
 ghost use Rattle.blif.specs.CircuitOf.{circuit_of};
-ghost use Rattle.cluster.specs.Clusters.{unfit_of};
-ghost use Rattle.job_state.specs.JobValue.{packing_sources};
+ghost use Rattle.cluster.specs.Blocks.{block_nets};
+ghost use Rattle.cluster.specs.Clusters.{packed_of, unfit_of};
+ghost use Rattle.grid.specs.Fits.{fit_of};
+ghost use Rattle.grid.specs.Sizes.{IsStripSize};
+ghost use Rattle.job_state.specs.JobValue.{packing_sources, placing_sources, routing_sources};
+ghost use Rattle.strip_place.specs.Anneal.{places_by_block};
 ghost use Rattle.vpr_files.specs.NetFile.{net_text_of};
-ghost use Rattle.tenant_slot.specs.declared.reply.FileKind.TheVariants.{Net};
-ghost use Rattle.tenant_slot.specs.declared.reply.Reply.TheVariants.{File};
-ghost use Rattle.tenant_slot.specs.Outcomes.{load_outcome, loading, pack_outcome, packing_job};
-ghost use Rattle.tenant_slot.specs.Standing.{IsChange, IsNetlist};
+ghost use Rattle.vpr_files.specs.PlaceFile.{place_text_of};
+ghost use Rattle.vpr_files.specs.RouteFile.{route_text_of};
+ghost use Rattle.tenant_slot.specs.Content.{IsMadeOf, IsNetlist};
+ghost use Rattle.tenant_slot.specs.Outcomes.{file_outcome, job_begun, load_outcome, loading, pack_outcome, place_outcome, route_outcome};
+ghost use Rattle.tenant_slot.specs.SingleUser.{misfit_of};
+ghost use Rattle.tenant_slot.specs.Standing.{IsChange};
 
+use crate::beginning::Beginning;
+use crate::content::Netlist;
 use crate::not_served::NotServed;
-use crate::reply::{FileKind, Refusal, Reply, StateName};
-use crate::standing::{Change, Netlist, Running};
-use arch_file::SharedArch;
+use crate::reply::{FileKind, Misfit, Refusal, Reply, StateName};
+use crate::standing::Change;
 use blif::{BlifError, SharedCircuit, read_blif};
 use cluster::{PackError, PackFault, Packed, check};
-use grid::Strip;
-use job_state::{Parked, SharedText, Sources};
-use line_text::{MemorySink, Text};
-use std::alloc::{AllocError, Global};
+use grid::Fit;
+use job_state::{Parked, SharedText};
+use line_text::{MemorySink, Sink, Text};
+use pathfinder::Routes;
+use std::alloc::Global;
 use std::marker::Model;
-use vpr_files::net_text;
+use strip_place::Placing;
+use vpr_files::{net_text, place_text, route_text};
+
+/// The greatest effort of a placing.
+pub const MAX_EFFORT: u32 = 100;
 
 /// A reply that isn't given yet, with what it changes. Dropped, it is as if it had not been asked for.
 #[derive(Drop)]
@@ -100,28 +112,18 @@ impl Answer {
         }
     }
 
-    /// The answer to the packing of a netlist, which begins with that generation. Shares text, circuit and architecture.
-    pub(crate) fn pack(
-        alloc: Global,
-        id: u32,
-        generation: u32,
-        arch: &SharedArch,
-        strip: Strip,
-        netlist: &Netlist,
-    ) -> Result<Self, NotServed>
-        requires { IsNetlist arch.now.lut_size netlist.now }
-        ensures ok { IfOk result (λ a. a ≡ pack_outcome arch.now.lut_size (packing_job id generation (packing_sources arch.now strip netlist.now.text)) (unfit_of netlist.now.circuit arch.now)) }
+    /// The answer to the packing of a netlist.
+    pub(crate) fn pack(job: &Beginning<'_>) -> Result<Self, NotServed>
+        requires { IsNetlist job.now.arch.now.lut_size job.now.netlist.now }
+        ensures ok { IfOk result (λ a. a ≡ pack_outcome job.now.arch.now.lut_size (job_begun job.now.id job.now.generation (packing_sources job.now.arch.now job.now.strip job.now.netlist.now.text)) (unfit_of job.now.netlist.now.circuit job.now.arch.now)) }
         ensures err { IfErr result (λ e. e ≡ NotServed.NoMemory) }
     {
-        let lut_size = arch.arch().lut_size;
-        match check(alloc, netlist.circuit.circuit(), arch.arch()) {
+        let arch = job.arch.arch();
+        let lut_size = arch.lut_size;
+        match check(job.alloc, job.netlist.circuit.circuit(), arch) {
             Ok(()) => {
-                let job = packing(alloc, id, generation, arch, strip, netlist)?;
-                Ok(Answer {
-                    lut_size,
-                    change: Some(Change::Begin(job)),
-                    reply: Reply::Accepted(StateName::Packing),
-                })
+                let reply = Reply::Accepted(StateName::Packing);
+                Ok(Answer::changing(lut_size, Change::Begin(job.packing()?), reply))
             }
             Err(PackError::Fault(PackFault::CannotFit(ble))) => Ok(Answer::unchanged(
                 lut_size,
@@ -131,20 +133,113 @@ impl Answer {
         }
     }
 
+    /// The answer to the placing of a packed netlist.
+    pub(crate) fn place(
+        job: &Beginning<'_>,
+        packing: &Parked,
+        seed: u64,
+        effort: u32,
+    ) -> Result<Self, NotServed>
+        requires netlist { IsNetlist job.now.arch.now.lut_size job.now.netlist.now }
+        requires packing { IsMadeOf (packing_sources job.now.arch.now job.now.strip job.now.netlist.now.text) packing.now }
+        requires size { IsStripSize job.now.strip }
+        ensures ok { IfOk result (λ a. a ≡ place_outcome job.now.arch.now.lut_size (job_begun job.now.id job.now.generation (placing_sources job.now.arch.now job.now.strip job.now.netlist.now.text seed effort)) (nat_lt 100 effort) (misfit_of (fit_of job.now.strip (packed_of job.now.netlist.now.circuit job.now.arch.now)))) }
+        ensures err { IfErr result (λ e. e ≡ NotServed.NoMemory) }
+    {
+        let lut_size = job.arch.arch().lut_size;
+        if MAX_EFFORT < effort {
+            let reply = Reply::Refused(Refusal::BadEffort);
+            return Ok(Answer::unchanged(lut_size, reply));
+        }
+        match misfit(job.strip.fits(packing.packed())) {
+            Some(misfit) => {
+                let reply = Reply::Refused(Refusal::DoesNotFit(misfit));
+                Ok(Answer::unchanged(lut_size, reply))
+            }
+            None => {
+                let change = Change::Place(job.placing(packing, seed, effort)?);
+                let reply = Reply::Accepted(StateName::Placing);
+                Ok(Answer::changing(lut_size, change, reply))
+            }
+        }
+    }
+
+    /// The answer to the routing of a placed netlist.
+    pub(crate) fn route(
+        job: &Beginning<'_>,
+        placing: &Parked,
+        seed: u64,
+        effort: u32,
+    ) -> Result<Self, NotServed>
+        requires netlist { IsNetlist job.now.arch.now.lut_size job.now.netlist.now }
+        requires placing { IsMadeOf (placing_sources job.now.arch.now job.now.strip job.now.netlist.now.text seed effort) placing.now }
+        ensures ok { IfOk result (λ a. a ≡ route_outcome job.now.arch.now.lut_size (job_begun job.now.id job.now.generation (routing_sources job.now.arch.now job.now.strip job.now.netlist.now.text seed effort))) }
+        ensures err { IfErr result (λ e. e ≡ NotServed.NoMemory) }
+    {
+        let lut_size = job.arch.arch().lut_size;
+        let change = Change::Begin(job.routing(placing, seed, effort)?);
+        let reply = Reply::Accepted(StateName::Routing);
+        Ok(Answer::changing(lut_size, change, reply))
+    }
+
     /// The answer with the `.net` file of a packed netlist.
     pub(crate) fn net(alloc: Global, lut_size: u32, packed: &Packed) -> Result<Self, NotServed>
-        ensures ok { IfOk result (λ a. a ≡ record { lut_size = lut_size; change = None; reply = File Net (net_text_of packed.now) }) }
+        ensures ok { IfOk result (λ a. a ≡ file_outcome lut_size FileKind.Net (net_text_of packed.now)) }
         ensures err { IfErr result (λ e. e ≡ NotServed.NoMemory) }
     {
         let mut sink = MemorySink::new(alloc);
         if net_text(packed, &mut sink).is_err() {
             return Err(NotServed::NoMemory);
         }
+        Answer::file(alloc, lut_size, FileKind::Net, sink)
+    }
+
+    /// The answer with the `.place` file of a placed netlist.
+    pub(crate) fn place_file(
+        alloc: Global,
+        lut_size: u32,
+        placing: &Placing,
+    ) -> Result<Self, NotServed>
+        ensures ok { IfOk result (λ a. a ≡ file_outcome lut_size FileKind.Place (place_text_of placing.now.strip placing.now.packed (places_by_block placing.now))) }
+        ensures err { IfErr result (λ e. e ≡ NotServed.NoMemory) }
+    {
+        let mut sink = MemorySink::new(alloc);
+        if place_text(placing, &mut sink).is_err() {
+            return Err(NotServed::NoMemory);
+        }
+        Answer::file(alloc, lut_size, FileKind::Place, sink)
+    }
+
+    /// The answer with the `.route` file of a routed netlist.
+    pub(crate) fn route_file(
+        alloc: Global,
+        lut_size: u32,
+        placing: &Placing,
+        routes: &Routes,
+    ) -> Result<Self, NotServed>
+        requires { length routes.now ≡ length (block_nets placing.now.packed) }
+        ensures ok { IfOk result (λ a. a ≡ file_outcome lut_size FileKind.Route (route_text_of placing.now.strip placing.now.packed (places_by_block placing.now) routes.now)) }
+        ensures err { IfErr result (λ e. e ≡ NotServed.NoMemory) }
+    {
+        let mut sink = MemorySink::new(alloc);
+        if route_text(placing, routes, &mut sink).is_err() {
+            return Err(NotServed::NoMemory);
+        }
+        Answer::file(alloc, lut_size, FileKind::Route, sink)
+    }
+
+    /// The answer with a file that was written.
+    fn file(
+        alloc: Global,
+        lut_size: u32,
+        kind: FileKind,
+        sink: MemorySink,
+    ) -> Result<Self, NotServed>
+        ensures ok { (bytes : List ℕ) → ⟦<MemorySink as Sink>⟧.contents sink ≡ Some bytes → IfOk result (λ a. a ≡ file_outcome lut_size kind bytes) }
+        ensures err { IfErr result (λ e. e ≡ NotServed.NoMemory) }
+    {
         match SharedText::new(alloc, Text::new(sink.into_bytes())) {
-            Ok(text) => {
-                let kind = FileKind::Net;
-                Ok(Answer::unchanged(lut_size, Reply::File { kind, text }))
-            }
+            Ok(text) => Ok(Answer::unchanged(lut_size, Reply::File { kind, text })),
             Err(_) => Err(NotServed::NoMemory),
         }
     }
@@ -161,23 +256,13 @@ fn loading(netlist: Netlist, replaces: bool) -> Change
     }
 }
 
-/// The packing of a netlist, each BLE of which fits into a cluster alone, before its first step.
-fn packing(
-    alloc: Global,
-    id: u32,
-    generation: u32,
-    arch: &SharedArch,
-    strip: Strip,
-    netlist: &Netlist,
-) -> Result<Running, AllocError>
-    requires netlist { IsNetlist arch.now.lut_size netlist.now }
-    requires fit { unfit_of netlist.now.circuit arch.now ≡ None }
-    ensures { IfOk result (λ job. job ≡ packing_job id generation (packing_sources arch.now strip netlist.now.text)) }
+/// What a strip has too little of.
+fn misfit(fit: Fit) -> Option<Misfit>
+    ensures { result ≡ misfit_of fit }
 {
-    let sources = Sources::packing(arch, strip, &netlist.text)?;
-    let ready = Parked::pack(alloc, id, generation, sources.clone()?, &netlist.circuit)?;
-    Ok(Running {
-        sources,
-        ready: Some(ready),
-    })
+    match fit {
+        Fit::Fits => None,
+        Fit::TooManyBlocks { have, need } => Some(Misfit::Blocks { have, need }),
+        Fit::TooManyPads { have, need } => Some(Misfit::Pads { have, need }),
+    }
 }

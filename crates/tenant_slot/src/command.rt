@@ -13,14 +13,23 @@ pub enum Command {
     Change(SharedText),
     /// The packing of the netlist, in the state Loaded.
     Pack,
+    /// The placing of the packed netlist, in the states Packed, Placed, Routed and Unrouted. Old places and routes are given
+    /// up. The effort is at most 100.
+    Place { seed: u64, effort: u32 },
+    /// The routing of the placed netlist, in the state Placed.
+    Route,
     /// The running job is given up, in the states in which one runs.
     Cancel,
-    /// The packed netlist's `.net` file, in the state Packed.
-    Net,
-    /// The state, which stays.
-    Status,
     /// Back to the state Empty, from any other.
     Withdraw,
+    /// The state, which stays.
+    Status,
+    /// The packed netlist's `.net` file, in the state Packed and all that follow it.
+    Net,
+    /// The placed netlist's `.place` file, in the states Placed, Routing, Routed and Unrouted.
+    PlaceFile,
+    /// The routed netlist's `.route` file, in the state Routed.
+    RouteFile,
 }
 
 impl Clone for Command {
@@ -31,16 +40,23 @@ impl Clone for Command {
             Command::Upload(text) => Ok(Command::Upload(text.clone()?)),
             Command::Change(text) => Ok(Command::Change(text.clone()?)),
             Command::Pack => Ok(Command::Pack),
+            Command::Place { seed, effort } => Ok(Command::Place {
+                seed: *seed,
+                effort: *effort,
+            }),
+            Command::Route => Ok(Command::Route),
             Command::Cancel => Ok(Command::Cancel),
-            Command::Net => Ok(Command::Net),
-            Command::Status => Ok(Command::Status),
             Command::Withdraw => Ok(Command::Withdraw),
+            Command::Status => Ok(Command::Status),
+            Command::Net => Ok(Command::Net),
+            Command::PlaceFile => Ok(Command::PlaceFile),
+            Command::RouteFile => Ok(Command::RouteFile),
         }
     }
 }
 
 impl Command {
-    /// Whether both are the same command, with the same text.
+    /// Whether both are the same command, with the same text or numbers.
     pub fn same(&self, other: &Command) -> bool
         ensures { IsTrue result ↔ (self.now ≡ other.now) }
     {
@@ -48,10 +64,20 @@ impl Command {
             (Command::Upload(text), Command::Upload(same)) => text.same(same),
             (Command::Change(text), Command::Change(same)) => text.same(same),
             (Command::Pack, Command::Pack) => true,
+            (
+                Command::Place { seed, effort },
+                Command::Place {
+                    seed: same,
+                    effort: level,
+                },
+            ) => seed == same && effort == level,
+            (Command::Route, Command::Route) => true,
             (Command::Cancel, Command::Cancel) => true,
-            (Command::Net, Command::Net) => true,
-            (Command::Status, Command::Status) => true,
             (Command::Withdraw, Command::Withdraw) => true,
+            (Command::Status, Command::Status) => true,
+            (Command::Net, Command::Net) => true,
+            (Command::PlaceFile, Command::PlaceFile) => true,
+            (Command::RouteFile, Command::RouteFile) => true,
             _ => false,
         }
     }

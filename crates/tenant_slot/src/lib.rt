@@ -1,7 +1,8 @@
 //! One tenancy's machine: a slot that answers the commands of one tenancy exactly as a service for a
 //! single user would, on a device of the strip's size.
 //!
-//! - `Slot` is the machine, `Command` what it is asked, `Reply` what it answers, `Refusal` why not.
+//! - `Slot` is the machine, `Command` what it is asked, `Reply` what it answers, `Refusal` why not. A netlist is loaded,
+//!   packed, placed and routed, each by a command of its own, and each result is told as a file.
 //! - A job is long work that a command begins. Its next step leaves the slot by `Slot::take`, and comes back by `Slot::put`
 //!   once it is made, or by `Slot::give_back`.
 //! - `SingleUser` in `specs/` is the definition: `State`, `step` and its fold `run`. `Slot` there says what each call does.
@@ -9,18 +10,23 @@
 #![tactic(auto)]
 
 mod answer;
+mod beginning;
 mod command;
+mod content;
+mod ending;
 mod event;
+mod failure;
 mod faults;
 mod not_served;
 mod reply;
 mod slot;
 mod standing;
 
-pub use answer::Answer;
+pub use answer::{Answer, MAX_EFFORT};
 pub use command::Command;
 pub use event::{Advance, Event};
+pub use failure::RoutingFailure;
 pub use job_state::SharedText;
 pub use not_served::NotServed;
-pub use reply::{FileKind, Refusal, Reply, StateName, Status, StepReply};
+pub use reply::{Ending, FileKind, Misfit, Refusal, Reply, StateName, Status, StepReply};
 pub use slot::{MAX_ENTRIES, Slot};

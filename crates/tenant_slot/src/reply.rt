@@ -16,6 +16,11 @@ pub enum StateName {
     Loaded,
     Packing,
     Packed,
+    Placing,
+    Placed,
+    Routing,
+    Routed,
+    Unrouted,
 }
 
 impl StateName {
@@ -28,6 +33,11 @@ impl StateName {
             StateName::Loaded => "Loaded",
             StateName::Packing => "Packing",
             StateName::Packed => "Packed",
+            StateName::Placing => "Placing",
+            StateName::Placed => "Placed",
+            StateName::Routing => "Routing",
+            StateName::Routed => "Routed",
+            StateName::Unrouted => "Unrouted",
         }
     }
 
@@ -42,20 +52,110 @@ impl StateName {
             (_, Command::Change(_) | Command::Withdraw) => true,
             (StateName::Loaded, Command::Pack) => true,
             (_, Command::Pack) => false,
-            (StateName::Packing, Command::Cancel) => true,
+            (
+                StateName::Packed | StateName::Placed | StateName::Routed | StateName::Unrouted,
+                Command::Place { .. },
+            ) => true,
+            (_, Command::Place { .. }) => false,
+            (StateName::Placed, Command::Route) => true,
+            (_, Command::Route) => false,
+            (StateName::Packing | StateName::Placing | StateName::Routing, Command::Cancel) => true,
             (_, Command::Cancel) => false,
-            (StateName::Packed, Command::Net) => true,
-            (_, Command::Net) => false,
             (_, Command::Status) => true,
+            (StateName::Empty | StateName::Loaded | StateName::Packing, Command::Net) => false,
+            (_, Command::Net) => true,
+            (
+                StateName::Placed | StateName::Routing | StateName::Routed | StateName::Unrouted,
+                Command::PlaceFile,
+            ) => true,
+            (_, Command::PlaceFile) => false,
+            (StateName::Routed, Command::RouteFile) => true,
+            (_, Command::RouteFile) => false,
         }
     }
 }
 
-/// What `status` answers: the state, and how many steps of the running job are finished, 0 where none runs.
-#[derive(Clone, Copy, Debug, PartialEq, Eq)]
+/// How a routing ended that left a net without its way.
+#[derive(Debug, Drop)]
+pub enum Ending {
+    /// After the last iteration more nets want a node than it carries.
+    GaveUp,
+    /// The net of this name has no way to one of its readers.
+    NoPath(SharedText),
+}
+
+impl Ending {
+    /// Whether both are the same ending, of the same net.
+    pub fn same(&self, other: &Ending) -> bool
+        ensures { IsTrue result ↔ (self.now ≡ other.now) }
+    {
+        match (self, other) {
+            (Ending::GaveUp, Ending::GaveUp) => true,
+            (Ending::NoPath(net), Ending::NoPath(same)) => net.same(same),
+            _ => false,
+        }
+    }
+}
+
+impl Clone for Ending {
+    ghost is_clone = { λ ending copy. copy ≡ ending };
+
+    fn clone(&self) -> Result<Self, AllocError> {
+        match self {
+            Ending::GaveUp => Ok(Ending::GaveUp),
+            Ending::NoPath(net) => Ok(Ending::NoPath(net.clone()?)),
+        }
+    }
+}
+
+/// What `status` answers.
+#[derive(Debug, Drop)]
 pub struct Status {
     pub state: StateName,
+    /// How many steps of the running job are finished, 0 where none runs.
     pub steps: u32,
+    /// How the routing ended, in the state Unrouted alone.
+    pub ending: Option<Ending>,
+}
+
+impl Status {
+    /// Whether both are the same status.
+    pub fn same(&self, other: &Status) -> bool
+        ensures { IsTrue result ↔ (self.now ≡ other.now) }
+    {
+        self.state == other.state
+            && self.steps == other.steps
+            && match (&self.ending, &other.ending) {
+                (None, None) => true,
+                (Some(ending), Some(same)) => ending.same(same),
+                _ => false,
+            }
+    }
+}
+
+impl Clone for Status {
+    ghost is_clone = { λ status copy. copy ≡ status };
+
+    fn clone(&self) -> Result<Self, AllocError> {
+        let ending = match &self.ending {
+            Some(ending) => Some(ending.clone()?),
+            None => None,
+        };
+        Ok(Status {
+            state: self.state,
+            steps: self.steps,
+            ending,
+        })
+    }
+}
+
+/// Of what a strip has too little for a packed netlist.
+#[derive(Clone, Copy, Debug, PartialEq, Eq)]
+pub enum Misfit {
+    /// Places for logic blocks.
+    Blocks { have: usize, need: usize },
+    /// Places for pads.
+    Pads { have: usize, need: usize },
 }
 
 /// Why a command is refused. The state stays, and the refusal is an entry of the journal.
@@ -67,10 +167,14 @@ pub enum Refusal {
     BadBlif(BlifFault),
     /// The logic element of this number is the least that fits into no cluster.
     CannotPack(u32),
+    /// The strip has too few places for the packed netlist. Those for logic blocks are looked at first.
+    DoesNotFit(Misfit),
+    /// The effort of a placing is above 100.
+    BadEffort,
 }
 
 impl Refusal {
-    /// The refusal's number in replies. They are looked at in this order.
+    /// The refusal's number in replies. They are looked at in the order 3, 4, 5, 7, 6.
     pub fn number(&self) -> u32
         ensures { result ≡ refusal_number self.now }
     {
@@ -78,6 +182,8 @@ impl Refusal {
             Refusal::WrongState(_) => 3,
             Refusal::BadBlif(_) => 4,
             Refusal::CannotPack(_) => 5,
+            Refusal::DoesNotFit(_) => 6,
+            Refusal::BadEffort => 7,
         }
     }
 
@@ -89,6 +195,8 @@ impl Refusal {
             Refusal::WrongState(_) => "WrongState",
             Refusal::BadBlif(_) => "BadBlif",
             Refusal::CannotPack(_) => "CannotPack",
+            Refusal::DoesNotFit(_) => "DoesNotFit",
+            Refusal::BadEffort => "BadEffort",
         }
     }
 }
@@ -102,6 +210,8 @@ impl Refusal {
             (Refusal::WrongState(state), Refusal::WrongState(same)) => state == same,
             (Refusal::BadBlif(fault), Refusal::BadBlif(same)) => same_faults(fault, same),
             (Refusal::CannotPack(ble), Refusal::CannotPack(same)) => ble == same,
+            (Refusal::DoesNotFit(misfit), Refusal::DoesNotFit(same)) => misfit == same,
+            (Refusal::BadEffort, Refusal::BadEffort) => true,
             _ => false,
         }
     }
@@ -115,6 +225,8 @@ impl Clone for Refusal {
             Refusal::WrongState(state) => Ok(Refusal::WrongState(*state)),
             Refusal::BadBlif(fault) => Ok(Refusal::BadBlif(fault.clone()?)),
             Refusal::CannotPack(ble) => Ok(Refusal::CannotPack(*ble)),
+            Refusal::DoesNotFit(misfit) => Ok(Refusal::DoesNotFit(*misfit)),
+            Refusal::BadEffort => Ok(Refusal::BadEffort),
         }
     }
 }
@@ -124,6 +236,10 @@ impl Clone for Refusal {
 pub enum FileKind {
     /// The packed netlist.
     Net,
+    /// Where its blocks stand.
+    Place,
+    /// Which ways its nets take.
+    Route,
 }
 
 impl FileKind {
@@ -133,6 +249,8 @@ impl FileKind {
     {
         match self {
             FileKind::Net => "net",
+            FileKind::Place => "place",
+            FileKind::Route => "route",
         }
     }
 }
@@ -167,7 +285,7 @@ impl Reply {
     {
         match (self, other) {
             (Reply::Accepted(state), Reply::Accepted(same)) => state == same,
-            (Reply::Status(status), Reply::Status(same)) => status == same,
+            (Reply::Status(status), Reply::Status(same)) => status.same(same),
             (
                 Reply::File { kind, text },
                 Reply::File {
@@ -188,7 +306,7 @@ impl Clone for Reply {
     fn clone(&self) -> Result<Self, AllocError> {
         match self {
             Reply::Accepted(state) => Ok(Reply::Accepted(*state)),
-            Reply::Status(status) => Ok(Reply::Status(*status)),
+            Reply::Status(status) => Ok(Reply::Status(status.clone()?)),
             Reply::File { kind, text } => Ok(Reply::File {
                 kind: *kind,
                 text: text.clone()?,

@@ -1,19 +1,24 @@
 //! One tenancy: its commands, and its job that leaves and comes back.
-ghost use Rattle.std.specs.Prelude.{◌≡◌, ◌<◌, false, true};
-ghost use Rattle.tenant_slot.specs.SingleUser.{is_lawful, is_next, start};
+ghost use Rattle.std.specs.Prelude.{◌≡◌, ◌<◌, false, true, option_and_then, IfOk};
+ghost use Rattle.grid.specs.Sizes.{IsStripSize};
+ghost use Rattle.tenant_slot.specs.Results.{ending_told};
+ghost use Rattle.tenant_slot.specs.SingleUser.{circuit_in, is_lawful, is_next, start};
 ghost use Rattle.tenant_slot.specs.Answer.{Answers, IsAnswerTo, accepted};
 ghost use Rattle.tenant_slot.specs.Slot.{GivesBack, IsAdvanceOf, Puts, Serves, Takes, is_takeable};
 
 use crate::answer::Answer;
+use crate::beginning::Beginning;
 use crate::command::Command;
+use crate::content::Content;
+use crate::ending::told_ending;
 use crate::event::Advance;
 use crate::not_served::NotServed;
-use crate::reply::{Refusal, Reply, StateName, Status, StepReply};
-use crate::standing::{Change, Content, Standing};
+use crate::reply::{Ending, Refusal, Reply, StateName, Status, StepReply};
+use crate::standing::{Change, Standing};
 use arch_file::SharedArch;
 use grid::Strip;
-use job_state::{AnyJob, Back, Done};
-use std::alloc::Global;
+use job_state::{AnyJob, Back, Done, RoutingEnd, Sources};
+use std::alloc::{AllocError, Global};
 use std::marker::Model;
 
 /// The most entries of one tenancy's journal.
@@ -45,6 +50,7 @@ impl Model for Slot {
 impl Slot {
     /// A tenancy as it is admitted, in the state Empty. Takes no memory.
     pub fn new(alloc: Global, id: u32, arch: SharedArch, strip: Strip) -> Self
+        requires { IsStripSize strip }
         ensures { result ≡ record { id = id; state = start arch strip; out = false } }
     {
         Slot {
@@ -55,6 +61,8 @@ impl Slot {
             standing: Standing {
                 content: Content::Empty,
                 running: None,
+                seed: 0,
+                effort: 0,
                 generation: 0,
                 steps: 0,
             },
@@ -104,32 +112,148 @@ impl Slot {
         ensures { Answers self.now command.now result }
     {
         let lut_size = self.arch.arch().lut_size;
-        match (command, &self.standing.content) {
-            (Command::Upload(text), _) => Answer::load(self.alloc, lut_size, text, false),
-            (Command::Change(text), _) => Answer::load(self.alloc, lut_size, text, true),
-            (Command::Pack, Content::Loaded(netlist)) => {
-                let generation = self.standing.generation + 1;
-                Answer::pack(
-                    self.alloc, self.id, generation, &self.arch, self.strip, netlist,
-                )
-            }
-            (Command::Cancel, content) => {
-                let reply = Reply::Accepted(content.name());
+        match command {
+            Command::Upload(text) => Answer::load(self.alloc, lut_size, text, false),
+            Command::Change(text) => Answer::load(self.alloc, lut_size, text, true),
+            Command::Pack => self.pack(),
+            Command::Place { seed, effort } => self.place(*seed, *effort),
+            Command::Route => self.route(),
+            Command::Cancel => {
+                let reply = Reply::Accepted(self.standing.content.name());
                 Ok(Answer::changing(lut_size, Change::Stop, reply))
             }
-            (Command::Net, Content::Packed(_, packing)) => {
-                Answer::net(self.alloc, lut_size, packing.packed())
-            }
-            (Command::Withdraw, _) => {
+            Command::Withdraw => {
                 let reply = Reply::Accepted(StateName::Empty);
                 Ok(Answer::changing(lut_size, Change::Empty, reply))
             }
-            (Command::Status, _) => {
-                let state = self.state();
-                let steps = self.standing.steps;
-                let reply = Reply::Status(Status { state, steps });
-                Ok(Answer::unchanged(lut_size, reply))
+            Command::Status => self.status(),
+            Command::Net => self.net(),
+            Command::PlaceFile => self.place_file(),
+            Command::RouteFile => self.route_file(),
+        }
+    }
+
+    /// The answer to `pack`.
+    fn pack(&self) -> Result<Answer, NotServed>
+        requires lawful { is_lawful self.now.state.name Command.Pack ≡ true }
+        requires room { self.now.state.entries < 65536 }
+        ensures { Answers self.now Command.Pack result }
+    {
+        let job = Beginning {
+            alloc: self.alloc,
+            id: self.id,
+            generation: self.standing.generation + 1,
+            arch: &self.arch,
+            strip: self.strip,
+            netlist: self.standing.content.netlist(),
+        };
+        Answer::pack(&job)
+    }
+
+    /// The answer to `place`.
+    fn place(&self, seed: u64, effort: u32) -> Result<Answer, NotServed>
+        requires lawful { is_lawful self.now.state.name (Command.Place seed effort) ≡ true }
+        requires room { self.now.state.entries < 65536 }
+        ensures { Answers self.now (Command.Place seed effort) result }
+    {
+        let job = Beginning {
+            alloc: self.alloc,
+            id: self.id,
+            generation: self.standing.generation + 1,
+            arch: &self.arch,
+            strip: self.strip,
+            netlist: self.standing.content.netlist(),
+        };
+        let packing = self.standing.content.packing();
+        Answer::place(&job, packing, seed, effort)
+    }
+
+    /// The answer to `route`.
+    fn route(&self) -> Result<Answer, NotServed>
+        requires lawful { is_lawful self.now.state.name Command.Route ≡ true }
+        requires room { self.now.state.entries < 65536 }
+        ensures { Answers self.now Command.Route result }
+    {
+        let job = Beginning {
+            alloc: self.alloc,
+            id: self.id,
+            generation: self.standing.generation + 1,
+            arch: &self.arch,
+            strip: self.strip,
+            netlist: self.standing.content.netlist(),
+        };
+        let placing = self.standing.content.placing();
+        let (seed, effort) = (self.standing.seed, self.standing.effort);
+        Answer::route(&job, placing, seed, effort)
+    }
+
+    /// The answer to `status`.
+    fn status(&self) -> Result<Answer, NotServed>
+        requires room { self.now.state.entries < 65536 }
+        ensures { Answers self.now Command.Status result }
+    {
+        let lut_size = self.arch.arch().lut_size;
+        let state = self.state();
+        let steps = self.standing.steps;
+        let ending = self.ending()?;
+        let reply = Reply::Status(Status {
+            state,
+            steps,
+            ending,
+        });
+        Ok(Answer::unchanged(lut_size, reply))
+    }
+
+    /// How a routing ended without routes.
+    fn ending(&self) -> Result<Option<Ending>, AllocError>
+        ensures { IfOk result (λ ending. ending ≡ option_and_then (ending_told (circuit_in self.now.state) self.now.state.arch) self.now.state.ending) }
+    {
+        let content = &self.standing.content;
+        match content.failure() {
+            Some(failure) => {
+                let packed = content.packing().packed();
+                Ok(Some(told_ending(self.alloc, packed, failure)?))
             }
+            None => Ok(None),
+        }
+    }
+
+    /// The answer to `net`.
+    fn net(&self) -> Result<Answer, NotServed>
+        requires lawful { is_lawful self.now.state.name Command.Net ≡ true }
+        requires room { self.now.state.entries < 65536 }
+        ensures { Answers self.now Command.Net result }
+    {
+        let lut_size = self.arch.arch().lut_size;
+        let packing = self.standing.content.packing();
+        Answer::net(self.alloc, lut_size, packing.packed())
+    }
+
+    /// The answer to `placefile`.
+    fn place_file(&self) -> Result<Answer, NotServed>
+        requires lawful { is_lawful self.now.state.name Command.PlaceFile ≡ true }
+        requires room { self.now.state.entries < 65536 }
+        ensures { Answers self.now Command.PlaceFile result }
+    {
+        let lut_size = self.arch.arch().lut_size;
+        let placing = self.standing.content.placing();
+        Answer::place_file(self.alloc, lut_size, placing.placing())
+    }
+
+    /// The answer to `routefile`.
+    fn route_file(&self) -> Result<Answer, NotServed>
+        requires lawful { is_lawful self.now.state.name Command.RouteFile ≡ true }
+        requires room { self.now.state.entries < 65536 }
+        ensures { Answers self.now Command.RouteFile result }
+    {
+        let lut_size = self.arch.arch().lut_size;
+        match &self.standing.content {
+            Content::Routed(_, _, placing, routing) => match routing.routing_end() {
+                RoutingEnd::Routed(routes) => {
+                    Answer::route_file(self.alloc, lut_size, placing.placing(), routes)
+                }
+                RoutingEnd::GaveUp | RoutingEnd::NoPath(_) => unreachable!(),
+            },
             _ => unreachable!(),
         }
     }
@@ -171,7 +295,7 @@ impl Slot {
         requires room { self.old.state.entries < 65536 }
         ensures { Puts self.old done result.0 result.1 self.new }
     {
-        let made = self.advance_of(&done);
+        let made = self.advance_of(done.generation(), done.number(), done.sources());
         let counts = self.is_next(made);
         let last = done.is_last();
         self.entries += 1;
@@ -185,9 +309,8 @@ impl Slot {
         requires { back.step.id ≡ self.old.id }
         ensures { GivesBack self.old back self.new }
     {
-        let runs = back.generation() == self.standing.generation
-            && back.number() == self.standing.steps + 1
-            && self.standing.runs_on(back.sources());
+        let made = self.advance_of(back.generation(), back.number(), back.sources());
+        let runs = self.is_next(made);
         let job = back.park();
         if runs {
             self.standing.stand_ready(job);
@@ -196,14 +319,14 @@ impl Slot {
         }
     }
 
-    /// How a step that was made is written down.
-    fn advance_of(&self, done: &Done) -> Advance
-        ensures { IsAdvanceOf self.now.state done.now result }
+    /// How a step of this tenancy, of that generation and number and of these sources, is written down.
+    fn advance_of(&self, generation: u32, number: u32, sources: &Sources) -> Advance
+        ensures { IsAdvanceOf self.now.state (record { id = self.now.id; generation = generation; number = number; sources = sources.now }) result }
     {
         Advance {
-            generation: done.generation(),
-            number: done.number(),
-            foreign: !self.standing.runs_on(done.sources()),
+            generation,
+            number,
+            foreign: !self.standing.runs_on(sources),
         }
     }
 

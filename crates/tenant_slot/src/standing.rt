@@ -1,29 +1,13 @@
 //! What a slot carries along, so that it is not computed again, and how it changes.
-ghost use Rattle.std.specs.Prelude.{◌≡◌, ◌+◌, ◌<◌, ◌↔◌, IsTrue, None, option_map, true};
+ghost use Rattle.std.specs.Prelude.{◌≡◌, ◌+◌, ◌<◌, ◌↔◌, IsTrue, None, Some, option_map, true};
+ghost use Rattle.tenant_slot.specs.Content.{CanFinish, cut_back, finished_with};
 ghost use Rattle.tenant_slot.specs.JobNames.{during};
-ghost use Rattle.tenant_slot.specs.Standing.{RunsOn, accepted_in, finished_with, is_ready, name_at_rest, name_of, put_in, put_reply, ready_of, ready_with, without_ready};
-ghost use Rattle.tenant_slot.specs.declared.reply.StateName.TheVariants.{Loaded};
+ghost use Rattle.tenant_slot.specs.Standing.{RunsOn, accepted_in, is_ready, name_of, put_in, put_reply, ready_of, ready_with, without_ready};
 
+use crate::content::{Content, Netlist};
 use crate::reply::{StateName, StepReply};
-use blif::SharedCircuit;
-use job_state::{JobKind, Parked, SharedText, Sources};
+use job_state::{JobKind, Parked, Sources};
 use std::mem;
-
-/// A netlist with the circuit that it says.
-#[derive(Drop)]
-pub(crate) struct Netlist {
-    pub(crate) text: SharedText,
-    pub(crate) circuit: SharedCircuit,
-}
-
-/// What is there where no job runs, and stays while one does.
-#[derive(Drop)]
-pub(crate) enum Content {
-    Empty,
-    Loaded(Netlist),
-    /// With the finished packing of the netlist.
-    Packed(Netlist, Parked),
-}
 
 /// The running job: what it is computed from, and its next step where that isn't out.
 #[derive(Drop)]
@@ -37,6 +21,10 @@ pub(crate) struct Running {
 pub(crate) struct Standing {
     pub(crate) content: Content,
     pub(crate) running: Option<Running>,
+    /// The seed of the last accepted placing, 0 before the first.
+    pub(crate) seed: u64,
+    /// The effort of the last accepted placing, 0 before the first.
+    pub(crate) effort: u32,
     pub(crate) generation: u32,
     /// How many steps of the running job are made, 0 where none runs.
     pub(crate) steps: u32,
@@ -49,33 +37,13 @@ pub(crate) enum Change {
     Load(Netlist),
     /// Another netlist.
     Replace(Netlist),
+    /// A packing or a routing goes on from what is there.
     Begin(Running),
+    /// A placing goes on from the packing, and what came behind that is given up.
+    Place(Running),
     /// The running job is given up.
     Stop,
     Empty,
-}
-
-impl Content {
-    pub(crate) fn name(&self) -> StateName
-        ensures { result ≡ name_at_rest self.now }
-    {
-        match self {
-            Content::Empty => StateName::Empty,
-            Content::Loaded(_) => StateName::Loaded,
-            Content::Packed(..) => StateName::Packed,
-        }
-    }
-
-    /// The netlist with its finished packing.
-    fn with_packing(self, packing: Parked) -> Self
-        requires { name_at_rest self ≡ Loaded }
-        ensures { result ≡ finished_with self packing }
-    {
-        match self {
-            Content::Loaded(netlist) => Content::Packed(netlist, packing),
-            _ => unreachable!(),
-        }
-    }
 }
 
 /// The name of the state in which a job of that kind runs.
@@ -84,6 +52,8 @@ fn name_during(kind: JobKind) -> StateName
 {
     match kind {
         JobKind::Packing => StateName::Packing,
+        JobKind::Placing => StateName::Placing,
+        JobKind::Routing => StateName::Routing,
     }
 }
 
@@ -113,6 +83,10 @@ impl Standing {
             Some(Change::Begin(job)) => {
                 self.rise();
                 self.run(Some(job));
+            }
+            Some(Change::Place(job)) => {
+                self.rise();
+                self.place(job);
             }
             Some(Change::Stop) => {
                 self.rise();
@@ -147,6 +121,17 @@ impl Standing {
     {
         drop(mem::replace(&mut self.content, content));
         self.run(None);
+    }
+
+    /// A placing runs, and places and routes are given up.
+    fn place(&mut self, job: Running)
+        ensures { self.new ≡ record self.old { content = cut_back self.old.content; running = Some job; seed = job.sources.seed; effort = job.sources.effort } }
+    {
+        self.seed = job.sources.seed;
+        self.effort = job.sources.effort;
+        let content = mem::replace(&mut self.content, Content::Empty);
+        self.content = content.cut_back();
+        self.run(Some(job));
     }
 
     /// Whether the running job's next step is here.
@@ -193,7 +178,7 @@ impl Standing {
     /// Takes a job whose step was made, and stands before the next one or finished: where the step counts, the running job
     /// goes on, or is over with its last step.
     pub(crate) fn put(&mut self, job: Parked, counts: bool, last: bool) -> StepReply
-        requires loaded { counts ≡ true → last ≡ true → name_at_rest self.old.content ≡ Loaded }
+        requires begun { counts ≡ true → last ≡ true → CanFinish self.old.content job }
         requires few { self.old.steps < 65536 }
         ensures standing { self.new ≡ put_in self.old job counts last }
         ensures reply { result ≡ put_reply counts last }
@@ -211,14 +196,14 @@ impl Standing {
         StepReply::Finished
     }
 
-    /// The running packing is finished.
-    fn finish(&mut self, packing: Parked)
-        requires { name_at_rest self.old.content ≡ Loaded }
-        ensures { self.new ≡ record self.old { content = finished_with self.old.content packing; running = None; steps = 0 } }
+    /// The running job is finished.
+    fn finish(&mut self, job: Parked)
+        requires { CanFinish self.old.content job }
+        ensures { self.new ≡ record self.old { content = finished_with self.old.content job; running = None; steps = 0 } }
     {
         self.steps = 0;
         self.run(None);
         let content = mem::replace(&mut self.content, Content::Empty);
-        self.content = content.with_packing(packing);
+        self.content = content.finished_with(job);
     }
 }

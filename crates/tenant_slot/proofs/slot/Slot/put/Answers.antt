@@ -1,25 +1,36 @@
-use Rattle.std.proofs.Common.{◌≡◌, ◌<◌, ap, sym, ◌∙◌, arith}
-use Rattle.tenant_slot.specs.Slot.{IsAdvanceOf, SlotState}
-use Rattle.tenant_slot.specs.SingleUser.{is_next}
-use Rattle.tenant_slot.specs.Standing.{seen_state}
-use Rattle.tenant_slot.proofs.Putting.{IsPut, is_put}
+use Rattle.std.proofs.Common.{◌≡◌, ◌+◌, Some, subst}
+use Rattle.job_state.specs.Job.{next_step}
+use Rattle.tenant_slot.specs.declared.event.Event.TheVariants.{Advance as Stepped}
+use Rattle.tenant_slot.specs.declared.reply.Reply.TheVariants.{Step}
+use Rattle.tenant_slot.specs.SingleUser.{step}
+use Rattle.tenant_slot.specs.Slot.{SlotState, after_event}
+use Rattle.tenant_slot.specs.Standing.{put_in, put_reply, seen}
+use Rattle.tenant_slot.proofs.Putting.{IsPut, put_of}
+use Rattle.tenant_slot.proofs.Taking.{written_of}
 use Rattle.tenant_slot.proofs.slot.Slot.put.Goals as goal
-
--- how the step is written down
-written : (c : goal.After-put-reply) → IsAdvanceOf (seen_state c.self.inside.arch c.self.inside.strip c.self.inside.standing c.self.inside.entries) c.args.done c.advance_of-made.result
-written c = rw (ap (λ (s : SlotState). s.state) c.self.view_is) c.advance_of-made.ensures
 
 -- what the put leaves
 left : (c : goal.After-put-reply) → IsPut c.self.inside.id c.self.inside.arch c.self.inside.strip c.self.inside.standing c.self.inside.entries c.args.done c.advance_of-made.result c.is_next-counts.result c.is_last-last.result
 left c =
-    let room : c.self.inside.entries < 65536 = omega (arith, c.requires.room, ap (λ (s : SlotState). s.state.entries) c.self.view_is) in
-    let own : c.args.done.id ≡ c.self.inside.id = c.requires.id ∙ sym (ap (λ (s : SlotState). s.id) c.self.view_is) in
-    let counts : c.is_next-counts.result ≡ is_next (seen_state c.self.inside.arch c.self.inside.strip c.self.inside.standing c.self.inside.entries) c.advance_of-made.result =
-    c.is_next-counts.ensures ∙ ap (λ (s : SlotState). is_next s.state c.advance_of-made.result) (sym c.self.view_is) in
-    is_put c.self.inside.id c.self.inside.arch c.self.inside.strip c.self.inside.standing c.self.inside.entries c.args.done c.advance_of-made.result c.is_next-counts.result c.is_last-last.result c.self.invariant room own (written c) counts c.is_last-last.ensures
+    let said = written_of c.args.self.now.state c.args.done c.args.self.now.id c.generation.result c.number.result c.sources.result.now c.advance_of-made.result c.generation.ensures c.number.ensures c.sources.ensures c.advance_of-made.ensures in
+    put_of c.self.inside.id c.self.inside.arch c.self.inside.strip c.self.inside.standing c.self.inside.entries c.args.self.now c.args.done c.advance_of-made.result c.is_next-counts.result c.is_last-last.result
+    c.self.view_is c.self.invariant c.requires.room c.requires.id said c.is_next-counts.ensures c.is_last-last.ensures
+
+-- a last step is of the job that began there
+pub put-reply-requires-clause-begun : goal.put-reply-requires-clause-begun
+put-reply-requires-clause-begun c =
+    let said = written_of c.args.self.now.state c.args.done c.args.self.now.id c.generation.result c.number.result c.sources.result.now c.advance_of-made.result c.generation.ensures c.number.ensures c.sources.ensures c.advance_of-made.ensures in
+    rw c.park.ensures (put_of c.self.inside.id c.self.inside.arch c.self.inside.strip c.self.inside.standing c.self.inside.entries c.args.self.now c.args.done c.advance_of-made.result c.is_next-counts.result c.is_last-last.result
+    c.self.view_is c.self.invariant c.requires.room c.requires.id said c.is_next-counts.ensures c.is_last-last.ensures).begun
 
 pub invariant_of-self : goal.invariant_of-self
 invariant_of-self c = rw (c.put-reply.ensures.standing, c.park.ensures) (left c).lawful
 
 pub returns : goal.returns
-returns c = rw (← c.self.view_is, c.put-reply.ensures.reply, c.put-reply.ensures.standing, c.park.ensures) (record { advance = written c; told = (left c).told; after = (left c).after_it })
+returns c =
+    let said = written_of c.args.self.now.state c.args.done c.args.self.now.id c.generation.result c.number.result c.sources.result.now c.advance_of-made.result c.generation.ensures c.number.ensures c.sources.ensures c.advance_of-made.ensures in
+    rw (c.put-reply.ensures.reply, c.put-reply.ensures.standing, c.park.ensures) (record {
+      advance = said;
+      told = subst (λ (s : SlotState). (step s.state (Stepped c.advance_of-made.result)).1 ≡ Some (Step (put_reply c.is_next-counts.result c.is_last-last.result))) c.self.view_is (left c).told;
+      after = subst (λ (s : SlotState). seen c.self.inside.id c.self.inside.arch c.self.inside.strip (put_in c.self.inside.standing (next_step c.args.done) c.is_next-counts.result c.is_last-last.result) (c.self.inside.entries + 1) ≡ after_event s (Stepped c.advance_of-made.result)) c.self.view_is (left c).after_it;
+    })

@@ -1,0 +1,144 @@
+-- What a slot carries along after an accepted command.
+use Rattle.std.proofs.Common.{◌≡◌, ℕ, ◌+◌, ◌-◌, ◌<◌, ◌≤◌, Bool, true, false, Option, Some, None, refl, sym, ap, subst, ◌∙◌, arith}
+use Rattle.std.specs.Prelude.{is_some, IfSome}
+use Rattle.arch_file.specs.declared.arch.Arch.{Arch}
+use Rattle.grid.specs.declared.Strip.{Strip}
+use Rattle.job_state.specs.declared.sources.JobKind.{JobKind}
+use Rattle.job_state.specs.declared.sources.JobKind.TheVariants.{Packing as PackingJob, Placing as PlacingJob, Routing as RoutingJob}
+use Rattle.job_state.specs.declared.sources.Sources.{Sources}
+use Rattle.job_state.specs.Job.{JobState, first_step}
+use Rattle.tenant_slot.specs.declared.content.Content.{Content}
+use Rattle.tenant_slot.specs.declared.content.Content.TheVariants.{Empty, Loaded, Packed, Placed, Routed, Unrouted}
+use Rattle.tenant_slot.specs.declared.reply.StateName.TheVariants.{Packed as PackedName}
+use Rattle.tenant_slot.specs.declared.standing.Change.{Change}
+use Rattle.tenant_slot.specs.declared.standing.Change.TheVariants.{Load, Replace, Begin, Place, Stop, Empty as EmptyAll}
+use Rattle.tenant_slot.specs.declared.standing.Running.{Running}
+use Rattle.tenant_slot.specs.declared.standing.Standing.{Standing}
+use Rattle.tenant_slot.specs.Answer.{Begins, IsAnswerTo, IsBegun, Outcome}
+use Rattle.tenant_slot.specs.Content.{HasContent, IsNetlist, cut_back, name_at_rest, packing_in, text_of}
+use Rattle.tenant_slot.specs.JobNames.{before, during}
+use Rattle.tenant_slot.specs.SingleUser.{sources_from}
+use Rattle.tenant_slot.specs.Standing.{IsChange, IsSlot, accepted_in, name_of, seen}
+use Rattle.tenant_slot.proofs.Kept.{at_packing}
+use Rattle.tenant_slot.proofs.Putting.{IsSlot-more, standing_of}
+
+-- the state of a running job is none that a job goes on from
+never_before : (running kind : JobKind) → during running ≡ before kind → ⊥
+never_before PackingJob PackingJob is = cc
+never_before PackingJob PlacingJob is = cc
+never_before PackingJob RoutingJob is = cc
+never_before PlacingJob PackingJob is = cc
+never_before PlacingJob PlacingJob is = cc
+never_before PlacingJob RoutingJob is = cc
+never_before RoutingJob PackingJob is = cc
+never_before RoutingJob PlacingJob is = cc
+never_before RoutingJob RoutingJob is = cc
+
+rest_name : (content : Content) (job : Option Running) (kind : JobKind) → name_of content job ≡ before kind → name_at_rest content ≡ before kind
+rest_name content None kind is = is
+rest_name content (Some job) kind is = absurd (never_before job.sources.kind kind is)
+
+-- what is left without places and routes
+module _ (arch : Arch) (strip : Strip) (seed effort seed' effort' : ℕ) where
+  cut_has : (content : Content) → HasContent arch strip seed effort content → HasContent arch strip seed' effort' (cut_back content)
+  cut_has Empty has = has
+  cut_has (Loaded netlist) has = has
+  cut_has (Packed netlist packing) has = has
+  cut_has (Placed netlist packing placing) has = (has.0, has.1)
+  cut_has (Routed netlist packing placing routing) has = (has.0, has.1)
+  cut_has (Unrouted netlist packing placing failure) has = (has.0, has.1)
+
+cut_text : (content : Content) → text_of (cut_back content) ≡ text_of content
+cut_text Empty = refl
+cut_text (Loaded netlist) = refl
+cut_text (Packed netlist packing) = refl
+cut_text (Placed netlist packing placing) = refl
+cut_text (Routed netlist packing placing routing) = refl
+cut_text (Unrouted netlist packing placing failure) = refl
+
+cut_name : (content : Content) → is_some (packing_in content) ≡ true → name_at_rest (cut_back content) ≡ PackedName
+cut_name Empty some = absurd (cc)
+cut_name (Loaded netlist) some = absurd (cc)
+cut_name (Packed netlist packing) some = refl
+cut_name (Placed netlist packing placing) some = refl
+cut_name (Routed netlist packing placing routing) some = refl
+cut_name (Unrouted netlist packing placing failure) some = refl
+
+-- the step that a begun job has ready
+ready_first : (ready : Option JobState) (id generation : ℕ) (sources : Sources) → ready ≡ Some (first_step id generation sources) →
+    IfSome ready (λ job. job.step ≡ record { id = id; generation = generation; number = 1; sources = sources })
+ready_first ready id generation sources is = rw is refl
+
+module _ (id : ℕ) (arch : Arch) (strip : Strip) (content : Content) (job : Option Running) (seed effort generation steps entries lut_size : ℕ)
+    (slot : IsSlot id arch strip (standing_of content job seed effort generation steps) entries) (same : lut_size ≡ arch.lut_size) (room : entries < 65536) where
+  abbrev its_standing : Standing
+  its_standing = standing_of content job seed effort generation steps
+
+  accept_change : (change : Option Change) → Begins (seen id arch strip its_standing entries) change → IsChange lut_size change → IsSlot id arch strip (accepted_in its_standing change) (entries + 1)
+  accept_change None begins is = IsSlot-more id arch strip its_standing entries slot room
+  accept_change (Some (Load netlist)) begins is = record {
+    size = slot.size;
+    content = subst (λ n. IsNetlist n netlist) same is;
+    job = tt;
+    generation_small = omega (arith, slot.generation_small);
+    steps_small = omega (arith, slot.steps_small);
+    entries_small = omega arith;
+  }
+  accept_change (Some (Replace netlist)) begins is = record {
+    size = slot.size;
+    content = subst (λ n. IsNetlist n netlist) same is;
+    job = tt;
+    generation_small = omega (arith, slot.generation_small);
+    steps_small = omega arith;
+    entries_small = omega arith;
+  }
+  accept_change (Some (Begin begun)) begins is = record {
+    size = slot.size;
+    content = slot.content;
+    job = record {
+      name = rest_name content job begun.sources.kind begins.0;
+      sources = begins.1.sources;
+      going = is;
+      ready = ready_first begun.ready id (generation + 1) begun.sources begins.1.ready;
+    };
+    generation_small = omega (arith, slot.generation_small);
+    steps_small = omega arith;
+    entries_small = omega arith;
+  }
+  accept_change (Some (Place begun)) begins is =
+      let packing : is_some (packing_in content) ≡ true = (at_packing content job begun.sources.seed begun.sources.effort begins.0).0 in
+      record {
+        size = slot.size;
+        content = cut_has arch strip seed effort begun.sources.seed begun.sources.effort content slot.content;
+        job = record {
+          name = cut_name content packing ∙ sym (ap before begins.1);
+          sources = begins.2.sources ∙ ap (λ text. sources_from arch strip text begun.sources.seed begun.sources.effort begun.sources.kind) (sym (cut_text content));
+          going = is;
+          ready = ready_first begun.ready id (generation + 1) begun.sources begins.2.ready;
+        };
+        generation_small = omega (arith, slot.generation_small);
+        steps_small = omega arith;
+        entries_small = omega arith;
+      }
+  accept_change (Some Stop) begins is = record {
+    size = slot.size;
+    content = slot.content;
+    job = tt;
+    generation_small = omega (arith, slot.generation_small);
+    steps_small = omega arith;
+    entries_small = omega arith;
+  }
+  accept_change (Some EmptyAll) begins is = record {
+    size = slot.size;
+    content = tt;
+    job = tt;
+    generation_small = omega (arith, slot.generation_small);
+    steps_small = omega arith;
+    entries_small = omega arith;
+  }
+
+-- an answer that is accepted leaves a lawful slot
+pub accept_slot : (id : ℕ) (arch : Arch) (strip : Strip) (standing : Standing) (entries : ℕ) (answer : Outcome) → IsSlot id arch strip standing entries → IsAnswerTo (seen id arch strip standing entries) answer →
+    IsChange answer.lut_size answer.change → IsSlot id arch strip (accepted_in standing answer.change) (entries + 1)
+accept_slot id arch strip standing entries answer slot fits is =
+    accept_change id arch strip standing.content standing.running standing.seed standing.effort standing.generation standing.steps entries answer.lut_size slot fits.lut_size fits.room answer.change fits.begins is

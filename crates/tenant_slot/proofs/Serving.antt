@@ -1,0 +1,113 @@
+-- What `pack` and `place` are answered.
+use Rattle.std.proofs.Common.{◌≡◌, ℕ, ◌+◌, ◌<◌, Bool, true, false, Option, Some, None, Result, Ok, Err, refl, sym, ap, subst, ◌∙◌, arith}
+use Rattle.std.specs.Prelude.{is_some, nat_lt, IfOk, IfErr, if◌then◌else◌}
+use Rattle.arch_file.specs.declared.arch.Arch.{Arch}
+use Rattle.blif.specs.CircuitOf.{circuit_of}
+use Rattle.blif.specs.declared.circuit.Circuit.{Circuit}
+use Rattle.blif.specs.declared.fault.BlifFault.{BlifFault}
+use Rattle.cluster.specs.Clusters.{packed_of, unfit_of}
+use Rattle.grid.specs.Fits.{fit_of}
+use Rattle.grid.specs.declared.Strip.{Strip}
+use Rattle.job_state.specs.JobValue.{packing_sources, placing_sources}
+use Rattle.tenant_slot.specs.declared.command.Command.{Command}
+use Rattle.tenant_slot.specs.declared.command.Command.TheVariants.{Pack, Place}
+use Rattle.tenant_slot.specs.declared.content.Netlist.{Netlist}
+use Rattle.tenant_slot.specs.declared.event.Event.TheVariants.{Command as Asked}
+use Rattle.tenant_slot.specs.declared.not_served.NotServed.{NotServed}
+use Rattle.tenant_slot.specs.declared.not_served.NotServed.TheVariants.{NoMemory}
+use Rattle.tenant_slot.specs.declared.reply.Misfit.{Misfit}
+use Rattle.tenant_slot.specs.declared.reply.Reply.{Reply}
+use Rattle.tenant_slot.specs.declared.reply.Reply.TheVariants.{Refused}
+use Rattle.tenant_slot.specs.declared.reply.Refusal.TheVariants.{WrongState, BadEffort}
+use Rattle.tenant_slot.specs.declared.reply.StateName.{StateName}
+use Rattle.tenant_slot.specs.declared.reply.StateName.TheVariants.{Empty as EmptyName, Loaded as LoadedName, Packing as PackingName, Packed as PackedName, Placing as PlacingName, Placed as PlacedName, Routing as RoutingName, Routed as RoutedName, Unrouted as UnroutedName}
+use Rattle.tenant_slot.specs.Answer.{Answers, Outcome}
+use Rattle.tenant_slot.specs.Content.{IsNetlist}
+use Rattle.tenant_slot.specs.Outcomes.{job_begun, pack_outcome, place_outcome}
+use Rattle.tenant_slot.specs.SingleUser.{State, is_lawful, misfit_of, pack, pack_unless, place, place_unless, serve}
+use Rattle.tenant_slot.specs.Slot.{SlotState}
+
+-- a call that answers so, or finds no memory
+answers_so : (slot : SlotState) (command : Command) (result : Result Outcome NotServed) (outcome : Outcome) → slot.state.entries < 65536 → IfOk result (λ a. a ≡ outcome) → IfErr result (λ e. e ≡ NoMemory) →
+    Answers slot command (Ok outcome) → Answers slot command result
+answers_so slot command (Ok answer) outcome room ok err answers = subst (λ (a : Outcome). Answers slot command (Ok a)) (sym ok) answers
+answers_so slot command (Err e) outcome room ok err answers = subst (λ (e : NotServed). Answers slot command (Err e)) (sym err) room
+
+-- `pack` is lawful where a netlist is loaded
+pack_loaded : (name : StateName) → is_lawful name Pack ≡ true → name ≡ LoadedName
+pack_loaded EmptyName lawful = absurd (cc)
+pack_loaded LoadedName lawful = refl
+pack_loaded PackingName lawful = absurd (cc)
+pack_loaded PackedName lawful = absurd (cc)
+pack_loaded PlacingName lawful = absurd (cc)
+pack_loaded PlacedName lawful = absurd (cc)
+pack_loaded RoutingName lawful = absurd (cc)
+pack_loaded RoutedName lawful = absurd (cc)
+pack_loaded UnroutedName lawful = absurd (cc)
+
+module _ (slot : SlotState) (netlist : Netlist) (text : netlist.text ≡ slot.state.text) (lawful_text : IsNetlist slot.state.arch.lut_size netlist) (room : slot.state.entries < 65536) where
+  its_circuit : circuit_of slot.state.text slot.state.arch.lut_size ≡ Ok netlist.circuit
+  its_circuit = ap (λ t. circuit_of t slot.state.arch.lut_size) (sym text) ∙ lawful_text
+
+  -- what `pack` is answered, by the least BLE that fits into no cluster
+  pack_answers : slot.state.name ≡ LoadedName → (unfit : Option ℕ) → unfit_of netlist.circuit slot.state.arch ≡ unfit →
+      Answers slot Pack (Ok (pack_outcome slot.state.arch.lut_size (job_begun slot.id (slot.state.generation + 1) (packing_sources slot.state.arch slot.state.strip netlist.text)) unfit))
+  pack_answers loaded None is =
+      let asked = ap (λ name. if is_lawful name Pack then serve slot.state Pack else (None, Refused (WrongState name))) loaded in (
+        record {
+          lut_size = refl;
+          room = room;
+          begins = (loaded, record { sources = ap (packing_sources slot.state.arch slot.state.strip) text; ready = refl });
+        },
+        asked ∙ ap (pack slot.state) its_circuit ∙ ap (pack_unless slot.state) is,
+      )
+  pack_answers loaded (Some ble) is =
+      let asked = ap (λ name. if is_lawful name Pack then serve slot.state Pack else (None, Refused (WrongState name))) loaded in
+      (record { lut_size = refl; room = room; begins = tt }, asked ∙ ap (pack slot.state) its_circuit ∙ ap (pack_unless slot.state) is)
+
+  -- what `place` is answered, by whether the effort is too great and what there is too little of
+  place_answers : (seed effort : ℕ) → is_lawful slot.state.name (Place seed effort) ≡ true → (great : Bool) → nat_lt 100 effort ≡ great → (misfit : Option Misfit) →
+      misfit_of (fit_of slot.state.strip (packed_of netlist.circuit slot.state.arch)) ≡ misfit →
+      Answers slot (Place seed effort) (Ok (place_outcome slot.state.arch.lut_size (job_begun slot.id (slot.state.generation + 1) (placing_sources slot.state.arch slot.state.strip netlist.text seed effort)) great misfit))
+  place_answers seed effort lawful true is_great misfit is =
+      let asked = ap (λ b. if b then place slot.state seed effort (circuit_of slot.state.text slot.state.arch.lut_size) else (None, Refused (WrongState slot.state.name))) lawful in (
+        record { lut_size = refl; room = room; begins = tt },
+        asked ∙ ap (place slot.state seed effort) its_circuit
+            ∙ ap (λ b. if b then (None, Refused BadEffort) else place_unless slot.state seed effort (misfit_of (fit_of slot.state.strip (packed_of netlist.circuit slot.state.arch)))) is_great,
+      )
+  place_answers seed effort lawful false is_great None is =
+      let asked = ap (λ b. if b then place slot.state seed effort (circuit_of slot.state.text slot.state.arch.lut_size) else (None, Refused (WrongState slot.state.name))) lawful in (
+        record {
+          lut_size = refl;
+          room = room;
+          begins = (lawful, refl, record { sources = ap (λ t. placing_sources slot.state.arch slot.state.strip t seed effort) text; ready = refl });
+        },
+        asked ∙ ap (place slot.state seed effort) its_circuit
+            ∙ ap (λ b. if b then (None, Refused BadEffort) else place_unless slot.state seed effort (misfit_of (fit_of slot.state.strip (packed_of netlist.circuit slot.state.arch)))) is_great
+            ∙ ap (place_unless slot.state seed effort) is,
+      )
+  place_answers seed effort lawful false is_great (Some misfit) is =
+      let asked = ap (λ b. if b then place slot.state seed effort (circuit_of slot.state.text slot.state.arch.lut_size) else (None, Refused (WrongState slot.state.name))) lawful in (
+        record { lut_size = refl; room = room; begins = tt },
+        asked ∙ ap (place slot.state seed effort) its_circuit
+            ∙ ap (λ b. if b then (None, Refused BadEffort) else place_unless slot.state seed effort (misfit_of (fit_of slot.state.strip (packed_of netlist.circuit slot.state.arch)))) is_great
+            ∙ ap (place_unless slot.state seed effort) is,
+      )
+
+  pub pack_result : (result : Result Outcome NotServed) → is_lawful slot.state.name Pack ≡ true →
+      IfOk result (λ a. a ≡ pack_outcome slot.state.arch.lut_size (job_begun slot.id (slot.state.generation + 1) (packing_sources slot.state.arch slot.state.strip netlist.text)) (unfit_of netlist.circuit slot.state.arch)) →
+      IfErr result (λ e. e ≡ NoMemory) → Answers slot Pack result
+  pack_result result lawful ok err =
+      answers_so slot Pack result
+      (pack_outcome slot.state.arch.lut_size (job_begun slot.id (slot.state.generation + 1) (packing_sources slot.state.arch slot.state.strip netlist.text)) (unfit_of netlist.circuit slot.state.arch))
+      room ok err (pack_answers (pack_loaded slot.state.name lawful) (unfit_of netlist.circuit slot.state.arch) refl)
+
+  pub place_result : (seed effort : ℕ) (result : Result Outcome NotServed) → is_lawful slot.state.name (Place seed effort) ≡ true →
+      IfOk result (λ a. a ≡ place_outcome slot.state.arch.lut_size (job_begun slot.id (slot.state.generation + 1) (placing_sources slot.state.arch slot.state.strip netlist.text seed effort)) (nat_lt 100 effort)
+      (misfit_of (fit_of slot.state.strip (packed_of netlist.circuit slot.state.arch)))) →
+      IfErr result (λ e. e ≡ NoMemory) → Answers slot (Place seed effort) result
+  place_result seed effort result lawful ok err =
+      answers_so slot (Place seed effort) result
+      (place_outcome slot.state.arch.lut_size (job_begun slot.id (slot.state.generation + 1) (placing_sources slot.state.arch slot.state.strip netlist.text seed effort)) (nat_lt 100 effort)
+      (misfit_of (fit_of slot.state.strip (packed_of netlist.circuit slot.state.arch))))
+      room ok err (place_answers seed effort lawful (nat_lt 100 effort) refl (misfit_of (fit_of slot.state.strip (packed_of netlist.circuit slot.state.arch))) refl)

@@ -1,0 +1,121 @@
+-- Private: what is there where no job runs, and what a finished job makes of it.
+use Rattle.std.specs.Prelude.{ℕ, ◌≡◌, List, [], Ok, ⊤, Bool, true, false, Option, Some, None}
+use Rattle.arch_file.specs.declared.arch.Arch.{Arch}
+use Rattle.blif.specs.CircuitOf.{circuit_of}
+use Rattle.grid.specs.declared.Strip.{Strip}
+use Rattle.job_state.specs.Job.{JobState, is_over}
+use Rattle.job_state.specs.declared.sources.JobKind.{JobKind}
+use Rattle.job_state.specs.declared.sources.JobKind.TheVariants.{Packing as PackingJob, Placing as PlacingJob, Routing as RoutingJob}
+use Rattle.job_state.specs.declared.sources.Sources.{Sources}
+use Rattle.job_state.specs.JobValue.{end_value, packing_sources, placing_sources, routing_sources}
+use Rattle.tenant_slot.specs.declared.content.Content.{Content}
+use Rattle.tenant_slot.specs.declared.content.Content.TheVariants.{Empty, Loaded, Packed, Placed, Routed, Unrouted}
+use Rattle.tenant_slot.specs.declared.content.Netlist.{Netlist}
+use Rattle.tenant_slot.specs.declared.failure.RoutingFailure.{RoutingFailure}
+use Rattle.tenant_slot.specs.declared.reply.StateName.{StateName}
+use Rattle.tenant_slot.specs.declared.reply.StateName.TheVariants.{Empty as EmptyName, Loaded as LoadedName, Packed as PackedName, Placed as PlacedName, Routed as RoutedName, Unrouted as UnroutedName}
+use Rattle.tenant_slot.specs.Results.{failure_of}
+
+-- the name of the state where no job runs
+abbrev pub name_at_rest : Content → StateName
+name_at_rest Empty = EmptyName
+name_at_rest (Loaded netlist) = LoadedName
+name_at_rest (Packed netlist packing) = PackedName
+name_at_rest (Placed netlist packing placing) = PlacedName
+name_at_rest (Routed netlist packing placing routing) = RoutedName
+name_at_rest (Unrouted netlist packing placing failure) = UnroutedName
+
+-- how the routing ended, where it has no routes
+abbrev pub failure_in : Content → Option RoutingFailure
+failure_in (Unrouted netlist packing placing failure) = Some failure
+failure_in content = None
+
+abbrev pub netlist_in : Content → Option Netlist
+netlist_in Empty = None
+netlist_in (Loaded netlist) = Some netlist
+netlist_in (Packed netlist packing) = Some netlist
+netlist_in (Placed netlist packing placing) = Some netlist
+netlist_in (Routed netlist packing placing routing) = Some netlist
+netlist_in (Unrouted netlist packing placing failure) = Some netlist
+
+abbrev pub packing_in : Content → Option JobState
+packing_in Empty = None
+packing_in (Loaded netlist) = None
+packing_in (Packed netlist packing) = Some packing
+packing_in (Placed netlist packing placing) = Some packing
+packing_in (Routed netlist packing placing routing) = Some packing
+packing_in (Unrouted netlist packing placing failure) = Some packing
+
+abbrev pub placing_in : Content → Option JobState
+placing_in Empty = None
+placing_in (Loaded netlist) = None
+placing_in (Packed netlist packing) = None
+placing_in (Placed netlist packing placing) = Some placing
+placing_in (Routed netlist packing placing routing) = Some placing
+placing_in (Unrouted netlist packing placing failure) = Some placing
+
+-- the netlist's text; none has no byte
+abbrev pub text_of : Content → List ℕ
+text_of Empty = []
+text_of (Loaded netlist) = netlist.text
+text_of (Packed netlist packing) = netlist.text
+text_of (Placed netlist packing placing) = netlist.text
+text_of (Routed netlist packing placing routing) = netlist.text
+text_of (Unrouted netlist packing placing failure) = netlist.text
+
+-- without places and routes
+abbrev pub cut_back : Content → Content
+cut_back Empty = Empty
+cut_back (Loaded netlist) = Loaded netlist
+cut_back (Packed netlist packing) = Packed netlist packing
+cut_back (Placed netlist packing placing) = Packed netlist packing
+cut_back (Routed netlist packing placing routing) = Packed netlist packing
+cut_back (Unrouted netlist packing placing failure) = Packed netlist packing
+
+-- a placed netlist with its routes, or with how its routing ended
+abbrev pub routed_with : Netlist → JobState → JobState → JobState → Option RoutingFailure → Content
+routed_with netlist packing placing routing None = Routed netlist packing placing routing
+routed_with netlist packing placing routing (Some failure) = Unrouted netlist packing placing failure
+
+-- what is there, with what the job has made that began there
+abbrev pub finished_with : Content → JobState → Content
+finished_with (Loaded netlist) job = Packed netlist job
+finished_with (Packed netlist packing) job = Placed netlist packing job
+finished_with (Placed netlist packing placing) job = routed_with netlist packing placing job (failure_of (end_value job.step.sources))
+finished_with content job = content
+
+-- a job of that kind is finished
+pub record IsFinished (of : JobKind) (job : JobState) : Type 0 where
+  pub kind : job.step.sources.kind ≡ of
+  pub over : is_over job ≡ true
+  pub put : job.made ≡ false
+
+-- the job may have begun there
+abbrev pub CanFinish : Content → JobState → Type 0
+CanFinish (Loaded netlist) job = ⊤
+CanFinish (Packed netlist packing) job = ⊤
+CanFinish (Placed netlist packing placing) job = IsFinished RoutingJob job
+CanFinish content job = ⊥
+
+-- the circuit is the netlist's
+abbrev pub IsNetlist : ℕ → Netlist → Type 0
+IsNetlist lut_size netlist = circuit_of netlist.text lut_size ≡ Ok netlist.circuit
+
+-- a finished job of these sources
+pub record IsMadeOf (from : Sources) (job : JobState) : Type 0 where
+  pub sources : job.step.sources ≡ from
+  pub over : is_over job ≡ true
+  pub put : job.made ≡ false
+
+-- what is carried along is what the text, the seed and the effort lead to
+abbrev pub HasContent : Arch → Strip → ℕ → ℕ → Content → Type 0
+HasContent arch strip seed effort Empty = ⊤
+HasContent arch strip seed effort (Loaded netlist) = IsNetlist arch.lut_size netlist
+HasContent arch strip seed effort (Packed netlist packing) = IsNetlist arch.lut_size netlist × IsMadeOf (packing_sources arch strip netlist.text) packing
+HasContent arch strip seed effort (Placed netlist packing placing) =
+    IsNetlist arch.lut_size netlist × IsMadeOf (packing_sources arch strip netlist.text) packing × IsMadeOf (placing_sources arch strip netlist.text seed effort) placing
+HasContent arch strip seed effort (Routed netlist packing placing routing) =
+    IsNetlist arch.lut_size netlist × IsMadeOf (packing_sources arch strip netlist.text) packing × IsMadeOf (placing_sources arch strip netlist.text seed effort) placing
+    × IsMadeOf (routing_sources arch strip netlist.text seed effort) routing × (failure_of (end_value (routing_sources arch strip netlist.text seed effort)) ≡ None)
+HasContent arch strip seed effort (Unrouted netlist packing placing failure) =
+    IsNetlist arch.lut_size netlist × IsMadeOf (packing_sources arch strip netlist.text) packing × IsMadeOf (placing_sources arch strip netlist.text seed effort) placing

@@ -1,0 +1,47 @@
+-- What the end of a placing and of a routing means to a user: the files, and how a routing ended without routes.
+use Rattle.std.specs.Prelude.{ℕ, List, [], Result, Ok, Err, Option, Some, None, slice_get}
+use Rattle.std.specs.Option.{option_map_or}
+use Rattle.arch_file.specs.declared.arch.Arch.{Arch}
+use Rattle.blif.specs.declared.circuit.Circuit.{Circuit}
+use Rattle.blif.specs.declared.fault.BlifFault.{BlifFault}
+use Rattle.cluster.specs.Blocks.{block_nets, net_name}
+use Rattle.cluster.specs.Clusters.{PackedCircuit, packed_of}
+use Rattle.job_state.specs.declared.work.Work.{Work}
+use Rattle.job_state.specs.declared.work.Work.TheVariants.{Placed, Routed, GaveUp as GivenUp, NoPath as WithoutPath}
+use Rattle.strip_place.specs.Anneal.{PlacingUnderWay, places_by_block}
+use Rattle.tenant_slot.specs.declared.failure.RoutingFailure.{RoutingFailure}
+use Rattle.tenant_slot.specs.declared.failure.RoutingFailure.TheVariants.{GaveUp as FailedAll, NoPath as FailedNet}
+use Rattle.tenant_slot.specs.declared.reply.Ending.{Ending}
+use Rattle.tenant_slot.specs.declared.reply.Ending.TheVariants.{GaveUp, NoPath}
+use Rattle.vpr_files.specs.PlaceFile.{place_text_of}
+use Rattle.vpr_files.specs.RouteFile.{route_text_of}
+
+-- how a routing ended, where it has no routes
+abbrev pub failure_of : Result Work BlifFault → Option RoutingFailure
+failure_of (Ok GivenUp) = Some FailedAll
+failure_of (Ok (WithoutPath net)) = Some (FailedNet net)
+failure_of value = None
+
+-- the name of a net between blocks
+abbrev pub block_net_name : PackedCircuit → ℕ → List ℕ
+block_net_name packed net = option_map_or (λ found. net_name packed.circuit found.net) (slice_get (block_nets packed) net) []
+
+-- it is told with the net's name
+abbrev pub ending_of : PackedCircuit → RoutingFailure → Ending
+ending_of packed FailedAll = GaveUp
+ending_of packed (FailedNet net) = NoPath (block_net_name packed net)
+
+-- what the text says that is packed has nets; a text with a fault is never routed
+abbrev pub ending_told : Result Circuit BlifFault → Arch → RoutingFailure → Option Ending
+ending_told (Ok circuit) arch failure = Some (ending_of (packed_of circuit arch) failure)
+ending_told (Err fault) arch failure = None
+
+-- the `.place` file of a whole placing
+abbrev pub place_file_of : Result Work BlifFault → List ℕ
+place_file_of (Ok (Placed placing)) = place_text_of placing.strip placing.packed (places_by_block placing)
+place_file_of value = []
+
+-- the `.route` file of a whole routing on a whole placing
+abbrev pub route_file_of : Result Work BlifFault → Result Work BlifFault → List ℕ
+route_file_of (Ok (Placed placing)) (Ok (Routed routes)) = route_text_of placing.strip placing.packed (places_by_block placing) routes
+route_file_of placing routing = []

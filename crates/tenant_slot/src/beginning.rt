@@ -1,0 +1,93 @@
+//! Jobs that begin.
+ghost use Rattle.std.specs.Prelude.{◌≡◌, ◌≤◌, IfOk, None, false};
+ghost use Rattle.cluster.specs.Clusters.{packed_of, unfit_of};
+ghost use Rattle.grid.specs.declared.fit.Fit.TheVariants.{Fits};
+ghost use Rattle.grid.specs.Fits.{fit_of};
+ghost use Rattle.grid.specs.Sizes.{IsStripSize};
+ghost use Rattle.job_state.specs.JobValue.{is_last, packing_sources, placing_sources, routing_sources};
+ghost use Rattle.tenant_slot.specs.Content.{IsMadeOf, IsNetlist};
+ghost use Rattle.tenant_slot.specs.Outcomes.{job_begun};
+
+use crate::content::Netlist;
+use crate::standing::Running;
+use arch_file::SharedArch;
+use grid::Strip;
+use job_state::{Parked, Sources};
+use std::alloc::{AllocError, Global};
+
+/// A job before it begins: the tenancy's id, the generation that begins with it, and what it is computed from.
+#[derive(Clone, Copy)]
+pub(crate) struct Beginning<'a> {
+    pub(crate) alloc: Global,
+    pub(crate) id: u32,
+    pub(crate) generation: u32,
+    pub(crate) arch: &'a SharedArch,
+    pub(crate) strip: Strip,
+    pub(crate) netlist: &'a Netlist,
+}
+
+impl Beginning<'_> {
+    /// The packing of the netlist, each BLE of which fits into a cluster alone.
+    pub(crate) fn packing(&self) -> Result<Running, AllocError>
+        requires netlist { IsNetlist self.now.arch.now.lut_size self.now.netlist.now }
+        requires fit { unfit_of self.now.netlist.now.circuit self.now.arch.now ≡ None }
+        ensures job { IfOk result (λ job. job ≡ job_begun self.now.id self.now.generation (packing_sources self.now.arch.now self.now.strip self.now.netlist.now.text)) }
+        ensures going { IfOk result (λ job. is_last job.sources 0 ≡ false) }
+    {
+        let sources = Sources::packing(self.arch, self.strip, &self.netlist.text)?;
+        let copy = sources.clone()?;
+        let circuit = &self.netlist.circuit;
+        let ready = Parked::pack(self.alloc, self.id, self.generation, copy, circuit)?;
+        Ok(Running {
+            sources,
+            ready: Some(ready),
+        })
+    }
+
+    /// The placing of what the finished packing has made, on a strip that has places enough.
+    pub(crate) fn placing(
+        &self,
+        packing: &Parked,
+        seed: u64,
+        effort: u32,
+    ) -> Result<Running, AllocError>
+        requires netlist { IsNetlist self.now.arch.now.lut_size self.now.netlist.now }
+        requires packing { IsMadeOf (packing_sources self.now.arch.now self.now.strip self.now.netlist.now.text) packing.now }
+        requires size { IsStripSize self.now.strip }
+        requires fit { fit_of self.now.strip (packed_of self.now.netlist.now.circuit self.now.arch.now) ≡ Fits }
+        requires effort { effort ≤ 100 }
+        ensures job { IfOk result (λ job. job ≡ job_begun self.now.id self.now.generation (placing_sources self.now.arch.now self.now.strip self.now.netlist.now.text seed effort)) }
+        ensures going { IfOk result (λ job. is_last job.sources 0 ≡ false) }
+    {
+        let text = &self.netlist.text;
+        let sources = Sources::placing(self.arch, self.strip, text, seed, effort)?;
+        let copy = sources.clone()?;
+        let ready = Parked::place(self.alloc, self.id, self.generation, copy, packing)?;
+        Ok(Running {
+            sources,
+            ready: Some(ready),
+        })
+    }
+
+    /// The routing of what the finished placing of that seed and that effort has made.
+    pub(crate) fn routing(
+        &self,
+        placing: &Parked,
+        seed: u64,
+        effort: u32,
+    ) -> Result<Running, AllocError>
+        requires netlist { IsNetlist self.now.arch.now.lut_size self.now.netlist.now }
+        requires placing { IsMadeOf (placing_sources self.now.arch.now self.now.strip self.now.netlist.now.text seed effort) placing.now }
+        ensures job { IfOk result (λ job. job ≡ job_begun self.now.id self.now.generation (routing_sources self.now.arch.now self.now.strip self.now.netlist.now.text seed effort)) }
+        ensures going { IfOk result (λ job. is_last job.sources 0 ≡ false) }
+    {
+        let text = &self.netlist.text;
+        let sources = Sources::routing(self.arch, self.strip, text, seed, effort)?;
+        let copy = sources.clone()?;
+        let ready = Parked::route(self.alloc, self.id, self.generation, copy, placing)?;
+        Ok(Running {
+            sources,
+            ready: Some(ready),
+        })
+    }
+}

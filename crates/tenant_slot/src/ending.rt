@@ -1,0 +1,52 @@
+//! How the failure of a routing is told.
+ghost use Rattle.std.specs.Prelude.{◌≡◌, IfOk};
+ghost use Rattle.cluster.specs.Blocks.{net_name};
+ghost use Rattle.tenant_slot.specs.Results.{block_net_name, ending_of};
+
+use crate::failure::RoutingFailure;
+use crate::reply::Ending;
+use blif::Circuit;
+use cluster::Packed;
+use job_state::SharedText;
+use line_text::Text;
+use std::alloc::{AllocError, Global};
+
+/// How a routing of a packed netlist ended, with the name of the net.
+pub(crate) fn told_ending(
+    alloc: Global,
+    packed: &Packed,
+    failure: RoutingFailure,
+) -> Result<Ending, AllocError>
+    ensures { IfOk result (λ ending. ending ≡ ending_of packed.now failure) }
+{
+    match failure {
+        RoutingFailure::GaveUp => Ok(Ending::GaveUp),
+        RoutingFailure::NoPath(net) => {
+            let name = Text::from_slice(alloc, block_net_name(packed, net))?;
+            Ok(Ending::NoPath(SharedText::new(alloc, name)?))
+        }
+    }
+}
+
+/// The name of a net between blocks, and no byte where there is no such net.
+fn block_net_name(packed: &Packed, net: u32) -> &[u8]
+    ensures { result.now ≡ block_net_name packed.now net }
+{
+    if (net as usize) < packed.net_count() {
+        net_name(packed.circuit(), packed.net(net as usize).net)
+    } else {
+        &[]
+    }
+}
+
+/// The name of a net of the circuit, and no byte where there is no such net.
+fn net_name(circuit: &Circuit, net: u32) -> &[u8]
+    ensures { result.now ≡ net_name circuit.now net }
+{
+    let names = &circuit.nets;
+    if (net as usize) < names.len() {
+        names.name(net as usize)
+    } else {
+        &[]
+    }
+}
