@@ -1,4 +1,5 @@
 ghost use Rattle.std.specs.Prelude.{◌≡◌, ◌≤◌, ◌<◌, [], true, false, IfErr, IfOk, length, option_copied, slice_get};
+ghost use Rattle.grid.specs.Sizes.{IsStripSize};
 ghost use Rattle.tenant_slot.specs.Answer.{Answers};
 ghost use Rattle.service_core.specs.History.{closed, slot_of, state_of};
 ghost use Rattle.service_core.specs.Tenancy.{GivesHistoryBack, PutsHistory, ServesHistory, TakesHistory};
@@ -43,6 +44,7 @@ impl Tenancy {
         arch: &SharedArch,
         strip: Strip,
     ) -> Result<Self, AllocError>
+        requires { IsStripSize strip }
         ensures { IfOk result (λ t. t ≡ record { id = id; arch = arch.now; strip = strip; live = true; out = false; entries = [] }) }
     {
         Ok(Tenancy {
@@ -167,8 +169,13 @@ fn answered(slot: &Slot, command: &Command) -> Result<(Answer, (Command, Reply))
     ensures err { IfErr result (λ e. Answers slot.now command.now (Err e)) }
 {
     let answer = slot.answer(command)?;
-    let told = told(command, &answer)?;
-    Ok((answer, told))
+    match told(command, &answer) {
+        Ok(told) => Ok((answer, told)),
+        Err(error) => {
+            drop(answer);
+            Err(NotServed::from(error))
+        }
+    }
 }
 
 /// A copy of a command and of its reply.

@@ -4,12 +4,7 @@ use fixtures::AND;
 use service_core::{Core, NotServed, Note, NoteCause};
 use std::alloc::Global;
 use std::test::Fail;
-use tenant_slot::{Command, Event, Reply, StateName, Status};
-
-const EMPTY: Status = Status {
-    state: StateName::Empty,
-    steps: 0,
-};
+use tenant_slot::{Command, Event, Reply, StateName};
 
 /// A core with two tenancies.
 fn shared_core(alloc: Global) -> Option<Core> {
@@ -59,6 +54,11 @@ fn a_journal_is_kept_when_its_tenancy_ends(rt: HostRuntime) -> Result<(), Fail> 
     assert_eq!(rt; name, "NoSuchTenancy");
     let entry = core.entry(2, 0).ok_or("the journal is lost")?;
     assert!(rt; matches!(entry.event, Event::Command(Command::Status)));
-    assert!(rt; matches!(entry.reply, Reply::Status(EMPTY)));
+    let Reply::Status(status) = &entry.reply else {
+        return Err("another reply is kept".into());
+    };
+    assert_eq!(rt; status.state, StateName::Empty);
+    assert_eq!(rt; status.steps, 0);
+    assert!(rt; status.ending.is_none());
     Ok(())
 }

@@ -11,17 +11,18 @@ use std::alloc::Global;
 use std::test::Fail;
 use tenant_slot::{Command, StateName, StepReply};
 
-#[derive(Clone, Copy)]
-enum Act {
+#[derive(Clone, Copy, Debug, PartialEq, Eq)]
+pub(crate) enum Act {
     Cancel,
     Change,
     Withdraw,
     Evict,
+    /// A newcomer gets the columns, and packs its netlist.
     Replace,
 }
 
-/// Whether it is done.
-fn is_done(alloc: Global, core: &mut Core, act: Act) -> bool {
+/// Does it, and tells whether it is done.
+pub(crate) fn do_act(alloc: Global, core: &mut Core, act: Act) -> bool {
     match act {
         Act::Cancel => is_served(core, 1, Command::Cancel),
         Act::Change => match text(alloc, TWO_TABLES) {
@@ -30,7 +31,10 @@ fn is_done(alloc: Global, core: &mut Core, act: Act) -> bool {
         },
         Act::Withdraw => is_served(core, 1, Command::Withdraw),
         Act::Evict => core.evict(1).is_ok(),
-        Act::Replace => core.evict(1).is_ok() && newcomer_packs(alloc, core),
+        Act::Replace => {
+            let is_evicted = core.evict(1).is_ok();
+            newcomer_packs(alloc, core) && is_evicted
+        }
     }
 }
 
@@ -48,7 +52,7 @@ fn put_late(alloc: Global, core: &mut Core, act: Act) -> Option<PutReply> {
     let Some(job) = core.take(1) else {
         return None;
     };
-    let done = is_done(alloc, core, act);
+    let done = do_act(alloc, core, act);
     let reply = step_and_put(core, job);
     if done { reply } else { None }
 }
@@ -60,7 +64,7 @@ fn put_later(alloc: Global, core: &mut Core, act: Act) -> Option<PutReply> {
     };
     match job.step() {
         Ok(done) => {
-            let acted = is_done(alloc, core, act);
+            let acted = do_act(alloc, core, act);
             match core.put(done) {
                 Ok(reply) => acted.then_some(reply),
                 Err((done, _)) => {
@@ -81,7 +85,7 @@ fn given_back_late(alloc: Global, core: &mut Core, act: Act) -> Option<bool> {
     let Some(job) = core.take(1) else {
         return None;
     };
-    let done = is_done(alloc, core, act);
+    let done = do_act(alloc, core, act);
     core.give_back(job.into_back());
     let has_step = has_step(core, 1);
     done.then_some(has_step)
@@ -135,11 +139,11 @@ fn is_dropped(alloc: Global, act: Act) -> Option<bool> {
     let given_back = given_back_late(alloc, &mut core, act);
     drop(core);
     let mut core = packing_core(alloc)?;
-    let before = is_done(alloc, &mut core, act) && !has_step(&mut core, 1);
+    let before = do_act(alloc, &mut core, act) && !has_step(&mut core, 1);
     drop(core);
     let mut core = packing_core(alloc)?;
     let stepped = step(&mut core, 1);
-    let after = is_done(alloc, &mut core, act) && !has_step(&mut core, 1);
+    let after = do_act(alloc, &mut core, act) && !has_step(&mut core, 1);
     drop(core);
     let advanced = Some(PutReply::Recorded(StepReply::Advanced));
     Some(given_back == Some(false) && before && stepped == advanced && after)

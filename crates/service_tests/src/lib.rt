@@ -6,6 +6,7 @@
 //! - `commands`: what a tenant asks, and what its journal keeps.
 //! - `jobs`: jobs that leave the core and come back.
 //! - `late_jobs`: what happens to a tenancy while a step of it is out.
+//! - `pairs_of_acts`: two of these things, at any two points of a step.
 //! - `full_journals`: a journal that fills while a step is out.
 #![tactic(auto)]
 
@@ -23,3 +24,5 @@ mod jobs;
 mod late_jobs;
 #[cfg(test)]
 mod layouts;
+#[cfg(test)]
+mod pairs_of_acts;
