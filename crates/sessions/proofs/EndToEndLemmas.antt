@@ -16,7 +16,7 @@ use Rattle.service_core.specs.OwnEvents.{own_events, own_replies}
 use Rattle.service_core.specs.Receipt.{Noted, Receipted}
 use Rattle.service_core.specs.Run.{Call, Run}
 use Rattle.service_core.specs.Run.Call.{Tenant}
-use Rattle.service_core.specs.Service.{IsAloneOn, ServiceState, empty, history_of, live_of, strip_on}
+use Rattle.service_core.specs.Service.{IsAloneOn, ServiceState, empty, history_of, live_of, live_width, strip_on}
 use Rattle.service_core.proofs.Alone.{each_alone}
 use Rattle.service_core.proofs.Effects.{Kept, run_keeps}
 use Rattle.service_core.proofs.Keeps.{IsService-empty, if_live_some}
@@ -26,9 +26,10 @@ use Rattle.sessions.specs.declared.line.SessionLine.TheVariants.{Blank, Command,
 use Rattle.sessions.specs.declared.steps.StepOutcome.{StepOutcome}
 use Rattle.sessions.specs.declared.steps.StepOutcome.TheVariants.{Recorded, Full, Gone, NoMemory as StepNoMemory, Nothing}
 use Rattle.sessions.specs.declared.told.Answer.{Answer}
+use Rattle.sessions.specs.declared.told.Answer.TheVariants.{Served}
 use Rattle.sessions.specs.EndToEnd.{IsToldAlone, LineIsToldAlone, alone_after, alone_text, told_text}
-use Rattle.sessions.specs.SessionAnswer.{AsksCommand, EndsWait, IsAnswer, answer_of}
-use Rattle.sessions.specs.SessionText.{answer_text, note_text}
+use Rattle.sessions.specs.SessionAnswer.{AsksCommand, EndsWait, IsAnswer}
+use Rattle.sessions.specs.SessionText.{answer_text}
 use Rattle.sessions.proofs.StepLemmas.{Run-append}
 
 -- a live tenancy is in the state that its own events lead to alone
@@ -60,13 +61,21 @@ full_told device calls state id command None live runs is = absurd is
 full_told device calls state id command (Some h) live runs is =
     ap told_text (sym (full_alone device calls state id h command runs live is)) ∙ ap (λ (s : State). told_text (step s (Asked command)).1) (state_alone device calls state id h runs live)
 
+pub receipt_told : (device : Device) (calls : List Call) (old new : ServiceState) (id : ℕ) (command : TenantCommand) (r : Receipted) → Run (empty device) calls old → IsServed old id command (Ok r) new →
+    answer_text (Served (Ok r)) ≡ alone_text device (live_width old.histories id) id calls command
+receipt_told device calls old new id command r runs is = receipt_alone device calls old id command r (live_of old.histories id) refl runs is.0
+
+pub journal_told : (device : Device) (calls : List Call) (old : ServiceState) (id : ℕ) (command : TenantCommand) (note : Noted) (new : ServiceState) → Run (empty device) calls old → IsServed old id command (Err (JournalFull note)) new →
+    answer_text (Served (Err (JournalFull note))) ≡ alone_text device (live_width old.histories id) id calls command
+journal_told device calls old id command note new runs is = full_told device calls old id command (live_of old.histories id) refl runs is.1
+
 command_told : (device : Device) (calls : List Call) (old new : ServiceState) (id : ℕ) (command : TenantCommand) (served : Result Receipted NotServed) → Run (empty device) calls old → IsServed old id command served new →
-    IsToldAlone device old id calls command (answer_of served)
-command_told device calls old new id command (Ok r) runs is = inr (receipt_alone device calls old id command r (live_of old.histories id) refl runs is.0)
+    IsToldAlone device old id calls command (Served served)
+command_told device calls old new id command (Ok r) runs is = inr (receipt_told device calls old new id command r runs is)
 command_told device calls old new id command (Err (JournalFull note)) runs is =
-    inr (ap (λ (n : Noted). note_text n.cause) is.0 ∙ full_told device calls old id command (live_of old.histories id) refl runs is.1)
+    inr (journal_told device calls old id command note new runs is)
 command_told device calls old new id command (Err (NoSuchTenancy note)) runs is =
-    inr (ap (λ (n : Noted). note_text n.cause) is.0 ∙ ap (λ (o : Option History). alone_text device (option_map (λ h. h.strip.width) o) id calls command) (sym is.1))
+    inr (ap (λ (o : Option History). alone_text device (option_map (λ h. h.strip.width) o) id calls command) (sym is.1))
 command_told device calls old new id command (Err NotServedNoMemory) runs is = inl refl
 
 asked_told : (device : Device) (before calls : List Call) (old new : ServiceState) (id : ℕ) (command : TenantCommand) (answer : Answer) → Run (empty device) before old → AsksCommand id command calls answer → Run old calls new →
@@ -84,7 +93,7 @@ end_told device before calls old new id Gone answer runs ends next = asked_told 
 end_told device before calls old new id StepNoMemory answer runs ends next = inl ends.1
 end_told device before calls old new id Nothing answer runs ends next = asked_told device before calls old new id Status answer runs ends next
 
-split : (old : ServiceState) (xs ys : List Call) (new : ServiceState) → Run old (xs ++ ys) new → (mid : ServiceState) × Run old xs mid × Run mid ys new
+pub split : (old : ServiceState) (xs ys : List Call) (new : ServiceState) → Run old (xs ++ ys) new → (mid : ServiceState) × Run old xs mid × Run mid ys new
 split old [] ys new runs = (old, refl, runs)
 split old (x ∷ xs) ys new runs = let rest = split runs.0 xs ys new runs.2 in (rest.0, (runs.0, runs.1, rest.1), rest.2)
 

@@ -1,4 +1,9 @@
 mod CommandLemmas
+mod Counted
 mod EndToEndLemmas
 mod Examples
+mod KeptLemmas
+mod ReadingLemmas
 pub mod StepLemmas
+mod WaitLemmas
+mod WholeSessionLemmas

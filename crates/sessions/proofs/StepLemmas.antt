@@ -1,5 +1,5 @@
 -- The calls of the core that the making of a step comes to.
-use Rattle.std.proofs.Common.{◌≡◌, ◌∙◌, ℕ, ◌+◌, List, [], ◌∷◌, ◌++◌, length, Bool, true, Option, Some, Result, Err, inl, refl, sym, ap, subst, append-nil, length-append}
+use Rattle.std.proofs.Common.{◌≡◌, ◌∙◌, ℕ, List, [], ◌∷◌, ◌++◌, Bool, true, Option, Some, Result, Err, refl, sym, ap, subst, append-nil}
 use Rattle.std.specs.Prelude.{All}
 use Rattle.std.specs.declared.alloc.AllocError.{AllocError}
 use Rattle.std.specs.List.{flat_map}
@@ -19,9 +19,10 @@ use Rattle.tenant_slot.specs.declared.command.Command.TheVariants.{Status}
 use Rattle.sessions.specs.declared.line.SessionLine.{SessionLine}
 use Rattle.sessions.specs.declared.line.SessionLine.TheVariants.{Wait}
 use Rattle.sessions.specs.declared.told.Answer.{Answer}
-use Rattle.sessions.specs.declared.told.Answer.TheVariants.{NoMemory as NoMemoryAnswer}
+use Rattle.sessions.specs.declared.told.Answer.TheVariants.{Served}
+use Rattle.service_core.specs.declared.not_served.NotServed.TheVariants.{NoMemory as NotServedNoMemory}
 use Rattle.sessions.specs.SessionAnswer.{AsksCommand, EndsWait, IsAnswer}
-use Rattle.sessions.specs.Steps.{MadeStep, MakesStep, StepsAndPuts, Waits}
+use Rattle.sessions.specs.Steps.{EndsSteps, MadeStep, MakesStep, StepsAndPuts, Waits}
 
 pub Run-append : (a : ServiceState) (xs : List Call) (b : ServiceState) (ys : List Call) (c : ServiceState) → Run a xs b → Run b ys c → Run a (xs ++ ys) c
 Run-append a [] b ys c first next = let P : ServiceState → Type 0 = λ s. Run s ys c in subst P first next
@@ -67,28 +68,35 @@ pub take_happens : (old new : ServiceState) (id : ℕ) (result : Option JobState
 take_happens old new id result job same is = let P : Option JobState → Type 0 = λ j. IsTaken old id j new in subst P same is
 
 -- steps that were recorded so far
-abbrev pub Made : ℕ → ServiceState → ℕ → ServiceState → Type 0
-Made id old count new = (made : List MadeStep) × All (λ (m : MadeStep). MakesStep id m.0 (Recorded m.1)) made × (length made ≡ count) × Run old (flat_map (λ (m : MadeStep). m.0) made) new
+abbrev pub Made : ℕ → ServiceState → ServiceState → Type 0
+Made id old new = (made : List MadeStep) × All (λ (m : MadeStep). MakesStep id m.0 (Recorded m.1)) made × Run old (flat_map (λ (m : MadeStep). m.0) made) new
 
-pub made_more : (id : ℕ) (old mid new : ServiceState) (count : ℕ) (calls : List Call) (outcome : StepOutcome) (reply : StepReply) → Made id old count mid → outcome ≡ Recorded reply → MakesStep id calls outcome → Run mid calls new →
-    Made id old (count + 1) new
-made_more id old mid new count calls outcome reply so_far is makes runs =
+pub made_more : (id : ℕ) (old mid new : ServiceState) (calls : List Call) (outcome : StepOutcome) (reply : StepReply) → Made id old mid → outcome ≡ Recorded reply → MakesStep id calls outcome → Run mid calls new →
+    Made id old new
+made_more id old mid new calls outcome reply so_far is makes runs =
     let step : MakesStep id calls (Recorded reply) = (let P : StepOutcome → Type 0 = λ o. MakesStep id calls o in subst P is makes) in
     let m : MadeStep = (calls, reply) in
     let flat : flat_map (λ (m : MadeStep). m.0) (so_far.0 ++ m ∷ []) ≡ flat_map (λ (m : MadeStep). m.0) so_far.0 ++ calls =
     flat_map-append (λ (m : MadeStep). m.0) so_far.0 (m ∷ []) ∙ ap (λ cs. flat_map (λ (m : MadeStep). m.0) so_far.0 ++ cs) (append-nil calls) in (
       so_far.0 ++ m ∷ [],
       All-push (λ (m : MadeStep). MakesStep id m.0 (Recorded m.1)) so_far.0 m so_far.1 step,
-      length-append so_far.0 (m ∷ []) ∙ ap (λ n. n + 1) so_far.2,
-      (let P : List Call → Type 0 = λ cs. Run old cs new in subst P (sym flat) (Run-append old (flat_map (λ (m : MadeStep). m.0) so_far.0) mid calls new so_far.3 runs)),
+      (let P : List Call → Type 0 = λ cs. Run old cs new in subst P (sym flat) (Run-append old (flat_map (λ (m : MadeStep). m.0) so_far.0) mid calls new so_far.2 runs)),
     )
 
 -- and one that was not
-pub made_ends : (id : ℕ) (old mid new : ServiceState) (count : ℕ) (calls : List Call) (outcome : StepOutcome) → Made id old count mid → MakesStep id calls outcome → Run mid calls new →
+pub made_ends : (id : ℕ) (old mid new : ServiceState) (calls : List Call) (outcome : StepOutcome) → Made id old mid → MakesStep id calls outcome → EndsSteps outcome → Run mid calls new →
     (all : List Call) × Waits id all outcome × Run old all new
-made_ends id old mid new count calls outcome so_far makes runs =
+made_ends id old mid new calls outcome so_far makes ends runs =
     let flat = flat_map (λ (m : MadeStep). m.0) so_far.0 in
-    (flat ++ calls, (so_far.0, calls, so_far.1, refl, inl makes), Run-append old flat mid calls new so_far.3 runs)
+    (flat ++ calls, (so_far.0, calls, so_far.1, makes, ends, refl), Run-append old flat mid calls new so_far.2 runs)
+
+-- none that was recorded
+pub ends_unrecorded : (outcome : StepOutcome) → ((reply : StepReply) → outcome ≡ Recorded reply → ⊥) → EndsSteps outcome
+ends_unrecorded (Recorded reply) not = not reply refl
+ends_unrecorded Full not = tt
+ends_unrecorded Gone not = tt
+ends_unrecorded NoMemory not = tt
+ends_unrecorded Nothing not = tt
 
 -- what a wait is answered
 pub wait_asks : (old mid new : ServiceState) (id : ℕ) (line : SessionLine) (last : StepOutcome) (steps more : List Call) (answer : Answer) → line ≡ Wait → Waits id steps last → Run old steps mid →
@@ -102,5 +110,5 @@ ends_as_status id Gone calls answer not asks = asks
 ends_as_status id NoMemory calls answer not asks = absurd (not refl)
 ends_as_status id Nothing calls answer not asks = asks
 
-pub ends_without_memory : (id : ℕ) (last : StepOutcome) → last ≡ NoMemory → EndsWait id last [] NoMemoryAnswer
+pub ends_without_memory : (id : ℕ) (last : StepOutcome) → last ≡ NoMemory → EndsWait id last [] (Served (Err NotServedNoMemory))
 ends_without_memory id last is = rw is (refl, refl)

@@ -1,20 +1,21 @@
 -- What a session is told, by the service for a single user.
-use Rattle.std.specs.Prelude.{ℕ, ◌≡◌, ◌⊎◌, List, [], ◌++◌, Option, Some, None}
+use Rattle.std.specs.Prelude.{ℕ, ◌≡◌, ◌⊎◌, List, [], ◌++◌, Option, Some, None, Err}
 use Rattle.tenant_slot.specs.declared.command.Command.{Command as TenantCommand}
 use Rattle.tenant_slot.specs.declared.command.Command.TheVariants.{Status}
 use Rattle.tenant_slot.specs.declared.event.Event.TheVariants.{Command as Asked}
 use Rattle.tenant_slot.specs.declared.reply.Reply.{Reply}
 use Rattle.tenant_slot.specs.SingleUser.{State, start, state_after, step}
 use Rattle.service_core.specs.declared.device.Device.{Device}
-use Rattle.service_core.specs.declared.not_served.NoteCause.TheVariants.{JournalFull, NoSuchTenancy}
+use Rattle.service_core.specs.declared.not_served.NotServed.TheVariants.{NoMemory}
 use Rattle.service_core.specs.OwnEvents.{own_events}
 use Rattle.service_core.specs.Run.{Call, Run}
 use Rattle.service_core.specs.Service.{ServiceState, live_width, strip_on}
 use Rattle.sessions.specs.declared.line.SessionLine.{SessionLine}
 use Rattle.sessions.specs.declared.line.SessionLine.TheVariants.{Blank, Command, Wait, Refused}
+use Rattle.sessions.specs.declared.refusal.SessionRefusal.TheVariants.{Evicted}
 use Rattle.sessions.specs.declared.told.Answer.{Answer}
-use Rattle.sessions.specs.declared.told.Answer.TheVariants.{NoMemory}
-use Rattle.sessions.specs.SessionText.{answer_text, note_text, reply_text, session_refusal_text}
+use Rattle.sessions.specs.declared.told.Answer.TheVariants.{Served}
+use Rattle.sessions.specs.SessionText.{answer_text, journal_full_text, reply_text, session_refusal_text}
 
 -- the state that a tenancy's own events of those calls lead to alone, on a device of its strip's size
 abbrev pub alone_after : Device → ℕ → ℕ → List Call → State
@@ -23,16 +24,16 @@ alone_after device width id calls = state_after (start device.arch (strip_on dev
 -- that service's reply as it is told; it has none where the journal is full
 abbrev pub told_text : Option Reply → List ℕ
 told_text (Some reply) = reply_text reply
-told_text None = note_text JournalFull
+told_text None = journal_full_text
 
 -- what it tells for a command after those calls; without a width the tenancy isn't live
 abbrev pub alone_text : Device → Option ℕ → ℕ → List Call → TenantCommand → List ℕ
 alone_text device (Some width) id calls command = told_text (step (alone_after device width id calls) (Asked command)).1
-alone_text device None id calls command = note_text NoSuchTenancy
+alone_text device None id calls command = session_refusal_text Evicted
 
 -- a command is told so in that state of the core, unless memory lacked
 abbrev pub IsToldAlone : Device → ServiceState → ℕ → List Call → TenantCommand → Answer → Type 0
-IsToldAlone device state id calls command answer = (answer ≡ NoMemory) ⊎ (answer_text answer ≡ alone_text device (live_width state.histories id) id calls command)
+IsToldAlone device state id calls command answer = (answer ≡ Served (Err NoMemory)) ⊎ (answer_text answer ≡ alone_text device (live_width state.histories id) id calls command)
 
 -- and so is a line; a wait as a status behind the steps that it makes
 abbrev pub LineIsToldAlone : Device → ServiceState → ℕ → List Call → SessionLine → Answer → Type 0

@@ -1,9 +1,9 @@
 -- What a session's line asks of the core, and is answered.
-use Rattle.std.specs.Prelude.{ℕ, ◌≡◌, List, [], ◌∷◌, ◌++◌, Result, Ok, Err}
+use Rattle.std.specs.Prelude.{ℕ, ◌≡◌, List, [], ◌∷◌, ◌++◌, Result, Err}
 use Rattle.tenant_slot.specs.declared.command.Command.{Command as TenantCommand}
 use Rattle.tenant_slot.specs.declared.command.Command.TheVariants.{Status}
 use Rattle.service_core.specs.declared.not_served.NotServed.{NotServed}
-use Rattle.service_core.specs.declared.not_served.NotServed.TheVariants.{NoMemory as NotServedNoMemory, JournalFull, NoSuchTenancy}
+use Rattle.service_core.specs.declared.not_served.NotServed.TheVariants.{NoMemory}
 use Rattle.service_core.specs.Receipt.{Receipted}
 use Rattle.service_core.specs.Run.{Call, Run}
 use Rattle.service_core.specs.Run.Call.{Tenant}
@@ -14,22 +14,15 @@ use Rattle.sessions.specs.declared.steps.StepOutcome.{StepOutcome}
 use Rattle.sessions.specs.declared.steps.StepOutcome.TheVariants.{NoMemory as StepNoMemory}
 use Rattle.sessions.specs.Steps.{Waits}
 use Rattle.sessions.specs.declared.told.Answer.{Answer}
-use Rattle.sessions.specs.declared.told.Answer.TheVariants.{Nothing, Receipt, Note, Refused as RefusedAnswer, NoMemory}
-
--- what the core answered to a command
-abbrev pub answer_of : Result Receipted NotServed → Answer
-answer_of (Ok receipt) = Receipt receipt
-answer_of (Err (JournalFull note)) = Note note
-answer_of (Err (NoSuchTenancy note)) = Note note
-answer_of (Err NotServedNoMemory) = NoMemory
+use Rattle.sessions.specs.declared.told.Answer.TheVariants.{Nothing, Served, Refused as RefusedAnswer}
 
 -- the command is asked of the core, for the tenancy of that id, and answered so
 abbrev pub AsksCommand : ℕ → TenantCommand → List Call → Answer → Type 0
-AsksCommand id command calls answer = (served : Result Receipted NotServed) × (calls ≡ Tenant id command served ∷ []) × (answer ≡ answer_of served)
+AsksCommand id command calls answer = (served : Result Receipted NotServed) × (calls ≡ Tenant id command served ∷ []) × (answer ≡ Served served)
 
 -- the steps that a wait made came to that: where the last found no memory so does the wait, else it goes on as `status`
 abbrev pub EndsWait : ℕ → StepOutcome → List Call → Answer → Type 0
-EndsWait id StepNoMemory calls answer = (calls ≡ []) × (answer ≡ NoMemory)
+EndsWait id StepNoMemory calls answer = (calls ≡ []) × (answer ≡ Served (Err NoMemory))
 EndsWait id last calls answer = AsksCommand id Status calls answer
 
 -- the line makes those calls of the core, for the tenancy of that id, and is answered so

@@ -1,18 +1,23 @@
 -- The texts that a session is answered with.
-use Rattle.std.specs.Prelude.{ℕ, List, [], ◌∷◌, ◌++◌, length, codes, decimal, Option, Some, None}
+use Rattle.std.specs.Prelude.{ℕ, List, [], ◌∷◌, ◌++◌, length, codes, decimal, Option, Some, None, Ok, Err}
 use Rattle.blif.specs.declared.fault.BlifFault.{BlifFault}
 use Rattle.blif.specs.Faults.{net_of, number_of}
 use Rattle.tenant_slot.specs.declared.reply.Reply.{Reply}
-use Rattle.tenant_slot.specs.declared.reply.Reply.TheVariants.{Accepted, Status, File, Refused, Step}
+use Rattle.tenant_slot.specs.declared.reply.Reply.TheVariants.{Accepted, Status as InState, File, Refused, Step}
+use Rattle.tenant_slot.specs.declared.reply.Status.{Status}
 use Rattle.tenant_slot.specs.declared.reply.Refusal.{Refusal}
-use Rattle.tenant_slot.specs.declared.reply.Refusal.TheVariants.{WrongState, BadBlif, CannotPack}
+use Rattle.tenant_slot.specs.declared.reply.Refusal.TheVariants.{WrongState, BadBlif, CannotPack, DoesNotFit, BadEffort}
+use Rattle.tenant_slot.specs.declared.reply.Misfit.{Misfit}
+use Rattle.tenant_slot.specs.declared.reply.Misfit.TheVariants.{Blocks, Pads}
+use Rattle.tenant_slot.specs.declared.reply.Ending.{Ending}
+use Rattle.tenant_slot.specs.declared.reply.Ending.TheVariants.{GaveUp, NoPath}
 use Rattle.tenant_slot.specs.Names.{file_text, state_text, refusal_number, refusal_text}
 use Rattle.tenant_slot.specs.declared.reply.StepReply.{StepReply}
 use Rattle.tenant_slot.specs.declared.reply.StepReply.TheVariants.{Advanced, Finished, Stale}
-use Rattle.service_core.specs.declared.not_served.NoteCause.{NoteCause}
-use Rattle.service_core.specs.declared.not_served.NoteCause.TheVariants.{JournalFull, NoSuchTenancy}
+use Rattle.service_core.specs.declared.not_served.NotServed.{NotServed}
+use Rattle.service_core.specs.declared.not_served.NotServed.TheVariants.{NoMemory, JournalFull, NoSuchTenancy}
 use Rattle.sessions.specs.declared.told.Answer.{Answer}
-use Rattle.sessions.specs.declared.told.Answer.TheVariants.{Nothing, Receipt, Note, Refused as RefusedAnswer, NoMemory}
+use Rattle.sessions.specs.declared.told.Answer.TheVariants.{Nothing, Served, Refused as RefusedAnswer}
 use Rattle.sessions.specs.declared.refusal.SessionRefusal.{SessionRefusal}
 use Rattle.sessions.specs.declared.refusal.SessionRefusal.TheVariants.{UnknownCommand, BadNumber, UnfinishedUpload, Evicted}
 
@@ -28,19 +33,22 @@ net_text (Some net) = blank_word net
 abbrev pub fault_text : BlifFault → List ℕ
 fault_text fault = blank_word (decimal (number_of fault.kind)) ++ blank_word (decimal fault.line) ++ net_text (net_of fault.kind)
 
+-- of what a strip has too little: how much of it there is, and how much is needed
+abbrev pub misfit_text : Misfit → List ℕ
+misfit_text (Blocks have need) = blank_word (codes "blocks") ++ blank_word (decimal have) ++ blank_word (decimal need)
+misfit_text (Pads have need) = blank_word (codes "pads") ++ blank_word (decimal have) ++ blank_word (decimal need)
+
 -- what follows a refusal's name
 abbrev pub cause_text : Refusal → List ℕ
 cause_text (WrongState state) = blank_word (state_text state)
 cause_text (BadBlif fault) = fault_text fault
 cause_text (CannotPack ble) = blank_word (decimal ble)
+cause_text (DoesNotFit misfit) = misfit_text misfit
+cause_text BadEffort = []
 
 -- `WORD NUMBER NAME` and what follows, as a line
 abbrev pub numbered_line : List ℕ → ℕ → List ℕ → List ℕ → List ℕ
 numbered_line word number name more = word ++ blank_word (decimal number) ++ blank_word name ++ more ++ 10 ∷ []
-
--- `WORD NAME COUNT` as a line
-abbrev pub counted_line : List ℕ → List ℕ → ℕ → List ℕ
-counted_line word name count = word ++ blank_word name ++ blank_word (decimal count) ++ 10 ∷ []
 
 -- a refused command as a line, with its cause
 abbrev pub refusal_line : Refusal → List ℕ
@@ -52,11 +60,29 @@ step_text Advanced = codes "advanced"
 step_text Finished = codes "finished"
 step_text Stale = codes "stale"
 
+-- how a routing ended, for a status
+abbrev pub ending_text : Option Ending → List ℕ
+ending_text None = []
+ending_text (Some GaveUp) = blank_word (codes "gaveup")
+ending_text (Some (NoPath net)) = blank_word (codes "nopath") ++ blank_word net
+
+-- `status STATE STEPS` and what follows, as a line
+abbrev pub steps_line : List ℕ → ℕ → List ℕ → List ℕ
+steps_line name steps more = codes "status" ++ blank_word name ++ blank_word (decimal steps) ++ more ++ 10 ∷ []
+
+-- a status as a line
+abbrev pub status_line : Status → List ℕ
+status_line status = steps_line (state_text status.state) status.steps (ending_text status.ending)
+
+-- `text NAME COUNT` as a line
+abbrev pub file_line : List ℕ → ℕ → List ℕ
+file_line name count = codes "text" ++ blank_word name ++ blank_word (decimal count) ++ 10 ∷ []
+
 -- a reply as a line; a file follows its line as it is
 abbrev pub reply_text : Reply → List ℕ
 reply_text (Accepted state) = codes "ok" ++ blank_word (state_text state) ++ 10 ∷ []
-reply_text (Status status) = counted_line (codes "status") (state_text status.state) status.steps
-reply_text (File kind text) = counted_line (codes "text") (file_text kind) (length text) ++ text
+reply_text (InState status) = status_line status
+reply_text (File kind text) = file_line (file_text kind) (length text) ++ text
 reply_text (Step reply) = step_text reply ++ 10 ∷ []
 reply_text (Refused refusal) = refusal_line refusal
 
@@ -76,15 +102,22 @@ session_refusal_name Evicted = codes "Evicted"
 abbrev pub session_refusal_text : SessionRefusal → List ℕ
 session_refusal_text refusal = numbered_line (codes "line") (session_refusal_number refusal) (session_refusal_name refusal) []
 
+-- no memory, and a full journal, as lines
+abbrev pub no_memory_text : List ℕ
+no_memory_text = numbered_line (codes "refused") 1 (codes "NoMemory") []
+
+abbrev pub journal_full_text : List ℕ
+journal_full_text = numbered_line (codes "refused") 2 (codes "JournalFull") []
+
 -- why the core had no reply, as a line
-abbrev pub note_text : NoteCause → List ℕ
-note_text JournalFull = numbered_line (codes "refused") 2 (codes "JournalFull") []
-note_text NoSuchTenancy = session_refusal_text Evicted
+abbrev pub unserved_text : NotServed → List ℕ
+unserved_text NoMemory = no_memory_text
+unserved_text (JournalFull note) = journal_full_text
+unserved_text (NoSuchTenancy note) = session_refusal_text Evicted
 
 -- what a session is told
 abbrev pub answer_text : Answer → List ℕ
 answer_text Nothing = []
-answer_text (Receipt receipt) = reply_text receipt.reply
-answer_text (Note note) = note_text note.cause
+answer_text (Served (Ok receipt)) = reply_text receipt.reply
+answer_text (Served (Err refusal)) = unserved_text refusal
 answer_text (RefusedAnswer refusal) = session_refusal_text refusal
-answer_text NoMemory = numbered_line (codes "refused") 1 (codes "NoMemory") []

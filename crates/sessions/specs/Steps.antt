@@ -1,5 +1,5 @@
 -- What the making of a step asks of the core.
-use Rattle.std.specs.Prelude.{ℕ, ◌≡◌, ◌⊎◌, List, [], ◌∷◌, ◌++◌, length, All, Bool, true, Some, None, Result, Ok, Err}
+use Rattle.std.specs.Prelude.{ℕ, ◌≡◌, ◌⊎◌, ⊤, List, [], ◌∷◌, ◌++◌, All, Bool, true, Some, None, Result, Ok, Err}
 use Rattle.std.specs.declared.alloc.AllocError.{AllocError}
 use Rattle.std.specs.List.{flat_map}
 use Rattle.job_state.specs.declared.step.JobStep.{JobStep}
@@ -36,7 +36,12 @@ MakesStep id calls outcome = (job : JobState) × (more : List Call) × StepsAndP
 abbrev pub MadeStep : Type 0
 MadeStep = List Call × StepReply
 
--- steps that were recorded, and one that was not, or so many that the journal has no room left
+-- the steps that were recorded end there
+abbrev pub EndsSteps : StepOutcome → Type 0
+EndsSteps (Recorded reply) = ⊥
+EndsSteps outcome = ⊤
+
+-- steps that were recorded, and then one that was not
 abbrev pub Waits : ℕ → List Call → StepOutcome → Type 0
 Waits id calls last = (made : List MadeStep) × (end : List Call)
-    × All (λ m. MakesStep id m.0 (Recorded m.1)) made × (calls ≡ flat_map (λ m. m.0) made ++ end) × (MakesStep id end last ⊎ (length made ≡ 65537) × (end ≡ []))
+    × All (λ m. MakesStep id m.0 (Recorded m.1)) made × MakesStep id end last × EndsSteps last × (calls ≡ flat_map (λ m. m.0) made ++ end)

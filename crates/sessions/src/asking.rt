@@ -1,7 +1,5 @@
-ghost use Rattle.std.specs.Prelude.{List};
-ghost use Rattle.service_core.specs.Run.{Call, Run};
 ghost use Rattle.vpr_files.specs.Writing.{Writes};
-ghost use Rattle.sessions.specs.SessionAnswer.{AsksCommand, IsAnswer};
+ghost use Rattle.sessions.specs.SessionAnswer.{IsAnswer};
 ghost use Rattle.sessions.specs.SessionText.{answer_text};
 
 use crate::line::SessionLine;
@@ -34,22 +32,10 @@ fn ask(core: &mut Core, id: u32, line: SessionLine) -> Answer
     match line {
         SessionLine::Blank => Answer::Nothing,
         SessionLine::Refused(refusal) => Answer::Refused(refusal),
-        SessionLine::Command(command) => command_answer(core, id, command),
+        SessionLine::Command(command) => Answer::Served(core.tenant(id, command)),
         SessionLine::Wait => match run_steps(core, id) {
-            StepOutcome::NoMemory => Answer::NoMemory,
-            _ => command_answer(core, id, Command::Status),
+            StepOutcome::NoMemory => Answer::Served(Err(NotServed::NoMemory)),
+            _ => Answer::Served(core.tenant(id, Command::Status)),
         },
-    }
-}
-
-/// Asks the core for a command.
-fn command_answer(core: &mut Core, id: u32, command: Command) -> Answer
-    ensures { (calls : List Call) × AsksCommand id command calls result × Run core.old calls core.new }
-{
-    match core.tenant(id, command) {
-        Ok(receipt) => Answer::Receipt(receipt),
-        Err(NotServed::JournalFull(note)) => Answer::Note(note),
-        Err(NotServed::NoSuchTenancy(note)) => Answer::Note(note),
-        Err(NotServed::NoMemory) => Answer::NoMemory,
     }
 }

@@ -1,14 +1,36 @@
-ghost use Rattle.std.specs.Prelude.{List, ℕ};
+ghost use Rattle.std.specs.Prelude.{◌≡◌, ◌⊎◌, false, List, [], ◌∷◌, ℕ, Ok, Some};
+ghost use Rattle.tenant_slot.specs.SingleUser.{replies_to, start};
 ghost use Rattle.service_core.specs.declared.device.Device.{Device};
+ghost use Rattle.service_core.specs.Calls.{takeable_in};
 ghost use Rattle.service_core.specs.Run.{Call, Run};
-ghost use Rattle.service_core.specs.Service.{ServiceState, empty};
+ghost use Rattle.service_core.specs.Run.Call.{Admit};
+ghost use Rattle.service_core.specs.Service.{ServiceState, empty, live_of, live_width, strip_on};
 ghost use Rattle.sessions.specs.declared.line.SessionLine.{SessionLine};
+ghost use Rattle.sessions.specs.declared.steps.StepOutcome.{StepOutcome};
+ghost use Rattle.sessions.specs.declared.steps.StepOutcome.TheVariants.{NoMemory};
 ghost use Rattle.sessions.specs.declared.told.Answer.{Answer};
-ghost use Rattle.sessions.specs.EndToEnd.{LineIsToldAlone};
+ghost use Rattle.sessions.specs.EndToEnd.{LineIsToldAlone, alone_after};
 ghost use Rattle.sessions.specs.SessionAnswer.{IsAnswer};
+ghost use Rattle.sessions.specs.Steps.{Waits};
+ghost use Rattle.sessions.specs.WholeSession.{Turn, Turns, events_in, heard, session_text, written};
 
 /// A session, end to end. Whatever calls were made of the core of a device before, in any order, with jobs out for any
 /// time, a line is told the text of what the service for a single user replies after the tenancy's own events.
 pub fn end_to_end()
     ensures { (device : Device) (before : List Call) (old new : ServiceState) (id : ℕ) (line : SessionLine) (answer : Answer) → Run (empty device) before old → IsAnswer old id line answer new → LineIsToldAlone device old id before line answer }
+{}
+
+/// A whole session, end to end. While it goes on, others may call the core as they like, but for the commands and the eviction
+/// of this tenancy: admit and evict, ask commands of other tenancies, and take, step, put and give back any job, this tenancy's too.
+/// The bytes that the session is written are one text: that of the replies that the service for a single user gives to the
+/// tenancy's events, in order. So in a core with one tenancy, from its admission on; and in any core, from any moment on.
+pub fn whole_session()
+    ensures one { (device : Device) (width offset : ℕ) (old new : ServiceState) (turns : List Turn) → Run (empty device) (Admit width (Ok (1, offset)) ∷ []) old → Turns 1 old turns new → written turns ≡ session_text (heard 1 turns) (replies_to (start device.arch (strip_on device width)) (events_in (heard 1 turns))) }
+    ensures any { (device : Device) (before : List Call) (old new : ServiceState) (id width : ℕ) (turns : List Turn) → Run (empty device) before old → live_width old.histories id ≡ Some width → Turns id old turns new → written turns ≡ session_text (heard id turns) (replies_to (alone_after device width id before) (events_in (heard id turns))) }
+{}
+
+/// Where the steps of a wait end, if memory didn't lack: there is no step to take. So no job of the tenancy runs, its next step is
+/// out, the journal is full, or the tenancy isn't live.
+pub fn wait_ends()
+    ensures { (old new : ServiceState) (id : ℕ) (steps : List Call) (last : StepOutcome) → Waits id steps last → Run old steps new → (last ≡ NoMemory) ⊎ (takeable_in (live_of new.histories id) ≡ false) }
 {}

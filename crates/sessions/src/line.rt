@@ -1,8 +1,11 @@
 ghost use Rattle.std.specs.Prelude.{◌≡◌, map, IfOk};
-ghost use Rattle.sessions.specs.SessionLines.{line_form, text_command, verb_form, words_form};
+ghost use Rattle.sessions.specs.declared.line.LineForm.TheVariants.{Asks};
+ghost use Rattle.sessions.specs.declared.line.SessionLine.TheVariants.{Refused};
+ghost use Rattle.sessions.specs.declared.refusal.SessionRefusal.TheVariants.{UnknownCommand};
+ghost use Rattle.sessions.specs.SessionLines.{filled_form, line_form, place_line, placing, text_command, verb_form, words_form};
 
 use crate::refusal::SessionRefusal;
-use line_text::append_words;
+use line_text::{append_words, decimal_u32, decimal_u64};
 use std::alloc::AllocError;
 use tenant_slot::{Command, SharedText};
 
@@ -60,15 +63,53 @@ pub fn read_line<'t>(words: &mut Vec<&'t [u8]>, line: &'t [u8]) -> Result<LineFo
 fn words_form(length: usize, words: &[&[u8]]) -> LineForm
     ensures { result ≡ words_form length (map (λ w. w.now) words.now) }
 {
-    let unknown = LineForm::Asks(SessionLine::Refused(SessionRefusal::UnknownCommand));
     match words {
         [] => LineForm::Asks(SessionLine::Blank),
-        [verb] => if length > MAX_LINE {
-            unknown
+        [verb, others @ ..] => if length > MAX_LINE {
+            unknown()
         } else {
-            verb_form(*verb)
+            filled_form(*verb, others)
         },
-        _ => unknown,
+    }
+}
+
+fn unknown() -> LineForm
+    ensures { result ≡ Asks (Refused UnknownCommand) }
+{
+    LineForm::Asks(SessionLine::Refused(SessionRefusal::UnknownCommand))
+}
+
+/// What a line's first word and the others ask.
+fn filled_form(verb: &[u8], others: &[&[u8]]) -> LineForm
+    ensures { result ≡ filled_form verb.now (map (λ w. w.now) others.now) }
+{
+    if verb == b"place".as_slice() {
+        return LineForm::Asks(place_line(others));
+    }
+    if others.is_empty() {
+        verb_form(verb)
+    } else {
+        unknown()
+    }
+}
+
+/// What the words after `place` ask.
+fn place_line(words: &[&[u8]]) -> SessionLine
+    ensures { result ≡ place_line (map (λ w. w.now) words.now) }
+{
+    match words {
+        [seed, effort] => placing(decimal_u64(*seed), decimal_u32(*effort)),
+        _ => SessionLine::Refused(SessionRefusal::BadNumber),
+    }
+}
+
+/// A placing with that seed and effort.
+fn placing(seed: Option<u64>, effort: Option<u32>) -> SessionLine
+    ensures { result ≡ placing seed effort }
+{
+    match (seed, effort) {
+        (Some(seed), Some(effort)) => SessionLine::Command(Command::Place { seed, effort }),
+        _ => SessionLine::Refused(SessionRefusal::BadNumber),
     }
 }
 
@@ -82,16 +123,22 @@ fn verb_form(verb: &[u8]) -> LineForm
     if verb == b"change".as_slice() {
         return LineForm::Begins(TextKind::Change);
     }
-    LineForm::Asks(if verb == b"status".as_slice() {
-        SessionLine::Command(Command::Status)
-    } else if verb == b"pack".as_slice() {
+    LineForm::Asks(if verb == b"pack".as_slice() {
         SessionLine::Command(Command::Pack)
-    } else if verb == b"net".as_slice() {
-        SessionLine::Command(Command::Net)
+    } else if verb == b"route".as_slice() {
+        SessionLine::Command(Command::Route)
     } else if verb == b"cancel".as_slice() {
         SessionLine::Command(Command::Cancel)
     } else if verb == b"withdraw".as_slice() {
         SessionLine::Command(Command::Withdraw)
+    } else if verb == b"status".as_slice() {
+        SessionLine::Command(Command::Status)
+    } else if verb == b"net".as_slice() {
+        SessionLine::Command(Command::Net)
+    } else if verb == b"placefile".as_slice() {
+        SessionLine::Command(Command::PlaceFile)
+    } else if verb == b"routefile".as_slice() {
+        SessionLine::Command(Command::RouteFile)
     } else if verb == b"wait".as_slice() {
         SessionLine::Wait
     } else {

@@ -6,9 +6,6 @@ use job_state::AnyJob;
 use service_core::{Core, PutReply};
 use tenant_slot::StepReply;
 
-/// More steps than a journal has entries.
-const MAX_STEPS: u32 = 65_537;
-
 /// What the making of a step of a tenancy's job came to.
 #[derive(Clone, Copy, Debug, PartialEq, Eq)]
 pub enum StepOutcome {
@@ -55,15 +52,15 @@ pub fn step_and_put(core: &mut Core, job: AnyJob) -> StepOutcome
     }
 }
 
-/// Makes steps of that tenancy's job until there is none to take, or memory lacks. Tells what the last came to.
+/// Makes steps of that tenancy's job until there is none to take, or memory lacks. Tells what the last came to. Each that is
+/// recorded is an entry of the journal, so they end.
 pub(crate) fn run_steps(core: &mut Core, id: u32) -> StepOutcome
     ensures { (calls : List Call) × Waits id calls result × Run core.old calls core.new }
 {
-    for _made in 0..MAX_STEPS {
+    'steps: loop {
         match make_step(core, id) {
             StepOutcome::Recorded(_) => {}
             outcome => return outcome,
         }
     }
-    StepOutcome::Nothing
 }

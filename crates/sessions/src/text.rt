@@ -1,13 +1,13 @@
 ghost use Rattle.std.specs.Prelude.{◌≡◌, ◌++◌, ◌∷◌, [], codes, decimal, length};
 ghost use Rattle.std.specs.List.{flat_map};
 ghost use Rattle.vpr_files.specs.Writing.{Writes};
-ghost use Rattle.sessions.specs.SessionText.{counted_line, fault_text, numbered_line, refusal_line, reply_text, session_refusal_text, step_text};
+ghost use Rattle.sessions.specs.SessionText.{blank_word, fault_text, file_line, misfit_text, numbered_line, refusal_line, reply_text, session_refusal_text, status_line, step_text, steps_line};
 
 use crate::refusal::SessionRefusal;
 use blif::BlifFault;
 use itoa::Buffer;
 use line_text::{Failed, Sink, write_all};
-use tenant_slot::{Refusal, Reply, StepReply};
+use tenant_slot::{Ending, Misfit, Refusal, Reply, Status, StepReply};
 
 /// Writes the parts, one behind the other. Where the sink fails, it has taken a beginning of them.
 pub fn write_parts<W: Sink>(sink: &mut W, parts: &[&[u8]]) -> Result<(), Failed>
@@ -34,22 +34,6 @@ fn write_numbered<'t, W: Sink>(
     let digits = digits.format(number).as_bytes();
     let name = name.as_bytes();
     write_parts(sink, &[word, b" ", digits, b" ", name, more, last, b"\n"])
-}
-
-/// Writes a line: a word, a name and a count; and the bytes of a file behind it.
-fn write_counted<'t, W: Sink>(
-    sink: &mut W,
-    word: &'t [u8],
-    name: &'t str,
-    count: usize,
-    file: &'t [u8],
-) -> Result<(), Failed>
-    ensures { Writes W.contents W.has_failed sink.old sink.new (counted_line word.now name.now count ++ file.now) result }
-{
-    let mut digits = Buffer::new();
-    let digits = digits.format(count).as_bytes();
-    let name = name.as_bytes();
-    write_parts(sink, &[word, b" ", name, b" ", digits, b"\n", file])
 }
 
 /// Writes a refusal, as the line `refused NUMBER NAME`.
@@ -83,17 +67,51 @@ pub fn write_reply<W: Sink>(sink: &mut W, reply: &Reply) -> Result<(), Failed>
 {
     match reply {
         Reply::Accepted(state) => write_parts(sink, &[b"ok ", state.name().as_bytes(), b"\n"]),
-        Reply::Status(status) => {
-            let name = status.state.name();
-            write_counted(sink, b"status", name, status.steps as usize, b"")
-        }
-        Reply::File { kind, text } => {
-            let file = text.as_bytes();
-            write_counted(sink, b"text", kind.name(), file.len(), file)
-        }
+        Reply::Status(status) => write_status(sink, status),
+        Reply::File { kind, text } => write_file(sink, kind.name(), text.as_bytes()),
         Reply::Step(reply) => write_parts(sink, &[step_word(*reply), b"\n"]),
         Reply::Refused(refusal) => write_refusal(sink, refusal),
     }
+}
+
+/// Writes the line of a status.
+fn write_status<W: Sink>(sink: &mut W, status: &Status) -> Result<(), Failed>
+    ensures { Writes W.contents W.has_failed sink.old sink.new (status_line status.now) result }
+{
+    let name = status.state.name();
+    match &status.ending {
+        None => write_steps(sink, name, status.steps, b"", b""),
+        Some(Ending::GaveUp) => write_steps(sink, name, status.steps, b" gaveup", b""),
+        Some(Ending::NoPath(net)) => {
+            write_steps(sink, name, status.steps, b" nopath ", net.as_bytes())
+        }
+    }
+}
+
+/// Writes the line of a status with the name of the state, the steps, and two more parts.
+fn write_steps<'t, W: Sink>(
+    sink: &mut W,
+    name: &'t str,
+    steps: u32,
+    more: &'t [u8],
+    last: &'t [u8],
+) -> Result<(), Failed>
+    ensures { Writes W.contents W.has_failed sink.old sink.new (steps_line name.now steps (more.now ++ last.now)) result }
+{
+    let mut digits = Buffer::new();
+    let steps = digits.format(steps).as_bytes();
+    let name = name.as_bytes();
+    write_parts(sink, &[b"status ", name, b" ", steps, more, last, b"\n"])
+}
+
+/// Writes the line of a file of that name, and its bytes behind it.
+fn write_file<'t, W: Sink>(sink: &mut W, name: &'t str, file: &'t [u8]) -> Result<(), Failed>
+    ensures { Writes W.contents W.has_failed sink.old sink.new (file_line name.now (length file.now) ++ file.now) result }
+{
+    let mut digits = Buffer::new();
+    let count = digits.format(file.len()).as_bytes();
+    let name = name.as_bytes();
+    write_parts(sink, &[b"text ", name, b" ", count, b"\n", file])
 }
 
 /// Writes the line of a refused command, with its cause.
@@ -118,7 +136,58 @@ fn write_refusal<W: Sink>(sink: &mut W, refusal: &Refusal) -> Result<(), Failed>
             let ble = digits.format(*ble).as_bytes();
             write_numbered(sink, b"refused", number, name, b" ", ble)
         }
+        Refusal::DoesNotFit(misfit) => write_misfit(sink, number, name, *misfit),
+        Refusal::BadEffort => write_refused(sink, number, name),
     }
+}
+
+/// Writes the line of a refusal for what a strip has too little of: how much of it there is, and how much is needed.
+fn write_misfit<'t, W: Sink>(
+    sink: &mut W,
+    number: u32,
+    name: &'t str,
+    misfit: Misfit,
+) -> Result<(), Failed>
+    ensures { Writes W.contents W.has_failed sink.old sink.new (numbered_line (codes "refused") number name.now (misfit_text misfit)) result }
+{
+    match misfit {
+        Misfit::Blocks { have, need } => {
+            write_amounts(sink, number, name, b" blocks ", have, need)
+        }
+        Misfit::Pads { have, need } => write_amounts(sink, number, name, b" pads ", have, need),
+    }
+}
+
+/// Writes the line of a refusal with a word, in blanks, and two amounts.
+fn write_amounts<'t, W: Sink>(
+    sink: &mut W,
+    number: u32,
+    name: &'t str,
+    word: &'t [u8],
+    have: usize,
+    need: usize,
+) -> Result<(), Failed>
+    ensures { Writes W.contents W.has_failed sink.old sink.new (numbered_line (codes "refused") number name.now (word.now ++ decimal have ++ blank_word (decimal need))) result }
+{
+    let (mut digits, mut haves, mut needs) = (Buffer::new(), Buffer::new(), Buffer::new());
+    let number = digits.format(number).as_bytes();
+    let have = haves.format(have).as_bytes();
+    let need = needs.format(need).as_bytes();
+    let name = name.as_bytes();
+    write_parts(
+        sink,
+        &[
+            b"refused ",
+            number,
+            b" ",
+            name,
+            word,
+            have,
+            b" ",
+            need,
+            b"\n",
+        ],
+    )
 }
 
 /// Writes the line of a refusal for a netlist's fault: its number, its line and its net.

@@ -1,24 +1,20 @@
-ghost use Rattle.std.specs.Prelude.{◌≡◌};
 ghost use Rattle.vpr_files.specs.Writing.{Writes};
-ghost use Rattle.sessions.specs.SessionText.{answer_text, note_text};
+ghost use Rattle.sessions.specs.SessionText.{answer_text, unserved_text};
 
 use crate::refusal::SessionRefusal;
 use crate::text::{write_refused, write_reply, write_session_refusal};
 use line_text::{Failed, Sink};
-use service_core::{Note, NoteCause, Receipt};
+use service_core::{NotServed, Receipt};
 
 /// What a session's line was answered.
 #[derive(Debug, Drop)]
 pub enum Answer {
     /// The line asks nothing.
     Nothing,
-    /// The command is an entry of its tenancy's journal, with its reply.
-    Receipt(Receipt),
-    /// The core has no reply, and won't have one later.
-    Note(Note),
+    /// What the core answered. A wait whose steps found no memory is answered so too.
+    Served(Result<Receipt, NotServed>),
     /// The core wasn't asked.
     Refused(SessionRefusal),
-    NoMemory,
 }
 
 /// Writes what a session is told.
@@ -27,19 +23,19 @@ pub(crate) fn write_answer<W: Sink>(writer: &mut W, answer: &Answer) -> Result<(
 {
     match answer {
         Answer::Nothing => Ok(()),
-        Answer::Receipt(receipt) => write_reply(writer, receipt.reply()),
-        Answer::Note(note) => write_note(writer, note.cause()),
+        Answer::Served(Ok(receipt)) => write_reply(writer, receipt.reply()),
+        Answer::Served(Err(refusal)) => write_unserved(writer, refusal),
         Answer::Refused(refusal) => write_session_refusal(writer, *refusal),
-        Answer::NoMemory => write_refused(writer, 1, "NoMemory"),
     }
 }
 
 /// Writes why the core had no reply.
-fn write_note<W: Sink>(writer: &mut W, cause: NoteCause) -> Result<(), Failed>
-    ensures { Writes W.contents W.has_failed writer.old writer.new (note_text cause) result }
+fn write_unserved<W: Sink>(writer: &mut W, refusal: &NotServed) -> Result<(), Failed>
+    ensures { Writes W.contents W.has_failed writer.old writer.new (unserved_text refusal.now) result }
 {
-    match cause {
-        NoteCause::JournalFull => write_refused(writer, 2, "JournalFull"),
-        NoteCause::NoSuchTenancy => write_session_refusal(writer, SessionRefusal::Evicted),
+    match refusal {
+        NotServed::NoSuchTenancy(_) => write_session_refusal(writer, SessionRefusal::Evicted),
+        NotServed::JournalFull(_) => write_refused(writer, 2, "JournalFull"),
+        NotServed::NoMemory => write_refused(writer, 1, "NoMemory"),
     }
 }

@@ -1,17 +1,25 @@
-use Rattle.std.proofs.Common.{[], refl}
-use Rattle.sessions.specs.declared.told.Answer.TheVariants.{NoMemory}
+use Rattle.std.proofs.Common.{[], ◌∷◌, Err, refl}
+use Rattle.tenant_slot.specs.declared.command.Command.TheVariants.{Status}
+use Rattle.service_core.specs.declared.not_served.NotServed.TheVariants.{NoMemory}
+use Rattle.service_core.specs.Run.Call.{Tenant}
+use Rattle.sessions.specs.declared.told.Answer.TheVariants.{Served}
+use Rattle.sessions.proofs.CommandLemmas.{command_asks, command_runs}
 use Rattle.sessions.proofs.StepLemmas.{ends_as_status, ends_without_memory, wait_asks}
 use Rattle.sessions.proofs.asking.ask.Goals as goal
+
+pub returns-in-Command : goal.returns-in-Command
+returns-in-Command c = command_asks c.args.core.now c.tenant.new.self c.args.id c.args.line c.in-Command.command c.tenant.result c.in-Command.is c.tenant.ensures
 
 pub returns-in-NoMemory : goal.returns-in-NoMemory
 returns-in-NoMemory c =
     let steps = c.run_steps.ensures in
-    wait_asks c.args.core.now c.run_steps.new.core c.run_steps.new.core c.args.id c.args.line c.run_steps.result steps.0 [] NoMemory c.in-Wait.is steps.1 steps.2
+    wait_asks c.args.core.now c.run_steps.new.core c.run_steps.new.core c.args.id c.args.line c.run_steps.result steps.0 [] (Served (Err NoMemory)) c.in-Wait.is steps.1 steps.2
     (ends_without_memory c.args.id c.run_steps.result c.in-NoMemory.is) refl
 
 pub returns-in_default : goal.returns-in_default
 returns-in_default c =
     let steps = c.run_steps.ensures in
-    let told = c.command_answer-in_default.ensures in
-    wait_asks c.args.core.now c.run_steps.new.core c.command_answer-in_default.new.core c.args.id c.args.line c.run_steps.result steps.0 told.0 c.command_answer-in_default.result c.in-Wait.is steps.1 steps.2
-    (ends_as_status c.args.id c.run_steps.result told.0 c.command_answer-in_default.result c.in_default.not-NoMemory told.1) told.2
+    let served = c.tenant-in_default.result in
+    let told = Tenant c.args.id Status served ∷ [] in
+    wait_asks c.args.core.now c.run_steps.new.core c.tenant-in_default.new.self c.args.id c.args.line c.run_steps.result steps.0 told (Served served) c.in-Wait.is steps.1 steps.2
+    (ends_as_status c.args.id c.run_steps.result told (Served served) c.in_default.not-NoMemory (served, refl, refl)) (command_runs c.run_steps.new.core c.tenant-in_default.new.self c.args.id Status served c.tenant-in_default.ensures)

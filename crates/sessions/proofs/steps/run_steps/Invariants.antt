@@ -1,6 +1,11 @@
+use Rattle.sessions.proofs.Counted.{left}
 use Rattle.sessions.proofs.StepLemmas.{Made}
 use Rattle.sessions.proofs.steps.run_steps.Given as goal
 
 -- the steps so far
-abbrev pub invariant-loop-made : goal.invariant-loop-made
-invariant-loop-made l = Made l.id l.fn.core l._made l.core
+abbrev pub invariant-steps : goal.invariant-steps
+invariant-steps l = Made l.id l.fn.core l.core
+
+-- the entries for which the journal has room
+abbrev pub decreases-steps : goal.decreases-steps
+decreases-steps l = left l.core l.id

@@ -1,0 +1,38 @@
+-- What is kept of a text.
+use Rattle.std.proofs.Common.{◌≡◌, ℕ, inl, inr, ◌+◌, ◌-◌, ◌≤◌, List, ◌++◌, length, take, length-append, length-take, refl, sym, ap, ◌∙◌, arith}
+use Rattle.std.proofs.lemmas.Bool.{cases_lt}
+use Rattle.std.proofs.lemmas.List.{take_all, take-take, take-append-le, length-take-le}
+use Rattle.std.proofs.Math.Seq.{take-append-add}
+use Rattle.sessions.specs.Items.{kept}
+
+take-append : (n : ℕ) (xs ys : List ℕ) → length xs ≤ n → take n (xs ++ ys) ≡ xs ++ take (n - length xs) ys
+take-append n xs ys h = let e : n ≡ length xs + (n - length xs) = omega arith in ap (λ k. take k (xs ++ ys)) e ∙ take-append-add xs ys (n - length xs)
+
+take-take-append : (n : ℕ) (xs ys : List ℕ) → take n (take n xs ++ ys) ≡ take n (xs ++ ys)
+take-take-append n xs ys = elim (cases_lt n (length xs)) [
+  | inl h ↦ let le : n ≤ length xs = omega arith in
+      let len : n ≤ length (take n xs) = rw (length-take-le n xs le) (omega arith) in
+      take-append-le n (take n xs) ys len ∙ take-take n n xs (omega arith) ∙ sym (take-append-le n xs ys le)
+  | inr h ↦ rw (take_all n xs h) refl
+]
+
+pub kept-kept : (xs ys : List ℕ) → kept (kept xs ++ ys) ≡ kept (xs ++ ys)
+unfolding kept
+kept-kept xs ys = take-take-append 1048577 xs ys
+
+-- what fits is kept whole
+pub kept-whole : (xs ys : List ℕ) → length xs ≤ 1048577 → length ys ≤ 1048577 - length xs → kept (xs ++ ys) ≡ xs ++ ys
+unfolding kept
+kept-whole xs ys h k = take_all 1048577 (xs ++ ys) (rw (length-append xs ys) (omega arith))
+
+pub kept-part : (xs ys : List ℕ) → length xs ≤ 1048577 → kept (xs ++ ys) ≡ xs ++ take (1048577 - length xs) ys
+unfolding kept
+kept-part xs ys h = take-append 1048577 xs ys h
+
+pub length-kept : (xs : List ℕ) → length (kept xs) ≤ 1048577
+unfolding kept
+length-kept xs = rw (length-take 1048577 xs) (omega arith)
+
+pub kept-all : (xs : List ℕ) → length xs ≤ 1048577 → kept xs ≡ xs
+unfolding kept
+kept-all xs h = take_all 1048577 xs h

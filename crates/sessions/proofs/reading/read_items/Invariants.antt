@@ -1,0 +1,12 @@
+use Rattle.std.proofs.Common.{◌≡◌, ◌++◌, length}
+use Rattle.line_text.specs.Lines.{physical_lines}
+use Rattle.sessions.specs.Items.{items_of}
+use Rattle.sessions.specs.Reading.{items_to_come}
+use Rattle.sessions.proofs.reading.read_items.Given as goal
+
+-- the items so far and those of the lines that are left are those of the input
+abbrev pub invariant-loop-rest : goal.invariant-loop-rest
+invariant-loop-rest l = l.items.items ++ items_to_come l.reader (physical_lines l.rest) ≡ items_of l.input
+
+abbrev pub decreases-loop-rest : goal.decreases-loop-rest
+decreases-loop-rest l = length l.rest

@@ -1,0 +1,80 @@
+-- A whole session, by the service for a single user.
+use Rattle.std.specs.Prelude.{ℕ, ◌≡◌, ◌≢◌, ⊤, List, [], ◌∷◌, ◌++◌, map, Option, Err}
+use Rattle.std.specs.List.{flat_map}
+use Rattle.tenant_slot.specs.declared.event.Event.{Event}
+use Rattle.tenant_slot.specs.declared.event.Event.TheVariants.{Command as Asked, Advance as Stepped}
+use Rattle.tenant_slot.specs.declared.reply.Reply.{Reply}
+use Rattle.service_core.specs.declared.not_served.NotServed.TheVariants.{NoMemory as NotServedNoMemory}
+use Rattle.service_core.specs.OwnEvents.{own_events}
+use Rattle.service_core.specs.Run.{Call, Happens, Run}
+use Rattle.service_core.specs.Run.Call.{Tenant, Evict}
+use Rattle.service_core.specs.Service.{ServiceState}
+use Rattle.sessions.specs.declared.line.SessionLine.{SessionLine}
+use Rattle.sessions.specs.declared.refusal.SessionRefusal.{SessionRefusal}
+use Rattle.sessions.specs.declared.told.Answer.{Answer}
+use Rattle.sessions.specs.declared.told.Answer.TheVariants.{Served, Refused as RefusedAnswer}
+use Rattle.sessions.specs.EndToEnd.{told_text}
+use Rattle.sessions.specs.SessionAnswer.{Asks}
+use Rattle.sessions.specs.SessionText.{answer_text, no_memory_text, session_refusal_text}
+
+-- what happens while a session goes on: an item of it, with the calls of the core that it makes and its answer; or a call that
+-- is made by another hand
+pub data Turn : Type 0 where
+  Item : SessionLine → List Call → Answer → Turn
+  Meanwhile : Call → Turn
+
+-- another hand may call what it likes but a command of this tenancy, and its eviction
+abbrev pub IsOthers : ℕ → Call → Type 0
+IsOthers id (Tenant t command served) = t ≢ id
+IsOthers id (Evict t answer) = t ≢ id
+IsOthers id call = ⊤
+
+-- the turns of the session of the tenancy of that id lead from one state of the core to the other
+abbrev pub Turns : ℕ → ServiceState → List Turn → ServiceState → Type 0
+Turns id old [] new = new ≡ old
+Turns id old (Item line calls answer ∷ turns) new = (mid : ServiceState) × Asks id line calls answer × Run old calls mid × Turns id mid turns new
+Turns id old (Meanwhile call ∷ turns) new = (mid : ServiceState) × IsOthers id call × Happens old call mid × Turns id mid turns new
+
+-- the bytes that are written
+abbrev pub turn_text : Turn → List ℕ
+turn_text (Item line calls answer) = answer_text answer
+turn_text (Meanwhile call) = []
+
+abbrev pub written : List Turn → List ℕ
+written turns = flat_map turn_text turns
+
+-- what of a session the service for a single user sees: an event; or that there is none, since an item was refused by itself, or
+-- found no memory
+pub data Heard : Type 0 where
+  Happened : Event → Heard
+  Refused : SessionRefusal → Heard
+  NoMemory : Heard
+
+-- what an answer is that isn't the tenancy's
+abbrev pub aside : Answer → List Heard
+aside (RefusedAnswer refusal) = Refused refusal ∷ []
+aside (Served (Err NotServedNoMemory)) = NoMemory ∷ []
+aside answer = []
+
+abbrev pub turn_heard : ℕ → Turn → List Heard
+turn_heard id (Item line calls answer) = map Happened (own_events id calls) ++ aside answer
+turn_heard id (Meanwhile call) = map Happened (own_events id (call ∷ []))
+
+abbrev pub heard : ℕ → List Turn → List Heard
+heard id turns = flat_map (turn_heard id) turns
+
+-- the events among them
+abbrev pub events_in : List Heard → List Event
+events_in [] = []
+events_in (Happened event ∷ more) = event ∷ events_in more
+events_in (Refused refusal ∷ more) = events_in more
+events_in (NoMemory ∷ more) = events_in more
+
+-- the text of a session whose events get those replies: the reply to a command is told, that to a step isn't
+abbrev pub session_text : List Heard → List (Option Reply) → List ℕ
+session_text [] replies = []
+session_text (Refused refusal ∷ more) replies = session_refusal_text refusal ++ session_text more replies
+session_text (NoMemory ∷ more) replies = no_memory_text ++ session_text more replies
+session_text (Happened event ∷ more) [] = []
+session_text (Happened (Asked command) ∷ more) (reply ∷ replies) = told_text reply ++ session_text more replies
+session_text (Happened (Stepped made) ∷ more) (reply ∷ replies) = session_text more replies

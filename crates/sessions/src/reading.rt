@@ -1,0 +1,125 @@
+//! A session's input, line by line.
+ghost use Rattle.std.specs.Prelude.{◌≡◌, [], None, List, IfOk};
+ghost use Rattle.sessions.specs.declared.line.SessionLine.{SessionLine};
+ghost use Rattle.sessions.specs.Items.{items_of, with_item};
+ghost use Rattle.sessions.specs.Reading.{FormGives, GivesItem, item_and, items_to_come};
+ghost use Rattle.sessions.specs.SessionLines.{line_form};
+
+use crate::line::{LineForm, SessionLine, read_line};
+use crate::pending_text::{PendingText, is_point, without_cr};
+use crate::refusal::SessionRefusal;
+use line_text::split_line;
+use std::alloc::{AllocError, Global};
+use std::marker::Model;
+
+/// Reads a session's input line by line, each to the item that it gives, if one. Its value is the text that is being read, if
+/// one is.
+#[derive(Drop)]
+pub struct SessionReader<'t> {
+    alloc: Global,
+    text: Option<PendingText>,
+    words: Vec<&'t [u8]>,
+}
+
+impl<'t> Model for SessionReader<'t> {
+    ghost use Rattle.std.specs.Prelude.{Option};
+    ghost use Rattle.sessions.specs.Reading.{TextSoFar};
+
+    ghost Value = { Option TextSoFar };
+
+    ghost view = { λ r. r.text };
+}
+
+impl<'t> SessionReader<'t> {
+    /// At the input's begin.
+    pub fn new(alloc: Global) -> Self
+        ensures { result ≡ None }
+    {
+        SessionReader {
+            alloc,
+            text: None,
+            words: Vec::new(alloc),
+        }
+    }
+
+    /// Takes the next line, without its LF. Without memory the item is lost.
+    pub fn take_line(&mut self, line: &'t [u8]) -> Result<Option<SessionLine>, AllocError>
+        ensures { IfOk result (λ item. GivesItem self.old line.now item self.new) }
+    {
+        let line = without_cr(line);
+        match self.text.take() {
+            Some(text) => {
+                if is_point(line) {
+                    Ok(Some(text.into_line(self.alloc)?))
+                } else {
+                    self.text = Some(text.with_line(line)?);
+                    Ok(None)
+                }
+            }
+            None => self.begin(line),
+        }
+    }
+
+    /// Takes a line outside of texts, without its end.
+    fn begin(&mut self, line: &'t [u8]) -> Result<Option<SessionLine>, AllocError>
+        requires { self.old ≡ None }
+        ensures { IfOk result (λ item. FormGives (line_form line.now) item self.new) }
+    {
+        match read_line(&mut self.words, line)? {
+            LineForm::Asks(line) => Ok(filled(line)),
+            LineForm::Begins(kind) => {
+                self.text = Some(PendingText::new(self.alloc, kind));
+                Ok(None)
+            }
+        }
+    }
+
+    /// The item at the input's end, if there is one: the refusal of a text that doesn't end.
+    pub fn finish(self) -> Option<SessionLine>
+        ensures { item_and result [] ≡ items_to_come self.entry [] }
+    {
+        let SessionReader {
+            alloc: _,
+            text,
+            words,
+        } = self;
+        drop(words);
+        match text {
+            Some(text) => {
+                drop(text);
+                Some(SessionLine::Refused(SessionRefusal::UnfinishedUpload))
+            }
+            None => None,
+        }
+    }
+}
+
+/// A line, if it has words.
+fn filled(line: SessionLine) -> Option<SessionLine>
+    ensures { (items : List SessionLine) → item_and result items ≡ with_item line items }
+{
+    match line {
+        SessionLine::Blank => None,
+        line => Some(line),
+    }
+}
+
+/// The items of a session's input.
+pub fn read_items(alloc: Global, input: &[u8]) -> Result<Vec<SessionLine>, AllocError>
+    ensures { IfOk result (λ items. items.items ≡ items_of input.now) }
+{
+    let mut items = Vec::new(alloc);
+    let mut reader = SessionReader::new(alloc);
+    let mut rest = input;
+    while !rest.is_empty() {
+        let (line, after) = split_line(rest);
+        if let Some(item) = reader.take_line(line)? {
+            items.push(item)?;
+        }
+        rest = after;
+    }
+    if let Some(item) = reader.finish() {
+        items.push(item)?;
+    }
+    Ok(items)
+}
