@@ -5,16 +5,16 @@ use Rattle.fpgad_run.specs.declared.operator_line.OperatorLine.TheVariants.{Admi
 use Rattle.sessions.specs.declared.refusal.SessionRefusal.TheVariants.{UnfinishedUpload}
 use Rattle.sessions.specs.declared.steps.StepOutcome.TheVariants.{Recorded, Nothing}
 use Rattle.sessions.specs.declared.line.SessionLine.TheVariants.{Blank, Refused}
-use Rattle.fpgad_run.specs.declared.item.Act.TheVariants.{Operator, Session}
+use Rattle.fpgad_run.specs.declared.act.Act.TheVariants.{Operator, Session}
 use Rattle.fpgad_run.specs.OperatorText.{last_id, outcome_text}
 use Rattle.fpgad_run.specs.Run.{written}
 use Rattle.fpgad_run.specs.Script.{form_in, script_of}
 
-admission : script_of 1 (codes "op admit T 1\n") ≡ Ok (record { line = 1; act = Operator (Admit (codes "T") 1) } ∷ [])
+admission : script_of 1 (codes "op admit T 1\n") ≡ Ok (Operator (Admit (codes "T") 1) ∷ [])
 unfolding form_in
 admission = refl
 
-steps : script_of 1 (codes "op step T 300\n") ≡ Ok (record { line = 1; act = Operator (Step (codes "T") 300) } ∷ [])
+steps : script_of 1 (codes "op step T 300\n") ≡ Ok (Operator (Step (codes "T") 300) ∷ [])
 unfolding form_in
 steps = refl
 
@@ -26,7 +26,7 @@ least_faulty_line : script_of 18 (codes "\nfly\nop x\n") ≡ Err 19
 unfolding form_in
 least_faulty_line = refl
 
-text_without_end : script_of 1 (codes "@T upload\n.end\n") ≡ Ok (record { line = 1; act = Session (codes "T") (Refused UnfinishedUpload) } ∷ [])
+text_without_end : script_of 1 (codes "@T upload\n.end\n") ≡ Ok (Session (codes "T") (Refused UnfinishedUpload) ∷ [])
 unfolding form_in
 text_without_end = refl
 

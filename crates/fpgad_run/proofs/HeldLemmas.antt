@@ -1,8 +1,16 @@
 -- Jobs that are held, by their numbers.
-use Rattle.std.proofs.Common.{◌≡◌, ℕ, zero, suc, ◌+◌, ◌-◌, ◌<◌, ◌≤◌, [], ◌∷◌, length, get_or, Option, None, refl, sym, ap, arith}
+use Rattle.std.proofs.Common.{◌≡◌, ℕ, zero, suc, ◌+◌, ◌-◌, ◌<◌, ◌≤◌, List, [], ◌∷◌, ◌++◌, length, get_or, Option, None, append_assoc, refl, sym, ap, ◌∙◌, subst, arith}
+use Rattle.std.specs.Prelude.{option_map, reverse}
+use Rattle.std.specs.List.{filter_map}
+use Rattle.std.proofs.lemmas.List.Elements.{filter_map-append}
+use Rattle.std.proofs.lemmas.List.{reverse-append, reverse-reverse}
 use Rattle.std.proofs.Math.ListN.{set}
 use Rattle.std.proofs.lemmas.Bool.Decides.{nat_tests}
 use Rattle.job_state.specs.Job.{JobState}
+use Rattle.service_core.specs.Run.{Call, Run}
+use Rattle.service_core.specs.Run.Call.{GiveBack}
+use Rattle.service_core.specs.Service.{ServiceState}
+use Rattle.sessions.proofs.StepLemmas.{Run-append}
 use Rattle.fpgad_run.specs.HeldJobs.{HeldList, job_at, without_job}
 
 pub job_at-zero : (js : HeldList) → job_at js 0 ≡ None
@@ -36,5 +44,22 @@ job_at-at js number d pos le = let e : number - 1 + 1 ≡ number = omega arith i
 
 pub without_job-at : (js : HeldList) (number : ℕ) → 0 < number → number ≤ length js → set js (number - 1) None ≡ without_job js number
 without_job-at js number pos le = let e : number - 1 + 1 ≡ number = omega arith in sym (rw e at (without_job-next js (number - 1) (omega arith)))
+
+abbrev pub given : HeldList → List Call
+given jobs = filter_map (option_map GiveBack) jobs
+
+-- one more that was the last of those that are left
+pub given_more : (start old new : ServiceState) (all left rest done : HeldList) (held : Option JobState) → all ≡ left ++ reverse done → left ≡ rest ++ held ∷ [] → Run start (given done) old → Run old (given (held ∷ [])) new →
+    (more : HeldList) × (all ≡ rest ++ reverse more) × Run start (given more) new
+given_more start old new all left rest done held parted last runs next = (
+  done ++ held ∷ [],
+  parted ∙ ap (λ js. js ++ reverse done) last ∙ append_assoc rest (held ∷ []) (reverse done) ∙ ap (λ js. rest ++ js) (sym (reverse-append done (held ∷ []))),
+  (let P : List Call → Type 0 = λ calls. Run start calls new in subst P (sym (filter_map-append (option_map GiveBack) done (held ∷ []))) (Run-append start (given done) old (given (held ∷ [])) new runs next)),
+)
+
+pub given_all : (start new : ServiceState) (all left done : HeldList) → all ≡ left ++ reverse done → left ≡ [] → Run start (given done) new → Run start (given (reverse all)) new
+given_all start new all left done parted none runs =
+    let same : reverse all ≡ done = ap reverse (parted ∙ ap (λ js. js ++ reverse done) none) ∙ reverse-reverse done in
+    rw same runs
 
 pub ruleset by_number = (job_at-zero, without_job-zero, job_at-past, without_job-past, job_at-at, without_job-at)

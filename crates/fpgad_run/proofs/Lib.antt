@@ -1,3 +1,4 @@
+mod AheadLemmas
 mod Examples
 mod HeldLemmas
 mod LineLemmas

@@ -1,50 +1,22 @@
--- Where a text's first line ends, and what is kept of a text.
-use Rattle.std.proofs.Common.{◌≡◌, ℕ, ltb, inl, inr, ◌+◌, ◌-◌, ◌<◌, ◌≤◌, List, [], ◌∷◌, ◌++◌, Bool, true, false, cond, eqb, length, take, drop, get_or, suc, subst, add-one, length-drop, length-append, length-take, Some, None, refl, sym, ap, ◌∙◌, arith}
-use Rattle.std.specs.Prelude.{position}
-use Rattle.std.specs.List.{position_or_len, before_first, after_first, onto_first}
-use Rattle.std.proofs.lemmas.Grind.{common_steps}
-use Rattle.std.proofs.lemmas.Bool.{cases_lt, eqb-true, ltb-true, ltb-false}
-use Rattle.std.proofs.lemmas.List.Sums.{passes_at_first, split_at_first}
-use Rattle.std.proofs.lemmas.List.{take_all, drop_all, take-take, take-append-le, length-take-le}
+-- What is kept of a text, and the CRs at the ends of its lines.
+use Rattle.std.proofs.Common.{◌≡◌, ℕ, zero, suc, ◌+◌, ◌-◌, ◌<◌, ◌≤◌, List, [], ◌∷◌, ◌++◌, Bool, true, false, cond, eqb, length, take, min, inl, inr, length-take, length-append, append_assoc, refl, sym, ap, ◌∙◌, arith}
+use Rattle.std.specs.Prelude.{slice_index}
+use Rattle.std.specs.List.{flat_map, onto_first}
+use Rattle.std.proofs.lemmas.Bool.{cases_lt, eqb-true}
+use Rattle.std.proofs.lemmas.List.{take_all, take-take, take-append-le, length-take-le}
 use Rattle.std.proofs.Math.Seq.{take-append-add}
 use Rattle.line_text.specs.Lines.{physical_lines}
-use Rattle.fpgad_run.specs.Lines.{kept}
+use Rattle.sessions.specs.Items.{kept, without_cr}
+use Rattle.fpgad_run.specs.Cuts.{IsEnded, without_crs}
 
--- LF
+-- LF, and CR
 abbrev pub is_lf : ℕ → Bool
 is_lf b = eqb b 10
 
-pub physical_lines-first : (text : List ℕ) → position_or_len is_lf text < length text → physical_lines text ≡ before_first is_lf text ∷ physical_lines (after_first is_lf text)
-physical_lines-first [] h = absurd (omega arith)
-physical_lines-first (b ∷ bytes) h = elim (eqb b 10) as (λ v. eqb b 10 ≡ v → physical_lines (b ∷ bytes) ≡ before_first is_lf (b ∷ bytes) ∷ physical_lines (after_first is_lf (b ∷ bytes))) [
-  | true ↦ λ e. simp e
-  | false ↦ λ e.
-      let n = position_or_len is_lf bytes in
-      let p : position_or_len is_lf (b ∷ bytes) ≡ suc n = simp e (omega arith) in
-      let h' : n < length bytes = omega (arith, p) in
-      let P : ℕ → Type 0 = λ k. physical_lines (b ∷ bytes) ≡ take k (b ∷ bytes) ∷ physical_lines (drop (k + 1) (b ∷ bytes)) in
-      let front : physical_lines (b ∷ bytes) ≡ onto_first b (physical_lines bytes) = simp e in
-      let rest : drop (suc n + 1) (b ∷ bytes) ≡ drop (n + 1) bytes = rw (add-one (suc n), add-one n) refl in
-      subst P (sym p) (front ∙ ap (onto_first b) (physical_lines-first bytes h') ∙ ap (λ k. (b ∷ take n bytes) ∷ physical_lines k) (sym rest))
-] refl
+abbrev pub is_cr : ℕ → Bool
+is_cr b = eqb b 13
 
-pub physical_lines-last : (text : List ℕ) → 0 < length text → length text ≤ position_or_len is_lf text → physical_lines text ≡ text ∷ []
-physical_lines-last [] some h = absurd (omega arith)
-physical_lines-last (b ∷ []) some h = elim (eqb b 10) as (λ v. eqb b 10 ≡ v → physical_lines (b ∷ []) ≡ (b ∷ []) ∷ []) [
-  | true ↦ λ e. absurd (grind (arith, common_steps, e))
-  | false ↦ λ e. simp e
-] refl
-physical_lines-last (b ∷ c ∷ bytes) some h = elim (eqb b 10) as (λ v. eqb b 10 ≡ v → physical_lines (b ∷ c ∷ bytes) ≡ (b ∷ c ∷ bytes) ∷ []) [
-  | true ↦ λ e. absurd (grind (arith, common_steps, e))
-  | false ↦ λ e. let h' : length (c ∷ bytes) ≤ position_or_len is_lf (c ∷ bytes) = grind (arith, common_steps, e) in
-      let ih : physical_lines (c ∷ bytes) ≡ (c ∷ bytes) ∷ [] = physical_lines-last (c ∷ bytes) (omega arith) h' in
-      rw ih (simp e)
-] refl
-
-pub kept-append : (n : ℕ) (xs ys : List ℕ) → length xs ≤ n → take n (xs ++ ys) ≡ xs ++ take (n - length xs) ys
-kept-append n xs ys h = let e : n ≡ length xs + (n - length xs) = omega arith in ap (λ k. take k (xs ++ ys)) e ∙ take-append-add xs ys (n - length xs)
-
-pub take-take-append : (n : ℕ) (xs ys : List ℕ) → take n (take n xs ++ ys) ≡ take n (xs ++ ys)
+take-take-append : (n : ℕ) (xs ys : List ℕ) → take n (take n xs ++ ys) ≡ take n (xs ++ ys)
 take-take-append n xs ys = elim (cases_lt n (length xs)) [
   | inl h ↦ let le : n ≤ length xs = omega arith in
       let len : n ≤ length (take n xs) = rw (length-take-le n xs le) (omega arith) in
@@ -52,44 +24,26 @@ take-take-append n xs ys = elim (cases_lt n (length xs)) [
   | inr h ↦ rw (take_all n xs h) refl
 ]
 
--- where the first LF stands, if there is one
-pub position-some : (text : List ℕ) (end : ℕ) → position is_lf text ≡ Some end → (position_or_len is_lf text ≡ end) × (end < length text)
-position-some text end e = elim (ltb (position_or_len is_lf text) (length text)) as (λ v. ltb (position_or_len is_lf text) (length text) ≡ v → cond v (Some (position_or_len is_lf text)) None ≡ Some end → (position_or_len is_lf text ≡ end) × (end < length text)) [
-  | true ↦ λ t e. let same : position_or_len is_lf text ≡ end = cc in (same, (let lt : position_or_len is_lf text < length text = ltb-true _ _ t in omega arith))
-  | false ↦ λ t e. cc
-] refl e
-
-pub position-none : (text : List ℕ) → position is_lf text ≡ None → length text ≤ position_or_len is_lf text
-position-none text e = elim (ltb (position_or_len is_lf text) (length text)) as (λ v. ltb (position_or_len is_lf text) (length text) ≡ v → cond v (Some (position_or_len is_lf text)) None ≡ None → length text ≤ position_or_len is_lf text) [
-  | true ↦ λ t e. cc
-  | false ↦ λ t e. ltb-false _ _ t
-] refl e
-
--- a text is its first line and the lines after it
-pub lines-some : (text : List ℕ) (end : ℕ) → position is_lf text ≡ Some end → physical_lines text ≡ take end text ∷ physical_lines (take (length text - (end + 1)) (drop (end + 1) text))
-lines-some text end e =
-    let at = position-some text end e in
-    let whole : take (length text - (end + 1)) (drop (end + 1) text) ≡ drop (end + 1) text = take_all _ _ (rw (length-drop (end + 1) text) (omega arith)) in
-    let P : ℕ → Type 0 = λ k. physical_lines text ≡ take k text ∷ physical_lines (drop (k + 1) text) in
-    rw whole (subst P at.0 (physical_lines-first text (omega (arith, at.0, at.1))))
-
-pub lines-none : (text : List ℕ) → position is_lf text ≡ None → 0 < length text → physical_lines text ≡ text ∷ physical_lines (take (length text - length text) (drop (length text) text))
-lines-none text e some =
-    let nothing : take (length text - length text) (drop (length text) text) ≡ [] = rw (drop_all (length text) text (omega arith)) (take_all _ [] (omega arith)) in
-    rw nothing (physical_lines-last text some (position-none text e))
-
 pub kept-kept : (xs ys : List ℕ) → kept (kept xs ++ ys) ≡ kept (xs ++ ys)
 unfolding kept
 kept-kept xs ys = take-take-append 1048577 xs ys
 
--- what fits is kept whole
-pub kept-whole : (xs ys : List ℕ) → length xs ≤ 1048577 → length ys ≤ 1048577 - length xs → kept (xs ++ ys) ≡ xs ++ ys
-unfolding kept
-kept-whole xs ys h k = take_all 1048577 (xs ++ ys) (rw (length-append xs ys) (omega arith))
+take-min : (n : ℕ) (xs : List ℕ) → take (min (length xs) n) xs ≡ take n xs
+take-min n xs = elim (cases_lt n (length xs)) [
+  | inl h ↦ let e : min (length xs) n ≡ n = omega arith in ap (λ k. take k xs) e
+  | inr h ↦ let e : min (length xs) n ≡ length xs = omega arith in ap (λ k. take k xs) e ∙ take_all (length xs) xs (omega arith) ∙ sym (take_all n xs h)
+]
 
-pub kept-part : (xs ys : List ℕ) → length xs ≤ 1048577 → kept (xs ++ ys) ≡ xs ++ take (1048577 - length xs) ys
+-- what is appended as far as there is room
+pub kept-part : (xs ys : List ℕ) → length xs ≤ 1048577 → xs ++ take (min (length ys) (1048577 - length xs)) ys ≡ kept (xs ++ ys)
 unfolding kept
-kept-part xs ys h = kept-append 1048577 xs ys h
+kept-part xs ys h =
+    let e : 1048577 ≡ length xs + (1048577 - length xs) = omega arith in
+    ap (λ zs. xs ++ zs) (take-min (1048577 - length xs) ys) ∙ sym (ap (λ k. take k (xs ++ ys)) e ∙ take-append-add xs ys (1048577 - length xs))
+
+pub kept-short : (xs : List ℕ) → take (min (length xs) 1048577) xs ≡ kept xs
+unfolding kept
+kept-short xs = take-min 1048577 xs
 
 pub length-kept : (xs : List ℕ) → length (kept xs) ≤ 1048577
 unfolding kept
@@ -99,12 +53,84 @@ pub kept-all : (xs : List ℕ) → length xs ≤ 1048577 → kept xs ≡ xs
 unfolding kept
 kept-all xs h = take_all 1048577 xs h
 
--- a text is its first line, LF and the rest
-pub whole-some : (text : List ℕ) (end : ℕ) → position is_lf text ≡ Some end → text ≡ take end text ++ 10 ∷ take (length text - (end + 1)) (drop (end + 1) text)
-whole-some text end e =
-    let at = position-some text end e in
-    let within : position_or_len is_lf text < length text = omega (arith, at.0, at.1) in
-    let all : take (length text - (end + 1)) (drop (end + 1) text) ≡ drop (end + 1) text = take_all _ _ (rw (length-drop (end + 1) text) (omega arith)) in
-    let lf : get_or text (position_or_len is_lf text) 0 ≡ 10 = eqb-true _ _ (passes_at_first is_lf text 0 within) in
-    let P : ℕ → Type 0 = λ k. text ≡ take k text ++ 10 ∷ drop (k + 1) text in
-    rw all (subst P at.0 (split_at_first is_lf text 0 within ∙ ap (λ b. before_first is_lf text ++ b ∷ after_first is_lf text) lf))
+pub no_lines : (text : List ℕ) → length text ≡ 0 → physical_lines text ≡ []
+no_lines [] h = refl
+no_lines (b ∷ bytes) h = absurd (omega arith)
+
+-- a line as it stands in a text
+abbrev pub ended_line : List ℕ → List ℕ
+ended_line line = without_cr line ++ 10 ∷ []
+
+-- a byte that is no CR stays ahead of its line
+without_cr-later : (b : ℕ) (line : List ℕ) → eqb b 13 ≡ false → without_cr (b ∷ line) ≡ b ∷ without_cr line
+without_cr-later b [] e =
+    rw e (elim (eqb (slice_index [] 0) 13) as (λ v. b ∷ [] ≡ b ∷ cond v [] []) [ true ↦ refl | false ↦ refl ])
+without_cr-later b (c ∷ line) e =
+    let n : length (b ∷ c ∷ line) - 1 ≡ suc (length line) = omega arith in
+    let m : length (c ∷ line) - 1 ≡ length line = omega arith in
+    rw (n, m) (elim (eqb (slice_index (c ∷ line) (length line)) 13) as (λ v. cond v (b ∷ take (length line) (c ∷ line)) (b ∷ c ∷ line) ≡ b ∷ cond v (take (length line) (c ∷ line)) (c ∷ line)) [ true ↦ refl | false ↦ refl ])
+
+without_cr-none : without_cr [] ≡ []
+without_cr-none = elim (eqb (slice_index [] 0) 13) as (λ v. cond {A = List ℕ} v [] [] ≡ []) [ true ↦ refl | false ↦ refl ]
+
+-- and so among the lines of a text
+onto_line : (b : ℕ) (lines : List (List ℕ)) → eqb b 13 ≡ false → 0 < length lines → flat_map ended_line (onto_first b lines) ≡ b ∷ flat_map ended_line lines
+onto_line b [] e some = absurd (omega arith)
+onto_line b (line ∷ lines) e some = ap (λ l. (l ++ 10 ∷ []) ++ flat_map ended_line lines) (without_cr-later b line e)
+
+length-onto : (b : ℕ) (lines : List (List ℕ)) → 0 < length (onto_first b lines)
+length-onto b [] = omega arith
+length-onto b (line ∷ lines) = omega arith
+
+-- a text that isn't empty has a line
+some_lines : (b : ℕ) (text : List ℕ) → 0 < length (physical_lines (b ∷ text))
+some_lines b text = elim (eqb b 10) as (λ v. 0 < length (cond v ([] ∷ physical_lines text) (onto_first b (physical_lines text)))) [
+  | true ↦ omega arith
+  | false ↦ length-onto b (physical_lines text)
+]
+
+lines_ahead : (text : List ℕ) → 0 < length text → 0 < length (physical_lines text)
+lines_ahead [] some = absurd (omega arith)
+lines_ahead (b ∷ text) some = some_lines b text
+
+-- no byte of it is a CR
+abbrev pub HasNoCr : List ℕ → Type 0
+HasNoCr bytes = (k : ℕ) → k < length bytes → eqb (slice_index bytes k) 13 ≡ false
+
+-- so that its lines are as they stand
+whole_lines : (front : List ℕ) → HasNoCr front → without_crs (front ++ 10 ∷ []) ≡ front ++ 10 ∷ []
+whole_lines [] none = ap (λ l. (l ++ 10 ∷ []) ++ []) without_cr-none
+whole_lines (b ∷ front) none =
+    let later : without_crs (front ++ 10 ∷ []) ≡ front ++ 10 ∷ [] = whole_lines front (λ k within. none (suc k) (omega arith)) in
+    elim (eqb b 10) as (λ v. eqb b 10 ≡ v → flat_map ended_line (cond v ([] ∷ physical_lines (front ++ 10 ∷ [])) (onto_first b (physical_lines (front ++ 10 ∷ [])))) ≡ b ∷ (front ++ 10 ∷ [])) [
+      | true ↦ λ e. ap (λ l. (l ++ 10 ∷ []) ++ without_crs (front ++ 10 ∷ [])) without_cr-none ∙ ap (λ t. 10 ∷ t) later ∙ ap (λ c. c ∷ (front ++ 10 ∷ [])) (sym (eqb-true b 10 e))
+      | false ↦ λ e. onto_line b (physical_lines (front ++ 10 ∷ [])) (none 0 (omega arith)) (lines_ahead (front ++ 10 ∷ []) (rw (length-append front (10 ∷ [])) (omega arith))) ∙ ap (λ t. b ∷ t) later
+    ] refl
+
+slice_index-front : (front rest : List ℕ) (k : ℕ) → k < length front → slice_index (front ++ rest) k ≡ slice_index front k
+slice_index-front [] rest k within = absurd (omega arith)
+slice_index-front (b ∷ front) rest zero within = refl
+slice_index-front (b ∷ front) rest (suc k) within = slice_index-front front rest k (omega arith)
+
+HasNoCr-front : (front rest : List ℕ) → HasNoCr (front ++ rest) → HasNoCr front
+HasNoCr-front front rest none = λ k within. ap (λ b. eqb b 13) (sym (slice_index-front front rest k within)) ∙ none k (rw (length-append front rest) (omega arith))
+
+-- a text without CRs is as it stands
+pub without_crs-none : (text : List ℕ) → IsEnded text → HasNoCr text → without_crs text ≡ text
+without_crs-none text (inl empty) none = rw empty refl
+without_crs-none text (inr ended) none =
+    let front : HasNoCr ended.0 = HasNoCr-front ended.0 (10 ∷ []) (rw (← ended.1) none) in
+    ap without_crs ended.1 ∙ whole_lines ended.0 front ∙ sym ended.1
+
+pub no_cr : (text : List ℕ) → ((k : ℕ) → 0 ≤ k → k < length text → ¬ (eqb (slice_index text k) 13 ≡ true)) → HasNoCr text
+no_cr text never = λ k within. elim (eqb (slice_index text k) 13) as (λ v. ¬ (v ≡ true) → v ≡ false) [ true ↦ λ f. absurd (f refl) | false ↦ λ f. refl ] (never k (omega arith) within)
+
+-- one more line of a text
+pub kept_line : (text line after bytes : List ℕ) (lines : List (List ℕ)) → lines ≡ line ∷ physical_lines after → kept (kept (text ++ without_cr line) ++ 10 ∷ []) ≡ bytes →
+    kept (bytes ++ without_crs after) ≡ kept (text ++ flat_map ended_line lines)
+kept_line text line after bytes lines first is =
+    ap (λ b. kept (b ++ without_crs after)) (sym is ∙ kept-kept (text ++ without_cr line) (10 ∷ []))
+    ∙ kept-kept ((text ++ without_cr line) ++ 10 ∷ []) (without_crs after)
+    ∙ ap kept (append_assoc (text ++ without_cr line) (10 ∷ []) (without_crs after) ∙ append_assoc text (without_cr line) (10 ∷ without_crs after)
+    ∙ ap (λ t. text ++ t) (sym (append_assoc (without_cr line) (10 ∷ []) (without_crs after))))
+    ∙ ap (λ ls. kept (text ++ flat_map ended_line ls)) (sym first)

@@ -13,7 +13,7 @@ use Rattle.service_core.specs.Service.{ServiceState, modified}
 use Rattle.service_core.specs.Calls.{IsAdmitted, IsEvicted}
 use Rattle.service_core.specs.Run.Call.{Admit as AdmitCall, Evict as EvictCall}
 use Rattle.fpgad_run.specs.declared.operator_line.OperatorLine.TheVariants.{Evict}
-use Rattle.fpgad_run.specs.declared.item.Act.TheVariants.{Operator}
+use Rattle.fpgad_run.specs.declared.act.Act.TheVariants.{Operator}
 use Rattle.fpgad_run.specs.Names.{texts}
 use Rattle.fpgad_run.specs.Ids.{AreLastIds, newest_first}
 use Rattle.fpgad_run.specs.OperatorText.{admitted_text, evicted_text, last_id, list_text, listed, names_after, refused_text}

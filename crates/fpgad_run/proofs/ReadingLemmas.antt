@@ -1,57 +1,52 @@
--- What a script that is being read comes to, line by line.
-use Rattle.std.proofs.Common.{◌≡◌, ℕ, ◌+◌, List, [], ◌∷◌, ◌++◌, length, true, false, Option, Some, None, Result, Ok, Err, refl, sym, ap, ◌∙◌, arith, append_assoc, append-nil}
-use Rattle.std.specs.Prelude.{option_map}
+-- What a script that is being read comes to.
+use Rattle.std.proofs.Common.{◌≡◌, ℕ, ◌+◌, List, [], ◌∷◌, ◌++◌, true, false, Ok, Err, refl, sym, ap, ◌∙◌, append_assoc}
+use Rattle.std.specs.Prelude.{map}
 use Rattle.std.specs.Borrow.{Bor}
-use Rattle.fpgad_run.specs.declared.item.Act.{Act}
-use Rattle.fpgad_run.specs.declared.item.Act.TheVariants.{Session}
-use Rattle.fpgad_run.specs.declared.item.Item.{Item}
-use Rattle.fpgad_run.specs.declared.script.PendingText.{PendingText}
-use Rattle.fpgad_run.specs.declared.script.Reading.{Reading}
-use Rattle.fpgad_run.specs.declared.script.ScriptError.{ScriptError}
-use Rattle.fpgad_run.specs.declared.script.ScriptError.TheVariants.{NoMemory, Fault}
+use Rattle.std.proofs.lemmas.List.{map_push}
 use Rattle.line_text.specs.Lines.{physical_lines}
-use Rattle.fpgad_run.specs.Lines.{without_cr, ends_text, text_ahead, kept}
-use Rattle.fpgad_run.specs.Script.{Items, items_from, text_line, with_item}
-use Rattle.fpgad_run.specs.Reading.{with_items, resumed, comes_to, Takes, Pushes, AddsLine}
-use Rattle.fpgad_run.proofs.LineLemmas.{kept-kept}
+use Rattle.sessions.specs.declared.line.SessionLine.{SessionLine}
+use Rattle.sessions.specs.declared.line.TextKind.{TextKind}
+use Rattle.fpgad_run.specs.declared.act.Act.{Act}
+use Rattle.fpgad_run.specs.declared.act.Act.TheVariants.{Session}
+use Rattle.fpgad_run.specs.declared.form.Form.{Form}
+use Rattle.fpgad_run.specs.declared.form.Form.TheVariants.{Asks, Begins}
+use Rattle.fpgad_run.specs.Reading.{with_acts}
+use Rattle.fpgad_run.specs.Script.{Acts, acts_from, begins_text, form_in, named_act, named_form, with_act, with_line}
+use Rattle.sessions.specs.Items.{text_ahead, text_item, without_cr}
 
-pub with_items-push : (items : List (Item (List ℕ))) (number : ℕ) (act : Act (List ℕ)) (rest : Items) → with_items (items ++ record { line = number; act = act } ∷ []) rest ≡ with_items items (with_item number act rest)
-with_items-push items number act (Ok more) = ap Ok (append_assoc items _ more)
-with_items-push items number act (Err fault) = refl
+with_acts-push : (acts : List (Act (List ℕ))) (act : Act (List ℕ)) (rest : Acts) → with_acts (acts ++ act ∷ []) rest ≡ with_acts acts (with_act act rest)
+with_acts-push acts act (Ok more) = ap Ok (append_assoc acts (act ∷ []) more)
+with_acts-push acts act (Err fault) = refl
 
--- the line that ends a text
-pub ended : (old mid new : Reading) (pending : PendingText) (number : ℕ) (line : List ℕ) (result : Result (Unit {0}) ScriptError) →
-    old.pending ≡ Some pending → mid.items ≡ old.items → mid.pending ≡ None → ends_text line ≡ true →
-    Pushes mid pending.line (Session pending.name.now (text_line pending.kind (Some pending.text.items))) result new → Takes old number line result new
-ended old mid new pending number line (Ok u) was items taken ends pushed = λ lines.
-    let text : resumed pending (line ∷ lines) ≡ Session pending.name.now (text_line pending.kind (Some pending.text.items)) = rw (ends, append-nil) refl in
-    let rest : items_from number true (line ∷ lines) ≡ items_from (number + 1) false lines = rw ends refl in
-    rw (was, text, rest, pushed.0, pushed.1, taken, items) (sym (with_items-push _ _ _ _))
-ended old mid new pending number line (Err NoMemory) was items taken ends pushed = tt
-ended old mid new pending number line (Err (Fault fault)) was items taken ends pushed = let bad : Fault fault ≡ NoMemory = pushed in cc
+-- one more act is taken
+pushed : (acts all : List (Act (Bor (List ℕ)))) (act : Act (Bor (List ℕ))) (rest : Acts) → all ≡ acts ++ act ∷ [] → with_acts (map named_act acts) (with_act (named_act act) rest) ≡ with_acts (map named_act all) rest
+pushed acts all act rest is =
+    sym (with_acts-push (map named_act acts) (named_act act) rest) ∙ ap (λ told. with_acts told rest) (sym (map_push named_act acts act) ∙ ap (map named_act) (sym is))
 
--- a line of a text, with what is still to come of it
-pub one_more : (old new : PendingText) (line : List ℕ) (ahead : Option (List ℕ)) → AddsLine old line new →
-    text_line old.kind (option_map (λ more. old.text.items ++ more) (option_map (λ text. line ++ 10 ∷ text) ahead)) ≡ text_line new.kind (option_map (λ more. new.text.items ++ more) ahead)
-one_more old new line None adds = refl
-one_more old new line (Some more) adds =
-    let text : kept (new.text.items ++ more) ≡ kept (old.text.items ++ (line ++ 10 ∷ more)) =
-    ap (λ t. kept (t ++ more)) adds.3 ∙ kept-kept (old.text.items ++ line ++ 10 ∷ []) more ∙ ap kept (simp append_assoc) in
-    rw (text, adds.2) refl
+-- what the first line makes of the others
+line_step : (number : ℕ) (line rest after : List ℕ) (form : Form (Bor (List ℕ))) → physical_lines rest ≡ line ∷ physical_lines after → named_form form ≡ form_in (without_cr line) →
+    acts_from number false (physical_lines rest) ≡ with_line number (named_form form) (physical_lines after) (acts_from (number + 1) (begins_text (named_form form)) (physical_lines after))
+line_step number line rest after form lines named =
+    ap (acts_from number false) lines
+    ∙ ap (λ (f : Form (List ℕ)). with_line number f (physical_lines after) (acts_from (number + 1) (begins_text f) (physical_lines after))) (sym named)
 
-pub continued : (old new : PendingText) (number : ℕ) (line : List ℕ) (lines : List (List ℕ)) → ends_text line ≡ false → AddsLine old (without_cr line) new →
-    comes_to (Some old) number (line ∷ lines) ≡ comes_to (Some new) (number + 1) lines
-continued old new number line lines ends adds =
-    let rest : items_from number true (line ∷ lines) ≡ items_from (number + 1) true lines = rw ends refl in
-    let ahead : text_ahead (line ∷ lines) ≡ option_map (λ text. without_cr line ++ 10 ∷ text) (text_ahead lines) = rw ends refl in
-    let same : resumed old (line ∷ lines) ≡ resumed new lines =
-    ap (λ a. Session old.name.now (text_line old.kind (option_map (λ more. old.text.items ++ more) a))) ahead
-    ∙ ap (λ a. Session old.name.now a) (one_more old new (without_cr line) (text_ahead lines) adds)
-    ∙ ap (λ (n : Bor (List ℕ)). Session n.now (text_line new.kind (option_map (λ more. new.text.items ++ more) (text_ahead lines)))) (sym adds.1) in
-    ap (λ i. with_item old.line (resumed old (line ∷ lines)) i) rest
-    ∙ ap (λ act. with_item old.line act (items_from (number + 1) true lines)) same
-    ∙ ap (λ n. with_item n (resumed new lines) (items_from (number + 1) true lines)) (sym adds.0)
+-- a line that asks by itself
+pub asks_step : (acts all : List (Act (Bor (List ℕ)))) (act : Act (Bor (List ℕ))) (number : ℕ) (line rest after : List ℕ) (form : Form (Bor (List ℕ))) →
+    physical_lines rest ≡ line ∷ physical_lines after → named_form form ≡ form_in (without_cr line) → form ≡ Asks act → all ≡ acts ++ act ∷ [] →
+    with_acts (map named_act acts) (acts_from number false (physical_lines rest)) ≡ with_acts (map named_act all) (acts_from (number + 1) false (physical_lines after))
+asks_step acts all act number line rest after form lines named is taken =
+    let f : named_form (Asks act) ≡ form_in (without_cr line) = ap named_form (sym is) ∙ named in
+    ap (with_acts (map named_act acts)) (line_step number line rest after (Asks act) lines f)
+    ∙ pushed acts all act (acts_from (number + 1) false (physical_lines after)) taken
 
-pub no_lines : (text : List ℕ) → length text ≡ 0 → physical_lines text ≡ []
-no_lines [] h = refl
-no_lines (b ∷ bytes) h = absurd (omega arith)
+-- a line that a text follows
+pub begins_step : (acts all : List (Act (Bor (List ℕ)))) (name : Bor (List ℕ)) (kind : TextKind) (told : SessionLine) (number next : ℕ) (line rest after last : List ℕ) (form : Form (Bor (List ℕ))) →
+    physical_lines rest ≡ line ∷ physical_lines after → named_form form ≡ form_in (without_cr line) → form ≡ Begins name kind → told ≡ text_item kind (text_ahead (physical_lines after)) →
+    acts_from (number + 1) true (physical_lines after) ≡ acts_from next false (physical_lines last) → all ≡ acts ++ Session name told ∷ [] →
+    with_acts (map named_act acts) (acts_from number false (physical_lines rest)) ≡ with_acts (map named_act all) (acts_from next false (physical_lines last))
+begins_step acts all name kind told number next line rest after last form lines named is text goes_on taken =
+    let f : named_form (Begins name kind) ≡ form_in (without_cr line) = ap named_form (sym is) ∙ named in
+    ap (with_acts (map named_act acts)) (line_step number line rest after (Begins name kind) lines f
+    ∙ ap (λ (t : SessionLine). with_act (Session name.now t) (acts_from (number + 1) true (physical_lines after))) (sym text)
+    ∙ ap (with_act (Session name.now told)) goes_on)
+    ∙ pushed acts all (Session name told) (acts_from next false (physical_lines last)) taken

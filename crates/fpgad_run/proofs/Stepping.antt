@@ -107,10 +107,7 @@ steady_end id NoMemory calls answer is = to_steady calls [] is.0 tt
 steady_end id Nothing calls answer is = steady_command id _ calls answer is
 
 steady_wait : (id : ℕ) (calls : List Call) (last : StepOutcome) → Waits id calls last → AreSteady calls
-steady_wait id calls last is = to_steady calls _ is.3 (steady-append _ is.1 (steady_made id is.0 is.2) (elim is.4 [
-  | inl step ↦ steady_step id is.1 last step
-  | inr full ↦ to_steady is.1 [] full.1 tt
-]))
+steady_wait id calls last is = to_steady calls _ is.5 (steady-append _ is.1 (steady_made id is.0 is.2) (steady_step id is.1 last is.3))
 
 -- no session's line does
 pub steady_asks : (id : ℕ) (line : SessionLine) (calls : List Call) (answer : Answer) → Asks id line calls answer → AreSteady calls

@@ -1,10 +1,9 @@
--- The items of a script that runs, told one after another.
-use Rattle.std.proofs.Common.{◌≡◌, ℕ, List, [], ◌∷◌, ◌++◌, length, Option, Some, None, Result, Ok, Err, refl, sym, ap, ◌∙◌, subst, append_assoc, append-nil}
-use Rattle.std.specs.Prelude.{map, reverse, IfOk, OnOk}
-use Rattle.std.specs.Borrow.{Bor}
+-- The acts of a script that runs, told one after another.
+use Rattle.std.proofs.Common.{◌≡◌, ℕ, List, [], ◌∷◌, ◌++◌, length, Option, Some, None, Result, Ok, Err, refl, sym, ap, ◌∙◌, subst, append-nil}
+use Rattle.std.specs.Prelude.{map, IfOk, OnOk}
 use Rattle.std.specs.List.{flat_map}
 use Rattle.std.proofs.lemmas.Grind.{flat_map-append}
-use Rattle.std.proofs.lemmas.List.{map_push, reverse-append}
+use Rattle.std.proofs.lemmas.List.{map_push}
 use Rattle.service_core.specs.History.{History}
 use Rattle.service_core.specs.declared.device.Device.{Device}
 use Rattle.service_core.specs.Headline.{AreParted, EachIsAlone}
@@ -12,12 +11,10 @@ use Rattle.service_core.specs.Run.{Call, Run}
 use Rattle.service_core.specs.Service.{ServiceState, empty, live_of}
 use Rattle.fpgad_run.specs.declared.program.Running.{Running}
 use Rattle.fpgad_run.specs.declared.operator_line.OperatorLine.TheVariants.{Admit, Evict, List as ListAll, Step, Take, Put}
-use Rattle.fpgad_run.specs.declared.item.Item.{Item}
 use Rattle.sessions.specs.declared.line.SessionLine.{SessionLine}
-use Rattle.fpgad_run.specs.declared.item.Act.{Act}
-use Rattle.fpgad_run.specs.declared.item.Act.TheVariants.{Operator, Session}
+use Rattle.fpgad_run.specs.declared.act.Act.{Act}
+use Rattle.fpgad_run.specs.declared.act.Act.TheVariants.{Operator, Session}
 use Rattle.fpgad_run.specs.OperatorText.{last_id}
-use Rattle.fpgad_run.specs.Script.{named_act, named_item}
 use Rattle.sessions.specs.declared.told.Answer.{Answer}
 use Rattle.sessions.specs.SessionAnswer.{Asks, IsAnswer}
 use Rattle.sessions.specs.EndToEnd.{LineIsToldAlone}
@@ -101,14 +98,6 @@ pub session_answers : (names : List (List ℕ)) (jobs : HeldList) (old new : Ser
 session_answers names jobs old new name id line answer at is =
     (is.0, (answer, (let P : ℕ → Type 0 = λ n. Asks n line is.0 answer in subst P at is.1), is.2, refl, refl, refl))
 
--- the next item is the last of those that are left
-pub next_item : (told : List (Act (List ℕ))) (left : List (Item (Bor (List ℕ)))) (rest : List (Item (Bor (List ℕ)))) (item : Item (Bor (List ℕ))) (all : List (Act (List ℕ))) → left ≡ rest ++ item ∷ [] →
-    told ++ map (λ (i : Item (List ℕ)). i.act) (map named_item (reverse left)) ≡ all → (told ++ named_act item.act ∷ []) ++ map (λ (i : Item (List ℕ)). i.act) (map named_item (reverse rest)) ≡ all
-next_item told left rest item all is so_far =
-    append_assoc told (named_act item.act ∷ []) _
-    ∙ ap (λ items. told ++ map (λ (i : Item (List ℕ)). i.act) (map named_item items)) (sym (reverse-append rest (item ∷ [])))
-    ∙ ap (λ items. told ++ map (λ (i : Item (List ℕ)). i.act) (map named_item (reverse items))) (sym is) ∙ so_far
-
 -- it admits and evicts no one
 pub lengths-answered : (old new : ServiceState) (id : ℕ) (line : SessionLine) (answer : Answer) → IsAnswer old id line answer new → length old.histories ≡ length new.histories
 lengths-answered old new id line answer is = lengths-run old new is.0 (steady_asks id line is.0 answer is.1) is.2
@@ -145,19 +134,19 @@ tellings_alone headline device before old (t ∷ ts) last runs told = (
 )
 
 -- all that was told is what is written
-pub replies_all : (options : Options) (arch : Arch) (items : List (Item (List ℕ))) (running : Running) (acts : List (Act (List ℕ))) (output : List ℕ) → IsHeadline →
-    Progress (record { names = []; jobs = []; service = empty (device_of options arch) }) running acts → acts ≡ map (λ (i : Item (List ℕ)). i.act) items → output ≡ told_so_far running →
-    IsReplies options (Ok (arch, items)) output
-replies_all options arch items running acts output headline p all is =
+pub replies_all : (options : Options) (arch : Arch) (all : List (Act (List ℕ))) (running : Running) (acts : List (Act (List ℕ))) (output : List ℕ) → IsHeadline →
+    Progress (record { names = []; jobs = []; service = empty (device_of options arch) }) running acts → acts ≡ all → output ≡ told_so_far running →
+    IsReplies options (Ok (arch, all)) output
+replies_all options arch all running acts output headline p same is =
     let runs : Run (empty (device_of options arch)) (calls_of p.tellings) running.core =
     told_runs (record { names = []; jobs = []; service = empty (device_of options arch) }) p.tellings (stage_of running) p.told in
     record {
       arch = arch;
-      items = items;
+      acts = all;
       begins = refl;
       tellings = p.tellings;
       last = stage_of running;
-      all = p.all ∙ all;
+      all = p.all ∙ same;
       told = p.told;
       each_alone = tellings_alone headline (device_of options arch) [] (record { names = []; jobs = []; service = empty (device_of options arch) }) p.tellings (stage_of running) refl p.told;
       runs = runs;

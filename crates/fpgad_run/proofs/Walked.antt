@@ -1,72 +1,117 @@
--- The lines of a text on the way to the one that is `.` alone.
-use Rattle.std.proofs.Common.{◌≡◌, ℕ, ◌+◌, ◌-◌, ◌⊎◌, List, [], ◌∷◌, ◌++◌, true, false, Option, Some, None, inl, inr, length, take, refl, sym, ap, ◌∙◌, arith, append_assoc, append-nil, length-append}
+-- The lines of a text on the way to the one that ends it.
+use Rattle.std.proofs.Common.{◌≡◌, ℕ, ◌+◌, ◌-◌, ◌⊎◌, ◌<◌, ◌≤◌, List, [], ◌∷◌, ◌++◌, true, false, Option, Some, None, inl, inr, length, take, get_or, refl, sym, ap, ◌∙◌, arith, append_assoc, append-nil, length-append, length-drop}
 use Rattle.std.specs.Prelude.{option_map}
+use Rattle.std.specs.List.{position_or_len, before_first, after_first}
+use Rattle.std.proofs.lemmas.Bool.{cases_lt, eqb-true}
+use Rattle.std.proofs.lemmas.List.{drop_all}
+use Rattle.std.proofs.lemmas.List.Sums.{passes_at_first, split_at_first}
 use Rattle.std.proofs.Math.Seq.{take-append_seam}
 use Rattle.line_text.specs.Lines.{physical_lines}
-use Rattle.fpgad_run.specs.Lines.{ends_text}
-use Rattle.fpgad_run.specs.Program.{IsSplit, head_of}
+use Rattle.fpgad_run.specs.Cuts.{HasNoEnd, IsCut, IsEnded}
+use Rattle.fpgad_run.specs.Script.{acts_from}
+use Rattle.sessions.specs.Items.{ends_text}
+use Rattle.fpgad_run.specs.Texts.{bytes_ahead}
+use Rattle.fpgad_run.proofs.LineLemmas.{is_lf}
 
-abbrev pub Split : Type 0
-Split = List ℕ × ℕ × List (List ℕ)
+-- a text is its first line, LF and the rest, unless nothing follows the line
+pub first_of : (text : List ℕ) → (text ≡ before_first is_lf text ++ 10 ∷ after_first is_lf text) ⊎ (after_first is_lf text ≡ [])
+first_of text = elim (cases_lt (position_or_len is_lf text) (length text)) [
+  | inl within ↦
+      let lf : get_or text (position_or_len is_lf text) 0 ≡ 10 = eqb-true _ _ (passes_at_first is_lf text 0 within) in
+      inl (split_at_first is_lf text 0 within ∙ ap (λ b. before_first is_lf text ++ b ∷ after_first is_lf text) lf)
+  | inr past ↦ inr (drop_all (position_or_len is_lf text + 1) text (omega arith))
+]
+
+pub shorter : (text : List ℕ) → 0 < length text → length (after_first is_lf text) < length text
+shorter text some = rw (length-drop (position_or_len is_lf text + 1) text) (omega arith)
 
 -- with that much text in front
-abbrev pub behind : List ℕ → Option Split → Option Split
-behind front split = option_map (λ s. (front ++ s.0, s.1, s.2)) split
+abbrev pub behind : List ℕ → Option (List ℕ) → Option (List ℕ)
+behind front text = option_map (λ bytes. front ++ bytes) text
 
--- the front of the text has no line that is `.` alone, and the rest begins with the line of that number
-pub record Walked (text rest : List ℕ) (number : ℕ) : Type 0 where
+-- the front of the text has no line that ends it, and the rest begins with the line of that number
+pub record Walked (first : ℕ) (text rest : List ℕ) (number : ℕ) : Type 0 where
   pub front : List ℕ
   pub whole : text ≡ front ++ rest
-  pub split : head_of 1 (physical_lines text) ≡ behind front (head_of number (physical_lines rest))
+  pub ended : (front ≡ []) ⊎ ((before : List ℕ) × (front ≡ before ++ 10 ∷ [])) ⊎ (rest ≡ [])
+  pub ahead : bytes_ahead (physical_lines text) ≡ behind front (bytes_ahead (physical_lines rest))
+  pub acts : acts_from first true (physical_lines text) ≡ acts_from number true (physical_lines rest)
+  pub counted : number + length rest ≤ first + length text
+  pub later : first ≤ number
 
-behind-nothing : (split : Option Split) → split ≡ behind [] split
+behind-nothing : (text : Option (List ℕ)) → text ≡ behind [] text
 behind-nothing None = refl
-behind-nothing (Some s) = refl
+behind-nothing (Some bytes) = refl
 
-behind-behind : (a b : List ℕ) (split : Option Split) → behind a (behind b split) ≡ behind (a ++ b) split
+behind-behind : (a b : List ℕ) (text : Option (List ℕ)) → behind a (behind b text) ≡ behind (a ++ b) text
 behind-behind a b None = refl
-behind-behind a b (Some s) = ap (λ t. Some (t, s.1, s.2)) (sym (append_assoc a b s.0))
+behind-behind a b (Some bytes) = ap Some (sym (append_assoc a b bytes))
 
-pub walked_none : (text : List ℕ) → Walked text text 1
-walked_none text = record { front = []; whole = refl; split = behind-nothing (head_of 1 (physical_lines text)) }
+pub walked_none : (first : ℕ) (text : List ℕ) → Walked first text text first
+walked_none first text = record { front = []; whole = refl; ended = inl refl; ahead = behind-nothing (bytes_ahead (physical_lines text)); acts = refl; counted = omega arith; later = omega arith }
 
-line-behind : (line : List ℕ) (split : Option Split) → option_map (λ p. (line ++ 10 ∷ p.0, p.1, p.2)) split ≡ behind (line ++ 10 ∷ []) split
+line-behind : (line : List ℕ) (text : Option (List ℕ)) → option_map (λ bytes. line ++ 10 ∷ bytes) text ≡ behind (line ++ 10 ∷ []) text
 line-behind line None = refl
-line-behind line (Some s) = ap (λ t. Some (t, s.1, s.2)) (sym (append_assoc line (10 ∷ []) s.0))
+line-behind line (Some bytes) = ap Some (sym (append_assoc line (10 ∷ []) bytes))
 
-passed : (number : ℕ) (line : List ℕ) (lines : List (List ℕ)) → ends_text line ≡ false → head_of number (line ∷ lines) ≡ behind (line ++ 10 ∷ []) (head_of (number + 1) lines)
-passed number line lines ends = rw ends (line-behind line (head_of (number + 1) lines))
+passed : (line : List ℕ) (lines : List (List ℕ)) → ends_text line ≡ false → bytes_ahead (line ∷ lines) ≡ behind (line ++ 10 ∷ []) (bytes_ahead lines)
+passed line lines ends = rw ends (line-behind line (bytes_ahead lines))
 
-pub walked_more : (text rest line after : List ℕ) (number : ℕ) → Walked text rest number → physical_lines rest ≡ line ∷ physical_lines after →
-    (rest ≡ line ++ 10 ∷ after) ⊎ (after ≡ []) → ends_text line ≡ false → Walked text after (number + 1)
-walked_more text rest line after number w first (inl cut) ends = record {
+acts_passed : (number : ℕ) (line : List ℕ) (lines : List (List ℕ)) → ends_text line ≡ false → acts_from number true (line ∷ lines) ≡ acts_from (number + 1) true lines
+acts_passed number line lines ends = rw ends refl
+
+acts_found : (number : ℕ) (line : List ℕ) (lines : List (List ℕ)) → ends_text line ≡ true → acts_from number true (line ∷ lines) ≡ acts_from (number + 1) false lines
+acts_found number line lines ends = rw ends refl
+
+pub walked_more : (first : ℕ) (text rest line after : List ℕ) (number : ℕ) → Walked first text rest number → physical_lines rest ≡ line ∷ physical_lines after → length after < length rest →
+    (rest ≡ line ++ 10 ∷ after) ⊎ (after ≡ []) → ends_text line ≡ false → Walked first text after (number + 1)
+walked_more first text rest line after number w lines less (inl cut) ends = record {
   front = w.front ++ (line ++ 10 ∷ []);
   whole = w.whole ∙ ap (λ r. w.front ++ r) cut ∙ ap (λ r. w.front ++ r) (sym (append_assoc line (10 ∷ []) after)) ∙ sym (append_assoc w.front (line ++ 10 ∷ []) after);
-  split = w.split ∙ ap (λ ls. behind w.front (head_of number ls)) first ∙ ap (behind w.front) (passed number line (physical_lines after) ends)
-      ∙ behind-behind w.front (line ++ 10 ∷ []) (head_of (number + 1) (physical_lines after));
+  ended = inr (inl (w.front ++ line, sym (append_assoc w.front line (10 ∷ []))));
+  ahead = w.ahead ∙ ap (λ ls. behind w.front (bytes_ahead ls)) lines ∙ ap (behind w.front) (passed line (physical_lines after) ends)
+      ∙ behind-behind w.front (line ++ 10 ∷ []) (bytes_ahead (physical_lines after));
+  acts = w.acts ∙ ap (acts_from number true) lines ∙ acts_passed number line (physical_lines after) ends;
+  counted = let was = w.counted in omega arith;
+  later = let was = w.later in omega arith;
 }
-walked_more text rest line after number w first (inr over) ends =
-    let none : head_of (number + 1) (physical_lines after) ≡ None = ap (λ t. head_of (number + 1) (physical_lines t)) over in
+walked_more first text rest line after number w lines less (inr over) ends =
+    let none : bytes_ahead (physical_lines after) ≡ None = ap (λ t. bytes_ahead (physical_lines t)) over in
     record {
       front = text;
       whole = sym (append-nil text) ∙ ap (λ r. text ++ r) (sym over);
-      split = w.split ∙ ap (λ ls. behind w.front (head_of number ls)) first ∙ ap (behind w.front) (passed number line (physical_lines after) ends)
+      ended = inr (inr over);
+      ahead = w.ahead ∙ ap (λ ls. behind w.front (bytes_ahead ls)) lines ∙ ap (behind w.front) (passed line (physical_lines after) ends)
           ∙ ap (λ s. behind w.front (behind (line ++ 10 ∷ []) s)) none ∙ ap (behind text) (sym none);
+      acts = w.acts ∙ ap (acts_from number true) lines ∙ acts_passed number line (physical_lines after) ends;
+      counted = let was = w.counted in omega arith;
+      later = let was = w.later in omega arith;
     }
 
--- the line that is `.` alone
-pub walked_found : (text rest line after : List ℕ) (number : ℕ) → Walked text rest number → physical_lines rest ≡ line ∷ physical_lines after → ends_text line ≡ true →
-    IsSplit (head_of 1 (physical_lines text)) text (take (length text - length rest) text) (number + 1) after
-walked_found text rest line after number w first ends =
-    let split : head_of 1 (physical_lines text) ≡ Some (w.front ++ [], number + 1, physical_lines after) =
-    let here : head_of number (line ∷ physical_lines after) ≡ Some ([], number + 1, physical_lines after) = rw ends refl in
-    w.split ∙ ap (λ ls. behind w.front (head_of number ls)) first ∙ ap (behind w.front) here in
+ended_of : (front line rest after : List ℕ) → physical_lines rest ≡ line ∷ physical_lines after → (front ≡ []) ⊎ ((before : List ℕ) × (front ≡ before ++ 10 ∷ [])) ⊎ (rest ≡ []) → IsEnded front
+ended_of front line rest after lines (inl none) = inl none
+ended_of front line rest after lines (inr (inl some)) = inr some
+ended_of front line rest after lines (inr (inr over)) = let bad : [] ≡ line ∷ physical_lines after = rw over at lines in cc
+
+-- the line that ends the text
+pub walked_found : (first : ℕ) (text rest line after : List ℕ) (number : ℕ) → Walked first text rest number → physical_lines rest ≡ line ∷ physical_lines after → length after < length rest → ends_text line ≡ true →
+    IsCut first text (take (length text - length rest) text) (number + 1) after
+walked_found first text rest line after number w lines less ends =
     let len : length text ≡ length w.front + length rest = ap length w.whole ∙ length-append w.front rest in
     let count : length text - length rest ≡ length w.front = omega arith in
     let front : take (length text - length rest) text ≡ w.front =
     ap (λ n. take n text) count ∙ ap (take (length w.front)) w.whole ∙ take-append_seam w.front rest in
-    rw split (rw append-nil front, refl, refl)
+    let here : bytes_ahead (line ∷ physical_lines after) ≡ Some [] = rw ends refl in
+    let was = w.counted in
+    let late = w.later in
+    rw front (record {
+      text = w.ahead ∙ ap (λ ls. behind w.front (bytes_ahead ls)) lines ∙ ap (behind w.front) here ∙ ap Some (append-nil w.front);
+      goes_on = w.acts ∙ ap (acts_from number true) lines ∙ acts_found number line (physical_lines after) ends;
+      ended = ended_of w.front line rest after lines w.ended;
+      counted = omega arith;
+      later = omega arith;
+    })
 
-pub walked_all : (text rest : List ℕ) (number : ℕ) → Walked text rest number → length rest ≡ 0 → IsSplit (head_of 1 (physical_lines text)) text text number rest
-walked_all text [] number w none = rw w.split (refl, refl)
-walked_all text (b ∷ bytes) number w none = absurd (omega arith)
+pub walked_all : (first : ℕ) (text rest : List ℕ) (number : ℕ) → Walked first text rest number → length rest ≡ 0 → HasNoEnd first text
+walked_all first text [] number w none = (w.ahead, w.acts)
+walked_all first text (b ∷ bytes) number w none = absurd (omega arith)

@@ -1,8 +1,9 @@
 -- What a command line makes of a run.
-use Rattle.std.specs.Prelude.{ℕ, ◌≡◌, ◌≢◌, List, Option, Some, None, IfSome}
+use Rattle.std.specs.Prelude.{ℕ, ◌≡◌, ◌≢◌, ◌⊎◌, List, Option, Some, None, IfSome, Result, Ok, Err}
 use Rattle.std.specs.Borrow.{Bor}
 use Rattle.fpgad_run.specs.declared.options.CommandLine.{CommandLine}
 use Rattle.fpgad_run.specs.declared.outcome.Outcome.{Outcome}
+use Rattle.fpgad_run.specs.declared.outcome.Outcome.TheVariants.{NoMemory}
 use Rattle.fpgad_run.specs.declared.program.Architecture.{Architecture}
 use Rattle.fpgad_run.specs.declared.program.Architecture.TheVariants.{InScript}
 use Rattle.fpgad_run.specs.Program.{Decides, Writes, start_of}
@@ -17,3 +18,8 @@ abbrev pub Runs : CommandLine → Option (List ℕ) → Outcome → Option (List
 Runs line input outcome old new = (architecture : Architecture) × IsGiven line.arch architecture
     × IfSome input (λ text. Decides (start_of line.options.tracks architecture text) outcome)
     × Writes line.options architecture input outcome old new
+
+-- words that are refused write nothing; others give a command line that runs, unless memory lacks
+abbrev pub RunsWords : {E : Type 0} → Option (List ℕ) → Result Outcome E → Option (List ℕ) → Option (List ℕ) → Type 0
+RunsWords input (Err error) old new = new ≡ old
+RunsWords input (Ok outcome) old new = ((outcome ≡ NoMemory) × (new ≡ old)) ⊎ ((line : CommandLine) × Runs line input outcome old new)

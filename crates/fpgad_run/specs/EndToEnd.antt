@@ -5,8 +5,8 @@ use Rattle.service_core.specs.Run.{Call}
 use Rattle.sessions.specs.declared.told.Answer.{Answer}
 use Rattle.sessions.specs.EndToEnd.{LineIsToldAlone}
 use Rattle.sessions.specs.SessionText.{answer_text}
-use Rattle.fpgad_run.specs.declared.item.Act.{Act}
-use Rattle.fpgad_run.specs.declared.item.Act.TheVariants.{Operator, Session}
+use Rattle.fpgad_run.specs.declared.act.Act.{Act}
+use Rattle.fpgad_run.specs.declared.act.Act.TheVariants.{Operator, Session}
 use Rattle.fpgad_run.specs.OperatorText.{last_id}
 use Rattle.fpgad_run.specs.Run.{Stage, Telling, IsAnswered}
 

@@ -1,7 +1,9 @@
 -- Jobs that the operator holds, numbered from 1 in the order in which they were taken; none stands where one was put.
-use Rattle.std.specs.Prelude.{ℕ, ◌≡◌, ◌-◌, List, [], ◌∷◌, ◌++◌, Option, Some, None, ◌==◌, if◌then◌else◌}
+use Rattle.std.specs.Prelude.{ℕ, ◌≡◌, ◌-◌, List, [], ◌∷◌, ◌++◌, Option, Some, None, option_map, reverse, ◌==◌, if◌then◌else◌}
 use Rattle.job_state.specs.Job.{JobState}
+use Rattle.std.specs.List.{filter_map}
 use Rattle.service_core.specs.Run.{Call}
+use Rattle.service_core.specs.Run.Call.{GiveBack}
 use Rattle.sessions.specs.declared.steps.StepOutcome.{StepOutcome}
 use Rattle.sessions.specs.declared.steps.StepOutcome.TheVariants.{Nothing}
 use Rattle.sessions.specs.Steps.{StepsAndPuts}
@@ -27,3 +29,7 @@ with_job jobs (Some job) = jobs ++ Some job ∷ []
 abbrev pub PutsHeld : Option JobState → List Call → StepOutcome → Type 0
 PutsHeld None calls outcome = (calls ≡ []) × (outcome ≡ Nothing)
 PutsHeld (Some job) calls outcome = StepsAndPuts job calls outcome
+
+-- all that are held are given back, the last one first
+abbrev pub give_backs : HeldList → List Call
+give_backs jobs = filter_map (option_map GiveBack) (reverse jobs)

@@ -1,10 +1,10 @@
 pub mod Commands
+pub mod Cuts
 pub mod EndToEnd
 pub mod Held
 pub mod HeldJobs
 pub mod Ids
 pub mod Limits
-pub mod Lines
 pub mod Names
 pub mod OperatorText
 pub mod Operators
@@ -13,5 +13,6 @@ pub mod Program
 pub mod Reading
 pub mod Run
 pub mod Script
+pub mod Texts
 pub mod Told
 pub mod Zipped

@@ -4,7 +4,7 @@ use Rattle.std.specs.Borrow.{Bor}
 use Rattle.service_core.specs.Run.{Call, Run}
 use Rattle.service_core.specs.Service.{ServiceState, live_of}
 use Rattle.fpgad_run.specs.declared.operator_line.OperatorLine.{OperatorLine}
-use Rattle.fpgad_run.specs.declared.item.Act.TheVariants.{Operator}
+use Rattle.fpgad_run.specs.declared.act.Act.TheVariants.{Operator}
 use Rattle.fpgad_run.specs.Script.{named_operator}
 use Rattle.fpgad_run.specs.OperatorText.{last_id}
 use Rattle.sessions.specs.Steps.{MakesStep}

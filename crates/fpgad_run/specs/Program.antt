@@ -1,5 +1,5 @@
 -- What a script and an architecture come to before anything runs, and how a run ends.
-use Rattle.std.specs.Prelude.{ℕ, ◌≡◌, ◌+◌, List, [], ◌∷◌, ◌++◌, map, take, false, Result, Ok, Err, Option, Some, None, option_map, ⊤, IsOk, if◌then◌else◌}
+use Rattle.std.specs.Prelude.{ℕ, ◌≡◌, List, [], map, take, true, Result, Ok, Err, Option, Some, None, unwrap_or, ⊤, IsOk}
 use Rattle.std.specs.declared.vec.Vec.{Vec}
 use Rattle.std.specs.declared.alloc.Global.{Global}
 use Rattle.std.specs.Io.KnownBytes.{Appends}
@@ -15,54 +15,40 @@ use Rattle.fpgad_run.specs.declared.outcome.Outcome.{Outcome}
 use Rattle.fpgad_run.specs.declared.outcome.Outcome.TheVariants.{Done, ArchUnreadable, ArchRefused, InputFailed, OutputFailed, ScriptFault, NoMemory}
 use Rattle.fpgad_run.specs.declared.program.Architecture.{Architecture}
 use Rattle.fpgad_run.specs.declared.program.Architecture.TheVariants.{InScript, Text, Unreadable}
-use Rattle.fpgad_run.specs.declared.item.Item.{Item}
+use Rattle.fpgad_run.specs.declared.act.Act.{Act}
 use Rattle.line_text.specs.Lines.{physical_lines}
-use Rattle.fpgad_run.specs.Lines.{ends_text}
-use Rattle.fpgad_run.specs.Script.{Items, items_from, script_of}
+use Rattle.fpgad_run.specs.Texts.{bytes_ahead}
+use Rattle.fpgad_run.specs.Script.{Acts, acts_from, script_of}
 use Rattle.fpgad_run.specs.EndToEnd.{AreToldAlone}
 use Rattle.fpgad_run.specs.Run.{Stage, Telling, Tells, calls_of, written}
 
--- the architecture's text before the first line that is `.` alone, the number of the next line, and the lines from that one on
-abbrev pub head_of : ℕ → List (List ℕ) → Option (List ℕ × ℕ × List (List ℕ))
-head_of number [] = None
-head_of number (line ∷ lines) = if ends_text line then Some ([], number + 1, lines) else option_map (λ p. (line ++ 10 ∷ p.0, p.1, p.2)) (head_of (number + 1) lines)
-
--- private: a text is split so
-abbrev pub IsSplit : Option (List ℕ × ℕ × List (List ℕ)) → List ℕ → List ℕ → ℕ → List ℕ → Type 0
-IsSplit None text head number rest = (head ≡ text) × (rest ≡ [])
-IsSplit (Some split) text head number rest = (head ≡ split.0) × (number ≡ split.1) × (physical_lines rest ≡ split.2)
-
--- the architecture and the items, or the fault of the one before that of the other
+-- the architecture and the script's acts, or the fault of the one before that of the other
 abbrev pub Start : Type 0
-Start = Result (Arch × List (Item (List ℕ))) Outcome
+Start = Result (Arch × List (Act (List ℕ))) Outcome
 
-abbrev pub checked : Result Arch ArchFault → Items → Start
-checked (Err fault) items = Err (ArchRefused fault)
+abbrev pub checked : Result Arch ArchFault → Acts → Start
+checked (Err fault) acts = Err (ArchRefused fault)
 checked (Ok arch) (Err line) = Err (ScriptFault line)
-checked (Ok arch) (Ok items) = Ok (arch, items)
+checked (Ok arch) (Ok acts) = Ok (arch, acts)
 
--- with the architecture at the script's head; without a line that is `.` alone all of it is the architecture
-abbrev pub start_in : ℕ → List ℕ → Option (List ℕ × ℕ × List (List ℕ)) → Start
-start_in tracks input None = checked (arch_of input tracks) (Ok [])
-start_in tracks input (Some head) = checked (arch_of head.0 tracks) (items_from head.1 false head.2)
-
+-- an architecture at the script's head is the text ahead; without a line that ends it all of the input is
 abbrev pub start_of : ℕ → Architecture → List ℕ → Start
-start_of tracks InScript input = start_in tracks input (head_of 1 (physical_lines input))
+start_of tracks InScript input = checked (arch_of (unwrap_or (bytes_ahead (physical_lines input)) input) tracks) (acts_from 1 true (physical_lines input))
 start_of tracks (Text text) input = checked (arch_of text.now tracks) (script_of 1 input)
 start_of tracks Unreadable input = Err ArchUnreadable
 
 abbrev pub device_of : Options → Arch → Device
 device_of options arch = record { arch = arch; columns = options.columns; rows = options.rows }
 
--- the bytes are what a run of the items from the empty device writes. Each session's line is told what its tenancy is told alone, by
+-- the bytes are what a run of the acts from the empty device writes. Each session's line is told what its tenancy is told alone, by
 -- the service for a single user; of the run's calls so is each tenancy, and the strips are parted
 pub record IsReplies (options : Options) (start : Start) (output : List ℕ) : Type 0 where
   pub arch : Arch
-  pub items : List (Item (List ℕ))
-  pub begins : start ≡ Ok (arch, items)
+  pub acts : List (Act (List ℕ))
+  pub begins : start ≡ Ok (arch, acts)
   pub tellings : List Telling
   pub last : Stage
-  pub all : map (λ t. t.act) tellings ≡ map (λ item. item.act) items
+  pub all : map (λ t. t.act) tellings ≡ acts
   pub told : Tells (record { names = []; jobs = []; service = empty (device_of options arch) }) tellings last
   pub each_alone : AreToldAlone (device_of options arch) (record { names = []; jobs = []; service = empty (device_of options arch) }) [] tellings
   pub runs : Run (empty (device_of options arch)) (calls_of tellings) last.service

@@ -1,4 +1,4 @@
--- What the items of a script are answered, one after another.
+-- What the lines of a script are answered, one after another.
 use Rattle.std.specs.Prelude.{ℕ, ◌≡◌, ◌+◌, All, option_map, List, [], ◌∷◌, ◌++◌, length, codes, Result, Option, Some, None, if◌then◌else◌}
 use Rattle.std.specs.List.{flat_map}
 use Rattle.std.specs.Str.{bytes_eq}
@@ -14,8 +14,8 @@ use Rattle.sessions.specs.declared.steps.StepOutcome.{StepOutcome}
 use Rattle.sessions.specs.Steps.{MakesStep}
 use Rattle.sessions.specs.declared.told.Answer.{Answer}
 use Rattle.sessions.specs.SessionAnswer.{Asks}
-use Rattle.fpgad_run.specs.declared.item.Act.{Act}
-use Rattle.fpgad_run.specs.declared.item.Act.TheVariants.{Operator, Session}
+use Rattle.fpgad_run.specs.declared.act.Act.{Act}
+use Rattle.fpgad_run.specs.declared.act.Act.TheVariants.{Operator, Session}
 use Rattle.sessions.specs.SessionText.{answer_text}
 use Rattle.fpgad_run.specs.HeldJobs.{HeldList, PutsHeld, job_at, with_job, without_job}
 use Rattle.fpgad_run.specs.OperatorText.{admitted_text, evicted_text, last_id, list_text, names_after, outcome_text, refused_text, taken_text}

@@ -1,27 +1,22 @@
 -- What a script says, line by line.
-use Rattle.std.specs.Prelude.{ℕ, ◌≡◌, ◌+◌, List, [], ◌∷◌, length, drop, not, codes, Bool, true, false, ◌&&◌, ◌||◌, ◌==◌, nat_le, nat_lt, Option, Some, None, Result, Ok, Err, ⊤, if◌then◌else◌}
+use Rattle.std.specs.Prelude.{ℕ, ◌≡◌, ◌+◌, List, [], ◌∷◌, length, drop, not, codes, Bool, true, false, ◌&&◌, ◌||◌, ◌==◌, nat_le, nat_lt, Option, Some, None, option_map, Result, Ok, Err, ⊤, if◌then◌else◌}
 use Rattle.std.specs.Borrow.{Bor}
 use Rattle.std.specs.Char.{is_ascii_alphanumeric}
 use Rattle.std.specs.List.{list_all, position_or_len, before_first, after_first}
 use Rattle.std.specs.Str.{bytes_eq}
 use Rattle.fpgad_run.specs.declared.operator_line.OperatorLine.{OperatorLine}
 use Rattle.fpgad_run.specs.declared.operator_line.OperatorLine.TheVariants.{Admit, Evict, List as ListAll, Step, Take, Put}
-use Rattle.sessions.specs.declared.refusal.SessionRefusal.TheVariants.{UnfinishedUpload}
-use Rattle.sessions.specs.declared.line.SessionLine.{SessionLine}
-use Rattle.sessions.specs.declared.line.SessionLine.TheVariants.{Command, Refused}
-use Rattle.fpgad_run.specs.declared.item.Act.{Act}
-use Rattle.fpgad_run.specs.declared.item.Act.TheVariants.{Operator, Session}
-use Rattle.fpgad_run.specs.declared.item.Item.{Item}
-use Rattle.sessions.specs.declared.line.TextKind.{TextKind}
+use Rattle.fpgad_run.specs.declared.act.Act.{Act}
+use Rattle.fpgad_run.specs.declared.act.Act.TheVariants.{Operator, Session}
 use Rattle.sessions.specs.declared.line.LineForm.{LineForm}
 use Rattle.sessions.specs.declared.line.LineForm.TheVariants.{Asks as LineAsks, Begins as LineBegins}
-use Rattle.sessions.specs.SessionLines.{line_form, text_command}
+use Rattle.sessions.specs.SessionLines.{line_form}
 use Rattle.fpgad_run.specs.declared.form.Form.{Form}
 use Rattle.fpgad_run.specs.declared.form.Form.TheVariants.{Skipped, Faulty, Asks, Begins}
 use Rattle.fpgad_run.specs.declared.script.ScriptError.{ScriptError}
 use Rattle.fpgad_run.specs.declared.script.ScriptError.TheVariants.{NoMemory, Fault}
 use Rattle.line_text.specs.Lines.{physical_lines}
-use Rattle.fpgad_run.specs.Lines.{without_cr, ends_text, text_ahead, kept}
+use Rattle.sessions.specs.Items.{without_cr, ends_text, text_ahead, text_item}
 use Rattle.line_text.specs.Words.{is_blank, words_of}
 use Rattle.line_text.specs.Decimal.{decimal_of}
 
@@ -33,32 +28,21 @@ is_name_byte b = is_ascii_alphanumeric b || b == 95
 abbrev pub is_name : List ℕ → Bool
 is_name name = nat_lt 0 (length name) && nat_le (length name) 32 && list_all is_name_byte name
 
--- `op admit NAME WIDTH`
-abbrev pub admission : List ℕ → Option ℕ → Form (List ℕ)
-admission name None = Faulty
-admission name (Some width) = Asks (Operator (Admit name width))
+-- what the words after `op` ask, if they ask something
+abbrev pub operator_line : List (List ℕ) → Option (OperatorLine (List ℕ))
+operator_line (verb ∷ []) = if bytes_eq verb (codes "list") then Some ListAll else None
+operator_line (verb ∷ name ∷ []) =
+    if bytes_eq verb (codes "evict") && is_name name then Some (Evict name) else
+    if bytes_eq verb (codes "take") && is_name name then Some (Take name) else
+    if bytes_eq verb (codes "put") then option_map Put (decimal_of 32 name) else None
+operator_line (verb ∷ name ∷ number ∷ []) =
+    if bytes_eq verb (codes "admit") && is_name name then option_map (Admit name) (decimal_of 32 number) else
+    if bytes_eq verb (codes "step") && is_name name then option_map (Step name) (decimal_of 32 number) else None
+operator_line words = None
 
--- `op step NAME N`
-abbrev pub stepping : List ℕ → Option ℕ → Form (List ℕ)
-stepping name None = Faulty
-stepping name (Some count) = Asks (Operator (Step name count))
-
--- `op put J`
-abbrev pub putting : Option ℕ → Form (List ℕ)
-putting None = Faulty
-putting (Some number) = Asks (Operator (Put number))
-
--- the words after `op`
-abbrev pub operator_form : List (List ℕ) → Form (List ℕ)
-operator_form (verb ∷ []) = if bytes_eq verb (codes "list") then Asks (Operator ListAll) else Faulty
-operator_form (verb ∷ name ∷ []) =
-    if bytes_eq verb (codes "evict") && is_name name then Asks (Operator (Evict name)) else
-    if bytes_eq verb (codes "take") && is_name name then Asks (Operator (Take name)) else
-    if bytes_eq verb (codes "put") then putting (decimal_of 32 name) else Faulty
-operator_form (verb ∷ name ∷ number ∷ []) =
-    if bytes_eq verb (codes "admit") && is_name name then admission name (decimal_of 32 number) else
-    if bytes_eq verb (codes "step") && is_name name then stepping name (decimal_of 32 number) else Faulty
-operator_form words = Faulty
+abbrev pub operator_form : Option (OperatorLine (List ℕ)) → Form (List ℕ)
+operator_form None = Faulty
+operator_form (Some line) = Asks (Operator line)
 
 -- a line of that name's session
 abbrev pub session_form : List ℕ → LineForm → Form (List ℕ)
@@ -71,7 +55,7 @@ form_by [] rest = Skipped
 form_by (b ∷ name) rest =
     if b == 35 then Skipped else
     if b == 64 then (if is_name name then session_form name (line_form rest) else Faulty) else
-    if bytes_eq (b ∷ name) (codes "op") then operator_form (words_of rest) else Faulty
+    if bytes_eq (b ∷ name) (codes "op") then operator_form (operator_line (words_of rest)) else Faulty
 
 -- the blanks ahead of a line are not looked at
 abbrev pub without_blanks : List ℕ → List ℕ
@@ -84,46 +68,42 @@ form_in line = form_by (before_first is_blank (without_blanks line)) (after_firs
 abbrev pub form_of : List ℕ → Form (List ℕ)
 form_of line = form_in (without_cr line)
 
--- the command with its text, of which the first 1,048,577 bytes are kept, or the refusal of one that doesn't end
-abbrev pub text_line : TextKind → Option (List ℕ) → SessionLine
-text_line kind (Some text) = Command (text_command kind (kept text))
-text_line kind None = Refused UnfinishedUpload
+-- what the lines of a script ask, in order, or the number of the least faulty line
+abbrev pub Acts : Type 0
+Acts = Result (List (Act (List ℕ))) ℕ
 
-abbrev pub Items : Type 0
-Items = Result (List (Item (List ℕ))) ℕ
+abbrev pub with_act : Act (List ℕ) → Acts → Acts
+with_act act (Ok acts) = Ok (act ∷ acts)
+with_act act (Err fault) = Err fault
 
-abbrev pub with_item : ℕ → Act (List ℕ) → Items → Items
-with_item number act (Ok items) = Ok (record { line = number; act = act } ∷ items)
-with_item number act (Err fault) = Err fault
-
--- what a line of that number makes of the items after it
-abbrev pub with_line : ℕ → Form (List ℕ) → List (List ℕ) → Items → Items
+-- what a line of that number makes of the acts of the lines after it
+abbrev pub with_line : ℕ → Form (List ℕ) → List (List ℕ) → Acts → Acts
 with_line number Skipped lines rest = rest
 with_line number Faulty lines rest = Err number
-with_line number (Asks act) lines rest = with_item number act rest
-with_line number (Begins name kind) lines rest = with_item number (Session name (text_line kind (text_ahead lines))) rest
+with_line number (Asks act) lines rest = with_act act rest
+with_line number (Begins name kind) lines rest = with_act (Session name (text_item kind (text_ahead lines))) rest
 
 abbrev pub begins_text : Form (List ℕ) → Bool
 begins_text (Begins name kind) = true
 begins_text form = false
 
--- the items from the line of that number on, or the number of the least faulty line; the lines of a text are none of the script's
-abbrev pub items_from : ℕ → Bool → List (List ℕ) → Items
-items_from number within [] = Ok []
-items_from number true (line ∷ lines) = if ends_text line then items_from (number + 1) false lines else items_from (number + 1) true lines
-items_from number false (line ∷ lines) = with_line number (form_of line) lines (items_from (number + 1) (begins_text (form_of line)) lines)
+-- the acts of the lines, the first of which has that number; those of a text are none of the script's
+abbrev pub acts_from : ℕ → Bool → List (List ℕ) → Acts
+acts_from number within [] = Ok []
+acts_from number true (line ∷ lines) = acts_from (number + 1) (not (ends_text line)) lines
+acts_from number false (line ∷ lines) = with_line number (form_of line) lines (acts_from (number + 1) (begins_text (form_of line)) lines)
 
--- the items of a script whose first line has that number, or the number of its least faulty line
-abbrev pub script_of : ℕ → List ℕ → Items
-script_of number text = items_from number false (physical_lines text)
+-- the acts of a script whose first line has that number
+abbrev pub script_of : ℕ → List ℕ → Acts
+script_of number text = acts_from number false (physical_lines text)
 
 -- a reader of that script may answer this
-abbrev pub Gives : Items → Result (List (Item (List ℕ))) ScriptError → Type 0
-Gives meant (Ok items) = meant ≡ Ok items
+abbrev pub Gives : Acts → Result (List (Act (List ℕ))) ScriptError → Type 0
+Gives meant (Ok acts) = meant ≡ Ok acts
 Gives meant (Err (Fault number)) = meant ≡ Err number
 Gives meant (Err NoMemory) = ⊤
 
--- what a name or an item is without where it lies in memory
+-- what a name or an act is without where it lies in memory
 abbrev pub named_operator : OperatorLine (Bor (List ℕ)) → OperatorLine (List ℕ)
 named_operator (Admit name width) = Admit name.now width
 named_operator (Evict name) = Evict name.now
@@ -141,6 +121,3 @@ named_form Skipped = Skipped
 named_form Faulty = Faulty
 named_form (Asks act) = Asks (named_act act)
 named_form (Begins name kind) = Begins name.now kind
-
-abbrev pub named_item : Item (Bor (List ℕ)) → Item (List ℕ)
-named_item item = record { line = item.line; act = named_act item.act }

@@ -9,7 +9,7 @@ use Rattle.sessions.specs.SessionText.{answer_text}
 use Rattle.fpgad_run.specs.declared.program.Running.{Running}
 use Rattle.fpgad_run.specs.declared.sections.Sections.{Sections}
 use Rattle.fpgad_run.specs.Held.{held}
-use Rattle.fpgad_run.specs.declared.item.Act.{Act}
+use Rattle.fpgad_run.specs.declared.act.Act.{Act}
 use Rattle.fpgad_run.specs.Run.{Stage, Section, IsAnswered, output_of, told_operator, told_session, with_text}
 use Rattle.fpgad_run.specs.Zipped.{zipped}
 

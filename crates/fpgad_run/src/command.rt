@@ -1,4 +1,4 @@
-ghost use Rattle.fpgad_run.specs.Commands.{Runs};
+ghost use Rattle.fpgad_run.specs.Commands.{Runs, RunsWords};
 
 use crate::options::{CommandLine, read_options};
 use crate::outcome::Outcome;
@@ -17,7 +17,9 @@ pub fn run_words<H: Files + AllocGlobal, S: AsStr, R: Source, W: Sink>(
     words: &[S],
     reader: &mut R,
     writer: &mut W,
-) -> Result<Outcome, Error> {
+) -> Result<Outcome, Error>
+    ensures { RunsWords (R.remaining reader.old) result (W.contents writer.old) (W.contents writer.new) }
+{
     match read_options(rt.alloc(), words) {
         Ok(line) => Ok(run_line(rt, &line, reader, writer)),
         Err(error) if error.kind() == ErrorKind::OutOfMemory => Ok(Outcome::NoMemory),

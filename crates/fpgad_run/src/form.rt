@@ -1,11 +1,11 @@
-ghost use Rattle.std.specs.Prelude.{◌≡◌, IfOk};
-ghost use Rattle.fpgad_run.specs.Script.{form_by, form_in, named_form, session_form};
+//! What a line of a script is.
+ghost use Rattle.std.specs.Prelude.{◌≡◌, drop, option_map, IfOk};
+ghost use Rattle.fpgad_run.specs.Script.{form_by, form_in, named_form, named_operator, operator_form, session_form};
 
-use crate::item::Act;
+use crate::act::Act;
 use crate::names::is_name;
-use crate::operator_line::operator_form;
-use crate::words::{split_word, without_blanks};
-use line_text::append_words;
+use crate::operator_line::{OperatorLine, operator_line};
+use line_text::{append_words, is_word, skip_blanks, split_word};
 use sessions::{LineForm, TextKind, read_line};
 use std::alloc::AllocError;
 
@@ -27,8 +27,18 @@ pub(crate) fn form_of<'t>(
 ) -> Result<Form<&'t [u8]>, AllocError>
     ensures { IfOk result (λ form. named_form form ≡ form_in line.now) }
 {
-    let (first, rest) = split_word(without_blanks(line));
-    form_by(words, first, rest)
+    let (first, rest) = split_word(skip_blanks(line));
+    form_by(words, first, behind_blank(rest))
+}
+
+/// The bytes behind the blank that they begin with.
+fn behind_blank(bytes: &[u8]) -> &[u8]
+    ensures { result.now ≡ drop 1 bytes.now }
+{
+    match bytes.split_first() {
+        Some((_, rest)) => rest,
+        None => bytes,
+    }
 }
 
 /// The same, by the first word and what stands after it and one blank.
@@ -49,12 +59,12 @@ fn form_by<'t>(
         }
         return Ok(session_form(name, read_line(words, rest)?));
     }
-    if first != b"op".as_slice() {
+    if !is_word(first, "op") {
         return Ok(Form::Faulty);
     }
     words.clear();
     append_words(words, rest)?;
-    Ok(operator_form(words))
+    Ok(operator_form(operator_line(words)))
 }
 
 /// What a line of that name's session is.
@@ -64,5 +74,15 @@ fn session_form<'t>(name: &'t [u8], line: LineForm) -> Form<&'t [u8]>
     match line {
         LineForm::Asks(line) => Form::Asks(Act::Session(name, line)),
         LineForm::Begins(kind) => Form::Begins(name, kind),
+    }
+}
+
+/// What a line of the operator is.
+fn operator_form<'t>(line: Option<OperatorLine<&'t [u8]>>) -> Form<&'t [u8]>
+    ensures { named_form result ≡ operator_form (option_map named_operator line.entry) }
+{
+    match line {
+        Some(line) => Form::Asks(Act::Operator(line)),
+        None => Form::Faulty,
     }
 }

@@ -2,7 +2,7 @@ ghost use Rattle.std.specs.Prelude.{◌≡◌, ◌+◌, [], List, length, option
 ghost use Rattle.job_state.specs.Job.{JobState};
 ghost use Rattle.service_core.specs.Calls.{IsTaken};
 ghost use Rattle.service_core.specs.Run.{Call, Run};
-ghost use Rattle.fpgad_run.specs.HeldJobs.{PutsHeld, job_at, with_job, without_job};
+ghost use Rattle.fpgad_run.specs.HeldJobs.{PutsHeld, give_backs, job_at, with_job, without_job};
 
 use job_state::AnyJob;
 use service_core::Core;
@@ -73,8 +73,10 @@ impl HeldJobs {
         self.jobs[number as usize - 1].take()
     }
 
-    /// Gives back all that are held.
-    pub(crate) fn give_back(self, core: &mut Core) {
+    /// Gives back all that are held, the last one first.
+    pub(crate) fn give_back(self, core: &mut Core)
+        ensures { Run core.old (give_backs self) core.new }
+    {
         let HeldJobs { mut jobs } = self;
         while let Some(held) = jobs.pop() {
             if let Some(job) = held {

@@ -4,14 +4,13 @@
 //! - `run_script` reads a script, checks it whole, serves it in order and writes the replies: the operator's, then each
 //!   session's. `Outcome` tells how it ended, by a status and a message.
 //! - In `specs/`, `Script` says what a script says, `OperatorText` how the operator's answers are spelled, `Run` what the
-//!   items of a script are answered, and `Program` what is written and how a run ends.
+//!   acts of a script are answered, and `Program` what is written and how a run ends.
 #![tactic(auto)]
 
+mod act;
 mod command;
 mod form;
 mod held_jobs;
-mod item;
-mod lines;
 mod names;
 mod operator;
 mod operator_line;
@@ -20,10 +19,10 @@ mod outcome;
 mod program;
 mod script;
 mod sections;
-mod words;
+mod texts;
 
+pub use act::Act;
 pub use command::{run_line, run_words};
-pub use item::{Act, Item};
 pub use operator_line::OperatorLine;
 pub use options::{CommandLine, Options, read_options};
 pub use outcome::Outcome;

@@ -3,14 +3,14 @@ ghost use Rattle.arch_file.specs.Arch.{IsArch, arch_of};
 ghost use Rattle.fpgad_run.specs.Script.{named_act, script_of};
 ghost use Rattle.fpgad_run.specs.Program.{Decides, IsReplies, Replies, Writes, checked, start_of};
 
+use crate::act::Act;
 use crate::held_jobs::HeldJobs;
-use crate::item::{Act, Item};
-use crate::lines::split_architecture;
 use crate::operator::Operator;
 use crate::options::Options;
 use crate::outcome::Outcome;
 use crate::script::{Script, ScriptError, read_script};
 use crate::sections::{Sections, push_section};
+use crate::texts::cut_text;
 use arch_file::{Arch, ArchError, read_arch};
 use line_text::{MemorySink, ReadError, Sink, Source, read_all, write_all};
 use service_core::{Core, Device, headline};
@@ -91,10 +91,10 @@ fn replies(
     ensures { Replies options.now (start_of options.now.tracks architecture.entry input.now) result }
 {
     match architecture {
-        Architecture::InScript => {
-            let (head, number, rest) = split_architecture(input);
-            begin(alloc, options, head, number, rest)
-        }
+        Architecture::InScript => match cut_text(input, 1) {
+            Some(cut) => begin(alloc, options, cut.ahead, cut.number, cut.rest),
+            None => begin(alloc, options, input, 1, b""),
+        },
         Architecture::Text(text) => begin(alloc, options, text, 1, input),
         Architecture::Unreadable => Err(Outcome::ArchUnreadable),
     }
@@ -127,7 +127,7 @@ fn begin(
     }
 }
 
-/// Serves the items of a script in order, from an empty device.
+/// Serves a script in order, from an empty device.
 fn serve(
     alloc: Global,
     options: &Options,
@@ -180,15 +180,13 @@ impl<'t> Running<'t> {
         }
     }
 
-    /// Serves the items of a script in order, and gives all that was told.
+    /// Serves a script in order, and gives all that was told.
     fn serve_all(&mut self, alloc: Global, script: Script<'t>) -> Result<Vec<u8>, AllocError>
         requires { Begins self.old.core self.old }
         ensures { (options : Options) (arch : Arch) → self.old.core ≡ empty (device_of options arch) → IfOk result (λ output. IsReplies options (Ok (arch, script.entry)) output.items) }
     {
-        let mut items = script.into_items();
-        items.reverse();
-        while let Some(item) = items.pop() {
-            self.serve(item)?;
+        for act in script.into_acts() {
+            self.serve(act)?;
         }
         headline();
         end_to_end();
@@ -211,12 +209,11 @@ impl<'t> Running<'t> {
         drop(sections);
     }
 
-    /// Serves one item.
-    fn serve(&mut self, item: Item<&'t [u8]>) -> Result<(), AllocError>
+    /// Serves one act.
+    fn serve(&mut self, act: Act<&'t [u8]>) -> Result<(), AllocError>
         requires { IsEven self.old }
-        ensures { OnOk result (Serves self.old (named_act item.entry.act) self.new) }
+        ensures { OnOk result (Serves self.old (named_act act.entry) self.new) }
     {
-        let Item { line: _, act } = item;
         match act {
             Act::Operator(line) => {
                 self.operator.serve(
