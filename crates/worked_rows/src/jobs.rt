@@ -1,26 +1,9 @@
 //! Jobs that are taken and come back: late, twice, after an eviction, or not at all.
+use crate::chain::NET;
 use crate::runs::{assert_writes, written_by};
 use fixtures::AND;
 use std::alloc::{AllocError, Global};
 use std::test::Fail;
-
-/// The `.net` file of the tenants' netlist, as it is told.
-const NET: &str = "\
-text net 119
-.input a
-pinlist: a
-
-.input b
-pinlist: b
-
-.output out:f
-pinlist: f
-
-.clb f
-pinlist: a b f open
-subblock: f 0 1 2 open
-
-";
 
 /// Lines that begin the packing of the tenants' netlist, in the state Empty.
 fn packing(alloc: Global, name: &str) -> Result<String, AllocError> {

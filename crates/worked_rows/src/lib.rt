@@ -10,6 +10,7 @@
 //! - `layouts`: where tenancies are admitted, and why not.
 //! - `session_lines`: lines that are repeated, unknown, awkward or cut short.
 //! - `packing`: circuits that are packed, with their `.net` files.
+//! - `placing`, `routing`: circuits that are placed and routed, with their `.place` and `.route` files, and what doesn't fit.
 //! - `many_elements`: a circuit of forty logic elements.
 //! - `jobs`: jobs that are taken, and come back late, twice or after an eviction.
 //! - `journals`: full journals, beside a neighbour that goes on, and while a job is out.
@@ -26,6 +27,8 @@
 mod accepted_netlists;
 #[cfg(test)]
 mod beginnings;
+#[cfg(test)]
+mod chain;
 #[cfg(test)]
 mod devices;
 #[cfg(test)]
@@ -45,7 +48,11 @@ mod options;
 #[cfg(test)]
 mod packing;
 #[cfg(test)]
+mod placing;
+#[cfg(test)]
 mod refused_netlists;
+#[cfg(test)]
+mod routing;
 #[cfg(test)]
 mod runs;
 #[cfg(test)]

@@ -40,7 +40,12 @@ pub(crate) fn changed(
 
 /// A device of so many columns and one row, with two tracks in each channel.
 pub(crate) fn device_of(columns: u32) -> Result<Options, Fail> {
-    Ok(Options::new(2, columns, 1).ok_or("the device is above the limits")?)
+    device_with(2, columns)
+}
+
+/// A device with so many tracks in each channel, of so many columns and one row.
+fn device_with(tracks: u32, columns: u32) -> Result<Options, Fail> {
+    Ok(Options::new(tracks, columns, 1).ok_or("the device is above the limits")?)
 }
 
 /// What those lines write on a device of so many columns.
@@ -49,23 +54,22 @@ pub(crate) fn written_by<H: Abort + AllocGlobal>(
     columns: u32,
     lines: &str,
 ) -> Result<Vec<u8>, Fail> {
-    written_on(rt, ARCHITECTURE, columns, lines)
+    written_on(rt, ARCHITECTURE, &device_of(columns)?, lines)
 }
 
-/// What those lines write on a device of that architecture, with so many columns.
+/// What those lines write on that device, of that architecture.
 fn written_on<H: Abort + AllocGlobal>(
     rt: &H,
     architecture: &str,
-    columns: u32,
+    options: &Options,
     lines: &str,
 ) -> Result<Vec<u8>, Fail> {
     let script = script_on(rt.alloc(), architecture, lines)?;
     let mut source = MemorySource::new(script.as_slice());
     let mut sink = MemorySink::new(rt.alloc());
-    let options = device_of(columns)?;
     let outcome = run_script(
         rt.alloc(),
-        &options,
+        options,
         Architecture::InScript,
         &mut source,
         &mut sink,
@@ -95,7 +99,20 @@ pub(crate) fn assert_writes_on<H: Abort + AllocGlobal>(
     lines: &str,
     expected: &str,
 ) -> Result<(), Fail> {
-    let written = written_on(rt, architecture, columns, lines)?;
+    let written = written_on(rt, architecture, &device_of(columns)?, lines)?;
+    assert_eq!(rt; std::str::from_utf8(written.as_slice())?, expected);
+    Ok(())
+}
+
+/// Compares what those lines write on a device of that architecture, with one column and so many tracks in each channel.
+pub(crate) fn assert_writes_by<H: Abort + AllocGlobal>(
+    rt: &H,
+    architecture: &str,
+    tracks: u32,
+    lines: &str,
+    expected: &str,
+) -> Result<(), Fail> {
+    let written = written_on(rt, architecture, &device_with(tracks, 1)?, lines)?;
     assert_eq!(rt; std::str::from_utf8(written.as_slice())?, expected);
     Ok(())
 }

@@ -24,6 +24,7 @@ op admit T 1
 @T fly
 @T pack
 op step T 1
+@T place 1 101
 @T cancel
 @T status
 @T upload
@@ -76,9 +77,10 @@ finished
 == T
 ok Loaded
 refused 3 WrongState Loaded
-line 1 UnknownCommand
+line 2 BadNumber
 line 1 UnknownCommand
 ok Packing
+refused 7 BadEffort
 refused 3 WrongState Packed
 status Packed 0
 line 3 UnfinishedUpload
