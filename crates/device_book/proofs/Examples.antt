@@ -3,7 +3,8 @@ use Rattle.std.proofs.Common.{◌≡◌, [], ◌∷◌, None, refl, false, true}
 use Rattle.rr_graph.specs.declared.resource.ResourceKind.TheVariants.{Opin, Pad}
 use Rattle.rr_graph.specs.declared.resource.Resource.{Resource}
 use Rattle.device_book.specs.declared.book.Extent.{Extent}
-use Rattle.device_book.specs.Owners.{has, in_book, nobody, number_of, owner_of, size_of}
+use Rattle.rr_graph.specs.Resources.{has}
+use Rattle.device_book.specs.Owners.{in_book, nobody, number_of, owner_of, size_of}
 
 -- one column, one row, numbers 0 to 3
 abbrev small : Extent

@@ -10,9 +10,9 @@ use Rattle.std.proofs.lemmas.List.Folds.{list_any_more}
 use Rattle.rr_graph.specs.declared.resource.ResourceKind.{ResourceKind}
 use Rattle.rr_graph.specs.declared.resource.ResourceKind.TheVariants.{Opin, Ipin, ChanX, ChanY, Pad}
 use Rattle.rr_graph.specs.declared.resource.Resource.{Resource}
-use Rattle.rr_graph.specs.Resources.{IsEarlier, resource_rank}
+use Rattle.rr_graph.specs.Resources.{IsEarlier, has, is_same, resource_rank}
 use Rattle.device_book.specs.declared.book.Extent.{Extent}
-use Rattle.device_book.specs.Owners.{AreOwned, has, owner_of, in_book, is_same, number_of, size_of}
+use Rattle.device_book.specs.Owners.{AreOwned, owner_of, in_book, number_of, size_of}
 
 pub rank_below : (kind : ResourceKind) → resource_rank kind < 5
 rank_below Opin = omega arith

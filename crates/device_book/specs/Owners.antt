@@ -1,9 +1,8 @@
 -- Who owns which resource of a device.
-use Rattle.std.specs.Prelude.{ℕ, ◌≡◌, ◌+◌, ◌*◌, ◌≤◌, List, length, replicate, Bool, ◌&&◌, ◌==◌, nat_le, nat_lt, max, Option, Some, None, if◌then◌else◌, slice_index_or, AllPairs, Contains, ◌↔◌}
-use Rattle.std.specs.List.{list_any}
+use Rattle.std.specs.Prelude.{ℕ, ◌≡◌, ◌+◌, ◌*◌, ◌≤◌, List, length, replicate, Bool, ◌&&◌, nat_le, nat_lt, max, Option, Some, None, if◌then◌else◌, slice_index_or, AllPairs, Contains, ◌↔◌}
 use Rattle.arch_file.specs.declared.arch.Arch.{Arch}
 use Rattle.rr_graph.specs.declared.resource.Resource.{Resource}
-use Rattle.rr_graph.specs.Resources.{IsEarlier, resource_rank}
+use Rattle.rr_graph.specs.Resources.{IsEarlier, has, resource_rank}
 use Rattle.device_book.specs.declared.book.Extent.{Extent}
 use Rattle.device_book.specs.declared.book.Owned.{Owned}
 
@@ -38,14 +37,6 @@ owner_of book resource = if in_book book.extent resource then slice_index_or boo
 
 abbrev pub IsFree : Owners → Resource → Type 0
 IsFree book resource = owner_of book resource ≡ None
-
--- two are the same
-abbrev pub is_same : Resource → Resource → Bool
-is_same a b = (a.x == b.x) && ((resource_rank a.kind == resource_rank b.kind) && ((a.y == b.y) && (a.n == b.n)))
-
--- the resource is one of those
-abbrev pub has : List Resource → Resource → Bool
-has resources resource = list_any (is_same resource) resources
 
 -- those and no others have that owner now
 abbrev pub AreOwned : Owners → List Resource → Option ℕ → Owners → Type 0

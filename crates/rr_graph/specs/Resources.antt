@@ -1,5 +1,6 @@
 -- What of a device a circuit holds: pins, wires and pads, and their order.
-use Rattle.std.specs.Prelude.{ℕ, ◌≡◌, ◌+◌, ◌<◌, ◌⊎◌, ◌&&◌, nat_le, nat_lt, Bool, Option, Some, None, option_map}
+use Rattle.std.specs.Prelude.{ℕ, ◌≡◌, ◌+◌, ◌<◌, ◌⊎◌, ◌&&◌, ◌==◌, nat_le, nat_lt, List, Bool, Option, Some, None, option_map}
+use Rattle.std.specs.List.{list_any}
 use Rattle.arch_file.specs.declared.arch.Arch.{Arch}
 use Rattle.grid.specs.declared.Strip.{Strip}
 use Rattle.rr_graph.specs.declared.node.NodeKind.{NodeKind}
@@ -53,3 +54,11 @@ is_there arch strip resource = by_kind arch strip resource.kind resource.x resou
     by_kind arch strip ChanXHeld x y n = is_node arch strip (node_at x ChanX y n)
     by_kind arch strip ChanYHeld x y n = is_node arch strip (node_at x ChanY y n)
     by_kind arch strip Pad x y n = nat_le 1 x && (nat_le x strip.width && (is_pad_row strip y && nat_lt n strip.io_rat))
+
+-- two are the same
+abbrev pub is_same : Resource → Resource → Bool
+is_same a b = (a.x == b.x) && ((resource_rank a.kind == resource_rank b.kind) && ((a.y == b.y) && (a.n == b.n)))
+
+-- the resource is one of those
+abbrev pub has : List Resource → Resource → Bool
+has resources resource = list_any (is_same resource) resources
