@@ -7,8 +7,9 @@ use Rattle.std.proofs.lemmas.List.{ext_get_or, take-append-le, take_all}
 use Rattle.strip_place.specs.declared.net_box.NetBox.{NetBox}
 use Rattle.strip_place.specs.declared.point.Point.{Point}
 use Rattle.strip_place.specs.Nets.{AreTouched, net_at, times_on}
-use Rattle.strip_place.specs.Boxes.{AreBothRenewed, AreFewOf, boxed_length, box_at, length_after, reach_of, reached_length}
+use Rattle.strip_place.specs.Boxes.{AreBothRenewed, AreFewOf, StayDeep, boxed_length, box_at, length_after, reach_of, reached_length}
 use Rattle.strip_place.specs.Sides.{sides_of, sum_of}
+use Rattle.strip_place.proofs.Depth.{stay_back, stay_there}
 use Rattle.strip_place.proofs.Lengths.{box_sum}
 use Rattle.strip_place.specs.Wiring.{IsOnNone, IsWired, Wiring, nowhere, point_at, points_after}
 use Rattle.strip_place.proofs.Swaps.{exchanged_back, exchanged_points, grows, least_after, renewed_again, renewed_boxes}
@@ -79,6 +80,14 @@ module _ (nets touching : List (List ℕ)) (points : List Point) (boxes : List N
     touched = wired.touched;
     exact = renewed_again points (points_after points block other there) nets first second boxes told last total again wired.exact once twice;
   }
+
+  -- boxes that the two blocks are far from the sides of stay as they are, there and back
+  module _ (here_x : (point_at points block).x ≤ 65535) (here_y : (point_at points block).y ≤ 65535) (there_x : there.x ≤ 65535) (there_y : there.y ≤ 65535) where
+    pub deep_after_exchange : StayDeep (points_after points block other there) nets boxes (record { one = sides_of (point_at points block); other = sides_of there })
+    deep_after_exchange = stay_there points (points_after points block other there) nets block other (point_at points block) there (exchanged_points points block other there within inside differs) (known stood) here_x here_y there_x there_y boxes wired.exact
+
+    pub deep_back : (told : List NetBox) (total : ℕ) → AreBothRenewed (points_after points block other there) nets first second boxes told total → StayDeep points nets told (record { one = sides_of (point_at points block); other = sides_of there })
+    deep_back told total renewed = stay_back points (points_after points block other there) nets block other (point_at points block) there (exchanged_points points block other there within inside differs) (known stood) here_x here_y there_x there_y told (wired_after told total renewed).exact
 
   pub fits_is : (allowance : ℕ) → nat_le (reached_length (points_after points block other there) nets first + reached_length (points_after points block other there) nets second) (boxed_length boxes first + boxed_length boxes second + allowance)
       ≡ nat_le (sum_by (reach_of (points_after points block other there)) nets) (sum_by (reach_of points) nets + allowance)

@@ -120,7 +120,7 @@ exchanged_back old new block other from to there are = record {
   kept = λ k ne nor. are.kept k nor ne;
 }
 
-swapped : (f : Point → ℕ) → f nowhere ≡ 0 → (old new : List Point) (block other : ℕ) (from to : Point) → AreExchanged old new block other from to → HaveSwapped (map f old) (map f new) block other (f from) (f to)
+pub swapped : (f : Point → ℕ) → f nowhere ≡ 0 → (old new : List Point) (block other : ℕ) (from to : Point) → AreExchanged old new block other from to → HaveSwapped (map f old) (map f new) block other (f from) (f to)
 swapped f none old new block other from to are = record {
   differs = are.differs;
   stood = coordinate_at f old block none ∙ ap f are.stood;

@@ -1,6 +1,7 @@
 -- Private: the boxes of nets whose blocks stand at points.
 use Rattle.std.specs.Prelude.{ℕ, ◌≡◌, ◌≢◌, ◌+◌, ◌-◌, ◌*◌, ◌<◌, ◌≤◌, ◌==◌, List, length, map, take, sum_by, slice_index, if◌then◌else◌}
 use Rattle.std.specs.List.{slice_index_or}
+use Rattle.strip_place.specs.declared.boxes.Exchanged.{Exchanged}
 use Rattle.strip_place.specs.declared.net_box.NetBox.{NetBox}
 use Rattle.strip_place.specs.declared.point.Point.{Point}
 use Rattle.strip_place.specs.declared.sides.Sides.{Sides}
@@ -61,6 +62,13 @@ half_after box from to = 131070 - sum_of (nearer (rest_of box from) to)
 abbrev pub met : NetBox → Sides → NetBox
 met box block = record { near = nearer block box.near; next = nearer box.next (farther box.near block) }
 
+-- a block that is so far from the sides is farther than the two that are near each
+pub record IsDeep (box : NetBox) (block : Sides) : Type 0 where
+  pub left : box.next.left < block.left
+  pub right : box.next.right < block.right
+  pub bottom : box.next.bottom < block.bottom
+  pub top : box.next.top < block.top
+
 -- the width plus the height of the box of a net whose blocks stand at these points
 abbrev pub reach_of : List Point → List ℕ → ℕ
 reach_of points net = spread (map (slice_index (columns_at points)) net) + spread (map (slice_index (rows_at points)) net)
@@ -107,3 +115,8 @@ pub record AreFewOf (count : ℕ) (touched : List ℕ) : Type 0 where
 pub record AreBoxes (points : List Point) (nets : List (List ℕ)) (boxes : List NetBox) : Type 0 where
   pub long : length boxes ≡ length nets
   pub exact : (number : ℕ) → number < length nets → IsBox points (net_at nets number) (box_at boxes number)
+
+-- the nets of whose boxes neither block that changed places is near a side have these boxes still
+abbrev pub StayDeep : List Point → List (List ℕ) → List NetBox → Exchanged → Type 0
+StayDeep points nets boxes moved =
+    (number : ℕ) → number < length nets → IsDeep (box_at boxes number) moved.one → IsDeep (box_at boxes number) moved.other → IsBox points (net_at nets number) (box_at boxes number)

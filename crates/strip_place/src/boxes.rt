@@ -1,6 +1,6 @@
 //! The boxes of all nets, and how long nets are by them.
-ghost use Rattle.std.specs.Prelude.{◌≡◌, ℕ, ◌*◌, ◌<◌, ◌≤◌, length};
-ghost use Rattle.strip_place.specs.Boxes.{AreBothRenewed, AreFewOf, AreRenewed, boxed_length, box_at, length_after};
+ghost use Rattle.std.specs.Prelude.{◌≡◌, ℕ, ◌*◌, ◌<◌, ◌≤◌, All, length};
+ghost use Rattle.strip_place.specs.Boxes.{AreBothRenewed, AreFewOf, AreRenewed, IsBox, IsDeep, StayDeep, boxed_length, box_at, length_after};
 ghost use Rattle.strip_place.specs.Nets.{AreNets};
 ghost use Rattle.strip_place.specs.Sides.{sum_of};
 
@@ -8,6 +8,9 @@ use crate::net_box::NetBox;
 use crate::point::Point;
 use crate::sides::Sides;
 use rows::Rows;
+
+/// A net of more blocks than this keeps its box where a draw moves blocks that are far from its sides.
+const FEW_BLOCKS: usize = 12;
 
 /// How long some nets are together, and how long they come to be at least.
 #[derive(Clone, Copy, Debug)]
@@ -38,35 +41,65 @@ pub(crate) fn weigh(boxes: &[NetBox], touched: &[u32], from: Sides, to: Sides) -
     lengths
 }
 
-/// Works out the boxes of the nets on two lists, and tells how long they are together.
+/// Where two blocks stood that changed places.
+#[derive(Clone, Copy, Debug)]
+pub(crate) struct Exchanged {
+    pub(crate) one: Sides,
+    pub(crate) other: Sides,
+}
+
+/// Works out the boxes of the nets on two lists once two blocks changed places, and tells how long they are together.
 pub(crate) fn renew_both(
     boxes: &mut [NetBox],
     nets: &Rows,
     points: &[Point],
     first: &[u32],
     second: &[u32],
+    moved: Exchanged,
 ) -> u64
     requires lawful { AreNets (length points.now) nets.now }
     requires long { length boxes.old ≡ length nets.now }
     requires first { AreFewOf (length nets.now) first.now }
     requires second { AreFewOf (length nets.now) second.now }
+    requires deep { StayDeep points.now nets.now boxes.old moved }
     ensures { AreBothRenewed points.now nets.now first.now second.now boxes.old boxes.new result }
 {
-    renew(boxes, nets, points, first) + renew(boxes, nets, points, second)
+    renew(boxes, nets, points, first, moved) + renew(boxes, nets, points, second, moved)
 }
 
 /// Works out the boxes of the nets of these numbers, and tells how long they are together.
-fn renew(boxes: &mut [NetBox], nets: &Rows, points: &[Point], touched: &[u32]) -> u64
+fn renew(
+    boxes: &mut [NetBox],
+    nets: &Rows,
+    points: &[Point],
+    touched: &[u32],
+    moved: Exchanged,
+) -> u64
     requires lawful { AreNets (length points.now) nets.now }
     requires long { length boxes.old ≡ length nets.now }
     requires touched { AreFewOf (length nets.now) touched.now }
+    requires deep { StayDeep points.now nets.now boxes.old moved }
     ensures { AreRenewed points.now nets.now touched.now (length touched.now) boxes.old boxes.new result }
 {
     let mut total = 0;
     for number in touched {
-        let found = NetBox::of(nets.row(*number as usize), points);
+        let stood = boxes[*number as usize];
+        let found = renewed(stood, nets.row(*number as usize), points, moved);
         boxes[*number as usize] = found;
         total += u64::from(found.half_perimeter());
     }
     total
+}
+
+/// The box of a net that had another one: the same where the net is large and the blocks that changed places are far from its sides.
+fn renewed(stood: NetBox, net: &[u32], points: &[Point], moved: Exchanged) -> NetBox
+    requires some { 0 < length net.now }
+    requires within { All (λ block. block < length points.now) net.now }
+    requires deep { IsDeep stood moved.one → IsDeep stood moved.other → IsBox points.now net.now stood }
+    ensures { IsBox points.now net.now result }
+{
+    if net.len() > FEW_BLOCKS && stood.is_deep(moved.one) && stood.is_deep(moved.other) {
+        return stood;
+    }
+    NetBox::of(net, points)
 }

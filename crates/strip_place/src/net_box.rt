@@ -1,7 +1,7 @@
 //! The box of a net.
-ghost use Rattle.std.specs.Prelude.{◌≡◌, ◌<◌, ◌≤◌, All, length};
+ghost use Rattle.std.specs.Prelude.{◌≡◌, ◌<◌, ◌≤◌, ⊤, All, MatchBool, length};
 ghost use Rattle.strip_place.specs.Sides.{sum_of};
-ghost use Rattle.strip_place.specs.Boxes.{IsBox, half_after, half_of, met, rest};
+ghost use Rattle.strip_place.specs.Boxes.{IsBox, IsDeep, half_after, half_of, met, rest};
 
 use crate::point::Point;
 use crate::sides::{FAR, Sides};
@@ -60,6 +60,16 @@ impl NetBox {
         }
         .nearer(to)
         .half_perimeter()
+    }
+
+    /// Whether a block that is so far from the sides is farther than the two that are near each.
+    pub(crate) fn is_deep(self, block: Sides) -> bool
+        ensures { MatchBool result (IsDeep self block) ⊤ }
+    {
+        self.next.left < block.left
+            && self.next.right < block.right
+            && self.next.bottom < block.bottom
+            && self.next.top < block.top
     }
 
     /// The box with one block more.

@@ -8,7 +8,7 @@ use Rattle.strip_place.specs.declared.sides.Sides.{Sides}
 use Rattle.strip_place.specs.Boxes.{AreBothRenewed, boxed_length, length_after, reached_length}
 use Rattle.strip_place.specs.Sides.{sides_of}
 use Rattle.strip_place.specs.Wiring.{IsOnNone, Wiring, length_of, nowhere, point_at, points_after, wiring_after}
-use Rattle.strip_place.proofs.Rewiring.{few_first, few_second, grown_is, kept_is, least_first, least_second, points_back, sums_small, whole_back, wired_after, wired_again, wiring_of}
+use Rattle.strip_place.proofs.Rewiring.{deep_after_exchange, deep_back, few_first, few_second, grown_is, kept_is, least_first, least_second, points_back, sums_small, whole_back, wired_after, wired_again, wiring_of}
 use Rattle.strip_place.proofs.wires.Wires.exchange_within.Goals as goal
 
 pub weigh-one-requires-clause-touched : goal.weigh-one-requires-clause-touched
@@ -182,6 +182,27 @@ renew_both-requires-clause-second c =
     let second : get_or w.touching c.args.other [] ≡ two = get_or_from_slice_get w.touching c.args.other two [] c.row-second.ensures in
     few_second w.nets w.touching points w.boxes.items c.args.block c.args.other c.args.there one two c.self.invariant within inside c.requires.differs stood first second
 
+pub renew_both-requires-clause-deep : goal.renew_both-requires-clause-deep
+renew_both-requires-clause-deep c =
+    let w = c.self.inside in
+    let points = w.points.items in
+    let view : wiring_of w.nets points ≡ c.args.self.now = c.self.view_is in
+    let same : points ≡ c.args.self.now.points = ap (λ (v : Wiring). v.points) view in
+    let within : c.args.block < length points = rw same c.requires.block in
+    let inside : c.args.other < length points = rw same c.requires.other in
+    let stood : (point_at points c.args.other ≡ c.args.there) ⊎ IsOnNone w.nets c.args.other = subst (λ (v : Wiring). (point_at v.points c.args.other ≡ c.args.there) ⊎ IsOnNone v.nets c.args.other) (sym view) c.requires.stood in
+    let one = c.row-first.result.now in
+    let two = c.row-second.result.now in
+    let first : get_or w.touching c.args.block [] ≡ one = get_or_from_slice_get w.touching c.args.block one [] c.row-first.ensures in
+    let second : get_or w.touching c.args.other [] ≡ two = get_or_from_slice_get w.touching c.args.other two [] c.row-second.ensures in
+    let back : c.index-back.result.now ≡ point_at points c.args.block = get_or_read points c.args.block c.index-back.result.now within c.index-back.ensures nowhere in
+    let from : c.of-from.result ≡ sides_of (point_at points c.args.block) = c.of-from.ensures.value ∙ ap sides_of back in
+    let here_x : (point_at points c.args.block).x ≤ 65535 = subst (λ (p : Point). p.x ≤ 65535) back c.of-from.ensures.x in
+    let here_y : (point_at points c.args.block).y ≤ 65535 = subst (λ (p : Point). p.y ≤ 65535) back c.of-from.ensures.y in
+    let given : c.as_slice-3.result.now ≡ points_after points c.args.block c.args.other c.args.there = c.as_slice-3.ensures.value ∙ ap (λ (p : Point). set (set points c.args.block c.args.there) c.args.other p) back in
+    rw (given, c.as_mut_slice.ensures.value, from, c.of-to.ensures.value)
+    (deep_after_exchange w.nets w.touching points w.boxes.items c.args.block c.args.other c.args.there one two c.self.invariant within inside c.requires.differs stood first second here_x here_y c.of-to.ensures.x c.of-to.ensures.y)
+
 pub invariant_of-self : goal.invariant_of-self
 invariant_of-self c =
     let w = c.self.inside in
@@ -256,6 +277,35 @@ renew_both-requires-2-clause-second c =
     let first : get_or w.touching c.args.block [] ≡ one = get_or_from_slice_get w.touching c.args.block one [] c.row-first.ensures in
     let second : get_or w.touching c.args.other [] ≡ two = get_or_from_slice_get w.touching c.args.other two [] c.row-second.ensures in
     few_second w.nets w.touching points w.boxes.items c.args.block c.args.other c.args.there one two c.self.invariant within inside c.requires.differs stood first second
+
+pub renew_both-requires-2-clause-deep : goal.renew_both-requires-2-clause-deep
+renew_both-requires-2-clause-deep c =
+    let w = c.self.inside in
+    let points = w.points.items in
+    let view : wiring_of w.nets points ≡ c.args.self.now = c.self.view_is in
+    let same : points ≡ c.args.self.now.points = ap (λ (v : Wiring). v.points) view in
+    let within : c.args.block < length points = rw same c.requires.block in
+    let inside : c.args.other < length points = rw same c.requires.other in
+    let stood : (point_at points c.args.other ≡ c.args.there) ⊎ IsOnNone w.nets c.args.other = subst (λ (v : Wiring). (point_at v.points c.args.other ≡ c.args.there) ⊎ IsOnNone v.nets c.args.other) (sym view) c.requires.stood in
+    let one = c.row-first.result.now in
+    let two = c.row-second.result.now in
+    let first : get_or w.touching c.args.block [] ≡ one = get_or_from_slice_get w.touching c.args.block one [] c.row-first.ensures in
+    let second : get_or w.touching c.args.other [] ≡ two = get_or_from_slice_get w.touching c.args.other two [] c.row-second.ensures in
+    let back : c.index-back.result.now ≡ point_at points c.args.block = get_or_read points c.args.block c.index-back.result.now within c.index-back.ensures nowhere in
+    let from : c.of-from.result ≡ sides_of (point_at points c.args.block) = c.of-from.ensures.value ∙ ap sides_of back in
+    let here_x : (point_at points c.args.block).x ≤ 65535 = subst (λ (p : Point). p.x ≤ 65535) back c.of-from.ensures.x in
+    let here_y : (point_at points c.args.block).y ≤ 65535 = subst (λ (p : Point). p.y ≤ 65535) back c.of-from.ensures.y in
+    let after = points_after points c.args.block c.args.other c.args.there in
+    let raw : AreBothRenewed c.as_slice-3.result.now w.nets one two c.as_mut_slice.result.now c.renew_both.new.boxes c.renew_both.result = c.renew_both.ensures in
+    let given : c.as_slice-3.result.now ≡ after = c.as_slice-3.ensures.value ∙ ap (λ (p : Point). set (set points c.args.block c.args.there) c.args.other p) back in
+    let renewed : AreBothRenewed after w.nets one two w.boxes.items c.renew_both.new.boxes c.renew_both.result = rw (given, c.as_mut_slice.ensures.value) at raw in
+    let len_is : length w.boxes.items ≡ w.boxes.len = search rules in
+    let whole : take w.boxes.len (c.renew_both.new.boxes ++ drop (length c.renew_both.new.boxes) w.boxes.items) ≡ c.renew_both.new.boxes = whole_back w.boxes.len c.renew_both.new.boxes w.boxes.items (renewed.long ∙ len_is) in
+    let stands : c.index-stood.result.now ≡ point_at points c.args.other = get_or_read points c.args.other c.index-stood.result.now inside c.index-stood.ensures nowhere in
+    let here : set (set (set (set points c.args.block c.args.there) c.args.other c.index-back.result.now) c.args.block c.index-back.result.now) c.args.other c.index-stood.result.now ≡ points = rw (stands, back) (points_back points c.args.block c.args.other c.args.there c.requires.differs) in
+    let lent : c.as_mut_slice-2.result.now ≡ c.renew_both.new.boxes = c.as_mut_slice-2.ensures.value ∙ whole in
+    rw (c.as_slice-4.ensures.value ∙ here, lent, from, c.of-to.ensures.value)
+    (deep_back w.nets w.touching points w.boxes.items c.args.block c.args.other c.args.there one two c.self.invariant within inside c.requires.differs stood first second here_x here_y c.of-to.ensures.x c.of-to.ensures.y c.renew_both.new.boxes c.renew_both.result renewed)
 
 pub invariant_of-self-2 : goal.invariant_of-self-2
 invariant_of-self-2 c =
