@@ -1,5 +1,6 @@
 //! The files of circuits.
 use crate::circuits::{placed, route};
+use crate::texts::{AND_NET, AND_PLACES, AND_ROUTES, LATCH_NET, LATCH_ROUTES, ROUTES_TO_TWO_SINKS};
 use fixtures::AND;
 use line_text::{Failed, MemorySink, Sink};
 use std::alloc::Global;
@@ -36,74 +37,16 @@ fn route_file(alloc: Global, netlist: &str, seed: u64, iterations: u32) -> Resul
     Ok(sink.into_bytes())
 }
 
-const AND_PLACES: &str = "\
-Netlist file: t.net Architecture file: device.arch
-Array size: 1 x 1 logic blocks
-
-#block name x y subblk block number
-#---------- - - ------ ------------
-a 1 0 0 #0
-b 1 0 1 #1
-out:f 1 2 0 #2
-f 1 1 0 #3
-";
-
 #[test]
 fn whole_chain(rt: HostRuntime) -> Result<(), Fail> {
-    let net = "\
-.input a
-pinlist: a
-
-.input b
-pinlist: b
-
-.output out:f
-pinlist: f
-
-.clb f
-pinlist: a b f open
-subblock: f 0 1 2 open
-
-";
-    assert_eq!(rt; net_file(rt.alloc(), AND)?.as_slice(), net.as_bytes());
+    assert_eq!(rt; net_file(rt.alloc(), AND)?.as_slice(), AND_NET.as_bytes());
     assert_eq!(rt;
         place_file(rt.alloc(), AND, 7)?.as_slice(),
         AND_PLACES.as_bytes()
     );
-    let route = "\
-Array size: 1 x 1 logic blocks.
-
-Routing:
-
-Net 0 (a)
-
-SOURCE (1,0) Pad: 0
-OPIN (1,0) Pad: 0
-CHANX (1,0) Track: 1
-CHANY (0,1) Track: 1
-IPIN (1,1) Pin: 1
-SINK (1,1) Class: 0
-
-Net 1 (b)
-
-SOURCE (1,0) Pad: 1
-OPIN (1,0) Pad: 1
-CHANX (1,0) Track: 0
-IPIN (1,1) Pin: 0
-SINK (1,1) Class: 0
-
-Net 2 (f)
-
-SOURCE (1,1) Class: 1
-OPIN (1,1) Pin: 2
-CHANX (1,1) Track: 0
-IPIN (1,2) Pad: 0
-SINK (1,2) Pad: 0
-
-";
     assert_eq!(rt;
         route_file(rt.alloc(), AND, 7, 2)?.as_slice(),
-        route.as_bytes()
+        AND_ROUTES.as_bytes()
     );
     Ok(())
 }
@@ -135,54 +78,13 @@ Array size: 1 x 1 logic blocks
 #[test]
 fn table_read_by_latch_alone(rt: HostRuntime) -> Result<(), Fail> {
     let netlist = ".model r\n.inputs a c\n.outputs q\n.names a f\n1 1\n.latch f q re c 0\n";
-    let net = "\
-.global c
-
-.input a
-pinlist: a
-
-.input c
-pinlist: c
-
-.output out:q
-pinlist: q
-
-.clb q
-pinlist: a open q c
-subblock: q 0 open 2 3
-
-";
-    assert_eq!(rt; net_file(rt.alloc(), netlist)?.as_slice(), net.as_bytes());
-    let route = "\
-Array size: 1 x 1 logic blocks.
-
-Routing:
-
-Net 0 (a)
-
-SOURCE (1,0) Pad: 0
-OPIN (1,0) Pad: 0
-CHANX (1,0) Track: 0
-IPIN (1,1) Pin: 0
-SINK (1,1) Class: 0
-
-Net 1 (c): global net connecting:
-
-Block c (#1) at (1,0).
-Block q (#3) at (1,1).
-
-Net 2 (q)
-
-SOURCE (1,1) Class: 1
-OPIN (1,1) Pin: 2
-CHANX (1,1) Track: 0
-IPIN (1,2) Pad: 0
-SINK (1,2) Pad: 0
-
-";
+    assert_eq!(rt;
+        net_file(rt.alloc(), netlist)?.as_slice(),
+        LATCH_NET.as_bytes()
+    );
     assert_eq!(rt;
         route_file(rt.alloc(), netlist, 1, 1)?.as_slice(),
-        route.as_bytes()
+        LATCH_ROUTES.as_bytes()
     );
     Ok(())
 }
@@ -191,34 +93,9 @@ SINK (1,2) Pad: 0
 #[test]
 fn tree_with_two_sinks(rt: HostRuntime) -> Result<(), Fail> {
     let netlist = ".model s\n.inputs a\n.outputs a f\n.names a f\n1 1\n";
-    let route = "\
-Array size: 1 x 1 logic blocks.
-
-Routing:
-
-Net 0 (a)
-
-SOURCE (1,0) Pad: 0
-OPIN (1,0) Pad: 0
-CHANX (1,0) Track: 0
-IPIN (1,0) Pad: 1
-SINK (1,0) Pad: 1
-CHANX (1,0) Track: 0
-IPIN (1,1) Pin: 0
-SINK (1,1) Class: 0
-
-Net 1 (f)
-
-SOURCE (1,1) Class: 1
-OPIN (1,1) Pin: 2
-CHANX (1,1) Track: 0
-IPIN (1,2) Pad: 0
-SINK (1,2) Pad: 0
-
-";
     let written = route_file(rt.alloc(), netlist, 1, 1)?;
     assert_eq!(rt; written.len(), 318);
-    assert_eq!(rt; written.as_slice(), route.as_bytes());
+    assert_eq!(rt; written.as_slice(), ROUTES_TO_TWO_SINKS.as_bytes());
     Ok(())
 }
 
