@@ -6,8 +6,9 @@ use Rattle.std.proofs.lemmas.List.{append-nil, take_all}
 use Rattle.line_text.specs.Lines.{JoinedLine}
 use Rattle.arch_file.specs.declared.arch.Pin.{Pin}
 use Rattle.arch_file.specs.declared.draft.Draft.{Draft}
-use Rattle.arch_file.specs.declared.draft.Refusal.{Refusal}
-use Rattle.arch_file.specs.declared.draft.Refusal.TheVariants.{Fault, NoMemory}
+use Rattle.line_text.specs.declared.text_error.TextError.{TextError}
+use Rattle.line_text.specs.declared.text_error.TextError.TheVariants.{NoMemory, Fault}
+use Rattle.arch_file.specs.declared.fault.ArchFaultKind.{ArchFaultKind}
 use Rattle.arch_file.specs.declared.fault.ArchFaultKind.TheVariants.{Unknown}
 use Rattle.arch_file.specs.declared.fault.Keyword.{Keyword}
 use Rattle.arch_file.specs.declared.fault.Keyword.TheVariants.{Segment}
@@ -92,7 +93,7 @@ reads_unread before number word words draft is unread follows = (
   lines_same draft before (record { number = number; words = word ∷ words }) (λ other. ap (λ k. cond (is_keyword other k) (Some words) None) is) (ap (λ k. pin_behind k words) is) follows,
 )
 
-pub reads_keyword : (before : List JoinedLine) (number : ℕ) (word : List ℕ) (words : List (List ℕ)) (keyword : Keyword) (result : Result (Unit {0}) Refusal) (draft : Draft) → keyword_of word ≡ Some keyword → ReadsKeyword before keyword words result draft → Reads before (record { number = number; words = word ∷ words }) result draft
+pub reads_keyword : (before : List JoinedLine) (number : ℕ) (word : List ℕ) (words : List (List ℕ)) (keyword : Keyword) (result : Result (Unit {0}) (TextError ArchFaultKind)) (draft : Draft) → keyword_of word ≡ Some keyword → ReadsKeyword before keyword words result draft → Reads before (record { number = number; words = word ∷ words }) result draft
 reads_keyword before number word words keyword (Ok done) draft is reads = (
   ap (λ k. first_word_faults before word k words) is ∙ reads.0,
   lines_more draft before (record { number = number; words = word ∷ words })

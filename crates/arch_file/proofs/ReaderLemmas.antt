@@ -7,8 +7,8 @@ use Rattle.std.proofs.lemmas.Option.{get_or_from_slice_get, slice_get_within}
 use Rattle.line_text.specs.declared.lines.TheConstants.{MAX_TEXT}
 use Rattle.line_text.specs.Lines.{JoinedLine, lines_of}
 use Rattle.arch_file.specs.declared.draft.Draft.{Draft}
-use Rattle.arch_file.specs.declared.draft.Refusal.{Refusal}
-use Rattle.arch_file.specs.declared.draft.Refusal.TheVariants as refusals
+use Rattle.line_text.specs.declared.text_error.TextError.{TextError}
+use Rattle.line_text.specs.declared.text_error.TextError.TheVariants.{NoMemory, Fault}
 use Rattle.arch_file.specs.Arch.{arch_of, arch_unless}
 use Rattle.arch_file.specs.Draft.{Reads, ReadsAll, error_at}
 use Rattle.arch_file.specs.declared.fault.ArchFaultKind.{ArchFaultKind}
@@ -129,9 +129,9 @@ least_end lines kind is =
     ap least_fault (sym (append-nil (found_at (length lines) 0 (end_faults lines)))) ∙ least_at (length lines) 0 (end_faults lines) kind [] tt is
 
 -- a line that is refused, of lines before which nothing is wrong
-pub reads_fault : (lines : List JoinedLine) (place : ℕ) (line : JoinedLine) (refusal : Refusal) (draft : Draft) → slice_get lines place ≡ Some line → Reads (take place lines) line (Err refusal) draft → faults_behind (take place lines) (drop place lines) ≡ faults_behind [] lines → ReadsAll lines (Err (error_at line.number refusal))
-reads_fault lines place line refusals.NoMemory draft found reads rest = reads
-reads_fault lines place line (refusals.Fault kind) draft found reads rest =
+pub reads_fault : (lines : List JoinedLine) (place : ℕ) (line : JoinedLine) (refusal : TextError ArchFaultKind) (draft : Draft) → slice_get lines place ≡ Some line → Reads (take place lines) line (Err refusal) draft → faults_behind (take place lines) (drop place lines) ≡ faults_behind [] lines → ReadsAll lines (Err (error_at line.number refusal))
+reads_fault lines place line NoMemory draft found reads rest = reads
+reads_fault lines place line (Fault kind) draft found reads rest =
     ap least_fault (sym rest) ∙ faults_behind-fault lines place line kind found reads
 
 -- a text whose lines are fine, and whose end isn't

@@ -1,13 +1,11 @@
 -- What an architecture text says: the architecture, or the least fault.
-use Rattle.std.specs.Prelude.{ℕ, ◌≡◌, ◌≤◌, List, [], true, All, Result, Ok, Err, ⊤, Option, Some, None, length, nat_lt, if◌then◌else◌}
+use Rattle.std.specs.Prelude.{ℕ, ◌≡◌, ◌≤◌, List, [], true, All, Result, Ok, Err, Option, Some, None, length, nat_lt, if◌then◌else◌}
 use Rattle.line_text.specs.Lines.{JoinedLine, lines_of}
 use Rattle.line_text.specs.declared.fault.LineFault.{LineFault}
 use Rattle.line_text.specs.declared.lines.TheConstants.{MAX_TEXT}
 use Rattle.arch_file.specs.declared.arch.Arch.{Arch}
 use Rattle.arch_file.specs.declared.fault.ArchFault.{ArchFault}
 use Rattle.arch_file.specs.declared.fault.ArchFaultKind.TheVariants.{OverLimit}
-use Rattle.arch_file.specs.declared.fault.ArchError.{ArchError}
-use Rattle.arch_file.specs.declared.fault.ArchError.TheVariants.{NoMemory, Fault}
 use Rattle.arch_file.specs.declared.fault.Keyword.TheVariants.{IoRat, SubblocksPerClb, SubblockLutSize, FcOutput, FcInput, FcPad}
 use Rattle.arch_file.specs.ArchFaults.{decimal_at, faults_behind, is_fractional, pins_of, whole_at}
 use Rattle.arch_file.specs.FaultLists.{least_fault}
@@ -60,9 +58,3 @@ arch_of_lines (Ok lines) tracks = arch_unless (least_fault (faults_behind [] lin
 unfoldable pub arch_of : List ℕ → ℕ → Result Arch ArchFault
 arch_of text tracks =
     if nat_lt MAX_TEXT (length text) then Err (record { line = 0; kind = OverLimit }) else arch_of_lines (lines_of text) tracks
-
--- a reader of that text may answer this
-abbrev pub Gives : Result Arch ArchFault → Result Arch ArchError → Type 0
-Gives meant (Ok arch) = (meant ≡ Ok arch) × IsArch arch
-Gives meant (Err (Fault fault)) = meant ≡ Err fault
-Gives meant (Err NoMemory) = ⊤

@@ -1,16 +1,16 @@
 -- Private: what the code keeps of the lines that it has read.
-use Rattle.std.specs.Prelude.{ℕ, ◌≡◌, ◌≤◌, ◌+◌, ◌||◌, Bool, true, false, List, [], ◌∷◌, ◌++◌, length, slice_index_or, Option, Some, None, is_some, nat_lt, All, ⊤, Result, Ok, Err, if◌then◌else◌}
+use Rattle.std.specs.Prelude.{ℕ, ◌≡◌, ◌≤◌, ◌+◌, ◌||◌, Bool, true, false, List, [], ◌∷◌, ◌++◌, length, slice_index_or, Option, Some, None, is_some, nat_lt, All, Result, Ok, Err, if◌then◌else◌}
 use Rattle.std.specs.Option.{option_or, option_to_list}
 use Rattle.line_text.specs.Lines.{JoinedLine}
+use Rattle.line_text.specs.TextErrors.{Fails}
+use Rattle.line_text.specs.declared.text_error.TextError.{TextError}
+use Rattle.line_text.specs.declared.text_error.TextError.TheVariants.{NoMemory, Fault}
 use Rattle.arch_file.specs.declared.arch.Arch.{Arch}
 use Rattle.arch_file.specs.declared.arch.Pin.{Pin}
 use Rattle.arch_file.specs.declared.draft.Draft.{Draft}
-use Rattle.arch_file.specs.declared.draft.Refusal.{Refusal}
-use Rattle.arch_file.specs.declared.draft.Refusal.TheVariants.{NoMemory, Fault}
-use Rattle.arch_file.specs.declared.fault.ArchError.{ArchError}
-use Rattle.arch_file.specs.declared.fault.ArchError.TheVariants as errors
 use Rattle.arch_file.specs.declared.fault.Keyword.{Keyword}
 use Rattle.arch_file.specs.declared.fault.Keyword.TheVariants.{IoRat, SubblocksPerClb, SubblockLutSize, FcType, FcOutput, FcInput, FcPad}
+use Rattle.arch_file.specs.declared.fault.ArchFault.{ArchFault}
 use Rattle.arch_file.specs.declared.fault.ArchFaultKind.{ArchFaultKind}
 use Rattle.arch_file.specs.Arch.{IsArch, arch_from}
 use Rattle.arch_file.specs.ArchFaults.{end_faults, faults_behind, faults_of, found_at, keyword_faults, pin_behind, pins_of, words_at}
@@ -86,31 +86,28 @@ abbrev pub found_with : (Keyword → Option (List (List ℕ))) → Keyword → L
 found_with found keyword words other = option_or (found other) (if same_keyword other keyword then Some words else None)
 
 -- what reading the words behind a keyword may answer, behind those lines
-abbrev pub ReadsKeyword : List JoinedLine → Keyword → List (List ℕ) → Result (Unit {0}) Refusal → Draft → Type 0
+abbrev pub ReadsKeyword : List JoinedLine → Keyword → List (List ℕ) → Result (Unit {0}) (TextError ArchFaultKind) → Draft → Type 0
 ReadsKeyword before keyword words (Ok done) new =
     (keyword_faults before keyword words ≡ [])
     × Follows new (found_with (λ other. words_at other before) keyword words) (pins_of before ++ option_to_list (pin_behind (Some keyword) words))
-ReadsKeyword before keyword words (Err (Fault kind)) new = least_kind (keyword_faults before keyword words) ≡ Some kind
-ReadsKeyword before keyword words (Err NoMemory) new = ⊤
+ReadsKeyword before keyword words (Err error) new = Fails (least_kind (keyword_faults before keyword words)) error
 
 -- what reading a line may answer, behind those lines
-abbrev pub Reads : List JoinedLine → JoinedLine → Result (Unit {0}) Refusal → Draft → Type 0
+abbrev pub Reads : List JoinedLine → JoinedLine → Result (Unit {0}) (TextError ArchFaultKind) → Draft → Type 0
 Reads before line (Ok done) new = (faults_of before line.words ≡ []) × FollowsLines new (before ++ line ∷ [])
-Reads before line (Err (Fault kind)) new = least_kind (faults_of before line.words) ≡ Some kind
-Reads before line (Err NoMemory) new = ⊤
+Reads before line (Err error) new = Fails (least_kind (faults_of before line.words)) error
 
 -- what the end of these lines may answer
 abbrev pub Ends : List JoinedLine → ℕ → Result Arch ArchFaultKind → Type 0
 Ends lines tracks (Ok arch) = (end_faults lines ≡ []) × (arch ≡ arch_from lines tracks) × IsArch arch
 Ends lines tracks (Err kind) = least_kind (end_faults lines) ≡ Some kind
 
--- a refusal at a line
-abbrev pub error_at : ℕ → Refusal → ArchError
-error_at line NoMemory = errors.NoMemory
-error_at line (Fault kind) = errors.Fault (record { line = line; kind = kind })
+-- why a line is not read, as an error of the text
+abbrev pub error_at : ℕ → TextError ArchFaultKind → TextError ArchFault
+error_at line NoMemory = NoMemory
+error_at line (Fault kind) = Fault (record { line = line; kind = kind })
 
 -- what reading these lines may answer
-abbrev pub ReadsAll : List JoinedLine → Result Draft ArchError → Type 0
+abbrev pub ReadsAll : List JoinedLine → Result Draft (TextError ArchFault) → Type 0
 ReadsAll lines (Ok draft) = FollowsLines draft lines × (faults_behind [] lines ≡ found_at (length lines) 0 (end_faults lines))
-ReadsAll lines (Err (errors.Fault fault)) = least_fault (faults_behind [] lines) ≡ Some fault
-ReadsAll lines (Err errors.NoMemory) = ⊤
+ReadsAll lines (Err error) = Fails (least_fault (faults_behind [] lines)) error

@@ -4,12 +4,8 @@ use Rattle.std.specs.Fmt.{decimal}
 use Rattle.arch_file.specs.declared.fault.ArchFault.{ArchFault}
 use Rattle.arch_file.specs.declared.fault.ArchFaultKind.{ArchFaultKind}
 use Rattle.arch_file.specs.declared.fault.ArchFaultKind.TheVariants.{Unknown, Repeated, Missing, BadNumber, NotProfile, BadClass, BadSide, OverLimit, NotAscii, LineTooLong}
-use Rattle.arch_file.specs.declared.fault.ArchError.{ArchError}
-use Rattle.arch_file.specs.declared.fault.ArchError.TheVariants.{NoMemory, Fault}
 use Rattle.line_text.specs.declared.fault.LineFault.{LineFault}
 use Rattle.line_text.specs.declared.fault.LineFault.TheVariants as line_faults
-use Rattle.line_text.specs.declared.fault.LineError.{LineError}
-use Rattle.line_text.specs.declared.fault.LineError.TheVariants as line_errors
 
 -- the number by which replies tell a kind of fault
 abbrev pub number_of : ArchFaultKind → ℕ
@@ -41,17 +37,7 @@ name_of LineTooLong = codes "LineTooLong"
 abbrev pub printed_fault : ArchFault → List ℕ
 printed_fault fault = decimal (number_of fault.kind) ++ codes " " ++ name_of fault.kind ++ codes " " ++ decimal fault.line
 
--- the fault, or that memory ran out
-abbrev pub printed_error : ArchError → List ℕ
-printed_error NoMemory = codes "memory"
-printed_error (Fault fault) = printed_fault fault
-
 -- a fault of the lines, as a fault of the text
 abbrev pub fault_of_lines : LineFault → ArchFault
 fault_of_lines (line_faults.NotAscii number) = record { line = number; kind = NotAscii }
 fault_of_lines (line_faults.LineTooLong number) = record { line = number; kind = LineTooLong }
-
--- why a text without lines has no architecture
-abbrev pub error_of_lines : LineError → ArchError
-error_of_lines line_errors.NoMemory = NoMemory
-error_of_lines (line_errors.Fault fault) = Fault (fault_of_lines fault)

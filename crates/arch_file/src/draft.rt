@@ -14,6 +14,7 @@ use crate::pin_line::pin_in;
 use crate::segment::check_segment;
 use crate::values::{self, FcType};
 use crate::words::{REQUIRED, is_unread, keyword_of};
+use line_text::TextError;
 use std::alloc::{AllocError, Global};
 
 /// Logic elements of a block.
@@ -24,43 +25,26 @@ const MAX_IO_RAT: u32 = 8;
 const MAX_LUT_SIZE: u32 = 8;
 
 /// Why a line isn't read.
-#[derive(Drop)]
-pub(crate) enum Refusal {
-    NoMemory,
-    Fault(ArchFaultKind),
-}
+pub(crate) type Refusal = TextError<ArchFaultKind>;
 
-impl Refusal {
-    /// The same at a line.
-    pub(crate) fn at(self, line: u32) -> ArchError
-        ensures { result ≡ error_at line self }
-    {
-        match self {
-            Refusal::NoMemory => ArchError::NoMemory,
-            Refusal::Fault(kind) => ArchError::Fault(ArchFault { line, kind }),
-        }
+/// The same at a line.
+pub(crate) fn at_line(refusal: Refusal, line: u32) -> ArchError
+    ensures { result ≡ error_at line refusal }
+{
+    match refusal {
+        TextError::NoMemory => TextError::NoMemory,
+        TextError::Fault(kind) => TextError::Fault(ArchFault { line, kind }),
     }
 }
 
-impl From<ArchFaultKind> for Refusal {
+impl From<ArchFaultKind> for TextError<ArchFaultKind> {
     ghost use Rattle.std.specs.Prelude.{◌≡◌};
-    ghost use Rattle.arch_file.specs.declared.draft.Refusal.TheVariants.{Fault};
+    ghost use Rattle.line_text.specs.declared.text_error.TextError.TheVariants.{Fault};
 
     ghost from_gives = { λ kind refusal. refusal ≡ Fault kind };
 
     fn from(kind: ArchFaultKind) -> Self {
-        Refusal::Fault(kind)
-    }
-}
-
-impl From<AllocError> for Refusal {
-    ghost use Rattle.std.specs.Prelude.{◌≡◌};
-    ghost use Rattle.arch_file.specs.declared.draft.Refusal.TheVariants.{NoMemory};
-
-    ghost from_gives = { λ _ refusal. refusal ≡ NoMemory };
-
-    fn from(_error: AllocError) -> Self {
-        Refusal::NoMemory
+        TextError::Fault(kind)
     }
 }
 

@@ -2,7 +2,7 @@
 ghost use Rattle.std.specs.Prelude.{◌≡◌};
 ghost use Rattle.arch_file.specs.Faults.{name_of, number_of};
 
-use line_text::{LineError, LineFault};
+use line_text::{LineFault, TextError};
 use std::fmt;
 use thiserror::Error;
 
@@ -126,43 +126,24 @@ impl fmt::Display for ArchFault {
 }
 
 /// Why a text has no architecture.
-#[derive(Clone, Copy, Debug, PartialEq, Eq, Error)]
-pub enum ArchError {
-    NoMemory,
-    Fault(ArchFault),
-}
+pub type ArchError = TextError<ArchFault>;
 
-impl fmt::Display for ArchError {
-    ghost use Rattle.std.specs.Prelude.{Some};
-    ghost use Rattle.arch_file.specs.Faults.{printed_error};
-
-    ghost output = { λ error. Some (printed_error error) };
-
-    fn fmt<W: fmt::Write>(&self, f: &mut fmt::Formatter<W>) -> fmt::Result {
-        match self {
-            ArchError::NoMemory => write!(f, "memory"),
-            ArchError::Fault(fault) => write!(f, "{fault}"),
-        }
-    }
-}
-
-impl From<LineError> for ArchError {
+impl From<LineFault> for ArchFault {
     ghost use Rattle.std.specs.Prelude.{◌≡◌};
-    ghost use Rattle.arch_file.specs.Faults.{error_of_lines};
+    ghost use Rattle.arch_file.specs.Faults.{fault_of_lines};
 
-    ghost from_gives = { λ lines error. error ≡ error_of_lines lines };
+    ghost from_gives = { λ lines fault. fault ≡ fault_of_lines lines };
 
-    fn from(error: LineError) -> Self {
-        match error {
-            LineError::NoMemory => ArchError::NoMemory,
-            LineError::Fault(LineFault::NotAscii(line)) => ArchError::Fault(ArchFault {
+    fn from(fault: LineFault) -> Self {
+        match fault {
+            LineFault::NotAscii(line) => ArchFault {
                 line,
                 kind: ArchFaultKind::NotAscii,
-            }),
-            LineError::Fault(LineFault::LineTooLong(line)) => ArchError::Fault(ArchFault {
+            },
+            LineFault::LineTooLong(line) => ArchFault {
                 line,
                 kind: ArchFaultKind::LineTooLong,
-            }),
+            },
         }
     }
 }

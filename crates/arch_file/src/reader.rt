@@ -1,10 +1,11 @@
 //! From the text to the architecture.
-ghost use Rattle.std.specs.Prelude.{◌≤◌};
-ghost use Rattle.arch_file.specs.Arch.{Gives, arch_of};
+ghost use Rattle.std.specs.Prelude.{◌≤◌, IfOk};
+ghost use Rattle.line_text.specs.TextErrors.{Gives};
+ghost use Rattle.arch_file.specs.Arch.{IsArch, arch_of};
 ghost use Rattle.arch_file.specs.Draft.{ReadsAll};
 
 use crate::arch::Arch;
-use crate::draft::Draft;
+use crate::draft::{Draft, at_line};
 use crate::fault::{ArchError, ArchFault, ArchFaultKind};
 use line_text::{Lines, MAX_TEXT, logical_lines};
 use std::alloc::Global;
@@ -17,7 +18,7 @@ fn read_lines(alloc: Global, lines: &Lines<'_>) -> Result<Draft, ArchError>
     for place in 0..lines.len() {
         let line = lines.line(place);
         if let Err(refusal) = draft.read(line.words) {
-            return Err(refusal.at(line.number));
+            return Err(at_line(refusal, line.number));
         }
     }
     Ok(draft)
@@ -30,7 +31,8 @@ fn read_lines(alloc: Global, lines: &Lines<'_>) -> Result<Draft, ArchError>
 pub fn read_arch(alloc: Global, text: &[u8], tracks: u32) -> Result<Arch, ArchError>
     requires few { 1 ≤ tracks }
     requires many { tracks ≤ 64 }
-    ensures { Gives (arch_of text.now tracks) result }
+    ensures gives { Gives (arch_of text.now tracks) result }
+    ensures lawful { IfOk result IsArch }
 {
     if text.len() > MAX_TEXT {
         return Err(ArchError::Fault(ArchFault {
@@ -38,7 +40,10 @@ pub fn read_arch(alloc: Global, text: &[u8], tracks: u32) -> Result<Arch, ArchEr
             kind: ArchFaultKind::OverLimit,
         }));
     }
-    let lines = logical_lines(alloc, text)?;
+    let lines = match logical_lines(alloc, text) {
+        Ok(lines) => lines,
+        Err(error) => return Err(error.told_as()),
+    };
     let draft = read_lines(alloc, &lines)?;
     match draft.finish(tracks) {
         Ok(arch) => Ok(arch),

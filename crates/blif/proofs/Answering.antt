@@ -1,21 +1,21 @@
 -- From the faults of the lines, and of the end, to the answer.
-use Rattle.std.proofs.Common.{◌≡◌, ℕ, ◌<◌, ◌≤◌, if◌then◌else◌, List, [], None, Result, Ok, Err, MatchResult, length, sym, ap, ◌∙◌}
+use Rattle.std.proofs.Common.{◌≡◌, ℕ, ◌<◌, ◌≤◌, if◌then◌else◌, List, [], None, Result, Ok, Err, MatchResult, IfOk, length, sym, ap, ◌∙◌}
 use Rattle.std.proofs.lemmas.Bool.Decides.{Decides-ltb}
 use Rattle.std.proofs.lemmas.Bool.{le-ltb}
-use Rattle.line_text.specs.Lines.{JoinedLine, lines_of, Gives as LinesGive}
-use Rattle.line_text.specs.declared.fault.LineError.{LineError}
-use Rattle.line_text.specs.declared.fault.LineError.TheVariants.{NoMemory as LineNoMemory, Fault as LineFaultError}
+use Rattle.line_text.specs.Lines.{JoinedLine, lines_of}
+use Rattle.line_text.specs.TextErrors.{Fails, Gives, IsToldAs}
+use Rattle.line_text.specs.declared.text_error.TextError.{TextError}
+use Rattle.line_text.specs.declared.text_error.TextError.TheVariants.{Fault, NoMemory}
 use Rattle.line_text.specs.declared.fault.LineFault.{LineFault}
 use Rattle.blif.specs.declared.circuit.Circuit.{Circuit}
 use Rattle.blif.specs.declared.fault.BlifFaultKind.TheVariants.{OverLimit}
-use Rattle.blif.specs.declared.fault.BlifError.{BlifError}
-use Rattle.blif.specs.declared.fault.BlifError.TheVariants.{Fault, NoMemory}
-use Rattle.blif.specs.Faults.{error_of_lines}
+use Rattle.blif.specs.declared.fault.BlifFault.{BlifFault}
+use Rattle.blif.specs.Faults.{fault_of_lines}
 use Rattle.blif.specs.LineOrder.{RisesFrom}
 use Rattle.blif.specs.Names.{first}
 use Rattle.blif.specs.Sights.{Sights, sights_of}
 use Rattle.blif.specs.Circuits.{circuit_from}
-use Rattle.blif.specs.CircuitOf.{Fails, Gives, circuit_of, circuit_of_lines, circuit_of_read, declared_in, final_faults, line_faults, unless_fault}
+use Rattle.blif.specs.CircuitOf.{IsLawfulFor, circuit_of, circuit_of_lines, circuit_of_read, declared_in, final_faults, line_faults, unless_fault}
 use Rattle.blif.specs.declared.circuit.TheConstants.{MAX_NETS}
 use Rattle.line_text.specs.declared.lines.TheConstants.{MAX_TEXT}
 use Rattle.blif.proofs.Places.{first_append, first_append_none}
@@ -28,7 +28,7 @@ unfolding sights_of
 declared_is checked declared lines sights = ap (λ s. let t : Sights = s in t.declared) sights
 
 -- a line's fault is the least
-pub gives_line_fault : (lut_size : ℕ) (lines : List JoinedLine) (declared : List (List ℕ)) (error : BlifError) → declared ≡ declared_in lines → Fails (first (line_faults lut_size declared [] lines)) error → Gives lut_size (circuit_of_lines lut_size lines) (Err error)
+pub gives_line_fault : (lut_size : ℕ) (lines : List JoinedLine) (declared : List (List ℕ)) (error : TextError BlifFault) → declared ≡ declared_in lines → Fails (first (line_faults lut_size declared [] lines)) error → Gives (circuit_of_lines lut_size lines) (Err error)
 unfolding circuit_of_lines
 gives_line_fault lut_size lines declared NoMemory is fails = tt
 gives_line_fault lut_size lines declared (Fault fault) is fails =
@@ -37,18 +37,23 @@ gives_line_fault lut_size lines declared (Fault fault) is fails =
     (ap (λ d. first (line_faults lut_size d [] lines)) (sym is) ∙ fails))
 
 -- without one the end decides
-pub gives_built : (lut_size : ℕ) (lines : List JoinedLine) (declared : List (List ℕ)) (result : Result Circuit BlifError) → RisesFrom 1 lines → length (sights_of declared lines).nets ≤ MAX_NETS → declared ≡ declared_in lines → first (line_faults lut_size declared [] lines) ≡ None → MatchResult result (λ circuit. (first (final_faults declared lines) ≡ None) × (circuit ≡ circuit_from declared lines)) (Fails (first (final_faults declared lines))) → Gives lut_size (circuit_of_lines lut_size lines) result
+pub gives_built : (lut_size : ℕ) (lines : List JoinedLine) (declared : List (List ℕ)) (result : Result Circuit (TextError BlifFault)) → declared ≡ declared_in lines → first (line_faults lut_size declared [] lines) ≡ None → MatchResult result (λ circuit. (first (final_faults declared lines) ≡ None) × (circuit ≡ circuit_from declared lines)) (Fails (first (final_faults declared lines))) → Gives (circuit_of_lines lut_size lines) result
 unfolding circuit_of_lines
-gives_built lut_size lines declared (Err NoMemory) rises few is none built = tt
-gives_built lut_size lines declared (Err (Fault fault)) rises few is none built =
+gives_built lut_size lines declared (Err NoMemory) is none built = tt
+gives_built lut_size lines declared (Err (Fault fault)) is none built =
     ap (λ found. unless_fault found (circuit_from (declared_in lines) lines))
     (first_append_none (line_faults lut_size (declared_in lines) [] lines) (final_faults (declared_in lines) lines) (ap (λ d. first (line_faults lut_size d [] lines)) (sym is) ∙ none)
     ∙ ap (λ d. first (final_faults d lines)) (sym is) ∙ built)
-gives_built lut_size lines declared (Ok circuit) rises few is none built = (
-  ap (λ found. unless_fault found (circuit_from (declared_in lines) lines))
-      (first_append_none (line_faults lut_size (declared_in lines) [] lines) (final_faults (declared_in lines) lines) (ap (λ d. first (line_faults lut_size d [] lines)) (sym is) ∙ none)
-      ∙ ap (λ d. first (final_faults d lines)) (sym is) ∙ built.0)
-      ∙ ap Ok (ap (λ d. circuit_from d lines) (sym is) ∙ sym built.1),
+gives_built lut_size lines declared (Ok circuit) is none built =
+    ap (λ found. unless_fault found (circuit_from (declared_in lines) lines))
+    (first_append_none (line_faults lut_size (declared_in lines) [] lines) (final_faults (declared_in lines) lines) (ap (λ d. first (line_faults lut_size d [] lines)) (sym is) ∙ none)
+    ∙ ap (λ d. first (final_faults d lines)) (sym is) ∙ built.0)
+    ∙ ap Ok (ap (λ d. circuit_from d lines) (sym is) ∙ sym built.1)
+
+-- what is built is lawful
+pub lawful_built : (lut_size : ℕ) (lines : List JoinedLine) (declared : List (List ℕ)) (result : Result Circuit (TextError BlifFault)) → RisesFrom 1 lines → length (sights_of declared lines).nets ≤ MAX_NETS → first (line_faults lut_size declared [] lines) ≡ None → MatchResult result (λ circuit. (first (final_faults declared lines) ≡ None) × (circuit ≡ circuit_from declared lines)) (Fails (first (final_faults declared lines))) → IfOk result (IsLawfulFor lut_size)
+lawful_built lut_size lines declared (Err error) rises few none built = tt
+lawful_built lut_size lines declared (Ok circuit) rises few none built = (
   rw built.1 (is_circuit lut_size declared lines rises few (nil_from_first _ none) (nil_from_first _ built.0)),
   rw built.1 (is_narrow lut_size declared lines (nil_from_first _ none)),
 )
@@ -66,6 +71,8 @@ circuit_of-short text lut_size read short is =
     ∙ ap (circuit_of_read lut_size) is
 
 -- a fault of lines is the least
-pub gives_error_of_lines : (text : List ℕ) (lut_size : ℕ) (error : LineError) → length text ≤ MAX_TEXT → LinesGive (lines_of text) (Err error) → Gives lut_size (circuit_of text lut_size) (Err (error_of_lines error))
-gives_error_of_lines text lut_size LineNoMemory short is = tt
-gives_error_of_lines text lut_size (LineFaultError fault) short is = circuit_of-short text lut_size (Err fault) short is
+pub gives_error_of_lines : (text : List ℕ) (lut_size : ℕ) (error : TextError LineFault) (told : TextError BlifFault) → length text ≤ MAX_TEXT → Gives (lines_of text) (Err error) → IsToldAs (λ lines fault. fault ≡ fault_of_lines lines) error told → Gives (circuit_of text lut_size) (Err told)
+gives_error_of_lines text lut_size NoMemory NoMemory short is so = tt
+gives_error_of_lines text lut_size (Fault fault) (Fault told) short is so = circuit_of-short text lut_size (Err fault) short is ∙ ap Err (sym so)
+gives_error_of_lines text lut_size NoMemory (Fault told) short is so = absurd so
+gives_error_of_lines text lut_size (Fault fault) NoMemory short is so = absurd so

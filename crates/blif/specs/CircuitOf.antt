@@ -1,5 +1,5 @@
 -- What a netlist text says: its circuit, or its least fault.
-use Rattle.std.specs.Prelude.{ℕ, ◌≡◌, not, List, [], ◌∷◌, ◌++◌, Option, None, Some, Result, Ok, Err, ⊤, filter, map, length, nat_lt, if◌then◌else◌}
+use Rattle.std.specs.Prelude.{ℕ, not, List, [], ◌∷◌, ◌++◌, Option, None, Some, Result, Ok, Err, filter, map, length, nat_lt, if◌then◌else◌}
 use Rattle.std.specs.List.{flat_map}
 use Rattle.line_text.specs.Lines.{JoinedLine, lines_of}
 use Rattle.line_text.specs.declared.fault.LineFault.{LineFault}
@@ -8,8 +8,6 @@ use Rattle.blif.specs.declared.circuit.Circuit.{Circuit}
 use Rattle.blif.specs.declared.fault.BlifFault.{BlifFault}
 use Rattle.blif.specs.declared.fault.BlifFaultKind.{BlifFaultKind}
 use Rattle.blif.specs.declared.fault.BlifFaultKind.TheVariants.{Undriven, NoModel, OverLimit}
-use Rattle.blif.specs.declared.fault.BlifError.{BlifError}
-use Rattle.blif.specs.declared.fault.BlifError.TheVariants.{Fault, NoMemory}
 use Rattle.blif.specs.Names.{first, has_name, with_names}
 use Rattle.blif.specs.Faults.{fault_of_lines}
 use Rattle.blif.specs.LineNets.{reads_in}
@@ -74,13 +72,6 @@ unfoldable pub circuit_of : List ℕ → ℕ → Result Circuit BlifFault
 circuit_of text lut_size =
     if nat_lt MAX_TEXT (length text) then Err (record { line = 0; kind = OverLimit }) else circuit_of_read lut_size (lines_of text)
 
--- a reader that found this fault may answer this error
-abbrev pub Fails : Option BlifFault → BlifError → Type 0
-Fails found (Fault fault) = found ≡ Some fault
-Fails found NoMemory = ⊤
-
--- a reader of a text that means this may answer that, for tables of at most so many inputs
-abbrev pub Gives : ℕ → Result Circuit BlifFault → Result Circuit BlifError → Type 0
-Gives lut_size meant (Ok circuit) = (meant ≡ Ok circuit) × IsCircuit circuit × IsNarrow lut_size circuit
-Gives lut_size meant (Err (Fault fault)) = meant ≡ Err fault
-Gives lut_size meant (Err NoMemory) = ⊤
+-- a circuit that is lawful, and whose tables have at most so many inputs
+abbrev pub IsLawfulFor : ℕ → Circuit → Type 0
+IsLawfulFor lut_size circuit = IsCircuit circuit × IsNarrow lut_size circuit

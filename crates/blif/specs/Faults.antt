@@ -3,13 +3,9 @@ use Rattle.std.specs.Prelude.{ℕ, List, [], ◌++◌, Option, None, Some, codes
 use Rattle.std.specs.Fmt.{decimal}
 use Rattle.line_text.specs.declared.fault.LineFault.{LineFault}
 use Rattle.line_text.specs.declared.fault.LineFault.TheVariants.{NotAscii as LineNotAscii, LineTooLong as LineLineTooLong}
-use Rattle.line_text.specs.declared.fault.LineError.{LineError}
-use Rattle.line_text.specs.declared.fault.LineError.TheVariants.{NoMemory as LineNoMemory, Fault as LineFaultError}
 use Rattle.blif.specs.declared.fault.BlifFaultKind.{BlifFaultKind}
 use Rattle.blif.specs.declared.fault.BlifFaultKind.TheVariants.{Unknown, BadCover, MixedCover, TooWide, TwoDrivers, Undriven, RepeatedOutput, BadLatch, NoModel, OverLimit, NotAscii, LineTooLong}
 use Rattle.blif.specs.declared.fault.BlifFault.{BlifFault}
-use Rattle.blif.specs.declared.fault.BlifError.{BlifError}
-use Rattle.blif.specs.declared.fault.BlifError.TheVariants.{NoMemory, Fault}
 
 -- its number
 abbrev pub number_of : BlifFaultKind → ℕ
@@ -65,17 +61,7 @@ printed_net (Some net) = codes " " ++ encode_utf8_all net
 abbrev pub printed_fault : BlifFault → List ℕ
 printed_fault fault = decimal (number_of fault.kind) ++ codes " " ++ name_of fault.kind ++ codes " " ++ decimal fault.line ++ printed_net (net_of fault.kind)
 
--- the fault, or that memory ran out
-abbrev pub printed_error : BlifError → List ℕ
-printed_error NoMemory = codes "memory"
-printed_error (Fault fault) = printed_fault fault
-
 -- a fault of lines as a fault of the netlist
 abbrev pub fault_of_lines : LineFault → BlifFault
 fault_of_lines (LineNotAscii number) = record { line = number; kind = NotAscii }
 fault_of_lines (LineLineTooLong number) = record { line = number; kind = LineTooLong }
-
--- an error of lines as an error of the netlist
-abbrev pub error_of_lines : LineError → BlifError
-error_of_lines LineNoMemory = NoMemory
-error_of_lines (LineFaultError fault) = Fault (fault_of_lines fault)

@@ -4,7 +4,7 @@ ghost use Rattle.std.specs.Fmt.{WritesOnOk};
 ghost use Rattle.std.specs.Option.{option_copied};
 ghost use Rattle.blif.specs.Faults.{name_of, net_of, number_of};
 
-use line_text::{LineError, LineFault, Text};
+use line_text::{LineFault, Text, TextError};
 use std::alloc::AllocError;
 use std::fmt;
 use thiserror::Error;
@@ -185,54 +185,24 @@ impl Clone for BlifFault {
 }
 
 /// Why a text has no circuit.
-#[derive(Debug, Drop, Error)]
-pub enum BlifError {
-    NoMemory,
-    Fault(BlifFault),
-}
+pub type BlifError = TextError<BlifFault>;
 
-impl fmt::Display for BlifError {
-    ghost use Rattle.std.specs.Prelude.{Some};
-    ghost use Rattle.blif.specs.Faults.{printed_error};
-
-    ghost output = { λ error. Some (printed_error error) };
-
-    fn fmt<W: fmt::Write>(&self, f: &mut fmt::Formatter<W>) -> fmt::Result {
-        match self {
-            BlifError::NoMemory => write!(f, "memory"),
-            BlifError::Fault(fault) => write!(f, "{fault}"),
-        }
-    }
-}
-
-impl From<AllocError> for BlifError {
+impl From<LineFault> for BlifFault {
     ghost use Rattle.std.specs.Prelude.{◌≡◌};
-    ghost use Rattle.blif.specs.declared.fault.BlifError.TheVariants.{NoMemory};
+    ghost use Rattle.blif.specs.Faults.{fault_of_lines};
 
-    ghost from_gives = { λ _ error. error ≡ NoMemory };
+    ghost from_gives = { λ lines fault. fault ≡ fault_of_lines lines };
 
-    fn from(_error: AllocError) -> Self {
-        BlifError::NoMemory
-    }
-}
-
-impl From<LineError> for BlifError {
-    ghost use Rattle.std.specs.Prelude.{◌≡◌};
-    ghost use Rattle.blif.specs.Faults.{error_of_lines};
-
-    ghost from_gives = { λ lines error. error ≡ error_of_lines lines };
-
-    fn from(error: LineError) -> Self {
-        match error {
-            LineError::NoMemory => BlifError::NoMemory,
-            LineError::Fault(LineFault::NotAscii(line)) => BlifError::Fault(BlifFault {
+    fn from(fault: LineFault) -> Self {
+        match fault {
+            LineFault::NotAscii(line) => BlifFault {
                 line,
                 kind: BlifFaultKind::NotAscii,
-            }),
-            LineError::Fault(LineFault::LineTooLong(line)) => BlifError::Fault(BlifFault {
+            },
+            LineFault::LineTooLong(line) => BlifFault {
                 line,
                 kind: BlifFaultKind::LineTooLong,
-            }),
+            },
         }
     }
 }

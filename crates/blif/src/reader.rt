@@ -1,6 +1,7 @@
 //! From the text to the circuit.
 ghost use Rattle.std.specs.Prelude.{◌≡◌, ◌≤◌, ◌++◌, [], ◌∷◌, length, map, None, Some, IfOk, MatchResult, MatchOption};
 ghost use Rattle.std.specs.List.{flat_map};
+ghost use Rattle.line_text.specs.TextErrors.{Fails, Gives};
 ghost use Rattle.blif.specs.Numbering.{numbered};
 ghost use Rattle.blif.specs.Names.{first, number_of, texts, with_names};
 ghost use Rattle.blif.specs.Keywords.{keyword_of};
@@ -8,7 +9,7 @@ ghost use Rattle.blif.specs.LineNets.{names_in};
 ghost use Rattle.blif.specs.LineOrder.{RisesFrom};
 ghost use Rattle.blif.specs.Sights.{names_of, sights_of};
 ghost use Rattle.blif.specs.Circuits.{circuit_from, circuit_with, model_of, parts_of};
-ghost use Rattle.blif.specs.CircuitOf.{Fails, Gives, circuit_of, circuit_of_lines, declared_in, final_faults, line_faults, undriven_faults};
+ghost use Rattle.blif.specs.CircuitOf.{IsLawfulFor, circuit_of, circuit_of_lines, declared_in, final_faults, line_faults, undriven_faults};
 
 use crate::checker::Checker;
 use crate::circuit::{Circuit, MAX_NETS};
@@ -25,7 +26,8 @@ use std::alloc::{AllocError, Global};
 
 /// The circuit of a text whose tables have at most that many inputs, or its least fault.
 pub fn read_blif(alloc: Global, text: &[u8], lut_size: u32) -> Result<Circuit, BlifError>
-    ensures { Gives lut_size (circuit_of text.now lut_size) result }
+    ensures gives { Gives (circuit_of text.now lut_size) result }
+    ensures lawful { IfOk result (IsLawfulFor lut_size) }
 {
     if text.len() > MAX_TEXT {
         return Err(BlifError::Fault(BlifFault {
@@ -33,14 +35,18 @@ pub fn read_blif(alloc: Global, text: &[u8], lut_size: u32) -> Result<Circuit, B
             kind: BlifFaultKind::OverLimit,
         }));
     }
-    let lines = logical_lines(alloc, text)?;
+    let lines = match logical_lines(alloc, text) {
+        Ok(lines) => lines,
+        Err(error) => return Err(error.told_as()),
+    };
     read_lines(alloc, &lines, lut_size)
 }
 
 /// The circuit of these lines, whose numbers rise, or their least fault.
 fn read_lines(alloc: Global, lines: &Lines<'_>, lut_size: u32) -> Result<Circuit, BlifError>
     requires { RisesFrom 1 lines.now }
-    ensures { Gives lut_size (circuit_of_lines lut_size lines.now) result }
+    ensures gives { Gives (circuit_of_lines lut_size lines.now) result }
+    ensures lawful { IfOk result (IsLawfulFor lut_size) }
 {
     let declared = declared_inputs(alloc, lines)?;
     let mut numbers = Nets::new(alloc);

@@ -3,9 +3,10 @@ use Rattle.std.proofs.Common.{◌≡◌, ℕ, zero, suc, ◌+◌, ◌-◌, ◌<�
 use Rattle.std.proofs.lemmas.List.{append-nil, length-map, take-append-le, drop-append-le}
 use Rattle.std.proofs.lemmas.Bool.Decides.{nat_tests}
 use Rattle.line_text.specs.declared.lines.Span.{Span}
+use Rattle.line_text.specs.declared.fault.LineFault.{LineFault}
 use Rattle.line_text.specs.declared.fault.LineFault.TheVariants.{NotAscii, LineTooLong}
-use Rattle.line_text.specs.declared.fault.LineError.{LineError}
-use Rattle.line_text.specs.declared.fault.LineError.TheVariants.{NoMemory, Fault}
+use Rattle.line_text.specs.declared.text_error.TextError.{TextError}
+use Rattle.line_text.specs.declared.text_error.TextError.TheVariants.{NoMemory, Fault}
 use Rattle.line_text.specs.Words.{is_filled, words_of}
 use Rattle.line_text.specs.declared.lines.TheConstants.{MAX_LINE}
 use Rattle.line_text.specs.Lines.{JoinedLine, ends_in_backslash, without_last, without_comment, trimmed, is_continued, is_not_ascii, blanked}
@@ -13,10 +14,6 @@ use Rattle.line_text.specs.Reading.{OpenLine, Reading, begun, ended, extended, a
 use Rattle.line_text.specs.Spans.{AreWithin, seen_line, seen_lines}
 use Rattle.line_text.specs.Reader.{IsReadOn}
 use Rattle.line_text.proofs.OnePass.{words_of-blank}
-
-pub from_on_ok : {T E : Type 0} (r : Result T E) (P : Type 0) → is_err r ≡ false → OnOk r P → P
-from_on_ok (Ok x) P e h = h
-from_on_ok (Err x) P e h = absurd (cc)
 
 same_line : (words more : List (List ℕ)) (span : Span) → span.start ≤ span.end → span.end ≤ length words → seen_line (words ++ more) span ≡ seen_line words span
 same_line words more span s e =
@@ -55,7 +52,7 @@ from_three (Ok x) P Q R S p q r f = f p q r
 from_three (Err x) P Q R S p q r f = tt
 
 -- where only memory can fail
-pub read_on : (r : Result (Unit {0}) LineError) (old new : Reading) (n : ℕ) (physical : List ℕ) → OnOk r (after old n physical ≡ Ok new) → IfErr r (λ e. e ≡ NoMemory) → IsReadOn old n physical r new
+pub read_on : (r : Result (Unit {0}) (TextError LineFault)) (old new : Reading) (n : ℕ) (physical : List ℕ) → OnOk r (after old n physical ≡ Ok new) → IfErr r (λ e. e ≡ NoMemory) → IsReadOn old n physical r new
 read_on (Ok x) old new n physical h e = h
 read_on (Err NoMemory) old new n physical h e = tt
 read_on (Err (Fault fault)) old new n physical h e = absurd (cc)

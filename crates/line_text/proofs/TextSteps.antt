@@ -3,9 +3,10 @@ use Rattle.std.proofs.Common.{◌≡◌, ℕ, ◌+◌, ◌<◌, true, false, not
 use Rattle.std.specs.List.{enumerate_from, list_all, position_or_len}
 use Rattle.line_text.specs.declared.fault.LineFault.{LineFault}
 use Rattle.line_text.specs.declared.fault.LineFault.TheVariants.{NotAscii}
-use Rattle.line_text.specs.declared.fault.LineError.{LineError}
-use Rattle.line_text.specs.declared.fault.LineError.TheVariants.{NoMemory, Fault}
-use Rattle.line_text.specs.Lines.{JoinedLine, Gives, is_lawful, is_not_ascii, physical_lines, trimmed, ends_in_backslash, blanked, without_comment}
+use Rattle.line_text.specs.declared.text_error.TextError.{TextError}
+use Rattle.line_text.specs.declared.text_error.TextError.TheVariants.{NoMemory, Fault}
+use Rattle.line_text.specs.Lines.{JoinedLine, is_lawful, is_not_ascii, physical_lines, trimmed, ends_in_backslash, blanked, without_comment}
+use Rattle.line_text.specs.TextErrors.{Gives}
 use Rattle.line_text.specs.Physical.{IsContent, first_line, later_lines}
 use Rattle.line_text.specs.Reading.{OpenLine, Reading, after, begun, continued_or_ended}
 use Rattle.line_text.specs.Reader.{IsReadOn}
@@ -50,7 +51,7 @@ read_from-ok reading later n rest content others h is e =
     ∙ ap (read_from later (n + 1)) (sym is.later))
 
 -- a line that cannot be read
-pub read_from-err : (reading new : Reading) (n : ℕ) (rest content others : List ℕ) (lines : Result (List JoinedLine) LineFault) (error : LineError) → 0 < length rest → IsContent rest content others → lines ≡ read_from reading n rest → IsReadOn reading (n + 1) content (Err error) new → Gives lines (Err error)
+pub read_from-err : (reading new : Reading) (n : ℕ) (rest content others : List ℕ) (lines : Result (List JoinedLine) LineFault) (error : TextError LineFault) → 0 < length rest → IsContent rest content others → lines ≡ read_from reading n rest → IsReadOn reading (n + 1) content (Err error) new → Gives lines (Err error)
 read_from-err reading new n rest content others lines NoMemory h is l e = tt
 read_from-err reading new n rest content others lines (Fault fault) h is l e =
     l ∙ (read_from-first reading n rest h ∙ ap (λ r. and_then r (λ later. read_from later (n + 1) (later_lines rest))) (same_after reading (n + 1) (first_line rest) content is.kept ∙ e))
@@ -66,6 +67,6 @@ is_content-length text content rest h is =
     (omega arith, omega arith)
 
 -- an error that is passed on
-pub gives-err : (lines : Result (List JoinedLine) LineFault) (r : Result (List JoinedLine) LineError) (error : LineError) → IsErrAnd r (λ e. e ≡ error) → Gives lines (Err error) → Gives lines r
+pub gives-err : (lines : Result (List JoinedLine) LineFault) (r : Result (List JoinedLine) (TextError LineFault)) (error : TextError LineFault) → IsErrAnd r (λ e. e ≡ error) → Gives lines (Err error) → Gives lines r
 gives-err lines (Ok x) error e h = absurd e
 gives-err lines (Err e) error same h = subst (λ f. Gives lines (Err f)) (sym same) h

@@ -5,4 +5,5 @@ pub mod Physical
 pub mod Reader
 pub mod Reading
 pub mod Spans
+pub mod TextErrors
 pub mod Words

@@ -1,10 +1,8 @@
 -- Joined lines of words.
-use Rattle.std.specs.Prelude.{ℕ, ◌≡◌, ◌-◌, Bool, not, ◌&&◌, ◌||◌, ◌==◌, nat_lt, nat_le, if◌then◌else◌, List, [], ◌∷◌, ◌++◌, length, take, map, filter, slice_index, Result, Ok, Err, ⊤, Option, Some, None}
+use Rattle.std.specs.Prelude.{ℕ, ◌-◌, Bool, not, ◌&&◌, ◌||◌, ◌==◌, nat_lt, nat_le, if◌then◌else◌, List, [], ◌∷◌, ◌++◌, length, take, map, filter, slice_index, Result, Ok, Err, Option, Some, None}
 use Rattle.std.specs.List.{before_first, suffix_len, list_all, find, filter_map, flat_map, enumerate_from, onto_first}
 use Rattle.line_text.specs.declared.fault.LineFault.{LineFault}
 use Rattle.line_text.specs.declared.fault.LineFault.TheVariants.{NotAscii, LineTooLong}
-use Rattle.line_text.specs.declared.fault.LineError.{LineError}
-use Rattle.line_text.specs.declared.fault.LineError.TheVariants.{NoMemory, Fault}
 use Rattle.line_text.specs.declared.lines.TheConstants.{MAX_LINE}
 use Rattle.line_text.specs.Words.{is_blank, is_filled, words_of}
 
@@ -98,9 +96,3 @@ lines_of_runs all = unless_fault (filter_map fault_of all) (filter (λ line. is_
 -- the joined lines of a text that have words, or the least fault
 unfoldable pub lines_of : List ℕ → Result (List JoinedLine) LineFault
 lines_of text = lines_of_runs (runs (enumerate_from 1 (physical_lines text)))
-
--- a reader of that text may answer this
-abbrev pub Gives : Result (List JoinedLine) LineFault → Result (List JoinedLine) LineError → Type 0
-Gives meant (Ok lines) = meant ≡ Ok lines
-Gives meant (Err (Fault fault)) = meant ≡ Err fault
-Gives meant (Err NoMemory) = ⊤

@@ -1,7 +1,8 @@
 -- Private: how a reader keeps what it has read.
 use Rattle.std.specs.Prelude.{ℕ, ◌≡◌, Bool, true, false, List, drop, Option, Some, None, Result, Ok, Err, ⊤}
-use Rattle.line_text.specs.declared.fault.LineError.{LineError}
-use Rattle.line_text.specs.declared.fault.LineError.TheVariants.{NoMemory, Fault}
+use Rattle.line_text.specs.declared.fault.LineFault.{LineFault}
+use Rattle.line_text.specs.declared.text_error.TextError.{TextError}
+use Rattle.line_text.specs.declared.text_error.TextError.TheVariants.{NoMemory, Fault}
 use Rattle.line_text.specs.declared.reader.Reader.{Reader}
 use Rattle.line_text.specs.Lines.{JoinedLine}
 use Rattle.line_text.specs.Spans.{seen_lines}
@@ -26,13 +27,13 @@ abbrev pub reading_of : Reader → Reading
 reading_of r = record { done = done_of r; unfinished = line_if r.is_open (open_line r) }
 
 -- a physical line of that number was read
-abbrev pub IsReadOn : Reading → ℕ → List ℕ → Result (Unit {0}) LineError → Reading → Type 0
+abbrev pub IsReadOn : Reading → ℕ → List ℕ → Result (Unit {0}) (TextError LineFault) → Reading → Type 0
 IsReadOn old n physical (Ok _) new = after old n physical ≡ Ok new
 IsReadOn old n physical (Err (Fault fault)) new = after old n physical ≡ Err fault
 IsReadOn old n physical (Err NoMemory) new = ⊤
 
 -- the open line was ended
-abbrev pub IsEnded : List JoinedLine → OpenLine → Result (Unit {0}) LineError → List JoinedLine → Type 0
+abbrev pub IsEnded : List JoinedLine → OpenLine → Result (Unit {0}) (TextError LineFault) → List JoinedLine → Type 0
 IsEnded done line (Ok _) new = ended done line ≡ Ok new
 IsEnded done line (Err (Fault fault)) new = ended done line ≡ Err fault
 IsEnded done line (Err NoMemory) new = ⊤

@@ -1,4 +1,6 @@
 //! What can be wrong with a text's lines.
+use crate::text_error::TextError;
+
 /// What is wrong with a text's lines, with the number of the line, from 1.
 #[derive(Clone, Copy, Debug, PartialEq, Eq)]
 pub enum LineFault {
@@ -9,8 +11,4 @@ pub enum LineFault {
 }
 
 /// Why a text has no lines.
-#[derive(Clone, Copy, Debug, PartialEq, Eq)]
-pub enum LineError {
-    NoMemory,
-    Fault(LineFault),
-}
+pub type LineError = TextError<LineFault>;

@@ -21,6 +21,7 @@ mod source;
 mod std_sink;
 mod std_source;
 mod text;
+mod text_error;
 mod words;
 
 pub use decimal::{decimal_u32, decimal_u64, millionths, whole_number};
@@ -34,4 +35,5 @@ pub use source::{Failed, ReadError, Source, read_all};
 pub use std_sink::StdSink;
 pub use std_source::StdSource;
 pub use text::Text;
+pub use text_error::TextError;
 pub use words::{append_words, is_blank, is_word, skip_blanks, split_word, word_end, word_start};

@@ -1,6 +1,7 @@
 //! The joined lines of a text.
 ghost use Rattle.std.specs.Prelude.{IsTrue, ◌↔◌, ◌≡◌, ◌<◌, ◌^◌, ◌∷◌, ◌+◌, ◌≤◌, ◌==◌, length, position, slice_get, Some, map};
-ghost use Rattle.line_text.specs.Lines.{Gives, JoinedLine, lines_of, physical_lines};
+ghost use Rattle.line_text.specs.Lines.{JoinedLine, lines_of, physical_lines};
+ghost use Rattle.line_text.specs.TextErrors.{Gives};
 
 use crate::fault::{LineError, LineFault};
 use crate::physical_line::split_content;

@@ -7,6 +7,7 @@ ghost use Rattle.line_text.specs.Words.{is_blank as is_blank_byte, texts, words_
 
 use crate::fault::{LineError, LineFault};
 use crate::lines::{Lines, MAX_LINE, Span};
+use crate::text_error::TextError;
 use crate::words::{append_words, is_blank};
 use std::alloc::Global;
 
@@ -47,7 +48,7 @@ pub(crate) struct Reader<'t> {
 impl<'t> Reader<'t> {
     ghost use Rattle.line_text.specs.Reader.{IsEnded, IsReadOn, done_of, line_if, open_line, reading_of};
     ghost use Rattle.line_text.specs.Reading.{begun, finished};
-    ghost use Rattle.line_text.specs.Lines.{Gives};
+    ghost use Rattle.line_text.specs.TextErrors.{Gives};
 
     /// A reader that has read nothing.
     pub(crate) fn new(alloc: Global) -> Self
@@ -79,14 +80,11 @@ impl<'t> Reader<'t> {
         if self.count > MAX_LINE {
             return Err(LineError::Fault(LineFault::LineTooLong(self.number)));
         }
-        let span = Span {
+        self.spans.push(Span {
             number: self.number,
             start: self.start,
             end,
-        };
-        if self.spans.push(span).is_err() {
-            return Err(LineError::NoMemory);
-        }
+        })?;
         Ok(())
     }
 
@@ -111,12 +109,10 @@ impl<'t> Reader<'t> {
         ensures done { OnOk result (done_of self.new ≡ done_of self.old) }
         ensures line { OnOk result (open_line self.new ≡ record { number = self.old.number; words = (open_line self.old).words ++ words_of bytes.now; count = self.old.count + count }) }
         ensures opened { OnOk result (self.new.is_open ≡ self.old.is_open) }
-        ensures err { IfErr result (λ e. e ≡ LineError.NoMemory) }
+        ensures err { IfErr result (λ e. e ≡ TextError.NoMemory) }
     {
         self.count += count;
-        if append_words(&mut self.words, bytes).is_err() {
-            return Err(LineError::NoMemory);
-        }
+        append_words(&mut self.words, bytes)?;
         Ok(())
     }
 

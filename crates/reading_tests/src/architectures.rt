@@ -368,7 +368,7 @@ fn faults_are_told_by_number_name_and_line(rt: HostRuntime) -> Result<(), Fail> 
     assert_eq!(rt; text.as_str(), "3 Missing 0");
     assert_eq!(rt; missing.number(), 3);
     assert_eq!(rt; missing.name(), "Missing");
-    let long = ArchError::from(LineError::Fault(LineFault::LineTooLong(12)));
+    let long: ArchError = LineError::Fault(LineFault::LineTooLong(12)).told_as();
     let text = long.to_string(rt.alloc())?;
     assert_eq!(rt; text.as_str(), "10 LineTooLong 12");
     Ok(())

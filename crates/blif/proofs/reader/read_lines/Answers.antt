@@ -5,11 +5,11 @@ use Rattle.blif.specs.Sights.{Sights, names_of, sights_of}
 use Rattle.blif.specs.Names.{first, number_of}
 use Rattle.blif.specs.CircuitOf.{line_faults}
 use Rattle.blif.proofs.Numbered.{numbered_all}
-use Rattle.blif.proofs.Answering.{declared_is, gives_line_fault, gives_built}
+use Rattle.blif.proofs.Answering.{declared_is, gives_line_fault, gives_built, lawful_built}
 use Rattle.blif.proofs.reader.read_lines.Goals as goal
 
-pub returns-in_err-checker : goal.returns-in_err-checker
-returns-in_err-checker c =
+pub returns-in_err-checker-clause-gives : goal.returns-in_err-checker-clause-gives
+returns-in_err-checker-clause-gives c =
     let p = err_from_is_err_and c.from_residual-in_err-checker.result c.from_residual-in_err-checker.ensures.1 in
     rw (p.1, p.2) (gives_line_fault c.args.lut_size c.args.lines.now c.in_ok-declared.declared c.in_err-checker.field-0.0 c.in_ok-declared.ensures c.in_err-checker.ensures)
 
@@ -25,8 +25,13 @@ build-requires-clause-numbers c =
     c.as_slice.ensures ∙ c.in_ok-checker.ensures.3 ∙ numbered_all [] names
     ∙ ap (λ s. let t : Sights = s in map (number_of t.nets) names) (sym c.in_ok-checker.ensures.1)
 
-pub returns : goal.returns
-returns c =
+pub returns-clause-gives : goal.returns-clause-gives
+returns-clause-gives c =
+    let same = declared_is c.in_ok-checker.checker c.in_ok-declared.declared c.args.lines.now c.in_ok-checker.ensures.1 in
+    gives_built c.args.lut_size c.args.lines.now c.in_ok-checker.checker.declared c.build.result (same ∙ c.in_ok-declared.ensures) (ap (λ d. first (line_faults c.args.lut_size d [] c.args.lines.now)) same ∙ c.in_ok-checker.ensures.0) c.build.ensures
+
+pub returns-clause-lawful : goal.returns-clause-lawful
+returns-clause-lawful c =
     let sights = c.in_ok-checker.ensures.1 in
     let same = declared_is c.in_ok-checker.checker c.in_ok-declared.declared c.args.lines.now sights in
-    gives_built c.args.lut_size c.args.lines.now c.in_ok-checker.checker.declared c.build.result c.requires (rw (same, ← sights) c.in_ok-checker.ensures.2) (same ∙ c.in_ok-declared.ensures) (ap (λ d. first (line_faults c.args.lut_size d [] c.args.lines.now)) same ∙ c.in_ok-checker.ensures.0) c.build.ensures
+    lawful_built c.args.lut_size c.args.lines.now c.in_ok-checker.checker.declared c.build.result c.requires (rw (same, ← sights) c.in_ok-checker.ensures.2) (ap (λ d. first (line_faults c.args.lut_size d [] c.args.lines.now)) same ∙ c.in_ok-checker.ensures.0) c.build.ensures

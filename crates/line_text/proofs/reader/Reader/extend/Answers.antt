@@ -1,12 +1,11 @@
-use Rattle.std.proofs.Common.{sym, ap, ◌∙◌}
+use Rattle.std.proofs.Common.{ap, ◌∙◌}
 use Rattle.line_text.specs.Spans.{seen_lines}
 use Rattle.line_text.specs.Words.{texts, words_of}
-use Rattle.line_text.proofs.ReaderLemmas.{AreWithin-map, from_on_ok, seen_lines-append}
+use Rattle.line_text.proofs.ReaderLemmas.{AreWithin-map, seen_lines-append}
 use Rattle.line_text.proofs.reader.Reader.extend.Goals as goal
 
 pub returns-clause-done : goal.returns-clause-done
 returns-clause-done c =
     let self = c.args.self.now in
-    let more = from_on_ok _ _ (sym c.is_err.ensures.value ∙ c.if-is_err.false) c.append_words.ensures.ok in
-    ap (λ words. seen_lines words self.spans.items) more
+    ap (λ words. seen_lines words self.spans.items) c.in_ok-append_words.ensures.ok
     ∙ seen_lines-append (texts self.words.items) (words_of c.args.bytes.now) self.spans.items (AreWithin-map (λ w. w.now) self.words.items self.spans.items self.within)
