@@ -1,10 +1,13 @@
 -- The faults that are found at the end of the text.
-use Rattle.std.proofs.Common.{◌≡◌, ◌∙◌, ℕ, List, [], ◌∷◌, ◌++◌, Bool, true, false, cond, not, Some, None, map, filter, refl, ap, sym, arith, nat_lt, ◌==◌, ◌&&◌, ◌≤◌, ◌<◌, Ok, slice_index_or, zero, suc, length, get_or}
+use Rattle.std.proofs.Common.{◌≡◌, ◌∙◌, ℕ, List, [], ◌∷◌, ◌++◌, Bool, true, false, cond, not, Some, None, map, filter, refl, ap, sym, arith, nat_le, nat_lt, ◌==◌, ◌&&◌, ◌≤◌, ◌<◌, Ok, slice_index_or, zero, suc, length, get_or}
 use Rattle.std.proofs.lemmas.Bool.{and_parts, eqb-true, ltb-true}
+use Rattle.std.proofs.lemmas.Bool.Decides.{nat_tests}
 use Rattle.arch_file.specs.declared.arch.Pin.{Pin}
 use Rattle.arch_file.specs.declared.draft.Draft.{Draft}
 use Rattle.std.specs.List.{find}
 use Rattle.line_text.specs.Lines.{JoinedLine}
+use Rattle.line_text.proofs.InOrder.{Each, InOrder, InOrder-append, InOrder-filter, InOrder-map, by_number-same, first_of, least_by_in_order}
+use Rattle.arch_file.specs.declared.fault.ArchFaultKind.{ArchFaultKind}
 use Rattle.arch_file.specs.declared.fault.ArchFaultKind.TheVariants.{BadClass, Missing}
 use Rattle.arch_file.specs.declared.fault.Keyword.{Keyword}
 use Rattle.arch_file.specs.ArchFaults.{decimal_at, end_faults, has_its_pins, is_fractional, pins_of, stands}
@@ -14,23 +17,63 @@ use Rattle.arch_file.specs.Draft.{Ends, FollowsLines}
 use Rattle.arch_file.specs.FcTypes.{is_fractional_type}
 use Rattle.arch_file.specs.Pins.{clock_count, output_count}
 use Rattle.arch_file.specs.Values.{reach}
-use Rattle.arch_file.specs.FaultLists.{only_if}
-use Rattle.arch_file.specs.Readings.{least_kind, lesser}
+use Rattle.arch_file.specs.FaultLists.{comes_before, only_if, word_of}
+use Rattle.arch_file.specs.Readings.{least_kind}
 use Rattle.arch_file.specs.Words.{rank_of, required}
 
--- the first missing keyword is the least fault of the end
-missing_first : (keyword : Keyword) (others : List Keyword) (b : Bool) → least_kind (Missing keyword ∷ (map (λ k. Missing k) others ++ only_if b BadClass)) ≡ Some (Missing keyword)
-missing_first keyword [] true = refl
-missing_first keyword [] false = refl
-missing_first keyword (other ∷ others) b = ap (λ kind. Some (lesser (Missing keyword) kind)) (missing_first other others b)
+-- keywords by their places among those that must stand
+abbrev Rise : Keyword → Keyword → Type 0
+Rise first second = word_of (Missing first) ≤ word_of (Missing second)
 
-first_of_filter : (q : Keyword → Bool) (xs : List Keyword) (keyword : Keyword) (b : Bool) → find q xs ≡ Some keyword → least_kind (map (λ k. Missing k) (filter q xs) ++ only_if b BadClass) ≡ Some (Missing keyword)
-first_of_filter q [] keyword b found = let never : None ≡ Some keyword = found in cc
-first_of_filter q (x ∷ xs) keyword b found = by_test (q x) (first_of_filter q xs keyword b) found
+abbrev rise_from : ℕ → List Keyword → Bool
+rise_from low [] = true
+rise_from low (keyword ∷ keywords) = nat_le low (word_of (Missing keyword)) && rise_from (word_of (Missing keyword)) keywords
+
+each_above : (low other : ℕ) (keywords : List Keyword) → low ≤ other → rise_from other keywords ≡ true → Each (λ keyword. low ≤ word_of (Missing keyword)) keywords
+each_above low other [] fits rise = tt
+each_above low other (keyword ∷ keywords) fits rise =
+    let parts = and_parts (nat_le other (word_of (Missing keyword))) (rise_from (word_of (Missing keyword)) keywords) rise in
+    let here : low ≤ word_of (Missing keyword) = grind (arith, nat_tests, parts.0) in
+    (here, each_above low (word_of (Missing keyword)) keywords here parts.1)
+
+rising : (low : ℕ) (keywords : List Keyword) → rise_from low keywords ≡ true → InOrder Rise keywords
+rising low [] rise = tt
+rising low (keyword ∷ keywords) rise =
+    let parts = and_parts (nat_le low (word_of (Missing keyword))) (rise_from (word_of (Missing keyword)) keywords) rise in
+    (each_above (word_of (Missing keyword)) (word_of (Missing keyword)) keywords (omega arith) parts.1, rising (word_of (Missing keyword)) keywords parts.1)
+
+-- a fault comes before another one
+abbrev Comes : ArchFaultKind → ArchFaultKind → Type 0
+Comes first second = comes_before first second ≡ true
+
+only_order : (b : Bool) → InOrder Comes (only_if b BadClass)
+only_order true = (tt, tt)
+only_order false = tt
+
+before_class : (b : Bool) (keywords : List Keyword) → Each (λ kind. Each (Comes kind) (only_if b BadClass)) (map (λ k. Missing k) keywords)
+before_class b [] = tt
+before_class b (keyword ∷ keywords) = (one b, before_class b keywords)
   where
-    by_test : (t : Bool) → (find q xs ≡ Some keyword → least_kind (map (λ k. Missing k) (filter q xs) ++ only_if b BadClass) ≡ Some (Missing keyword)) → cond t (Some x) (find q xs) ≡ Some keyword → least_kind (map (λ k. Missing k) (cond t (x ∷ filter q xs) (filter q xs)) ++ only_if b BadClass) ≡ Some (Missing keyword)
-    by_test true rest here = let same : x ≡ keyword = cc in missing_first x (filter q xs) b ∙ ap (λ k. Some (Missing k)) same
-    by_test false rest later = rest later
+    one : (b : Bool) → Each (Comes (Missing keyword)) (only_if b BadClass)
+    one true = (refl, tt)
+    one false = tt
+
+-- the faults of the end stand in their order
+end_order : (q : Keyword → Bool) (b : Bool) → InOrder Comes (map (λ k. Missing k) (filter q required) ++ only_if b BadClass)
+end_order q b =
+    InOrder-append Comes (map (λ k. Missing k) (filter q required)) (only_if b BadClass)
+    (InOrder-map Rise Comes (λ k. Missing k) (filter q required)
+    (λ x y le. let test : nat_le (word_of (Missing x)) (word_of (Missing y)) ≡ true = grind (arith, nat_tests) in by_number-same 3 (nat_le (word_of (Missing x)) (word_of (Missing y))) ∙ test)
+    (InOrder-filter Rise q required (rising 0 required refl)))
+    (only_order b) (before_class b (filter q required))
+
+first_of_filter : (q : Keyword → Bool) (xs : List Keyword) (keyword : Keyword) (rest : List ArchFaultKind) → find q xs ≡ Some keyword → first_of (map (λ k. Missing k) (filter q xs) ++ rest) ≡ Some (Missing keyword)
+first_of_filter q [] keyword rest found = let never : None ≡ Some keyword = found in cc
+first_of_filter q (x ∷ xs) keyword rest found = by_test (q x) (first_of_filter q xs keyword rest) found
+  where
+    by_test : (t : Bool) → (find q xs ≡ Some keyword → first_of (map (λ k. Missing k) (filter q xs) ++ rest) ≡ Some (Missing keyword)) → cond t (Some x) (find q xs) ≡ Some keyword → first_of (map (λ k. Missing k) (cond t (x ∷ filter q xs) (filter q xs)) ++ rest) ≡ Some (Missing keyword)
+    by_test true others here = let same : x ≡ keyword = cc in ap (λ k. Some (Missing k)) same
+    by_test false others later = others later
 
 find_same : (p q : Keyword → Bool) (xs : List Keyword) → ((k : Keyword) → p k ≡ q k) → find p xs ≡ find q xs
 find_same p q [] same = refl
@@ -39,7 +82,8 @@ find_same p q (x ∷ xs) same = rw (same x, find_same p q xs same) refl
 -- a keyword that must stand is missing
 pub end_faults-missing : (stood : Keyword → Bool) (lines : List JoinedLine) (keyword : Keyword) → ((k : Keyword) → stood k ≡ stands k lines) → find (λ k. not (stood k)) required ≡ Some keyword → least_kind (end_faults lines) ≡ Some (Missing keyword)
 end_faults-missing stood lines keyword same found =
-    first_of_filter (λ k. not (stands k lines)) required keyword (not (has_its_pins lines))
+    least_by_in_order comes_before (end_faults lines) (end_order (λ k. not (stands k lines)) (not (has_its_pins lines)))
+    ∙ first_of_filter (λ k. not (stands k lines)) required keyword (only_if (not (has_its_pins lines)) BadClass)
     (sym (find_same (λ k. not (stood k)) (λ k. not (stands k lines)) required (λ k. ap not (same k))) ∙ found)
 
 none_here : (q : Keyword → Bool) (x : Keyword) (xs : List Keyword) → find q (x ∷ xs) ≡ None → (q x ≡ false) × (find q xs ≡ None)

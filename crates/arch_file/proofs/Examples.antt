@@ -4,7 +4,7 @@ use Rattle.std.proofs.lemmas.Fmt.{decimal_digit}
 use Rattle.line_text.specs.Lines.{JoinedLine}
 use Rattle.arch_file.specs.Arch.{arch_of_lines}
 use Rattle.arch_file.specs.ArchFaults.{faults_behind, faults_of}
-use Rattle.arch_file.specs.FaultLists.{least_fault}
+use Rattle.line_text.specs.LeastFault.{least_fault}
 use Rattle.arch_file.specs.Faults.{printed_fault}
 use Rattle.arch_file.specs.PinLine.{pin_in, pin_line_faults}
 use Rattle.arch_file.specs.Segment.{segment_faults}

@@ -1,5 +1,6 @@
 -- What an architecture text says: the architecture, or the least fault.
 use Rattle.std.specs.Prelude.{ℕ, ◌≡◌, ◌≤◌, List, [], true, All, Result, Ok, Err, Option, Some, None, length, nat_lt, if◌then◌else◌}
+use Rattle.line_text.specs.LeastFault.{least_fault}
 use Rattle.line_text.specs.Lines.{JoinedLine, lines_of}
 use Rattle.line_text.specs.declared.fault.LineFault.{LineFault}
 use Rattle.line_text.specs.declared.lines.TheConstants.{MAX_TEXT}
@@ -8,7 +9,6 @@ use Rattle.arch_file.specs.declared.fault.ArchFault.{ArchFault}
 use Rattle.arch_file.specs.declared.fault.ArchFaultKind.TheVariants.{OverLimit}
 use Rattle.arch_file.specs.declared.fault.Keyword.TheVariants.{IoRat, SubblocksPerClb, SubblockLutSize, FcOutput, FcInput, FcPad}
 use Rattle.arch_file.specs.ArchFaults.{decimal_at, faults_behind, is_fractional, pins_of, whole_at}
-use Rattle.arch_file.specs.FaultLists.{least_fault}
 use Rattle.arch_file.specs.Faults.{fault_of_lines}
 use Rattle.arch_file.specs.Values.{reach}
 pub use Rattle.arch_file.specs.Pins.{is_input_class, is_output_class, is_clock_class, input_count, output_count, clock_count, has_side}

@@ -1,13 +1,16 @@
 -- All faults of the lines of an architecture text.
-use Rattle.std.specs.Prelude.{ℕ, ◌==◌, nat_lt, Bool, false, ◌&&◌, not, List, [], ◌∷◌, ◌++◌, map, filter, length, Option, Some, None, is_some, if◌then◌else◌}
+use Rattle.std.specs.Prelude.{ℕ, ◌==◌, nat_lt, Bool, true, false, ◌&&◌, not, List, [], ◌∷◌, ◌++◌, map, filter, Option, Some, None, is_some, if◌then◌else◌}
 use Rattle.std.specs.List.{filter_map}
+use Rattle.line_text.specs.LeastFault.{Found}
 use Rattle.line_text.specs.Lines.{JoinedLine}
 use Rattle.arch_file.specs.declared.arch.Pin.{Pin}
+use Rattle.arch_file.specs.declared.fault.ArchFault.{ArchFault}
 use Rattle.arch_file.specs.declared.fault.ArchFaultKind.{ArchFaultKind}
 use Rattle.arch_file.specs.declared.fault.ArchFaultKind.TheVariants.{BadClass, Missing, Repeated, Unknown}
 use Rattle.arch_file.specs.declared.fault.Keyword.{Keyword}
 use Rattle.arch_file.specs.declared.fault.Keyword.TheVariants.{FcType, Segment, SubblocksPerClb}
-use Rattle.arch_file.specs.FaultLists.{Found, only_if}
+use Rattle.arch_file.specs.FaultLists.{only_if, word_of}
+use Rattle.arch_file.specs.Faults.{number_of}
 use Rattle.arch_file.specs.Pins.{input_count, output_count, clock_count}
 use Rattle.arch_file.specs.PinLine.{pin_in, pin_line_faults}
 use Rattle.arch_file.specs.Segment.{segment_faults}
@@ -94,12 +97,12 @@ end_faults lines =
     map (λ keyword. Missing keyword) (filter (λ keyword. not (stands keyword lines)) required)
     ++ only_if (not (has_its_pins lines)) BadClass
 
--- faults at the line of that place and number
-abbrev pub found_at : ℕ → ℕ → List ArchFaultKind → List Found
-found_at place number kinds = map (λ kind. record { place = place; fault = record { line = number; kind = kind } }) kinds
+-- faults at the line of that number, or at the end
+abbrev pub found_at : Bool → ℕ → List ArchFaultKind → List (Found ArchFault)
+found_at at_end number kinds = map (λ kind. record { at_end = at_end; line = number; number = number_of kind; word = word_of kind; fault = record { line = number; kind = kind } }) kinds
 
--- all faults of the lines that stand behind those, and of the end, whose place is behind all lines
-abbrev pub faults_behind : List JoinedLine → List JoinedLine → List Found
-faults_behind before [] = found_at (length before) 0 (end_faults before)
+-- all faults of the lines that stand behind those, and of the end
+abbrev pub faults_behind : List JoinedLine → List JoinedLine → List (Found ArchFault)
+faults_behind before [] = found_at true 0 (end_faults before)
 faults_behind before (line ∷ lines) =
-    found_at (length before) line.number (faults_of before line.words) ++ faults_behind (before ++ line ∷ []) lines
+    found_at false line.number (faults_of before line.words) ++ faults_behind (before ++ line ∷ []) lines

@@ -1,6 +1,7 @@
 -- Private: what the code keeps of the lines that it has read.
 use Rattle.std.specs.Prelude.{ℕ, ◌≡◌, ◌≤◌, ◌+◌, ◌||◌, Bool, true, false, List, [], ◌∷◌, ◌++◌, length, slice_index_or, Option, Some, None, is_some, nat_lt, All, Result, Ok, Err, if◌then◌else◌}
 use Rattle.std.specs.Option.{option_or, option_to_list}
+use Rattle.line_text.specs.LeastFault.{least_fault}
 use Rattle.line_text.specs.Lines.{JoinedLine}
 use Rattle.line_text.specs.TextErrors.{Fails}
 use Rattle.line_text.specs.declared.text_error.TextError.{TextError}
@@ -14,7 +15,6 @@ use Rattle.arch_file.specs.declared.fault.ArchFault.{ArchFault}
 use Rattle.arch_file.specs.declared.fault.ArchFaultKind.{ArchFaultKind}
 use Rattle.arch_file.specs.Arch.{IsArch, arch_from}
 use Rattle.arch_file.specs.ArchFaults.{end_faults, faults_behind, faults_of, found_at, keyword_faults, pin_behind, pins_of, words_at}
-use Rattle.arch_file.specs.FaultLists.{least_fault}
 use Rattle.arch_file.specs.Readings.{least_kind}
 use Rattle.arch_file.specs.FcTypes.{is_fractional_type}
 use Rattle.arch_file.specs.Pins.{clock_count, has_side, input_count, is_clock_class, is_input_class}
@@ -109,5 +109,5 @@ error_at line (Fault kind) = Fault (record { line = line; kind = kind })
 
 -- what reading these lines may answer
 abbrev pub ReadsAll : List JoinedLine → Result Draft (TextError ArchFault) → Type 0
-ReadsAll lines (Ok draft) = FollowsLines draft lines × (faults_behind [] lines ≡ found_at (length lines) 0 (end_faults lines))
+ReadsAll lines (Ok draft) = FollowsLines draft lines × (faults_behind [] lines ≡ found_at true 0 (end_faults lines))
 ReadsAll lines (Err error) = Fails (least_fault (faults_behind [] lines)) error

@@ -1,22 +1,17 @@
 -- Private: what the reading of a part of a line may answer, where that part has these faults.
-use Rattle.std.specs.Prelude.{◌≡◌, nat_le, List, [], ◌∷◌, Option, Some, None, Result, Ok, Err, if◌then◌else◌}
+use Rattle.std.specs.Prelude.{◌≡◌, List, [], ◌∷◌, Option, Some, Result, Ok, Err}
 use Rattle.arch_file.specs.declared.fault.ArchFaultKind.{ArchFaultKind}
-use Rattle.arch_file.specs.Faults.{number_of}
+use Rattle.line_text.specs.LeastFault.{least_by}
+use Rattle.arch_file.specs.FaultLists.{comes_before}
 
 -- there is at most one fault, and it is answered
 abbrev pub Finds : {X : Type 0} → List ArchFaultKind → Result X ArchFaultKind → Type 0
 Finds faults (Ok value) = faults ≡ []
 Finds faults (Err kind) = faults ≡ kind ∷ []
 
--- the first of a kind of fault and another, if there is one, by number
-abbrev pub lesser : ArchFaultKind → Option ArchFaultKind → ArchFaultKind
-lesser kind None = kind
-lesser kind (Some other) = if nat_le (number_of kind) (number_of other) then kind else other
-
--- the least of all by number
+-- the least of all
 abbrev pub least_kind : List ArchFaultKind → Option ArchFaultKind
-least_kind [] = None
-least_kind (kind ∷ rest) = Some (lesser kind (least_kind rest))
+least_kind kinds = least_by comes_before kinds
 
 -- there may be several faults, and the least is answered
 abbrev pub FindsLeast : {X : Type 0} → List ArchFaultKind → Result X ArchFaultKind → Type 0

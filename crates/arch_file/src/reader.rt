@@ -1,5 +1,6 @@
 //! From the text to the architecture.
 ghost use Rattle.std.specs.Prelude.{◌≤◌, IfOk};
+ghost use Rattle.line_text.specs.LineOrder.{RisesFrom};
 ghost use Rattle.line_text.specs.TextErrors.{Gives};
 ghost use Rattle.arch_file.specs.Arch.{IsArch, arch_of};
 ghost use Rattle.arch_file.specs.Draft.{ReadsAll};
@@ -10,8 +11,9 @@ use crate::fault::{ArchError, ArchFault, ArchFaultKind};
 use line_text::{Lines, MAX_TEXT, logical_lines};
 use std::alloc::Global;
 
-/// What all lines say, or the least fault of the first line that has one.
+/// What all lines say, whose numbers rise, or the least fault of the first line that has one.
 fn read_lines(alloc: Global, lines: &Lines<'_>) -> Result<Draft, ArchError>
+    requires { RisesFrom 1 lines.now }
     ensures { ReadsAll lines.now result }
 {
     let mut draft = Draft::new(alloc);

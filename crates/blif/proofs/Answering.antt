@@ -11,14 +11,15 @@ use Rattle.blif.specs.declared.circuit.Circuit.{Circuit}
 use Rattle.blif.specs.declared.fault.BlifFaultKind.TheVariants.{OverLimit}
 use Rattle.blif.specs.declared.fault.BlifFault.{BlifFault}
 use Rattle.blif.specs.Faults.{fault_of_lines}
-use Rattle.blif.specs.LineOrder.{RisesFrom}
-use Rattle.blif.specs.Names.{first}
+use Rattle.line_text.specs.LineOrder.{RisesFrom}
+use Rattle.blif.specs.FirstFaults.{first_fault}
 use Rattle.blif.specs.Sights.{Sights, sights_of}
 use Rattle.blif.specs.Circuits.{circuit_from}
 use Rattle.blif.specs.CircuitOf.{IsLawfulFor, circuit_of, circuit_of_lines, circuit_of_read, declared_in, final_faults, line_faults, unless_fault}
 use Rattle.blif.specs.declared.circuit.TheConstants.{MAX_NETS}
 use Rattle.line_text.specs.declared.lines.TheConstants.{MAX_TEXT}
 use Rattle.blif.proofs.Places.{first_append, first_append_none}
+use Rattle.blif.proofs.FaultOrder.{least_is_first}
 use Rattle.blif.proofs.Faultless.{nil_from_first}
 use Rattle.blif.proofs.Lawful.{is_circuit, is_narrow}
 
@@ -28,30 +29,33 @@ unfolding sights_of
 declared_is checked declared lines sights = ap (λ s. let t : Sights = s in t.declared) sights
 
 -- a line's fault is the least
-pub gives_line_fault : (lut_size : ℕ) (lines : List JoinedLine) (declared : List (List ℕ)) (error : TextError BlifFault) → declared ≡ declared_in lines → Fails (first (line_faults lut_size declared [] lines)) error → Gives (circuit_of_lines lut_size lines) (Err error)
+pub gives_line_fault : (lut_size : ℕ) (lines : List JoinedLine) (declared : List (List ℕ)) (error : TextError BlifFault) → RisesFrom 1 lines → declared ≡ declared_in lines → Fails (first_fault (line_faults lut_size declared [] lines)) error → Gives (circuit_of_lines lut_size lines) (Err error)
 unfolding circuit_of_lines
-gives_line_fault lut_size lines declared NoMemory is fails = tt
-gives_line_fault lut_size lines declared (Fault fault) is fails =
+gives_line_fault lut_size lines declared NoMemory rises is fails = tt
+gives_line_fault lut_size lines declared (Fault fault) rises is fails =
     ap (λ found. unless_fault found (circuit_from (declared_in lines) lines))
-    (first_append (line_faults lut_size (declared_in lines) [] lines) (final_faults (declared_in lines) lines) fault
-    (ap (λ d. first (line_faults lut_size d [] lines)) (sym is) ∙ fails))
+    (least_is_first lut_size lines rises
+    ∙ first_append (line_faults lut_size (declared_in lines) [] lines) (final_faults (declared_in lines) lines) fault
+    (ap (λ d. first_fault (line_faults lut_size d [] lines)) (sym is) ∙ fails))
 
 -- without one the end decides
-pub gives_built : (lut_size : ℕ) (lines : List JoinedLine) (declared : List (List ℕ)) (result : Result Circuit (TextError BlifFault)) → declared ≡ declared_in lines → first (line_faults lut_size declared [] lines) ≡ None → MatchResult result (λ circuit. (first (final_faults declared lines) ≡ None) × (circuit ≡ circuit_from declared lines)) (Fails (first (final_faults declared lines))) → Gives (circuit_of_lines lut_size lines) result
+pub gives_built : (lut_size : ℕ) (lines : List JoinedLine) (declared : List (List ℕ)) (result : Result Circuit (TextError BlifFault)) → RisesFrom 1 lines → declared ≡ declared_in lines → first_fault (line_faults lut_size declared [] lines) ≡ None → MatchResult result (λ circuit. (first_fault (final_faults declared lines) ≡ None) × (circuit ≡ circuit_from declared lines)) (Fails (first_fault (final_faults declared lines))) → Gives (circuit_of_lines lut_size lines) result
 unfolding circuit_of_lines
-gives_built lut_size lines declared (Err NoMemory) is none built = tt
-gives_built lut_size lines declared (Err (Fault fault)) is none built =
+gives_built lut_size lines declared (Err NoMemory) rises is none built = tt
+gives_built lut_size lines declared (Err (Fault fault)) rises is none built =
     ap (λ found. unless_fault found (circuit_from (declared_in lines) lines))
-    (first_append_none (line_faults lut_size (declared_in lines) [] lines) (final_faults (declared_in lines) lines) (ap (λ d. first (line_faults lut_size d [] lines)) (sym is) ∙ none)
-    ∙ ap (λ d. first (final_faults d lines)) (sym is) ∙ built)
-gives_built lut_size lines declared (Ok circuit) is none built =
+    (least_is_first lut_size lines rises
+    ∙ first_append_none (line_faults lut_size (declared_in lines) [] lines) (final_faults (declared_in lines) lines) (ap (λ d. first_fault (line_faults lut_size d [] lines)) (sym is) ∙ none)
+    ∙ ap (λ d. first_fault (final_faults d lines)) (sym is) ∙ built)
+gives_built lut_size lines declared (Ok circuit) rises is none built =
     ap (λ found. unless_fault found (circuit_from (declared_in lines) lines))
-    (first_append_none (line_faults lut_size (declared_in lines) [] lines) (final_faults (declared_in lines) lines) (ap (λ d. first (line_faults lut_size d [] lines)) (sym is) ∙ none)
-    ∙ ap (λ d. first (final_faults d lines)) (sym is) ∙ built.0)
+    (least_is_first lut_size lines rises
+    ∙ first_append_none (line_faults lut_size (declared_in lines) [] lines) (final_faults (declared_in lines) lines) (ap (λ d. first_fault (line_faults lut_size d [] lines)) (sym is) ∙ none)
+    ∙ ap (λ d. first_fault (final_faults d lines)) (sym is) ∙ built.0)
     ∙ ap Ok (ap (λ d. circuit_from d lines) (sym is) ∙ sym built.1)
 
 -- what is built is lawful
-pub lawful_built : (lut_size : ℕ) (lines : List JoinedLine) (declared : List (List ℕ)) (result : Result Circuit (TextError BlifFault)) → RisesFrom 1 lines → length (sights_of declared lines).nets ≤ MAX_NETS → first (line_faults lut_size declared [] lines) ≡ None → MatchResult result (λ circuit. (first (final_faults declared lines) ≡ None) × (circuit ≡ circuit_from declared lines)) (Fails (first (final_faults declared lines))) → IfOk result (IsLawfulFor lut_size)
+pub lawful_built : (lut_size : ℕ) (lines : List JoinedLine) (declared : List (List ℕ)) (result : Result Circuit (TextError BlifFault)) → RisesFrom 1 lines → length (sights_of declared lines).nets ≤ MAX_NETS → first_fault (line_faults lut_size declared [] lines) ≡ None → MatchResult result (λ circuit. (first_fault (final_faults declared lines) ≡ None) × (circuit ≡ circuit_from declared lines)) (Fails (first_fault (final_faults declared lines))) → IfOk result (IsLawfulFor lut_size)
 lawful_built lut_size lines declared (Err error) rises few none built = tt
 lawful_built lut_size lines declared (Ok circuit) rises few none built = (
   rw built.1 (is_circuit lut_size declared lines rises few (nil_from_first _ none) (nil_from_first _ built.0)),

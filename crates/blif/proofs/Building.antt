@@ -1,17 +1,20 @@
 -- The parts of a circuit that one more line brings, and what the line reads that is not driven.
-use Rattle.std.proofs.Common.{◌≡◌, ℕ, ◌+◌, ◌<◌, ◌≤◌, true, false, if◌then◌else◌, arith, List, [], ◌∷◌, ◌++◌, None, Some, length, take, drop, slice_get, map, refl, sym, ap, ◌∙◌}
+use Rattle.std.proofs.Common.{◌≡◌, ℕ, ◌+◌, ◌<◌, ◌≤◌, true, false, not, if◌then◌else◌, arith, List, [], ◌∷◌, ◌++◌, None, Some, length, take, drop, slice_get, map, refl, sym, ap, ◌∙◌}
 use Rattle.std.specs.List.{flat_map}
 use Rattle.std.proofs.lemmas.List.{map-append, drop_all}
 use Rattle.line_text.specs.Lines.{JoinedLine}
 use Rattle.blif.specs.LineByLine.{parts_after}
 use Rattle.blif.specs.declared.fault.BlifFaultKind.TheVariants.{Undriven}
-use Rattle.blif.specs.Names.{first, number_of, with_names}
+use Rattle.blif.specs.Names.{first, has_name, number_of, placed, with_names}
 use Rattle.blif.specs.LineNets.{reads_in, inputs_in, outputs_in}
 use Rattle.blif.specs.Sights.{Sights, sights_of, kind_of, is_end, inputs_of}
-use Rattle.blif.specs.BlifFaults.{driven}
+use Rattle.blif.specs.BlifFaults.{at_words, driven}
+use Rattle.blif.specs.FirstFaults.{first_fault}
 use Rattle.blif.specs.Circuits.{Parts, circuit_from, circuit_with, parts_of, tables_in, latches_in}
-use Rattle.blif.specs.CircuitOf.{final_faults, lines_to_end, undriven, undriven_faults}
+use Rattle.blif.specs.CircuitOf.{final_faults, lines_to_end, undriven_faults}
+use Rattle.blif.specs.Repeats.{undriven}
 use Rattle.blif.proofs.Places.{flat_map_push, first_found, first_none, take_place, drop_place}
+use Rattle.blif.proofs.PlacedNames.{first_placed}
 use Rattle.blif.proofs.Sightings.{with_names-append}
 
 -- the parts with those of one more line
@@ -27,20 +30,24 @@ parts_push nets lines line =
     λ i. record { inputs = inputs i; outputs = outputs i; tables = tables i; latches = latches i }
 
 -- the first of the faults of the lines, where the first line reads this net undriven
-found_first : (drivers : List (List ℕ)) (line : JoinedLine) (rest : List JoinedLine) (net : List ℕ) → Some net ≡ first (undriven drivers (reads_in (kind_of line) line.words)) → first (flat_map (undriven_faults drivers) (line ∷ rest)) ≡ Some (record { line = line.number; kind = Undriven net })
+found_first : (drivers : List (List ℕ)) (line : JoinedLine) (rest : List JoinedLine) (net : List ℕ) → Some net ≡ first (undriven drivers (reads_in (kind_of line) line.words)) → first_fault (flat_map (undriven_faults drivers) (line ∷ rest)) ≡ Some (record { line = line.number; kind = Undriven net })
 unfolding undriven_faults
 found_first drivers line rest net h =
-    first_found _ (map Undriven (undriven drivers (reads_in (kind_of line) line.words))) _ (Undriven net) (of_kinds (undriven drivers (reads_in (kind_of line) line.words)) h)
+    let reads : List (List ℕ) = reads_in (kind_of line) line.words in
+    first_found true line.number (at_words Undriven (placed (λ name. not (has_name drivers name)) reads)) (flat_map (undriven_faults drivers) rest) (Undriven net)
+    (of_kinds (undriven drivers reads) h ∙ first_placed Undriven (λ name. not (has_name drivers name)) reads)
   where
     of_kinds : (nets : List (List ℕ)) → Some net ≡ first nets → Some (Undriven net) ≡ first (map Undriven nets)
     of_kinds [] h = absurd cc
     of_kinds (n ∷ nets) h = cc
 
 -- and where it reads driven nets alone
-none_first : (drivers : List (List ℕ)) (line : JoinedLine) (rest : List JoinedLine) → None ≡ first (undriven drivers (reads_in (kind_of line) line.words)) → first (flat_map (undriven_faults drivers) (line ∷ rest)) ≡ first (flat_map (undriven_faults drivers) rest)
+none_first : (drivers : List (List ℕ)) (line : JoinedLine) (rest : List JoinedLine) → None ≡ first (undriven drivers (reads_in (kind_of line) line.words)) → first_fault (flat_map (undriven_faults drivers) (line ∷ rest)) ≡ first_fault (flat_map (undriven_faults drivers) rest)
 unfolding undriven_faults
 none_first drivers line rest h =
-    first_none _ (map Undriven (undriven drivers (reads_in (kind_of line) line.words))) _ (of_kinds (undriven drivers (reads_in (kind_of line) line.words)) h)
+    let reads : List (List ℕ) = reads_in (kind_of line) line.words in
+    first_none true line.number (at_words Undriven (placed (λ name. not (has_name drivers name)) reads)) (flat_map (undriven_faults drivers) rest)
+    (of_kinds (undriven drivers reads) h ∙ first_placed Undriven (λ name. not (has_name drivers name)) reads)
   where
     of_kinds : (nets : List (List ℕ)) → None ≡ first nets → None ≡ first (map Undriven nets)
     of_kinds [] h = refl
@@ -55,15 +62,15 @@ module _ (nets drivers : List (List ℕ)) (lines : List JoinedLine) (place : ℕ
       ∙ sym (parts_push nets (take place lines) line) ∙ ap (parts_of nets) (sym (take_place lines place line within at))
 
   -- its undriven net is the first one
-  pub undriven_at : (net : List ℕ) → Some net ≡ first (undriven drivers (reads_in (kind_of line) line.words)) → first (flat_map (undriven_faults drivers) (drop place lines)) ≡ first (flat_map (undriven_faults drivers) lines) → first (flat_map (undriven_faults drivers) lines) ≡ Some (record { line = line.number; kind = Undriven net })
+  pub undriven_at : (net : List ℕ) → Some net ≡ first (undriven drivers (reads_in (kind_of line) line.words)) → first_fault (flat_map (undriven_faults drivers) (drop place lines)) ≡ first_fault (flat_map (undriven_faults drivers) lines) → first_fault (flat_map (undriven_faults drivers) lines) ≡ Some (record { line = line.number; kind = Undriven net })
   undriven_at net found left =
-      sym left ∙ ap (λ rest. first (flat_map (undriven_faults drivers) rest)) (drop_place lines place line within at)
+      sym left ∙ ap (λ rest. first_fault (flat_map (undriven_faults drivers) rest)) (drop_place lines place line within at)
       ∙ found_first drivers line _ net found
 
   -- without one the first is among those of the lines below
-  pub no_undriven_at : None ≡ first (undriven drivers (reads_in (kind_of line) line.words)) → first (flat_map (undriven_faults drivers) (drop place lines)) ≡ first (flat_map (undriven_faults drivers) lines) → first (flat_map (undriven_faults drivers) (drop (place + 1) lines)) ≡ first (flat_map (undriven_faults drivers) lines)
+  pub no_undriven_at : None ≡ first (undriven drivers (reads_in (kind_of line) line.words)) → first_fault (flat_map (undriven_faults drivers) (drop place lines)) ≡ first_fault (flat_map (undriven_faults drivers) lines) → first_fault (flat_map (undriven_faults drivers) (drop (place + 1) lines)) ≡ first_fault (flat_map (undriven_faults drivers) lines)
   no_undriven_at none left =
-      sym (none_first drivers line _ none) ∙ ap (λ rest. first (flat_map (undriven_faults drivers) rest)) (sym (drop_place lines place line within at)) ∙ left
+      sym (none_first drivers line _ none) ∙ ap (λ rest. first_fault (flat_map (undriven_faults drivers) rest)) (sym (drop_place lines place line within at)) ∙ left
 
 -- the faults that are found at the end, where there is a line
 final_faults_lines : (declared : List (List ℕ)) (lines : List JoinedLine) → 0 < length lines → final_faults declared lines ≡ flat_map (undriven_faults (driven (sights_of declared lines))) lines

@@ -9,7 +9,8 @@ use Rattle.std.proofs.lemmas.List.Kept.{AllPairs-cons}
 use Rattle.std.proofs.lemmas.List.Sums.{sum_by-append}
 use Rattle.std.proofs.lemmas.Bool.Decides.{Decides-eqb}
 use Rattle.std.proofs.lemmas.Slice.Eq.{bytes_eq-Decides}
-use Rattle.blif.specs.Names.{has_name, number_of, repeats, with_name, with_names}
+use Rattle.blif.specs.Names.{has_name, number_of, with_name, with_names}
+use Rattle.blif.specs.Repeats.{repeats}
 use Rattle.blif.proofs.Named.{and_left, and_right, name_at}
 use Rattle.blif.proofs.Faultless.{nil_left, nil_right}
 

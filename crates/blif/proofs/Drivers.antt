@@ -23,6 +23,7 @@ use Rattle.blif.specs.LawfulCircuits.{IsLatchDriven, drivers_of, has_net}
 use Rattle.blif.proofs.Named.{and_left, and_right}
 use Rattle.blif.proofs.Counts.{count_by-append, count_of, counted_if_there, counted_more, names_counted, none_of_filtered, numbers_counted, once_in_set, once_more, there_if_counted, times}
 use Rattle.blif.proofs.Faultless.{latch_output_free, nil_from_map, table_output_free}
+use Rattle.blif.proofs.PlacedNames.{no_repeats, none_placed}
 use Rattle.blif.proofs.LawfulNets.{last_passes}
 
 -- no net is driven twice
@@ -31,10 +32,10 @@ DrivenOnce sights = (name : List ℕ) → times name (sights.clocks ++ sights.dr
 
 -- a line without a fault drives no net again
 pub driven_once_after : (lut_size : ℕ) (above : Sights) (keyword : Keyword) (words : List (List ℕ)) → kind_faults lut_size above keyword words ≡ [] → DrivenOnce above → DrivenOnce (sights_after keyword words above)
-driven_once_after lut_size above Inputs words h once = λ name. rw (← append_assoc) (once_more name (above.clocks ++ above.drivers) (args_of words) (nil_from_map _ _ h) (once name))
+driven_once_after lut_size above Inputs words h once = λ name. rw (← append_assoc) (once_more name (above.clocks ++ above.drivers) (args_of words) (no_repeats (above.clocks ++ above.drivers) (args_of words) (nil_from_map _ _ h)) (once name))
 driven_once_after lut_size above Names words h once = λ name. rw (← append_assoc) (once_more name (above.clocks ++ above.drivers) (output_of (args_of words)) (table_output_free lut_size _ (args_of words) h) (once name))
 driven_once_after lut_size above Latch words h once = λ name. rw (← append_assoc) (once_more name (above.clocks ++ above.drivers) (latch_output (args_of words)) (latch_output_free _ (args_of words) h) (once name))
-driven_once_after lut_size above Clock words h once = λ name. rw append-nil (once_in_set name above.clocks above.drivers _ (none_of_filtered _ _ (args_of words) (nil_from_map _ _ h)) (once name))
+driven_once_after lut_size above Clock words h once = λ name. rw append-nil (once_in_set name above.clocks above.drivers _ (none_of_filtered _ _ (args_of words) (none_placed _ (args_of words) (nil_from_map _ _ h))) (once name))
 driven_once_after lut_size above keyword words h once = λ name. rw append-nil (once name)
 
 -- no net is shown twice
@@ -42,7 +43,7 @@ abbrev pub ShownOnce : Sights → Type 0
 ShownOnce sights = (name : List ℕ) → times name sights.outputs ≤ 1
 
 pub shown_once_after : (lut_size : ℕ) (above : Sights) (keyword : Keyword) (words : List (List ℕ)) → kind_faults lut_size above keyword words ≡ [] → ShownOnce above → ShownOnce (sights_after keyword words above)
-shown_once_after lut_size above Outputs words h once = λ name. once_more name above.outputs (args_of words) (nil_from_map _ _ h) (once name)
+shown_once_after lut_size above Outputs words h once = λ name. once_more name above.outputs (args_of words) (no_repeats above.outputs (args_of words) (nil_from_map _ _ h)) (once name)
 shown_once_after lut_size above keyword words h once = λ name. rw append-nil (once name)
 
 module _ (nets : List (List ℕ)) where

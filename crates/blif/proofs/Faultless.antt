@@ -7,16 +7,21 @@ use Rattle.line_text.specs.Lines.{JoinedLine}
 use Rattle.blif.specs.LineByLine.{sights_after}
 use Rattle.blif.specs.declared.fault.BlifFaultKind.TheVariants.{BadLatch, NoModel, OverLimit, Unknown}
 use Rattle.blif.specs.declared.keyword.Keyword.{Keyword}
-use Rattle.blif.specs.Names.{first, has_name, repeats, with_names}
+use Rattle.blif.specs.Names.{has_name, repeats_from, with_names}
+use Rattle.blif.specs.Repeats.{repeats, undriven}
 use Rattle.blif.specs.LineNets.{latch_output, names_in, output_of, reads_in}
 use Rattle.blif.specs.LatchLines.{is_latch}
 use Rattle.blif.specs.Sights.{Sights, sights_of, kind_of}
 use Rattle.blif.specs.declared.circuit.TheConstants.{MAX_NETS}
-use Rattle.blif.specs.BlifFaults.{driven, driver_faults, fault_where, faults_in, is_model, kind_faults, latch_faults, table_faults}
-use Rattle.blif.specs.CircuitOf.{final_faults, line_faults, undriven, undriven_faults}
+use Rattle.blif.specs.BlifFaults.{driven, driver_faults, fault_where, faults_in, is_model, kind_faults, latch_faults, of_line, table_faults}
+use Rattle.line_text.specs.LeastFault.{Found}
+use Rattle.blif.specs.declared.fault.BlifFault.{BlifFault}
+use Rattle.blif.specs.FirstFaults.{first_fault}
+use Rattle.blif.specs.CircuitOf.{final_faults, line_faults, undriven_faults}
+use Rattle.blif.proofs.PlacedNames.{no_repeats, none_placed}
 use Rattle.blif.proofs.Sightings.{sights_push}
 
-pub nil_from_first : {X : Type 0} (xs : List X) → first xs ≡ None → xs ≡ []
+pub nil_from_first : (xs : List (Found BlifFault)) → first_fault xs ≡ None → xs ≡ []
 nil_from_first [] h = refl
 nil_from_first (x ∷ xs) h = absurd cc
 
@@ -36,7 +41,7 @@ nil_from_map f (x ∷ xs) h = absurd cc
 kind_faultless : (lut_size : ℕ) (above : Sights) (keyword : Keyword) (words : List (List ℕ)) → faults_in lut_size above keyword words ≡ [] → kind_faults lut_size above keyword words ≡ []
 kind_faultless lut_size above keyword words h = by above.ended h
   where
-    by : (b : Bool) → (if b then Unknown ∷ [] else kind_faults lut_size above keyword words ++ (fault_where (not (above.begun || is_model keyword)) NoModel ++ fault_where (nat_lt MAX_NETS (length (with_names above.nets (names_in keyword words)))) OverLimit)) ≡ [] → kind_faults lut_size above keyword words ≡ []
+    by : (b : Bool) → (if b then of_line Unknown else kind_faults lut_size above keyword words ++ (fault_where (not (above.begun || is_model keyword)) NoModel ++ fault_where (nat_lt MAX_NETS (length (with_names above.nets (names_in keyword words)))) OverLimit)) ≡ [] → kind_faults lut_size above keyword words ≡ []
     by true none = absurd cc
     by false none = nil_left _ _ none
 
@@ -61,14 +66,14 @@ kept_by_sights lut_size declared Kept step lines start h =
 -- a table without a fault drives what is free
 pub table_output_free : (lut_size : ℕ) (taken names : List (List ℕ)) → table_faults lut_size taken names ≡ [] → repeats taken (output_of names) ≡ []
 table_output_free lut_size taken [] h = absurd cc
-table_output_free lut_size taken (name ∷ names) h = nil_from_map _ _ (nil_right _ _ h)
+table_output_free lut_size taken (name ∷ names) h = no_repeats taken (output_of (name ∷ names)) (nil_from_map _ (repeats_from 0 taken (output_of (name ∷ names))) (nil_right _ _ h))
 
 -- a latch does
 pub latch_output_free : (taken args : List (List ℕ)) → latch_faults taken args ≡ [] → repeats taken (latch_output args) ≡ []
 latch_output_free taken args h = by (is_latch args) h
   where
-    by : (b : Bool) → (if b then driver_faults taken (latch_output args) else BadLatch ∷ []) ≡ [] → repeats taken (latch_output args) ≡ []
-    by true none = nil_from_map _ _ none
+    by : (b : Bool) → (if b then driver_faults taken (latch_output args) else of_line BadLatch) ≡ [] → repeats taken (latch_output args) ≡ []
+    by true none = no_repeats taken (latch_output args) (nil_from_map _ _ none)
     by false none = absurd cc
 
 -- where no undriven net is read, all that is read is driven
@@ -85,7 +90,7 @@ unfolding undriven_faults
 reads_driven drivers [] h = refl
 reads_driven drivers (line ∷ lines) h =
     let reads : List (List ℕ) = reads_in (kind_of line) line.words in
-    let head : list_all (has_name drivers) reads ≡ true = all_driven drivers reads (nil_from_map _ _ (nil_from_map _ _ (nil_left _ _ h))) in
+    let head : list_all (has_name drivers) reads ≡ true = all_driven drivers reads (none_placed _ reads (nil_from_map _ _ (nil_from_map _ _ (nil_left _ _ h)))) in
     let tail = reads_driven drivers lines (nil_right _ _ h) in
     list_all-append (has_name drivers) reads _ ∙ (λ i. head i && tail i)
 

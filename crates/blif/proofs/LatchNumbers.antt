@@ -6,7 +6,7 @@ use Rattle.std.specs.Option.{option_to_list}
 use Rattle.blif.specs.Names.{first, texts, has_name, number_of}
 use Rattle.blif.specs.LatchLines.{is_latch, control_of}
 use Rattle.blif.specs.LineNets.{latch_nets, latch_reads}
-use Rattle.blif.specs.CircuitOf.{undriven}
+use Rattle.blif.specs.Repeats.{undriven}
 use Rattle.blif.proofs.Named.{and_left, and_right, name_at, number_of-within}
 
 -- the number is that of a net with this name

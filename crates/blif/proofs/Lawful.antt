@@ -9,7 +9,7 @@ use Rattle.blif.specs.declared.latches.Latch.{Latch as StoredLatch}
 use Rattle.blif.specs.LookupTables.{LookupTable}
 use Rattle.blif.specs.Names.{has_name, number_of, with_names}
 use Rattle.blif.specs.LineNets.{reads_in}
-use Rattle.blif.specs.LineOrder.{RisesFrom}
+use Rattle.line_text.specs.LineOrder.{RisesFrom}
 use Rattle.blif.specs.Sights.{Sights, kind_of, names_of, inputs_of, clocks_of, drives_of, outputs_of, sights_of, undeclared}
 use Rattle.blif.specs.declared.circuit.TheConstants.{MAX_NETS}
 use Rattle.blif.specs.Circuits.{circuit_from, latches_in, parts_of, tables_in}

@@ -4,6 +4,7 @@ mod Counts
 mod Different
 mod Drivers
 mod Examples
+mod FaultOrder
 mod Faultless
 mod Growing
 mod LatchNumbers
@@ -13,8 +14,8 @@ mod LineParts
 mod Named
 mod NetNumbers
 mod Numbered
+mod PlacedNames
 mod Places
-mod RisingLines
 mod Seen
 mod Sightings
 mod Words

@@ -15,7 +15,7 @@ use Rattle.blif.specs.Names.{number_of}
 use Rattle.blif.specs.Keywords.{args_of}
 use Rattle.blif.specs.LatchLines.{is_latch}
 use Rattle.blif.specs.LineNets.{front_of}
-use Rattle.blif.specs.LineOrder.{RisesFrom}
+use Rattle.line_text.specs.LineOrder.{RisesFrom}
 use Rattle.blif.specs.Sights.{Sights, kind_of, sights_of}
 use Rattle.blif.specs.BlifFaults.{fault_where, kind_faults, table_faults}
 use Rattle.blif.specs.Circuits.{latch_with, latches_in, table_with, tables_in}

@@ -9,7 +9,7 @@ use Rattle.std.proofs.lemmas.List.Folds.{position_or_len_push}
 use Rattle.std.proofs.lemmas.Slice.Eq.{bytes_eq-Decides}
 use Rattle.line_text.specs.Lines.{JoinedLine}
 use Rattle.blif.specs.Numbering.{numbered}
-use Rattle.blif.specs.CircuitOf.{undriven}
+use Rattle.blif.specs.Repeats.{undriven}
 use Rattle.blif.specs.Names.{first, texts, has_name, number_of, with_name, with_names}
 use Rattle.blif.specs.Sights.{names_of}
 use Rattle.blif.proofs.Named.{has_name-with_name, has_name-added, name_at, named_at, number_of-within}

@@ -8,9 +8,10 @@ use Rattle.line_text.specs.Lines.{JoinedLine}
 use Rattle.blif.specs.LineByLine.{sights_after}
 use Rattle.blif.specs.Numbering.{numbered}
 use Rattle.blif.specs.declared.fault.BlifFaultKind.{BlifFaultKind}
-use Rattle.blif.specs.Names.{first, with_name, with_names}
+use Rattle.blif.specs.Names.{with_name, with_names}
 use Rattle.blif.specs.Sights.{Sights, sights_of, kind_of, is_end, names_of, drives_of, clocks_of, outputs_of, undeclared, has_lines, cover_below}
 use Rattle.blif.specs.BlifFaults.{faults_in}
+use Rattle.blif.specs.FirstFaults.{first_fault, first_kind}
 use Rattle.blif.specs.CircuitOf.{line_faults}
 use Rattle.blif.proofs.Numbered.{numbered-append}
 use Rattle.blif.proofs.Places.{flat_map_push, first_found, first_none, take_place, drop_place}
@@ -43,14 +44,16 @@ sights_push declared lines line =
     λ i. record { declared = declared; begun = begun i; ended = ended i; nets = nets i; drivers = drivers i; clocks = clocks i; outputs = outputs i; cover = cover i }
 
 -- the fault of a line with one
-pub line_faults_found : (lut_size : ℕ) (declared : List (List ℕ)) (above : List JoinedLine) (line : JoinedLine) (rest : List JoinedLine) (kind : BlifFaultKind) → Some kind ≡ first (faults_in lut_size (sights_of declared above) (kind_of line) line.words) → first (line_faults lut_size declared above (line ∷ rest)) ≡ Some (record { line = line.number; kind = kind })
+pub line_faults_found : (lut_size : ℕ) (declared : List (List ℕ)) (above : List JoinedLine) (line : JoinedLine) (rest : List JoinedLine) (kind : BlifFaultKind) → Some kind ≡ first_kind (faults_in lut_size (sights_of declared above) (kind_of line) line.words) → first_fault (line_faults lut_size declared above (line ∷ rest)) ≡ Some (record { line = line.number; kind = kind })
 unfolding line_faults
-line_faults_found lut_size declared above line rest kind h = first_found _ (faults_in lut_size (sights_of declared above) (kind_of line) line.words) _ kind h
+line_faults_found lut_size declared above line rest kind h =
+    first_found false line.number (faults_in lut_size (sights_of declared above) (kind_of line) line.words) (line_faults lut_size declared (above ++ line ∷ []) rest) kind h
 
 -- a line without one leaves the faults to those that follow
-pub line_faults_none : (lut_size : ℕ) (declared : List (List ℕ)) (above : List JoinedLine) (line : JoinedLine) (rest : List JoinedLine) → None ≡ first (faults_in lut_size (sights_of declared above) (kind_of line) line.words) → first (line_faults lut_size declared above (line ∷ rest)) ≡ first (line_faults lut_size declared (above ++ line ∷ []) rest)
+pub line_faults_none : (lut_size : ℕ) (declared : List (List ℕ)) (above : List JoinedLine) (line : JoinedLine) (rest : List JoinedLine) → None ≡ first_kind (faults_in lut_size (sights_of declared above) (kind_of line) line.words) → first_fault (line_faults lut_size declared above (line ∷ rest)) ≡ first_fault (line_faults lut_size declared (above ++ line ∷ []) rest)
 unfolding line_faults
-line_faults_none lut_size declared above line rest h = first_none _ (faults_in lut_size (sights_of declared above) (kind_of line) line.words) _ h
+line_faults_none lut_size declared above line rest h =
+    first_none false line.number (faults_in lut_size (sights_of declared above) (kind_of line) line.words) (line_faults lut_size declared (above ++ line ∷ []) rest) h
 
 module _ (lut_size : ℕ) (declared : List (List ℕ)) (lines : List JoinedLine) (place : ℕ) (line : JoinedLine) (checked : Sights)
     (within : place < length lines) (at : slice_get lines place ≡ Some line) (sights : checked ≡ sights_of declared (take place lines)) where
@@ -71,16 +74,16 @@ module _ (lut_size : ℕ) (declared : List (List ℕ)) (lines : List JoinedLine)
       ∙ ap (λ ls. numbered [] (flat_map names_of ls)) (sym (take_place lines place line within at))
 
   -- its fault is the first one
-  pub fault_at : (kind : BlifFaultKind) → Some kind ≡ first (faults_in lut_size checked (kind_of line) line.words) → first (line_faults lut_size declared (take place lines) (drop place lines)) ≡ first (line_faults lut_size declared [] lines) → first (line_faults lut_size declared [] lines) ≡ Some (record { line = line.number; kind = kind })
+  pub fault_at : (kind : BlifFaultKind) → Some kind ≡ first_kind (faults_in lut_size checked (kind_of line) line.words) → first_fault (line_faults lut_size declared (take place lines) (drop place lines)) ≡ first_fault (line_faults lut_size declared [] lines) → first_fault (line_faults lut_size declared [] lines) ≡ Some (record { line = line.number; kind = kind })
   fault_at kind found left =
       sym left
-      ∙ ap (λ rest. first (line_faults lut_size declared (take place lines) rest)) (drop_place lines place line within at)
-      ∙ line_faults_found lut_size declared (take place lines) line _ kind (found ∙ ap (λ s. first (faults_in lut_size s (kind_of line) line.words)) sights)
+      ∙ ap (λ rest. first_fault (line_faults lut_size declared (take place lines) rest)) (drop_place lines place line within at)
+      ∙ line_faults_found lut_size declared (take place lines) line _ kind (found ∙ ap (λ s. first_kind (faults_in lut_size s (kind_of line) line.words)) sights)
 
   -- without a fault the first one is among those of the lines below
-  pub no_fault_at : None ≡ first (faults_in lut_size checked (kind_of line) line.words) → first (line_faults lut_size declared (take place lines) (drop place lines)) ≡ first (line_faults lut_size declared [] lines) → first (line_faults lut_size declared (take (place + 1) lines) (drop (place + 1) lines)) ≡ first (line_faults lut_size declared [] lines)
+  pub no_fault_at : None ≡ first_kind (faults_in lut_size checked (kind_of line) line.words) → first_fault (line_faults lut_size declared (take place lines) (drop place lines)) ≡ first_fault (line_faults lut_size declared [] lines) → first_fault (line_faults lut_size declared (take (place + 1) lines) (drop (place + 1) lines)) ≡ first_fault (line_faults lut_size declared [] lines)
   no_fault_at none left =
-      ap (λ above. first (line_faults lut_size declared above (drop (place + 1) lines))) (take_place lines place line within at)
-      ∙ sym (line_faults_none lut_size declared (take place lines) line _ (none ∙ ap (λ s. first (faults_in lut_size s (kind_of line) line.words)) sights))
-      ∙ ap (λ rest. first (line_faults lut_size declared (take place lines) rest)) (sym (drop_place lines place line within at))
+      ap (λ above. first_fault (line_faults lut_size declared above (drop (place + 1) lines))) (take_place lines place line within at)
+      ∙ sym (line_faults_none lut_size declared (take place lines) line _ (none ∙ ap (λ s. first_kind (faults_in lut_size s (kind_of line) line.words)) sights))
+      ∙ ap (λ rest. first_fault (line_faults lut_size declared (take place lines) rest)) (sym (drop_place lines place line within at))
       ∙ left

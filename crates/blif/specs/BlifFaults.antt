@@ -1,58 +1,71 @@
--- The faults of a line of a netlist, the least number first, and of one kind the first word's.
-use Rattle.std.specs.Prelude.{ℕ, Bool, true, false, not, ◌&&◌, ◌||◌, List, [], ◌∷◌, ◌++◌, Option, None, Some, filter, map, length, nat_lt, if◌then◌else◌}
+-- The faults of a line of a netlist.
+use Rattle.std.specs.Prelude.{ℕ, Bool, true, false, not, ◌&&◌, ◌||◌, List, [], ◌∷◌, ◌++◌, Option, None, Some, map, length, nat_lt, if◌then◌else◌}
 use Rattle.blif.specs.declared.circuit.TheConstants.{MAX_NETS}
 use Rattle.blif.specs.declared.cover.Cover.{Cover}
 use Rattle.blif.specs.declared.keyword.Keyword.{Keyword}
 use Rattle.blif.specs.declared.keyword.Keyword.TheVariants.{Model, Inputs, Outputs, Clock, Names, Latch, Other, Row}
 use Rattle.blif.specs.declared.fault.BlifFaultKind.{BlifFaultKind}
 use Rattle.blif.specs.declared.fault.BlifFaultKind.TheVariants.{Unknown, BadCover, MixedCover, TooWide, TwoDrivers, RepeatedOutput, BadLatch, NoModel, OverLimit}
-use Rattle.blif.specs.Names.{has_name, with_names, repeats}
+use Rattle.blif.specs.Names.{has_name, placed, repeats_from, with_names}
 use Rattle.blif.specs.Keywords.{args_of}
 use Rattle.blif.specs.LatchLines.{is_latch}
 use Rattle.blif.specs.LineNets.{names_in, output_of, latch_output}
 use Rattle.blif.specs.Covers.{is_row, is_mixed}
 use Rattle.blif.specs.Sights.{Sights}
 
--- this fault, where the test holds
-abbrev pub fault_where : Bool → BlifFaultKind → List BlifFaultKind
-fault_where true kind = kind ∷ []
+-- a fault of a line, and the place of its word among the nets that are looked at, 0 where it is the whole line's
+pub record WordFault : Type 0 where
+  pub word : ℕ
+  pub kind : BlifFaultKind
+
+-- this fault of the whole line
+abbrev pub of_line : BlifFaultKind → List WordFault
+of_line kind = record { word = 0; kind = kind } ∷ []
+
+-- the same where the test holds
+abbrev pub fault_where : Bool → BlifFaultKind → List WordFault
+fault_where true kind = of_line kind
 fault_where false kind = []
+
+-- a fault for each of these names at its place
+abbrev pub at_words : (List ℕ → BlifFaultKind) → List (ℕ × List ℕ) → List WordFault
+at_words kind names = map (λ name. record { word = name.0; kind = kind name.1 }) names
 
 -- the nets that inputs, clocks, tables and latches drive
 abbrev pub driven : Sights → List (List ℕ)
 driven above = above.clocks ++ above.drivers
 
 -- a fault for each of the names that is driven above, or earlier among them
-abbrev pub driver_faults : List (List ℕ) → List (List ℕ) → List BlifFaultKind
-driver_faults driven_above names = map TwoDrivers (repeats driven_above names)
+abbrev pub driver_faults : List (List ℕ) → List (List ℕ) → List WordFault
+driver_faults driven_above names = at_words TwoDrivers (repeats_from 0 driven_above names)
 
 -- a clock that is not a declared input is driven by its lines of clocks, so nothing else drives it
-abbrev pub clock_faults : List (List ℕ) → List (List ℕ) → List (List ℕ) → List BlifFaultKind
-clock_faults declared drivers names = map TwoDrivers (filter (λ name. not (has_name declared name) && has_name drivers name) names)
+abbrev pub clock_faults : List (List ℕ) → List (List ℕ) → List (List ℕ) → List WordFault
+clock_faults declared drivers names = at_words TwoDrivers (placed (λ name. not (has_name declared name) && has_name drivers name) names)
 
 -- the faults of a table: its inputs are at most lut_size
-abbrev pub table_faults : ℕ → List (List ℕ) → List (List ℕ) → List BlifFaultKind
-table_faults lut_size driven_above [] = BadCover ∷ []
+abbrev pub table_faults : ℕ → List (List ℕ) → List (List ℕ) → List WordFault
+table_faults lut_size driven_above [] = of_line BadCover
 table_faults lut_size driven_above (name ∷ names) = fault_where (nat_lt lut_size (length names)) TooWide ++ driver_faults driven_above (output_of (name ∷ names))
 
 -- the faults of a latch
-abbrev pub latch_faults : List (List ℕ) → List (List ℕ) → List BlifFaultKind
-latch_faults driven_above args = if is_latch args then driver_faults driven_above (latch_output args) else BadLatch ∷ []
+abbrev pub latch_faults : List (List ℕ) → List (List ℕ) → List WordFault
+latch_faults driven_above args = if is_latch args then driver_faults driven_above (latch_output args) else of_line BadLatch
 
 -- the faults of a row below this cover
-abbrev pub row_faults : Option Cover → List (List ℕ) → List BlifFaultKind
-row_faults None words = Unknown ∷ []
+abbrev pub row_faults : Option Cover → List (List ℕ) → List WordFault
+row_faults None words = of_line Unknown
 row_faults (Some cover) words = fault_where (not (is_row cover.inputs words)) BadCover ++ fault_where (is_mixed cover.output words) MixedCover
 
 -- the faults that a line of this kind has by itself or with the lines above it
-abbrev pub kind_faults : ℕ → Sights → Keyword → List (List ℕ) → List BlifFaultKind
+abbrev pub kind_faults : ℕ → Sights → Keyword → List (List ℕ) → List WordFault
 kind_faults lut_size above Model words = fault_where above.begun Unknown
 kind_faults lut_size above Inputs words = driver_faults (driven above) (args_of words)
-kind_faults lut_size above Outputs words = map RepeatedOutput (repeats above.outputs (args_of words))
+kind_faults lut_size above Outputs words = at_words RepeatedOutput (repeats_from 0 above.outputs (args_of words))
 kind_faults lut_size above Clock words = clock_faults above.declared above.drivers (args_of words)
 kind_faults lut_size above Names words = table_faults lut_size (driven above) (args_of words)
 kind_faults lut_size above Latch words = latch_faults (driven above) (args_of words)
-kind_faults lut_size above Other words = Unknown ∷ []
+kind_faults lut_size above Other words = of_line Unknown
 kind_faults lut_size above Row words = row_faults above.cover words
 kind_faults lut_size above keyword words = []
 
@@ -63,9 +76,9 @@ is_model keyword = false
 
 -- all faults of a line of this kind: after the end it is Unknown and nothing else; before, the faults of its kind, and the
 -- first line begins the model, and the nets of the lines so far, with its own, are not more than the most
-abbrev pub faults_in : ℕ → Sights → Keyword → List (List ℕ) → List BlifFaultKind
+abbrev pub faults_in : ℕ → Sights → Keyword → List (List ℕ) → List WordFault
 faults_in lut_size above keyword words =
-    if above.ended then Unknown ∷ [] else
+    if above.ended then of_line Unknown else
     kind_faults lut_size above keyword words
     ++ (fault_where (not (above.begun || is_model keyword)) NoModel
     ++ fault_where (nat_lt MAX_NETS (length (with_names above.nets (names_in keyword words)))) OverLimit)

@@ -1,18 +1,18 @@
 -- What a netlist text says: its circuit, or its least fault.
-use Rattle.std.specs.Prelude.{ℕ, not, List, [], ◌∷◌, ◌++◌, Option, None, Some, Result, Ok, Err, filter, map, length, nat_lt, if◌then◌else◌}
+use Rattle.std.specs.Prelude.{ℕ, Bool, true, false, not, List, [], ◌∷◌, ◌++◌, Option, None, Some, Result, Ok, Err, map, length, nat_lt, if◌then◌else◌}
 use Rattle.std.specs.List.{flat_map}
 use Rattle.line_text.specs.Lines.{JoinedLine, lines_of}
+use Rattle.line_text.specs.LeastFault.{Found, least_fault}
 use Rattle.line_text.specs.declared.fault.LineFault.{LineFault}
 use Rattle.line_text.specs.declared.lines.TheConstants.{MAX_TEXT}
 use Rattle.blif.specs.declared.circuit.Circuit.{Circuit}
 use Rattle.blif.specs.declared.fault.BlifFault.{BlifFault}
-use Rattle.blif.specs.declared.fault.BlifFaultKind.{BlifFaultKind}
 use Rattle.blif.specs.declared.fault.BlifFaultKind.TheVariants.{Undriven, NoModel, OverLimit}
-use Rattle.blif.specs.Names.{first, has_name, with_names}
-use Rattle.blif.specs.Faults.{fault_of_lines}
+use Rattle.blif.specs.Names.{has_name, placed, with_names}
+use Rattle.blif.specs.Faults.{fault_of_lines, number_of}
 use Rattle.blif.specs.LineNets.{reads_in}
 use Rattle.blif.specs.Sights.{sights_of, kind_of, is_end, inputs_of}
-use Rattle.blif.specs.BlifFaults.{driven, faults_in}
+use Rattle.blif.specs.BlifFaults.{WordFault, at_words, driven, faults_in, of_line}
 use Rattle.blif.specs.Circuits.{circuit_from}
 use Rattle.blif.specs.LawfulCircuits.{IsCircuit, IsNarrow}
 
@@ -25,32 +25,28 @@ lines_to_end (line ∷ lines) = if is_end (kind_of line) then [] else line ∷ l
 unfoldable pub declared_in : List JoinedLine → List (List ℕ)
 declared_in lines = with_names [] (flat_map inputs_of (lines_to_end lines))
 
--- these faults of one line
-abbrev pub at_line : ℕ → List BlifFaultKind → List BlifFault
-at_line number kinds = map (λ kind. record { line = number; kind = kind }) kinds
+-- these faults of the line of that number, found at it or only at the end
+abbrev pub at_line : Bool → ℕ → List WordFault → List (Found BlifFault)
+at_line at_end number faults = map (λ fault. record { at_end = at_end; line = number; number = number_of fault.kind; word = fault.word; fault = record { line = number; kind = fault.kind } }) faults
 
 -- the faults of the lines, below those that stand above them
-unfoldable pub line_faults : ℕ → List (List ℕ) → List JoinedLine → List JoinedLine → List BlifFault
+unfoldable pub line_faults : ℕ → List (List ℕ) → List JoinedLine → List JoinedLine → List (Found BlifFault)
 line_faults lut_size declared above [] = []
 line_faults lut_size declared above (line ∷ lines) =
-    at_line line.number (faults_in lut_size (sights_of declared above) (kind_of line) line.words)
+    at_line false line.number (faults_in lut_size (sights_of declared above) (kind_of line) line.words)
     ++ line_faults lut_size declared (above ++ line ∷ []) lines
 
--- those of the names that are not driven
-abbrev pub undriven : List (List ℕ) → List (List ℕ) → List (List ℕ)
-undriven drivers names = filter (λ name. not (has_name drivers name)) names
-
 -- a fault for each net that the line reads and that is not driven
-unfoldable pub undriven_faults : List (List ℕ) → JoinedLine → List BlifFault
-undriven_faults drivers line = at_line line.number (map Undriven (undriven drivers (reads_in (kind_of line) line.words)))
+unfoldable pub undriven_faults : List (List ℕ) → JoinedLine → List (Found BlifFault)
+undriven_faults drivers line = at_line true line.number (at_words Undriven (placed (λ name. not (has_name drivers name)) (reads_in (kind_of line) line.words)))
 
 -- the faults that are found at the end
-unfoldable pub final_faults : List (List ℕ) → List JoinedLine → List BlifFault
-final_faults declared [] = record { line = 0; kind = NoModel } ∷ []
+unfoldable pub final_faults : List (List ℕ) → List JoinedLine → List (Found BlifFault)
+final_faults declared [] = at_line true 0 (of_line NoModel)
 final_faults declared (line ∷ lines) = flat_map (undriven_faults (driven (sights_of declared (line ∷ lines)))) (line ∷ lines)
 
--- all faults of the lines, in the order of line, number and word, and last those that are found at the end
-abbrev pub all_faults : ℕ → List JoinedLine → List BlifFault
+-- all faults of the lines, and those that are found at the end
+abbrev pub all_faults : ℕ → List JoinedLine → List (Found BlifFault)
 all_faults lut_size lines = line_faults lut_size (declared_in lines) [] lines ++ final_faults (declared_in lines) lines
 
 -- the least fault, or this circuit where there is none
@@ -60,7 +56,7 @@ unless_fault (Some fault) circuit = Err fault
 
 -- what the lines say
 unfoldable pub circuit_of_lines : ℕ → List JoinedLine → Result Circuit BlifFault
-circuit_of_lines lut_size lines = unless_fault (first (all_faults lut_size lines)) (circuit_from (declared_in lines) lines)
+circuit_of_lines lut_size lines = unless_fault (least_fault (all_faults lut_size lines)) (circuit_from (declared_in lines) lines)
 
 -- what a text says that has these lines
 abbrev pub circuit_of_read : ℕ → Result (List JoinedLine) LineFault → Result Circuit BlifFault

@@ -4,14 +4,15 @@ pub mod Circuits
 pub mod Covers
 pub mod DrivenNets
 pub mod Faults
+pub mod FirstFaults
 pub mod Keywords
 pub mod LatchLines
 pub mod LawfulCircuits
 pub mod LineByLine
 pub mod LineNets
-pub mod LineOrder
 pub mod LookupTables
 pub mod Names
 pub mod Numbering
+pub mod Repeats
 pub mod Sights
 pub mod Spans

@@ -1,6 +1,6 @@
 -- Names of nets, as lists of bytes.
-use Rattle.std.specs.Prelude.{ℕ, Bool, List, [], ◌∷◌, ◌++◌, Option, Some, None, if◌then◌else◌}
-use Rattle.std.specs.List.{list_any, position_or_len}
+use Rattle.std.specs.Prelude.{ℕ, ◌+◌, Bool, List, [], ◌∷◌, ◌++◌, Option, Some, None, filter, if◌then◌else◌}
+use Rattle.std.specs.List.{enumerate_from, list_any, position_or_len}
 use Rattle.std.specs.Str.{bytes_eq}
 pub use Rattle.line_text.specs.Words.{texts}
 
@@ -26,7 +26,11 @@ abbrev pub with_names : List (List ℕ) → List (List ℕ) → List (List ℕ)
 with_names names [] = names
 with_names names (name ∷ others) = with_names (with_name names name) others
 
--- those of the names that are taken, or that stand earlier among them
-abbrev pub repeats : List (List ℕ) → List (List ℕ) → List (List ℕ)
-repeats taken [] = []
-repeats taken (name ∷ names) = (if has_name taken name then name ∷ [] else []) ++ repeats (taken ++ name ∷ []) names
+-- those of the names that are taken, or that stand earlier among them, each with its place, the first one's being this
+abbrev pub repeats_from : ℕ → List (List ℕ) → List (List ℕ) → List (ℕ × List ℕ)
+repeats_from place taken [] = []
+repeats_from place taken (name ∷ names) = (if has_name taken name then (place, name) ∷ [] else []) ++ repeats_from (place + 1) (taken ++ name ∷ []) names
+
+-- those of the names that meet the test, each with its place
+abbrev pub placed : (List ℕ → Bool) → List (List ℕ) → List (ℕ × List ℕ)
+placed test names = filter (λ name. test name.1) (enumerate_from 0 names)

@@ -2,12 +2,13 @@
 ghost use Rattle.std.specs.Prelude.{◌≡◌, ◌≤◌, ◌||◌, ◌++◌, [], ◌∷◌, map, length, None, true, false, IfOk, IfNone, IsTrue};
 ghost use Rattle.blif.specs.LineByLine.{sights_after};
 ghost use Rattle.blif.specs.Numbering.{numbered};
-ghost use Rattle.blif.specs.Names.{first, repeats, texts, with_names};
+ghost use Rattle.blif.specs.Names.{repeats_from, texts, with_names};
+ghost use Rattle.blif.specs.FirstFaults.{first_kind};
 ghost use Rattle.blif.specs.Keywords.{args_of, keyword_of};
 ghost use Rattle.blif.specs.LatchLines.{is_latch};
 ghost use Rattle.blif.specs.LineNets.{latch_nets, latch_output, names_in, output_of};
 ghost use Rattle.blif.specs.Sights.{sights_of, undeclared};
-ghost use Rattle.blif.specs.BlifFaults.{clock_faults, driver_faults, faults_in, kind_faults, row_faults, table_faults, latch_faults};
+ghost use Rattle.blif.specs.BlifFaults.{at_words, clock_faults, driver_faults, faults_in, kind_faults, row_faults, table_faults, latch_faults};
 ghost use Rattle.blif.specs.declared.fault.BlifFaultKind.TheVariants.{RepeatedOutput};
 
 use crate::circuit::MAX_NETS;
@@ -78,7 +79,7 @@ impl<'t> Checker<'t> {
         lut_size: u32,
         numbers: &mut Nets,
     ) -> Result<Option<BlifFaultKind>, AllocError>
-        ensures least { IfOk result (λ fault. fault ≡ first (faults_in lut_size self.old (keyword_of (texts words.now)) (texts words.now))) }
+        ensures least { IfOk result (λ fault. fault ≡ first_kind (faults_in lut_size self.old (keyword_of (texts words.now)) (texts words.now))) }
         ensures sights { IfOk result (λ fault. IfNone fault (self.new ≡ sights_after (keyword_of (texts words.now)) (texts words.now) self.old)) }
         ensures few { IfOk result (λ fault. IfNone fault (length self.new.nets ≤ MAX_NETS)) }
         ensures numbers { IfOk result (λ fault. IfNone fault (numbers.new ≡ numbers.old ++ numbered self.old.nets (names_in (keyword_of (texts words.now)) (texts words.now)))) }
@@ -111,7 +112,7 @@ impl<'t> Checker<'t> {
         numbers: &mut Nets,
     ) -> Result<Option<BlifFaultKind>, AllocError>
         requires { self.old.ended ≡ false }
-        ensures least { IfOk result (λ fault. fault ≡ first (kind_faults lut_size self.old keyword (texts words.now))) }
+        ensures least { IfOk result (λ fault. fault ≡ first_kind (kind_faults lut_size self.old keyword (texts words.now))) }
         ensures sights { IfOk result (λ fault. IfNone fault (record self.new { begun = true } ≡ sights_after keyword (texts words.now) self.old)) }
         ensures begun { IfOk result (λ fault. self.new.begun ≡ self.old.begun) }
         ensures nets { IfOk result (λ fault. IfNone fault (self.new.nets ≡ with_names self.old.nets (names_in keyword (texts words.now)))) }
@@ -170,7 +171,7 @@ fn drive<'t>(
     drivers: &mut NameSet<'t>,
     names: &[&'t [u8]],
 ) -> Result<Option<BlifFaultKind>, AllocError>
-    ensures least { IfOk result (λ fault. fault ≡ first (driver_faults (clocks.now ++ drivers.old) (texts names.now))) }
+    ensures least { IfOk result (λ fault. fault ≡ first_kind (driver_faults (clocks.now ++ drivers.old) (texts names.now))) }
     ensures drivers { IfOk result (λ fault. IfNone fault (drivers.new ≡ drivers.old ++ texts names.now)) }
 {
     for name in names {
@@ -187,7 +188,7 @@ fn show<'t>(
     outputs: &mut NameSet<'t>,
     names: &[&'t [u8]],
 ) -> Result<Option<BlifFaultKind>, AllocError>
-    ensures least { IfOk result (λ fault. fault ≡ first (map RepeatedOutput (repeats outputs.old (texts names.now)))) }
+    ensures least { IfOk result (λ fault. fault ≡ first_kind (at_words RepeatedOutput (repeats_from 0 outputs.old (texts names.now)))) }
     ensures outputs { IfOk result (λ fault. IfNone fault (outputs.new ≡ outputs.old ++ texts names.now)) }
 {
     match outputs.add_different(names)? {
@@ -204,7 +205,7 @@ fn clock<'t>(
     clocks: &mut NameSet<'t>,
     names: &[&'t [u8]],
 ) -> Result<Option<BlifFaultKind>, AllocError>
-    ensures least { IfOk result (λ fault. fault ≡ first (clock_faults declared.now drivers.now (texts names.now))) }
+    ensures least { IfOk result (λ fault. fault ≡ first_kind (clock_faults declared.now drivers.now (texts names.now))) }
     ensures clocks { IfOk result (λ fault. IfNone fault (clocks.new ≡ with_names clocks.old (undeclared declared.now (texts names.now)))) }
 {
     for name in names {
@@ -226,7 +227,7 @@ fn table<'t>(
     drivers: &mut NameSet<'t>,
     names: &[&'t [u8]],
 ) -> Result<Option<BlifFaultKind>, AllocError>
-    ensures least { IfOk result (λ fault. fault ≡ first (table_faults lut_size (clocks.now ++ drivers.old) (texts names.now))) }
+    ensures least { IfOk result (λ fault. fault ≡ first_kind (table_faults lut_size (clocks.now ++ drivers.old) (texts names.now))) }
     ensures drivers { IfOk result (λ fault. IfNone fault (drivers.new ≡ drivers.old ++ output_of (texts names.now))) }
 {
     if names.is_empty() {
@@ -247,7 +248,7 @@ fn latch<'t>(
     drivers: &mut NameSet<'t>,
     args: &[&'t [u8]],
 ) -> Result<Option<BlifFaultKind>, AllocError>
-    ensures least { IfOk result (λ fault. fault ≡ first (latch_faults (clocks.now ++ drivers.old) (texts args.now))) }
+    ensures least { IfOk result (λ fault. fault ≡ first_kind (latch_faults (clocks.now ++ drivers.old) (texts args.now))) }
     ensures nets { IfOk result (λ fault. nets.new ≡ with_names nets.old (latch_nets (texts args.now))) }
     ensures numbers { IfOk result (λ fault. numbers.new ≡ numbers.old ++ numbered nets.old (latch_nets (texts args.now))) }
     ensures drivers { IfOk result (λ fault. IfNone fault (drivers.new ≡ drivers.old ++ latch_output (texts args.now))) }
@@ -278,7 +279,7 @@ fn name_latch<'t>(
 
 /// The least fault of a row with these words below this cover.
 fn row_fault(cover: Option<Cover>, words: &[&[u8]]) -> Option<BlifFaultKind>
-    ensures { result ≡ first (row_faults cover (texts words.now)) }
+    ensures { result ≡ first_kind (row_faults cover (texts words.now)) }
 {
     match cover {
         None => Some(BlifFaultKind::Unknown),

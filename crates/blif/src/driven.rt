@@ -2,7 +2,7 @@
 ghost use Rattle.std.specs.Prelude.{◌≡◌, ◌≤◌, ◌<◌, ◌++◌, [], map, length, IfOk, IsTrue, option_map, slice_index_or};
 ghost use Rattle.std.specs.List.{list_all};
 ghost use Rattle.blif.specs.Names.{first, has_name, number_of, texts};
-ghost use Rattle.blif.specs.CircuitOf.{undriven};
+ghost use Rattle.blif.specs.Repeats.{undriven};
 
 use crate::circuit::MAX_NETS;
 use crate::names::NameSet;

@@ -1,7 +1,8 @@
 //! Names of nets, each once, in the order of first sight.
 ghost use Rattle.std.specs.Prelude.{◌≡◌, ◌<◌, ◌≤◌, ◌++◌, [], ◌∷◌, not, length, slice_get, Some, IfOk, IfNone, IsTrue, option_map};
 ghost use Rattle.blif.specs.Numbering.{numbered};
-ghost use Rattle.blif.specs.Names.{first, has_name, number_of, repeats, texts, with_name, with_names};
+ghost use Rattle.blif.specs.Names.{first, has_name, number_of, texts, with_name, with_names};
+ghost use Rattle.blif.specs.Repeats.{repeats};
 
 use crate::nets::Nets;
 use indexmap::IndexSet;

@@ -6,7 +6,7 @@ ghost use Rattle.blif.specs.Names.{first, has_name, number_of, texts};
 ghost use Rattle.blif.specs.LatchLines.{is_latch};
 ghost use Rattle.blif.specs.LineNets.{front_of, latch_nets, latch_reads, names_in, reads_in};
 ghost use Rattle.blif.specs.Circuits.{latch_with, parts_of, table_with};
-ghost use Rattle.blif.specs.CircuitOf.{undriven};
+ghost use Rattle.blif.specs.Repeats.{undriven};
 
 use crate::circuit::Circuit;
 use crate::driven::Driven;

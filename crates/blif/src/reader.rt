@@ -3,10 +3,11 @@ ghost use Rattle.std.specs.Prelude.{◌≡◌, ◌≤◌, ◌++◌, [], ◌∷�
 ghost use Rattle.std.specs.List.{flat_map};
 ghost use Rattle.line_text.specs.TextErrors.{Fails, Gives};
 ghost use Rattle.blif.specs.Numbering.{numbered};
-ghost use Rattle.blif.specs.Names.{first, number_of, texts, with_names};
+ghost use Rattle.blif.specs.Names.{number_of, texts, with_names};
+ghost use Rattle.blif.specs.FirstFaults.{first_fault};
 ghost use Rattle.blif.specs.Keywords.{keyword_of};
 ghost use Rattle.blif.specs.LineNets.{names_in};
-ghost use Rattle.blif.specs.LineOrder.{RisesFrom};
+ghost use Rattle.line_text.specs.LineOrder.{RisesFrom};
 ghost use Rattle.blif.specs.Sights.{names_of, sights_of};
 ghost use Rattle.blif.specs.Circuits.{circuit_from, circuit_with, model_of, parts_of};
 ghost use Rattle.blif.specs.CircuitOf.{IsLawfulFor, circuit_of, circuit_of_lines, declared_in, final_faults, line_faults, undriven_faults};
@@ -80,8 +81,8 @@ fn check_lines<'t>(
 ) -> Result<Checker<'t>, BlifError>
     requires { numbers.old ≡ [] }
     ensures { MatchResult result
-        (λ checker. (first (line_faults lut_size declared.entry [] lines.now) ≡ None) × (checker ≡ sights_of declared.entry lines.now) × (length checker.nets ≤ MAX_NETS) × (numbers.new ≡ numbered [] (flat_map names_of lines.now)))
-        (Fails (first (line_faults lut_size declared.entry [] lines.now))) }
+        (λ checker. (first_fault (line_faults lut_size declared.entry [] lines.now) ≡ None) × (checker ≡ sights_of declared.entry lines.now) × (length checker.nets ≤ MAX_NETS) × (numbers.new ≡ numbered [] (flat_map names_of lines.now)))
+        (Fails (first_fault (line_faults lut_size declared.entry [] lines.now))) }
 {
     let mut checker = Checker::new(alloc, declared);
     for place in 0..lines.len() {
@@ -108,8 +109,8 @@ fn build<'t>(
     requires few { length checker.nets ≤ MAX_NETS }
     requires numbers { numbers.now ≡ map (number_of checker.nets) (flat_map names_of lines.now) }
     ensures { MatchResult result
-        (λ circuit. (first (final_faults checker.entry.declared lines.now) ≡ None) × (circuit ≡ circuit_from checker.entry.declared lines.now))
-        (Fails (first (final_faults checker.entry.declared lines.now))) }
+        (λ circuit. (first_fault (final_faults checker.entry.declared lines.now) ≡ None) × (circuit ≡ circuit_from checker.entry.declared lines.now))
+        (Fails (first_fault (final_faults checker.entry.declared lines.now))) }
 {
     if lines.len() == 0 {
         return Err(BlifError::Fault(BlifFault {
@@ -147,8 +148,8 @@ fn parts_of<'t>(
     requires nets { driven.now.nets ≡ with_names [] (flat_map names_of lines.now) }
     requires numbers { numbers.now ≡ map (number_of driven.now.nets) (flat_map names_of lines.now) }
     ensures { MatchResult result
-        (λ parts. (first (flat_map (undriven_faults (driven.now.clocks ++ driven.now.drivers)) lines.now) ≡ None) × (parts ≡ parts_of driven.now.nets lines.now))
-        (Fails (first (flat_map (undriven_faults (driven.now.clocks ++ driven.now.drivers)) lines.now))) }
+        (λ parts. (first_fault (flat_map (undriven_faults (driven.now.clocks ++ driven.now.drivers)) lines.now) ≡ None) × (parts ≡ parts_of driven.now.nets lines.now))
+        (Fails (first_fault (flat_map (undriven_faults (driven.now.clocks ++ driven.now.drivers)) lines.now))) }
 {
     let mut parts = CircuitParts::new(alloc);
     let mut rest = numbers;

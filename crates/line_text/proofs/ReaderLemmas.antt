@@ -1,5 +1,5 @@
 -- What a reader keeps, as its words grow.
-use Rattle.std.proofs.Common.{◌≡◌, ℕ, zero, suc, ◌+◌, ◌-◌, ◌<◌, ◌≤◌, true, false, cond, List, [], ◌∷◌, ◌++◌, length, take, drop, map, Some, Result, Ok, Err, nat_lt, refl, sym, ap, ◌∙◌, arith, length-drop, OnOk, IfErr, is_err, length-append, length-take}
+use Rattle.std.proofs.Common.{◌≡◌, ℕ, zero, suc, ◌+◌, ◌-◌, ◌<◌, ◌≤◌, true, false, cond, List, [], ◌∷◌, ◌++◌, length, take, drop, map, Some, Result, Ok, Err, nat_lt, refl, sym, ap, ◌∙◌, arith, length-drop, OnOk, IfErr, length-append, length-take}
 use Rattle.std.proofs.lemmas.List.{append-nil, length-map, take-append-le, drop-append-le}
 use Rattle.std.proofs.lemmas.Bool.Decides.{nat_tests}
 use Rattle.line_text.specs.declared.lines.Span.{Span}

@@ -8,10 +8,10 @@ use Rattle.line_text.specs.declared.text_error.TextError.TheVariants.{NoMemory, 
 use Rattle.line_text.specs.Lines.{JoinedLine, is_lawful, is_not_ascii, physical_lines, trimmed, ends_in_backslash, blanked, without_comment}
 use Rattle.line_text.specs.TextErrors.{Gives}
 use Rattle.line_text.specs.Physical.{IsContent, first_line, later_lines}
-use Rattle.line_text.specs.Reading.{OpenLine, Reading, after, begun, continued_or_ended}
+use Rattle.line_text.specs.Reading.{OpenLine, Reading, after, begun, continued_or_ended, finished}
 use Rattle.line_text.specs.Reader.{IsReadOn}
 use Rattle.line_text.specs.Words.{words_of}
-use Rattle.line_text.proofs.LineLemmas.{content-again, physical_lines-first}
+use Rattle.line_text.proofs.LineLemmas.{content-again, is_empty, physical_lines-first}
 use Rattle.line_text.proofs.OnePass.{and_then, read_all}
 
 -- what is read from there on
@@ -21,6 +21,10 @@ read_from reading n rest = read_all reading (enumerate_from (n + 1) (physical_li
 read_from-first : (reading : Reading) (n : ℕ) (rest : List ℕ) → 0 < length rest → read_from reading n rest ≡ and_then (after reading (n + 1) (first_line rest)) (λ later. read_from later (n + 1) (later_lines rest))
 read_from-first reading n rest h =
     ap (λ lines. read_all reading (enumerate_from (n + 1) lines)) (physical_lines-first rest h)
+
+-- where nothing is left
+pub read_from-end : (reading : Reading) (n : ℕ) (rest : List ℕ) → length rest ≡ 0 → read_from reading n rest ≡ finished reading
+read_from-end reading n rest none = ap (read_from reading n) (is_empty rest none)
 
 -- what an ASCII line of that content leads to
 abbrev after_ascii : Reading → ℕ → List ℕ → Result Reading LineFault

@@ -1,5 +1,7 @@
 pub mod Decimal
 pub mod Device
+pub mod LeastFault
+pub mod LineOrder
 pub mod Lines
 pub mod Physical
 pub mod Reader

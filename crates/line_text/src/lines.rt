@@ -1,5 +1,6 @@
 //! The joined lines of a text.
-ghost use Rattle.std.specs.Prelude.{IsTrue, ◌↔◌, ◌≡◌, ◌<◌, ◌^◌, ◌∷◌, ◌+◌, ◌≤◌, ◌==◌, length, position, slice_get, Some, map};
+ghost use Rattle.std.specs.Prelude.{IsTrue, ◌↔◌, ◌≡◌, ◌<◌, ◌^◌, ◌∷◌, ◌+◌, ◌≤◌, ◌==◌, length, position, slice_get, Some, map, IfOk};
+ghost use Rattle.line_text.specs.LineOrder.{RisesFrom};
 ghost use Rattle.line_text.specs.Lines.{JoinedLine, lines_of, physical_lines};
 ghost use Rattle.line_text.specs.TextErrors.{Gives};
 
@@ -89,10 +90,11 @@ impl<'t> Lines<'t> {
     }
 }
 
-/// The joined lines of a text, or their least fault.
+/// The joined lines of a text, whose numbers rise, or their least fault.
 pub fn logical_lines(alloc: Global, text: &[u8]) -> Result<Lines<'_>, LineError>
     requires { length text.now < 2 ^ 32 }
-    ensures { Gives (lines_of text.now) result }
+    ensures gives { Gives (lines_of text.now) result }
+    ensures rises { IfOk result (RisesFrom 1) }
 {
     let mut reader = Reader::new(alloc);
     let mut number = 0;

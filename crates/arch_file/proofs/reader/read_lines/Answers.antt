@@ -7,7 +7,7 @@ returns-in-Err c =
     let lines = c.args.lines.now in
     let place = c.loop-place.place in
     rw c.at_line.ensures
-    (reads_fault lines place _ c.in-Err.refusal c.loop-place.draft c.line-line.ensures
+    (reads_fault lines place _ c.in-Err.refusal c.loop-place.draft c.requires c.line-line.ensures
     (c.in-Err.ensures (take place lines) c.line-line.result.number c.loop-place.invariant.follows) c.loop-place.invariant.rest)
 
 pub loop-place-preserved : goal.loop-place-preserved

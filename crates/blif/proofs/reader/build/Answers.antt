@@ -2,7 +2,8 @@ use Rattle.std.proofs.Common.{◌≡◌, ◌<◌, ◌∙◌, ap, sym, map, lengt
 use Rattle.std.specs.List.{flat_map}
 use Rattle.std.proofs.lemmas.List.{nil_from_length}
 use Rattle.std.proofs.lemmas.Result.{err_from_is_err_and}
-use Rattle.blif.specs.Names.{first, number_of}
+use Rattle.blif.specs.Names.{number_of}
+use Rattle.blif.specs.FirstFaults.{first_fault}
 use Rattle.blif.specs.Sights.{Sights, names_of, sights_of}
 use Rattle.blif.specs.DrivenNets.{DrivenNets}
 use Rattle.blif.specs.CircuitOf.{final_faults}
@@ -13,7 +14,7 @@ pub returns-then-len-eq0 : goal.returns-then-len-eq0
 unfolding final_faults
 returns-then-len-eq0 c =
     let empty : length c.args.lines.now ≡ 0 = omega arith in
-    ap (λ lines. first (final_faults c.args.checker.declared lines)) (nil_from_length c.args.lines.now empty)
+    ap (λ lines. first_fault (final_faults c.args.checker.declared lines)) (nil_from_length c.args.lines.now empty)
 
 pub parts_of-requires-clause-numbers : goal.parts_of-requires-clause-numbers
 parts_of-requires-clause-numbers c =
@@ -43,6 +44,6 @@ returns c =
     let clocks = ap (λ d. let t : DrivenNets = d in t.clocks) c.in_ok-driven.ensures in
     let drivers = ap (λ d. let t : DrivenNets = d in t.drivers) c.in_ok-driven.ensures in
     let some : 0 < length c.args.lines.now = omega arith in (
-      ap first (final_faults_is c.args.checker c.args.lines.now driven.nets driven.clocks driven.drivers c.requires.sights nets clocks drivers some) ∙ c.in_ok-parts.ensures.0,
+      ap first_fault (final_faults_is c.args.checker c.args.lines.now driven.nets driven.clocks driven.drivers c.requires.sights nets clocks drivers some) ∙ c.in_ok-parts.ensures.0,
       c.in_ok-assemble.ensures ∙ circuit_is c.args.checker c.args.lines.now driven.nets driven.clocks driven.drivers c.requires.sights nets clocks drivers c.in_ok-parts.parts c.in_ok-parts.ensures.1,
     )

@@ -3,7 +3,8 @@ use Rattle.std.proofs.lemmas.List.{take_all, drop_all}
 use Rattle.line_text.specs.Lines.{JoinedLine}
 use Rattle.std.specs.List.{flat_map}
 use Rattle.blif.specs.Numbering.{numbered}
-use Rattle.blif.specs.Names.{texts, first}
+use Rattle.blif.specs.Names.{texts}
+use Rattle.blif.specs.FirstFaults.{first_fault}
 use Rattle.blif.specs.Sights.{names_of, sights_of}
 use Rattle.blif.specs.CircuitOf.{line_faults}
 use Rattle.blif.proofs.Sightings.{sights_at, numbers_so_far, fault_at, no_fault_at}
@@ -39,7 +40,7 @@ unfolding line_faults
 returns c =
     let past : length c.args.lines.now ≤ c.loop-place.place = omega arith in (
       sym c.loop-place.invariant.faults_left
-          ∙ ap (λ rest. first (line_faults c.args.lut_size c.args.declared (take c.loop-place.place c.args.lines.now) rest)) (drop_all c.loop-place.place c.args.lines.now past),
+          ∙ ap (λ rest. first_fault (line_faults c.args.lut_size c.args.declared (take c.loop-place.place c.args.lines.now) rest)) (drop_all c.loop-place.place c.args.lines.now past),
       c.loop-place.invariant.sights ∙ ap (sights_of c.args.declared) (take_all c.loop-place.place c.args.lines.now past),
       c.loop-place.invariant.few,
       c.loop-place.invariant.numbers ∙ ap (λ ls. numbered [] (flat_map names_of ls)) (take_all c.loop-place.place c.args.lines.now past),

@@ -1,7 +1,7 @@
 use Rattle.std.proofs.Common.{◌≡◌, ◌≤◌, [], take, drop, length}
 use Rattle.std.specs.List.{flat_map}
 use Rattle.blif.specs.Numbering.{numbered}
-use Rattle.blif.specs.Names.{first}
+use Rattle.blif.specs.FirstFaults.{first_fault}
 use Rattle.blif.specs.Sights.{names_of, sights_of}
 use Rattle.blif.specs.CircuitOf.{line_faults}
 use Rattle.blif.specs.declared.circuit.TheConstants.{MAX_NETS}
@@ -13,5 +13,5 @@ invariant-loop-place l = record {
   sights : l.checker ≡ sights_of l.fn.declared (take l.place l.lines);
   few : length l.checker.nets ≤ MAX_NETS;
   numbers : l.numbers ≡ numbered [] (flat_map names_of (take l.place l.lines));
-  faults_left : first (line_faults l.lut_size l.fn.declared (take l.place l.lines) (drop l.place l.lines)) ≡ first (line_faults l.lut_size l.fn.declared [] l.lines);
+  faults_left : first_fault (line_faults l.lut_size l.fn.declared (take l.place l.lines) (drop l.place l.lines)) ≡ first_fault (line_faults l.lut_size l.fn.declared [] l.lines);
 }

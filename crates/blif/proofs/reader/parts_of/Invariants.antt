@@ -1,6 +1,7 @@
 use Rattle.std.proofs.Common.{◌≡◌, ◌++◌, take, drop, map}
 use Rattle.std.specs.List.{flat_map}
-use Rattle.blif.specs.Names.{first, number_of}
+use Rattle.blif.specs.Names.{number_of}
+use Rattle.blif.specs.FirstFaults.{first_fault}
 use Rattle.blif.specs.Sights.{names_of}
 use Rattle.blif.specs.Circuits.{parts_of}
 use Rattle.blif.specs.CircuitOf.{undriven_faults}
@@ -11,5 +12,5 @@ abbrev pub invariant-loop-place : goal.invariant-loop-place
 invariant-loop-place l = record {
   parts : l.parts ≡ parts_of l.driven.nets (take l.place l.lines);
   rest : l.rest ≡ map (number_of l.driven.nets) (flat_map names_of (drop l.place l.lines));
-  faults_left : first (flat_map (undriven_faults (l.driven.clocks ++ l.driven.drivers)) (drop l.place l.lines)) ≡ first (flat_map (undriven_faults (l.driven.clocks ++ l.driven.drivers)) l.lines);
+  faults_left : first_fault (flat_map (undriven_faults (l.driven.clocks ++ l.driven.drivers)) (drop l.place l.lines)) ≡ first_fault (flat_map (undriven_faults (l.driven.clocks ++ l.driven.drivers)) l.lines);
 }

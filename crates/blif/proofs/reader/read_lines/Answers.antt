@@ -2,7 +2,8 @@ use Rattle.std.proofs.Common.{◌∙◌, [], map, sym, ap}
 use Rattle.std.specs.List.{flat_map}
 use Rattle.std.proofs.lemmas.Result.{err_from_is_err_and}
 use Rattle.blif.specs.Sights.{Sights, names_of, sights_of}
-use Rattle.blif.specs.Names.{first, number_of}
+use Rattle.blif.specs.Names.{number_of}
+use Rattle.blif.specs.FirstFaults.{first_fault}
 use Rattle.blif.specs.CircuitOf.{line_faults}
 use Rattle.blif.proofs.Numbered.{numbered_all}
 use Rattle.blif.proofs.Answering.{declared_is, gives_line_fault, gives_built, lawful_built}
@@ -11,7 +12,7 @@ use Rattle.blif.proofs.reader.read_lines.Goals as goal
 pub returns-in_err-checker-clause-gives : goal.returns-in_err-checker-clause-gives
 returns-in_err-checker-clause-gives c =
     let p = err_from_is_err_and c.from_residual-in_err-checker.result c.from_residual-in_err-checker.ensures.1 in
-    rw (p.1, p.2) (gives_line_fault c.args.lut_size c.args.lines.now c.in_ok-declared.declared c.in_err-checker.field-0.0 c.in_ok-declared.ensures c.in_err-checker.ensures)
+    rw (p.1, p.2) (gives_line_fault c.args.lut_size c.args.lines.now c.in_ok-declared.declared c.in_err-checker.field-0.0 c.requires c.in_ok-declared.ensures c.in_err-checker.ensures)
 
 pub build-requires-clause-sights : goal.build-requires-clause-sights
 build-requires-clause-sights c =
@@ -28,10 +29,10 @@ build-requires-clause-numbers c =
 pub returns-clause-gives : goal.returns-clause-gives
 returns-clause-gives c =
     let same = declared_is c.in_ok-checker.checker c.in_ok-declared.declared c.args.lines.now c.in_ok-checker.ensures.1 in
-    gives_built c.args.lut_size c.args.lines.now c.in_ok-checker.checker.declared c.build.result (same ∙ c.in_ok-declared.ensures) (ap (λ d. first (line_faults c.args.lut_size d [] c.args.lines.now)) same ∙ c.in_ok-checker.ensures.0) c.build.ensures
+    gives_built c.args.lut_size c.args.lines.now c.in_ok-checker.checker.declared c.build.result c.requires (same ∙ c.in_ok-declared.ensures) (ap (λ d. first_fault (line_faults c.args.lut_size d [] c.args.lines.now)) same ∙ c.in_ok-checker.ensures.0) c.build.ensures
 
 pub returns-clause-lawful : goal.returns-clause-lawful
 returns-clause-lawful c =
     let sights = c.in_ok-checker.ensures.1 in
     let same = declared_is c.in_ok-checker.checker c.in_ok-declared.declared c.args.lines.now sights in
-    lawful_built c.args.lut_size c.args.lines.now c.in_ok-checker.checker.declared c.build.result c.requires (rw (same, ← sights) c.in_ok-checker.ensures.2) (ap (λ d. first (line_faults c.args.lut_size d [] c.args.lines.now)) same ∙ c.in_ok-checker.ensures.0) c.build.ensures
+    lawful_built c.args.lut_size c.args.lines.now c.in_ok-checker.checker.declared c.build.result c.requires (rw (same, ← sights) c.in_ok-checker.ensures.2) (ap (λ d. first_fault (line_faults c.args.lut_size d [] c.args.lines.now)) same ∙ c.in_ok-checker.ensures.0) c.build.ensures

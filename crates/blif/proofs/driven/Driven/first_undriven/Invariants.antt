@@ -1,6 +1,6 @@
 use Rattle.std.proofs.Common.{◌≡◌, ◌++◌, drop}
 use Rattle.blif.specs.Names.{first, texts}
-use Rattle.blif.specs.CircuitOf.{undriven}
+use Rattle.blif.specs.Repeats.{undriven}
 use Rattle.blif.proofs.driven.Driven.first_undriven.Given as goal
 
 -- the nets so far are driven

@@ -1,12 +1,14 @@
 -- The lines of a text have rising numbers.
-use Rattle.std.proofs.Common.{◌≡◌, ℕ, ◌+◌, ◌≤◌, Bool, true, false, cond, List, [], ◌∷◌, Ok, map, filter, if◌then◌else◌, arith}
+use Rattle.std.proofs.Common.{◌≡◌, ℕ, ◌+◌, ◌≤◌, Bool, true, false, cond, List, [], ◌∷◌, Result, Ok, Err, IfOk, map, filter, if◌then◌else◌, arith}
 use Rattle.std.specs.List.{enumerate_from, filter_map, onto_first}
 use Rattle.line_text.specs.Lines.{JoinedLine, fault_of, first_number, is_continued, joined, lines_of, physical_lines, runs, unless_fault}
 use Rattle.line_text.specs.Words.{is_filled}
 use Rattle.line_text.specs.declared.fault.LineFault.{LineFault}
-use Rattle.blif.specs.LineOrder.{RisesFrom}
+use Rattle.line_text.specs.LineOrder.{RisesFrom}
+use Rattle.line_text.specs.TextErrors.{Gives}
+use Rattle.line_text.specs.declared.text_error.TextError.{TextError}
 
-rises_lower : (low high : ℕ) (lines : List JoinedLine) → low ≤ high → RisesFrom high lines → RisesFrom low lines
+pub rises_lower : (low high : ℕ) (lines : List JoinedLine) → low ≤ high → RisesFrom high lines → RisesFrom low lines
 rises_lower low high [] below h = tt
 rises_lower low high (line ∷ lines) below h = (omega (arith, h.0), h.1)
 
@@ -28,7 +30,7 @@ rises_joined number (line ∷ physical) = by (is_continued line) (runs (enumerat
     by true [] h = (omega arith, tt)
     by true (run ∷ rest) h = (omega arith, rises_lower (number + 1) (first_number run + 1) (map joined rest) (omega (arith, h.0)) h.1)
 
-pub rises_in_text : (text : List ℕ) (lines : List JoinedLine) → lines_of text ≡ Ok lines → RisesFrom 1 lines
+rises_in_text : (text : List ℕ) (lines : List JoinedLine) → lines_of text ≡ Ok lines → RisesFrom 1 lines
 unfolding lines_of
 rises_in_text text lines h = by (filter_map fault_of (runs (enumerate_from 1 (physical_lines text)))) h
   where
@@ -40,3 +42,8 @@ rises_in_text text lines h = by (filter_map fault_of (runs (enumerate_from 1 (ph
         let same : lines ≡ filter (λ line. is_filled line.words) all = cc in
         rw same (rises_filtered (λ line. is_filled line.words) 1 all (rises_joined 1 (physical_lines text)))
     by (fault ∷ faults) e = absurd cc
+
+-- so do the lines that a reader of the text gives
+pub rises_given : (text : List ℕ) (read : Result (List JoinedLine) (TextError LineFault)) → Gives (lines_of text) read → IfOk read (RisesFrom 1)
+rises_given text (Ok lines) gives = rises_in_text text lines gives
+rises_given text (Err error) gives = tt

@@ -1,4 +1,4 @@
--- Private: lines in the order of their numbers.
+-- Lines in the order of their numbers.
 use Rattle.std.specs.Prelude.{ℕ, ◌+◌, ◌≤◌, List, [], ◌∷◌, ⊤}
 use Rattle.line_text.specs.Lines.{JoinedLine}
 

@@ -1,0 +1,97 @@
+-- Names with their places, and the names alone.
+use Rattle.std.proofs.Common.{◌≡◌, ◌∙◌, ℕ, ◌+◌, ◌≤◌, Bool, true, false, not, ◌&&◌, cond, List, [], ◌∷◌, ◌++◌, map, filter, refl, sym, ap, arith}
+use Rattle.std.specs.List.{enumerate_from}
+use Rattle.line_text.proofs.InOrder.{Each, InOrder}
+use Rattle.blif.specs.declared.fault.BlifFaultKind.{BlifFaultKind}
+use Rattle.blif.specs.declared.fault.BlifFaultKind.TheVariants.{TwoDrivers, RepeatedOutput}
+use Rattle.blif.specs.BlifFaults.{at_words, clock_faults, driver_faults}
+use Rattle.blif.specs.FirstFaults.{first_kind}
+use Rattle.blif.specs.Names.{first, has_name, placed, repeats_from}
+use Rattle.blif.specs.Repeats.{repeats}
+
+abbrev names_of : List (ℕ × List ℕ) → List (List ℕ)
+names_of placed = map (λ name. name.1) placed
+
+repeats_alone : (place : ℕ) (taken names : List (List ℕ)) → names_of (repeats_from place taken names) ≡ repeats taken names
+repeats_alone place taken [] = refl
+repeats_alone place taken (name ∷ names) = by (has_name taken name) (repeats_alone (place + 1) (taken ++ name ∷ []) names)
+  where
+    by : (b : Bool) → names_of (repeats_from (place + 1) (taken ++ name ∷ []) names) ≡ repeats (taken ++ name ∷ []) names → names_of (cond b ((place, name) ∷ []) [] ++ repeats_from (place + 1) (taken ++ name ∷ []) names) ≡ cond b (name ∷ []) [] ++ repeats (taken ++ name ∷ []) names
+    by true rest = ap (λ ns. name ∷ ns) rest
+    by false rest = rest
+
+placed_alone : (test : List ℕ → Bool) (place : ℕ) (names : List (List ℕ)) → names_of (filter (λ name. test name.1) (enumerate_from place names)) ≡ filter test names
+placed_alone test place [] = refl
+placed_alone test place (name ∷ names) = by (test name) (placed_alone test (place + 1) names)
+  where
+    by : (b : Bool) → names_of (filter (λ name. test name.1) (enumerate_from (place + 1) names)) ≡ filter test names → names_of (cond b ((place, name) ∷ filter (λ name. test name.1) (enumerate_from (place + 1) names)) (filter (λ name. test name.1) (enumerate_from (place + 1) names))) ≡ cond b (name ∷ filter test names) (filter test names)
+    by true rest = ap (λ ns. name ∷ ns) rest
+    by false rest = rest
+
+-- the first fault of placed names is that of the names alone
+first_alone : (kind : List ℕ → BlifFaultKind) (placed : List (ℕ × List ℕ)) → first (map kind (names_of placed)) ≡ first_kind (at_words kind placed)
+first_alone kind [] = refl
+first_alone kind (name ∷ rest) = refl
+
+pub first_repeat : (kind : List ℕ → BlifFaultKind) (taken names : List (List ℕ)) → first (map kind (repeats taken names)) ≡ first_kind (at_words kind (repeats_from 0 taken names))
+first_repeat kind taken names =
+    ap (λ ns. first (map kind ns)) (sym (repeats_alone 0 taken names)) ∙ first_alone kind (repeats_from 0 taken names)
+
+pub first_placed : (kind : List ℕ → BlifFaultKind) (test : List ℕ → Bool) (names : List (List ℕ)) → first (map kind (filter test names)) ≡ first_kind (at_words kind (placed test names))
+first_placed kind test names =
+    ap (λ ns. first (map kind ns)) (sym (placed_alone test 0 names)) ∙ first_alone kind (placed test names)
+
+pub first_driver : (taken names : List (List ℕ)) → first (map TwoDrivers (repeats taken names)) ≡ first_kind (driver_faults taken names)
+first_driver taken names = first_repeat TwoDrivers taken names
+
+pub first_output : (taken names : List (List ℕ)) → first (map RepeatedOutput (repeats taken names)) ≡ first_kind (at_words RepeatedOutput (repeats_from 0 taken names))
+first_output taken names = first_repeat RepeatedOutput taken names
+
+pub first_clock : (declared drivers names : List (List ℕ)) → first (map TwoDrivers (filter (λ name. not (has_name declared name) && has_name drivers name) names)) ≡ first_kind (clock_faults declared drivers names)
+first_clock declared drivers names = first_placed TwoDrivers (λ name. not (has_name declared name) && has_name drivers name) names
+
+-- where no placed name is, no name is
+pub no_repeats : (taken names : List (List ℕ)) → repeats_from 0 taken names ≡ [] → repeats taken names ≡ []
+no_repeats taken names none = sym (repeats_alone 0 taken names) ∙ ap names_of none
+
+pub none_placed : (test : List ℕ → Bool) (names : List (List ℕ)) → placed test names ≡ [] → filter test names ≡ []
+none_placed test names none = sym (placed_alone test 0 names) ∙ ap names_of none
+
+-- the places rise
+abbrev pub Rise : ℕ × List ℕ → ℕ × List ℕ → Type 0
+Rise first second = first.0 ≤ second.0
+
+repeats_behind : (low place : ℕ) (taken names : List (List ℕ)) → low ≤ place → Each (λ name. low ≤ name.0) (repeats_from place taken names)
+repeats_behind low place taken [] fits = tt
+repeats_behind low place taken (name ∷ names) fits = by (has_name taken name) (repeats_behind low (place + 1) (taken ++ name ∷ []) names (omega arith))
+  where
+    by : (b : Bool) → Each (λ name. low ≤ name.0) (repeats_from (place + 1) (taken ++ name ∷ []) names) → Each (λ name. low ≤ name.0) (cond b ((place, name) ∷ []) [] ++ repeats_from (place + 1) (taken ++ name ∷ []) names)
+    by true rest = (fits, rest)
+    by false rest = rest
+
+pub repeats_rise : (place : ℕ) (taken names : List (List ℕ)) → InOrder Rise (repeats_from place taken names)
+repeats_rise place taken [] = tt
+repeats_rise place taken (name ∷ names) = by (has_name taken name) (repeats_rise (place + 1) (taken ++ name ∷ []) names)
+  where
+    by : (b : Bool) → InOrder Rise (repeats_from (place + 1) (taken ++ name ∷ []) names) → InOrder Rise (cond b ((place, name) ∷ []) [] ++ repeats_from (place + 1) (taken ++ name ∷ []) names)
+    by true rest = (repeats_behind place (place + 1) (taken ++ name ∷ []) names (omega arith), rest)
+    by false rest = rest
+
+placed_behind : (test : List ℕ → Bool) (low place : ℕ) (names : List (List ℕ)) → low ≤ place → Each (λ name. low ≤ name.0) (filter (λ name. test name.1) (enumerate_from place names))
+placed_behind test low place [] fits = tt
+placed_behind test low place (name ∷ names) fits = by (test name) (placed_behind test low (place + 1) names (omega arith))
+  where
+    by : (b : Bool) → Each (λ name. low ≤ name.0) (filter (λ name. test name.1) (enumerate_from (place + 1) names)) → Each (λ name. low ≤ name.0) (cond b ((place, name) ∷ filter (λ name. test name.1) (enumerate_from (place + 1) names)) (filter (λ name. test name.1) (enumerate_from (place + 1) names)))
+    by true rest = (fits, rest)
+    by false rest = rest
+
+placed_rise : (test : List ℕ → Bool) (place : ℕ) (names : List (List ℕ)) → InOrder Rise (filter (λ name. test name.1) (enumerate_from place names))
+placed_rise test place [] = tt
+placed_rise test place (name ∷ names) = by (test name) (placed_rise test (place + 1) names)
+  where
+    by : (b : Bool) → InOrder Rise (filter (λ name. test name.1) (enumerate_from (place + 1) names)) → InOrder Rise (cond b ((place, name) ∷ filter (λ name. test name.1) (enumerate_from (place + 1) names)) (filter (λ name. test name.1) (enumerate_from (place + 1) names)))
+    by true rest = (placed_behind test place (place + 1) names (omega arith), rest)
+    by false rest = rest
+
+pub all_placed_rise : (test : List ℕ → Bool) (names : List (List ℕ)) → InOrder Rise (placed test names)
+all_placed_rise test names = placed_rise test 0 names
