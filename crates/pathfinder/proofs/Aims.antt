@@ -1,11 +1,16 @@
 -- Searches that are aimed at a sink.
-use Rattle.std.proofs.Common.{◌≡◌, ℕ, ◌+◌, ◌-◌, ◌<◌, ◌≤◌, leb, cond, false, List, Option, Some, None, arith, ap, subst, sym, refl, ◌∙◌, inl, inr}
+use Rattle.std.proofs.Common.{◌≡◌, ℕ, ◌+◌, ◌-◌, ◌<◌, ◌≤◌, leb, cond, true, false, ◌&&◌, List, Option, Some, None, arith, ap, subst, sym, refl, ◌∙◌, inl, inr}
 use Rattle.std.specs.Prelude.{Contains}
-use Rattle.std.proofs.lemmas.Bool.{cases_lt, le-leb}
-use Rattle.std.proofs.lemmas.Bool.Decides.{nat_tests}
+use Rattle.std.proofs.lemmas.Bool.{and_parts}
+use Rattle.std.specs.Option.{option_map}
+use Rattle.arch_file.specs.declared.arch.Arch.{Arch}
+use Rattle.grid.specs.declared.Strip.{Strip}
+use Rattle.rr_graph.specs.declared.node.NodeKind.{NodeKind}
+use Rattle.rr_graph.specs.declared.node.NodeKind.TheVariants.{Sink}
 use Rattle.rr_graph.specs.declared.node.Node.{Node}
+use Rattle.rr_graph.specs.Geometry.{is_node, is_edge, joins, is_block_row}
 use Rattle.rr_graph.specs.Graph.{Basis, IsRoutingGraph, graph_of}
-use Rattle.rr_graph.specs.Ways.{FallsByOne, ends_towards, further_to}
+use Rattle.rr_graph.specs.Ways.{FallsByOne, ends_towards, further_to, is_met}
 use Rattle.rr_graph.proofs.FewEnds.{ends_below, towards_few}
 use Rattle.rr_graph.proofs.Further.{falls, at_sink, towards, towards_back}
 use Rattle.least_path.specs.Graph.{Graph, IsLawful}
@@ -13,7 +18,9 @@ use Rattle.least_path.specs.Path.{Leads, LeavesOut}
 use Rattle.least_path.specs.LowerBound.{IsLowerBound, FallsByAtMost, IsConsistent}
 use Rattle.least_path.proofs.Bounds.{consistent_below}
 use Rattle.pathfinder.specs.Tables.{IsAim, aimed}
-use Rattle.pathfinder.specs.Entries.{IsEntry, IsNoMore, raised}
+use Rattle.pathfinder.specs.declared.entry.PinPrices.{PinPrices}
+use Rattle.pathfinder.specs.Entries.{AreEntries, IsNoMore, raised, bound_by}
+use Rattle.pathfinder.proofs.LastWires.{step_at}
 use Rattle.pathfinder.proofs.Growing.{all_by_member}
 
 -- each node costs one or more
@@ -22,23 +29,22 @@ by_cost cost bound None l f = tt
 by_cost cost None (Some next) l f = absurd f
 by_cost cost (Some bound) (Some next) l f = omega (arith, f, l)
 
-low_leb : (n : ℕ) → n < 2 → leb 2 n ≡ false
-low_leb n l = grind (arith, nat_tests, l)
+edge_joins : (arch : Arch) (strip : Strip) (a b : Node) → is_edge arch strip a b ≡ true → joins arch strip a.kind b.kind a b ≡ true
+edge_joins arch strip a b h = (and_parts (is_node arch strip b) (joins arch strip a.kind b.kind a b) (and_parts (is_node arch strip a) (is_node arch strip b && joins arch strip a.kind b.kind a b) h).1).1
 
--- of two, the first is raised or not
-by_numbers : (cost entry bound next : ℕ) → 1 ≤ cost → ((next ≡ 1) → entry ≤ cost + 1) → bound ≤ 1 + next → cond (leb 2 bound) (bound - 2 + entry) bound ≤ cost + cond (leb 2 next) (next - 2 + entry) next
-by_numbers cost entry bound next l enters f = elim (cases_lt bound 2) [
-  | inl small ↦ rw (low_leb bound small) (omega (arith, l, small))
-  | inr big ↦ elim (cases_lt next 2) [
-    | inl small ↦ (let one : next ≡ 1 = omega (arith, f, big, small) in rw (le-leb 2 bound big, low_leb next small) (omega (arith, enters one, f, one, big)))
-    | inr more ↦ rw (le-leb 2 bound big, le-leb 2 next more) (omega (arith, f, l, big, more))
-  ]
-]
+-- a bound in the place of the number of nodes
+by_bounds : (cost : ℕ) (p q : ℕ → ℕ) (further next : Option ℕ) → FallsByOne further next → ((m n : ℕ) → further ≡ Some m → next ≡ Some n → m ≤ 1 + n → p m ≤ cost + q n) →
+    FallsByAtMost cost (option_map p further) (option_map q next)
+by_bounds cost p q further None f each = tt
+by_bounds cost p q None (Some next) f each = absurd f
+by_bounds cost p q (Some further) (Some next) f each = each further next refl refl f
 
-by_entry : (cost entry : ℕ) (bound next : Option ℕ) → 1 ≤ cost → ((next ≡ Some 1) → entry ≤ cost + 1) → FallsByOne bound next → FallsByAtMost cost (raised entry bound) (raised entry next)
-by_entry cost entry bound None l enters f = tt
-by_entry cost entry None (Some next) l enters f = absurd f
-by_entry cost entry (Some bound) (Some next) l enters f = by_numbers cost entry bound next l (λ e. enters (ap Some e)) f
+raised_is : (pins : PinPrices) (lasts : List ℕ) (sink node : Node) (further : Option ℕ) → raised pins lasts sink node further ≡ option_map (bound_by pins lasts sink node.kind node) further
+raised_is pins lasts sink node None = refl
+raised_is pins lasts sink node (Some further) = refl
+
+none_follow : (pins : PinPrices) (lasts : List ℕ) (sink node : Node) (kind : NodeKind) → kind ≡ Sink → bound_by pins lasts sink kind node 0 ≡ 0
+none_follow pins lasts sink node kind e = rw e refl
 
 -- less is a bound too
 lower_still : (g : Graph) (goal node : ℕ) (less bound : Option ℕ) → IsNoMore less bound → IsLowerBound g goal node bound → IsLowerBound g goal node less
@@ -98,22 +104,32 @@ module _ (basis : Basis) (known : IsRoutingGraph basis (graph_of basis)) (goal :
           ];
     }
 
-    -- the same for bounds that know what the pins cost
-    entered : (entry : ℕ) → IsEntry basis sink g entry → IsConsistent (aimed basis sink g) goal (λ node. raised entry (further node))
-    entered entry enters =
+    -- the same for bounds that know what the last wires and the pins cost
+    entered : (pins : PinPrices) (lasts : List ℕ) → AreEntries basis sink g pins lasts →
+        IsConsistent (aimed basis sink g) goal (λ node. raised pins lasts sink ((graph_of basis).node node) (further node))
+    entered pins lasts enters =
         let plain = consistent (aimed basis sink g) aimed_lawful count (λ node end c. towards_back (graph_of basis) sink node end c) in
+        let kind : ((graph_of basis).node goal).kind ≡ Sink = ap (λ (node : Node). node.kind) aim.is ∙ aim.kind in
         record {
-          at_goal = ap (raised entry) plain.at_goal;
+          at_goal = rw plain.at_goal (ap Some (none_follow pins lasts sink ((graph_of basis).node goal) ((graph_of basis).node goal).kind kind));
           step = λ node next b c.
               let within : node < (graph_of basis).count = omega (arith, b, count) in
               let end = towards_back (graph_of basis) sink node next c in
               let below : next < g.count = omega (arith, ends_below basis (graph_of basis) node next known within end, count) in
-              by_entry (g.cost next) entry (further node) (further next) (lawful.cost_from next below) (λ e. enters next below e)
-              (falls basis sink ((graph_of basis).node node) ((graph_of basis).node next) ((known.pairs node next within).0 end).1);
+              let from = (graph_of basis).node node in
+              let to = (graph_of basis).node next in
+              let edge = (known.pairs node next within).0 end in
+              let joined = edge_joins basis.arch basis.strip from to edge.1 in
+              rw (raised_is pins lasts sink from (further node), raised_is pins lasts sink to (further next))
+              (by_bounds (g.cost next) (bound_by pins lasts sink from.kind from) (bound_by pins lasts sink to.kind to) (further node) (further next)
+              (falls basis sink from to edge.1)
+              (λ m n em en le. step_at basis.arch basis.strip (is_met basis.arch basis.strip sink) (is_block_row basis.strip sink.y) sink pins enters.ordered lasts enters.lasts_low.more (g.cost next) (lawful.cost_from next below) from.kind to.kind from to m n refl refl em en le
+              (enters.lasts_low.each next below) (enters.pins_low next below) joined));
         }
 
     -- a bound for the search
-    pub aimed_bound : (entry : ℕ) → IsEntry basis sink g entry → (node : ℕ) → node < g.count → (bound : Option ℕ) → IsNoMore bound (raised entry (further node)) → IsLowerBound (aimed basis sink g) goal node bound
-    aimed_bound entry enters node b bound less =
-        lower_still (aimed basis sink g) goal node bound (raised entry (further node)) less
-        (consistent_below (aimed basis sink g) goal (λ node. raised entry (further node)) node aimed_lawful (entered entry enters) b)
+    pub aimed_bound : (pins : PinPrices) (lasts : List ℕ) → AreEntries basis sink g pins lasts → (node : ℕ) → node < g.count → (bound : Option ℕ) →
+        IsNoMore bound (raised pins lasts sink ((graph_of basis).node node) (further node)) → IsLowerBound (aimed basis sink g) goal node bound
+    aimed_bound pins lasts enters node b bound less =
+        let all : ℕ → Option ℕ = λ node. raised pins lasts sink ((graph_of basis).node node) (further node) in
+        lower_still (aimed basis sink g) goal node bound (all node) less (consistent_below (aimed basis sink g) goal all node aimed_lawful (entered pins lasts enters) b)

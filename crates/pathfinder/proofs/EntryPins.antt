@@ -13,15 +13,12 @@ use Rattle.rr_graph.specs.declared.node.Node.{Node}
 use Rattle.rr_graph.specs.Geometry.{is_node, is_slot, is_pad_row, is_block_row, is_block_number, is_chan_y, pin_passes, across_of, up_of, gap}
 use Rattle.rr_graph.specs.Graph.{Basis, IsRoutingGraph, graph_of, make_node}
 use Rattle.rr_graph.specs.Ways.{is_own, from_sink, wire_further, further_by}
+use Rattle.arch_file.specs.declared.arch.Sides.{Sides}
+use Rattle.pathfinder.specs.declared.entry.PinPrices.{PinPrices}
+use Rattle.pathfinder.specs.Entries.{IsPinAt, AreLow, AreNoDearer}
 use Rattle.pathfinder.proofs.Strips.{not_before}
 
--- a pin at the sink's place
-pub record IsPinAt (sink node : Node) : Type 0 where
-  pub x : node.x ≡ sink.x
-  pub kind : node.kind ≡ Ipin
-  pub y : node.y ≡ sink.y
-
-some_number : (a b : ℕ) → Some a ≡ Some b → a ≡ b
+pub some_number : (a b : ℕ) → Some a ≡ Some b → a ≡ b
 some_number a b e = ap (λ (o : Option ℕ). or_nothing o) e
   where
     or_nothing : Option ℕ → ℕ
@@ -90,3 +87,25 @@ same_number basis known i j b c e = elim (cases_lt i j) [
     | inr k ↦ omega arith
   ]
 ]
+
+-- ---- what is said of pins
+
+-- of one that costs more it is true too
+pub low_dearer : (sides : Sides) (pins : PinPrices) (price cost : ℕ) → price ≤ cost → AreLow sides pins price → AreLow sides pins cost
+low_dearer sides pins price cost le low = record {
+  least = omega (arith, le, low.least);
+  top = λ on. omega (arith, le, low.top on);
+  bottom = λ on. omega (arith, le, low.bottom on);
+  left = λ on. omega (arith, le, low.left on);
+  right = λ on. omega (arith, le, low.right on);
+}
+
+-- and where less is said
+pub low_still : (sides : Sides) (pins others : PinPrices) (cost : ℕ) → AreNoDearer pins others → AreLow sides others cost → AreLow sides pins cost
+low_still sides pins others cost falls low = record {
+  least = omega (arith, falls.least, low.least);
+  top = λ on. omega (arith, falls.top, low.top on);
+  bottom = λ on. omega (arith, falls.bottom, low.bottom on);
+  left = λ on. omega (arith, falls.left, low.left on);
+  right = λ on. omega (arith, falls.right, low.right on);
+}

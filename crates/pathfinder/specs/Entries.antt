@@ -1,18 +1,99 @@
--- Private: bounds on ways to a sink, by what its pins cost.
-use Rattle.std.specs.Prelude.{ℕ, ◌≡◌, ◌+◌, ◌-◌, ◌<◌, ◌≤◌, nat_le, Option, Some, None, if◌then◌else◌}
+-- Private: bounds on ways to a sink, by what the last wires and the pins before it cost.
+use Rattle.std.specs.Prelude.{ℕ, ◌≡◌, ◌+◌, ◌-◌, ◌<◌, ◌≤◌, ◌^◌, ◌==◌, ◌⊎◌, nat_le, true, List, slice_index_or, Option, Some, None, if◌then◌else◌}
+use Rattle.arch_file.specs.declared.arch.Sides.{Sides}
+use Rattle.rr_graph.specs.declared.node.NodeKind.{NodeKind}
+use Rattle.rr_graph.specs.declared.node.NodeKind.TheVariants.{Source, Sink, Opin, Ipin, ChanX, ChanY}
 use Rattle.rr_graph.specs.declared.node.Node.{Node}
+use Rattle.rr_graph.specs.Geometry.{sides_at}
 use Rattle.rr_graph.specs.Graph.{Basis, graph_of}
-use Rattle.rr_graph.specs.Ways.{further_to}
 use Rattle.least_path.specs.Graph.{Graph}
+use Rattle.pathfinder.specs.declared.entry.PinPrices.{PinPrices}
 
--- no node that is followed by the sink alone costs less, but for one
-abbrev pub IsEntry : Basis → Node → Graph → ℕ → Type 0
-IsEntry basis sink g entry = (node : ℕ) → node < g.count → further_to basis.arch basis.strip sink ((graph_of basis).node node) ≡ Some 1 → entry ≤ g.cost node + 1
+-- a pin at the sink's place
+pub record IsPinAt (sink node : Node) : Type 0 where
+  pub x : node.x ≡ sink.x
+  pub kind : node.kind ≡ Ipin
+  pub y : node.y ≡ sink.y
 
--- where at least two nodes follow, these are a pin and the sink; the others cost one or more
-abbrev pub raised : ℕ → Option ℕ → Option ℕ
-raised entry None = None
-raised entry (Some further) = Some (if nat_le 2 further then further - 2 + entry else further)
+-- a pin on those sides costs no less than is said of them
+pub record AreLow (sides : Sides) (pins : PinPrices) (price : ℕ) : Type 0 where
+  pub least : pins.least ≤ price
+  pub top : sides.top ≡ true → pins.top ≤ price
+  pub bottom : sides.bottom ≡ true → pins.bottom ≤ price
+  pub left : sides.left ≡ true → pins.left ≤ price
+  pub right : sides.right ≡ true → pins.right ≤ price
+
+-- no side is said to cost less than all pins, or too much
+pub record AreOrdered (pins : PinPrices) : Type 0 where
+  pub top : (pins.least ≤ pins.top) × (pins.top ≤ 2 ^ 36)
+  pub bottom : (pins.least ≤ pins.bottom) × (pins.bottom ≤ 2 ^ 36)
+  pub left : (pins.least ≤ pins.left) × (pins.left ≤ 2 ^ 36)
+  pub right : (pins.least ≤ pins.right) × (pins.right ≤ 2 ^ 36)
+
+-- nothing is said to cost more
+pub record AreNoDearer (pins others : PinPrices) : Type 0 where
+  pub least : pins.least ≤ others.least
+  pub top : pins.top ≤ others.top
+  pub bottom : pins.bottom ≤ others.bottom
+  pub left : pins.left ≤ others.left
+  pub right : pins.right ≤ others.right
+
+-- each pin at the sink's place costs no less than is said of its sides
+abbrev pub ArePinPrices : Basis → Node → Graph → PinPrices → Type 0
+ArePinPrices basis sink g pins = (node : ℕ) → node < g.count → IsPinAt sink ((graph_of basis).node node) →
+    AreLow (sides_at basis.arch basis.strip ((graph_of basis).node node)) pins (g.cost node)
+
+-- the wire runs along a side of the sink's block or pad
+abbrev pub IsBeside : Node → NodeKind → Node → Type 0
+IsBeside sink Source wire = ⊥
+IsBeside sink Sink wire = ⊥
+IsBeside sink Opin wire = ⊥
+IsBeside sink Ipin wire = ⊥
+IsBeside sink ChanX wire = (wire.x ≡ sink.x) × ((wire.y ≡ sink.y) ⊎ (wire.y + 1 ≡ sink.y))
+IsBeside sink ChanY wire = (wire.y ≡ sink.y) × ((wire.x ≡ sink.x) ⊎ (wire.x + 1 ≡ sink.x))
+
+-- what is said of the side along which the wire runs
+abbrev pub side_price : PinPrices → Node → NodeKind → Node → ℕ
+side_price pins sink ChanX wire = if wire.y == sink.y then pins.top else pins.bottom
+side_price pins sink ChanY wire = if wire.x == sink.x then pins.right else pins.left
+side_price pins sink _ wire = pins.least
+
+-- by track, at least what the last wire and a pin cost
+abbrev pub last_at : PinPrices → List ℕ → ℕ → ℕ
+last_at pins lasts track = slice_index_or lasts track (pins.least + 1)
+
+pub record AreLasts (basis : Basis) (sink : Node) (g : Graph) (pins : PinPrices) (lasts : List ℕ) : Type 0 where
+  pub more : (track : ℕ) → pins.least + 1 ≤ last_at pins lasts track
+  pub each : (node : ℕ) → node < g.count → IsBeside sink ((graph_of basis).node node).kind ((graph_of basis).node node) →
+      last_at pins lasts ((graph_of basis).node node).n ≤ g.cost node + side_price pins sink ((graph_of basis).node node).kind ((graph_of basis).node node)
+
+-- what is known of the ways to the sink
+pub record AreEntries (basis : Basis) (sink : Node) (g : Graph) (pins : PinPrices) (lasts : List ℕ) : Type 0 where
+  pub ordered : AreOrdered pins
+  pub pins_low : ArePinPrices basis sink g pins
+  pub lasts_low : AreLasts basis sink g pins lasts
+
+abbrev pub lesser : ℕ → ℕ → ℕ
+lesser a b = if nat_le a b then a else b
+
+-- from a wire: where only a pin and the sink must follow, a pin on its side, or another last wire and a pin. Before a last
+-- wire each costs one or more
+abbrev pub wire_bound : ℕ → ℕ → ℕ → ℕ
+wire_bound side last further = if nat_le further 2 then lesser side last + 1 else further - 3 + last + 1
+
+-- from another node: where at least two nodes follow, these are a pin and the sink; the others cost one or more
+abbrev pub other_bound : ℕ → ℕ → ℕ
+other_bound least further = if nat_le 2 further then further - 2 + (least + 1) else further
+
+-- the bound on a way by how many nodes must follow
+abbrev pub bound_by : PinPrices → List ℕ → Node → NodeKind → Node → ℕ → ℕ
+bound_by pins lasts sink ChanX node further = wire_bound (side_price pins sink ChanX node) (last_at pins lasts node.n) further
+bound_by pins lasts sink ChanY node further = wire_bound (side_price pins sink ChanY node) (last_at pins lasts node.n) further
+bound_by pins lasts sink _ node further = other_bound pins.least further
+
+abbrev pub raised : PinPrices → List ℕ → Node → Node → Option ℕ → Option ℕ
+raised pins lasts sink node None = None
+raised pins lasts sink node (Some further) = Some (bound_by pins lasts sink node.kind node further)
 
 -- both are none, or the first is no greater
 abbrev pub IsNoMore : Option ℕ → Option ℕ → Type 0

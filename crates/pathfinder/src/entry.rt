@@ -1,18 +1,60 @@
 //! What it costs at least to come to a sink over one of its pins.
-ghost use Rattle.std.specs.Prelude.{◌≡◌, ◌<◌, ◌≤◌, ◌^◌, All, ℕ, length};
-ghost use Rattle.rr_graph.specs.Graph.{graph_of};
-ghost use Rattle.pathfinder.specs.Entries.{IsEntry};
-ghost use Rattle.pathfinder.specs.PlacedNets.{wiring_of};
-ghost use Rattle.pathfinder.specs.Tables.{tabled};
+ghost use Rattle.std.specs.Prelude.{◌≡◌, ◌+◌, ◌<◌, ◌≤◌, ◌^◌, true, All, ℕ, length, IfOk};
 
 use crate::rates::price;
 use crate::round::Round;
-use rr_graph::{Node, NodeKind, StripGraph};
+use arch_file::Sides;
+use rr_graph::{Node, NodeKind, StripGraph, sides_at};
+use std::alloc::{AllocError, Global};
 
 /// No node costs more.
 const MOST: u64 = 1 << 36;
 
+/// At least what a sink's pins cost: all of them, and those on each side of its block or pad.
+#[derive(Clone, Copy, Debug)]
+pub(crate) struct PinPrices {
+    pub(crate) least: u64,
+    pub(crate) top: u64,
+    pub(crate) bottom: u64,
+    pub(crate) left: u64,
+    pub(crate) right: u64,
+}
+
+/// What is said of a side, and of a pin if it is on it.
+fn lower(price: u64, is_on: bool, other: u64) -> u64
+    ensures falls { result ≤ price }
+    ensures on { is_on ≡ true → result ≤ other }
+    ensures least { (least : ℕ) → least ≤ price → least ≤ other → least ≤ result }
+{
+    if is_on { price.min(other) } else { price }
+}
+
+impl PinPrices {
+    ghost use Rattle.pathfinder.specs.Entries.{AreLow, AreNoDearer, AreOrdered};
+
+    /// What is known with one pin more.
+    fn with(self, sides: Sides, price: u64) -> PinPrices
+        requires { AreOrdered self }
+        ensures ordered { AreOrdered result }
+        ensures falls { AreNoDearer result self }
+        ensures low { AreLow sides result price }
+    {
+        PinPrices {
+            least: self.least.min(price),
+            top: lower(self.top, sides.top, price),
+            bottom: lower(self.bottom, sides.bottom, price),
+            left: lower(self.left, sides.left, price),
+            right: lower(self.right, sides.right, price),
+        }
+    }
+}
+
 impl<G: StripGraph> Round<'_, G> {
+    ghost use Rattle.rr_graph.specs.Graph.{graph_of};
+    ghost use Rattle.pathfinder.specs.Entries.{AreOrdered, ArePinPrices, IsBeside, AreLasts, side_price};
+    ghost use Rattle.pathfinder.specs.PlacedNets.{wiring_of};
+    ghost use Rattle.pathfinder.specs.Tables.{tabled};
+
     /// What a node costs, where a table tells how many trees hold each node.
     fn price(&self, held: &[u32], node: usize) -> u64
         requires within { node < (wiring_of (G.basis self.now.graph.now)).count }
@@ -23,34 +65,90 @@ impl<G: StripGraph> Round<'_, G> {
         price(self.rates[node], self.iterations, held[node])
     }
 
-    /// At least what a pin costs, where a table tells how many trees hold each node. One that is not there costs the most.
-    fn pin_price(&self, held: &[u32], pin: Node) -> u64
+    /// At least what a node costs, where a table tells how many trees hold each node. One that is not there costs the most.
+    fn price_at(&self, held: &[u32], place: Node) -> u64
         requires long { length held.now ≡ (wiring_of (G.basis self.now.graph.now)).count }
         requires low { All (λ x. x ≤ 8192) held.now }
+        ensures some { 1 ≤ result }
         ensures few { result ≤ 2 ^ 36 }
-        ensures value { (node : ℕ) → node < (graph_of (G.basis self.now.graph.now)).count → (graph_of (G.basis self.now.graph.now)).node node ≡ pin →
+        ensures value { (node : ℕ) → node < (graph_of (G.basis self.now.graph.now)).count → (graph_of (G.basis self.now.graph.now)).node node ≡ place →
             result ≤ (tabled (wiring_of (G.basis self.now.graph.now)) self.now.iterations self.now.history.now held.now).cost node }
     {
         let _count = self.graph.count();
-        match self.graph.number(pin) {
+        match self.graph.number(place) {
             Some(number) => self.price(held, number).min(MOST),
             None => MOST,
         }
     }
 
-    /// One more than what the cheapest pin before the sink costs.
-    pub(crate) fn entry(&self, held: &[u32], sink: Node) -> u64
+    /// At least what the sink's pins cost.
+    pub(crate) fn pin_prices(&self, held: &[u32], sink: Node) -> PinPrices
         requires long { length held.now ≡ (wiring_of (G.basis self.now.graph.now)).count }
         requires low { All (λ x. x ≤ 8192) held.now }
-        ensures { IsEntry (G.basis self.now.graph.now) sink (tabled (wiring_of (G.basis self.now.graph.now)) self.now.iterations self.now.history.now held.now) result }
+        ensures ordered { AreOrdered result }
+        ensures low { ArePinPrices (G.basis self.now.graph.now) sink (tabled (wiring_of (G.basis self.now.graph.now)) self.now.iterations self.now.history.now held.now) result }
     {
         let _count = self.graph.count();
         let kind = NodeKind::Ipin;
         let (x, y) = (sink.x, sink.y);
-        let mut least = MOST;
+        let mut pins = PinPrices {
+            least: MOST,
+            top: MOST,
+            bottom: MOST,
+            left: MOST,
+            right: MOST,
+        };
         for n in 0..self.graph.arch().pins.as_slice().len() as u32 + self.graph.strip().io_rat {
-            least = least.min(self.pin_price(held, Node { x, kind, y, n }));
+            let pin = Node { x, kind, y, n };
+            let sides = sides_at(self.graph.arch(), self.graph.strip(), pin);
+            pins = pins.with(sides, self.price_at(held, pin));
         }
-        least + 1
+        pins
+    }
+
+    /// At least what a last wire of the track and a pin of the sink cost.
+    fn last_price(&self, held: &[u32], pins: PinPrices, sink: Node, track: u32) -> u64
+        requires long { length held.now ≡ (wiring_of (G.basis self.now.graph.now)).count }
+        requires low { All (λ x. x ≤ 8192) held.now }
+        requires ordered { AreOrdered pins }
+        ensures more { pins.least + 1 ≤ result }
+        ensures each { (node : ℕ) → node < (graph_of (G.basis self.now.graph.now)).count →
+            ((graph_of (G.basis self.now.graph.now)).node node).n ≡ track →
+            IsBeside sink ((graph_of (G.basis self.now.graph.now)).node node).kind ((graph_of (G.basis self.now.graph.now)).node node) →
+            result ≤ (tabled (wiring_of (G.basis self.now.graph.now)) self.now.iterations self.now.history.now held.now).cost node
+            + side_price pins sink ((graph_of (G.basis self.now.graph.now)).node node).kind ((graph_of (G.basis self.now.graph.now)).node node) }
+    {
+        let n = track;
+        let (x, y, kind) = (sink.x, sink.y, NodeKind::ChanX);
+        let above = self.price_at(held, Node { x, kind, y, n }) + pins.top;
+        let y = y.saturating_sub(1);
+        let under = self.price_at(held, Node { x, kind, y, n }) + pins.bottom;
+        let (y, kind) = (sink.y, NodeKind::ChanY);
+        let after = self.price_at(held, Node { x, kind, y, n }) + pins.right;
+        let x = x.saturating_sub(1);
+        let before = self.price_at(held, Node { x, kind, y, n }) + pins.left;
+        above.min(under).min(after).min(before)
+    }
+
+    /// For each track, at least what a last wire and a pin of the sink cost.
+    pub(crate) fn last_prices(
+        &self,
+        alloc: Global,
+        held: &[u32],
+        pins: PinPrices,
+        sink: Node,
+    ) -> Result<Vec<u64>, AllocError>
+        requires long { length held.now ≡ (wiring_of (G.basis self.now.graph.now)).count }
+        requires low { All (λ x. x ≤ 8192) held.now }
+        requires ordered { AreOrdered pins }
+        ensures { IfOk result (λ lasts. AreLasts (G.basis self.now.graph.now) sink (tabled (wiring_of (G.basis self.now.graph.now)) self.now.iterations self.now.history.now held.now) pins lasts.items) }
+    {
+        let tracks = self.graph.arch().tracks;
+        let mut lasts = Vec::new(alloc);
+        lasts.reserve(tracks as usize)?;
+        for track in 0..tracks {
+            lasts.push(self.last_price(held, pins, sink, track))?;
+        }
+        Ok(lasts)
     }
 }

@@ -2,6 +2,7 @@ use Rattle.std.proofs.Common.{◌≡◌, ◌≤◌, ◌^◌, true, arith, refl, 
 use Rattle.rr_graph.specs.declared.node.Node.{Node}
 use Rattle.rr_graph.specs.Geometry.{is_node}
 use Rattle.rr_graph.specs.Graph.{graph_of}
+use Rattle.rr_graph.specs.Ways.{further_to}
 use Rattle.least_path.specs.LowerBound.{IsLowerBound}
 use Rattle.pathfinder.specs.PlacedNets.{wiring_of}
 use Rattle.pathfinder.specs.Tables.{aimed, tabled}
@@ -11,8 +12,8 @@ use Rattle.pathfinder.proofs.InRange.{tabled_lawful}
 use Rattle.pathfinder.proofs.Strips.{strip_wiring}
 use Rattle.pathfinder.proofs.prices.PricesRoads.at_least.Goals as goal
 
-pub further_to-requires-clause-sink : goal.further_to-requires-clause-sink
-further_to-requires-clause-sink g c =
+pub further_from-further-requires : goal.further_from-further-requires
+further_from-further-requires g c =
     let prices = c.args.self.now in
     let basis = g.G.StripGraph.basis prices.graph.now in
     subst (λ (node : Node). is_node basis.arch basis.strip node ≡ true) prices.aim.is (c.count-count.ensures.lawful.nodes prices.goal prices.aim.within)
@@ -24,6 +25,10 @@ returns-then-goal-aim g c =
     let few : (graph_of basis).count ≤ 2 ^ 23 = omega (arith, c.count-count.ensures.few, c.count-count.ensures.value) in
     let at_prices = tabled (wiring_of basis) prices.iterations prices.history.now prices.held.now in
     let lawful = tabled_lawful (wiring_of basis) (strip_wiring basis c.count-count.ensures.lawful few) prices.iterations prices.history.now prices.held.now prices.lawful in
-    let bound = aimed_bound basis c.count-count.ensures.lawful prices.goal prices.sink prices.aim at_prices lawful refl (λ node. refl) prices.entry prices.entered c.args.node c.requires.node c.entering.result
-    (subst (λ further. IsNoMore c.entering.result (raised prices.entry further)) (c.further_to.ensures) c.entering.ensures) in
+    let place = (graph_of basis).node c.args.node in
+    let at : IsNoMore c.entering.result (raised prices.pins prices.lasts.now prices.sink c.node-place.result (further_to basis.arch basis.strip prices.sink c.node-place.result)) =
+    subst (λ further. IsNoMore c.entering.result (raised prices.pins prices.lasts.now prices.sink c.node-place.result further)) c.further_from-further.ensures c.entering.ensures in
+    let here : IsNoMore c.entering.result (raised prices.pins prices.lasts.now prices.sink place (further_to basis.arch basis.strip prices.sink place)) =
+    subst (λ (node : Node). IsNoMore c.entering.result (raised prices.pins prices.lasts.now prices.sink node (further_to basis.arch basis.strip prices.sink node))) c.node-place.ensures at in
+    let bound = aimed_bound basis c.count-count.ensures.lawful prices.goal prices.sink prices.aim at_prices lawful refl (λ node. refl) prices.pins prices.lasts.now prices.entered c.args.node c.requires.node c.entering.result here in
     subst (λ goal. IsLowerBound (aimed basis prices.sink at_prices) goal c.args.node c.entering.result) (sym c.if-goal-aim.true) bound

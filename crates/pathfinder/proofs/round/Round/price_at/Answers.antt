@@ -2,7 +2,7 @@ use Rattle.std.proofs.Common.{◌≡◌, ◌≤◌, ◌∙◌, ap, subst, sym, a
 use Rattle.pathfinder.specs.PlacedNets.{wiring_of}
 use Rattle.pathfinder.specs.Tables.{tabled}
 use Rattle.pathfinder.proofs.EntryPins.{same_number}
-use Rattle.pathfinder.proofs.round.Round.pin_price.Goals as goal
+use Rattle.pathfinder.proofs.round.Round.price_at.Goals as goal
 
 pub returns-in-Some-clause-value : goal.returns-in-Some-clause-value
 returns-in-Some-clause-value g c = λ node b e.
