@@ -7,10 +7,11 @@ use Rattle.job_state.specs.declared.ending.RoutingEnd.TheVariants.{Routed, GaveU
 use Rattle.job_state.specs.declared.sources.Sources.{Sources}
 use Rattle.job_state.specs.declared.work.Work.TheVariants as work
 use Rattle.job_state.specs.JobValue.{end_value}
+use Rattle.job_state.specs.RoutedCircuits.{RoutedCircuit}
 
 -- that is what a routing of these sources has made at its end
 abbrev pub IsEndOf : Sources → RoutingEnd → Type 0
-IsEndOf sources (Routed routes) = end_value sources ≡ Ok (work.Routed routes.now)
+IsEndOf sources (Routed routes) = (routed : RoutedCircuit) × (end_value sources ≡ Ok (work.Routed routed)) × (routes.now ≡ routed.routes)
 IsEndOf sources GaveUp = end_value sources ≡ Ok work.GaveUp
 IsEndOf sources (NoPath net) = end_value sources ≡ Ok (work.NoPath net)
 

@@ -1,8 +1,9 @@
 -- Private: what a job carries, and that it is the job's value.
-use Rattle.std.specs.Prelude.{ℕ, ◌≡◌, ◌-◌, ◌<◌, ◌≤◌, Bool, true, false, Ok, if◌then◌else◌}
+use Rattle.std.specs.Prelude.{ℕ, ◌≡◌, ◌+◌, ◌-◌, ◌<◌, ◌≤◌, Bool, true, false, Ok, if◌then◌else◌}
 use Rattle.job_state.specs.declared.step.JobStep.{JobStep}
 use Rattle.job_state.specs.declared.sources.Sources.{Sources}
 use Rattle.job_state.specs.declared.work.Work.{Work}
+use Rattle.job_state.specs.declared.work.Work.TheVariants.{Unlisted, Routed}
 use Rattle.job_state.specs.JobValue.{is_last, job_value}
 
 -- the steps that are made where a job stands before that step
@@ -18,9 +19,14 @@ HasFewSteps sources = (steps : ℕ) × (steps ≤ 8192) × (is_last sources step
 abbrev pub IsNotOverBefore : Sources → ℕ → Type 0
 IsNotOverBefore sources steps = (fewer : ℕ) → fewer < steps → is_last sources fewer ≡ false
 
--- that is the job's value after so many steps
+-- that is what a job has after so many steps: its value, or what its next and last step has found, which isn't listed yet
+abbrev pub StandsFor : Sources → ℕ → Work → Type 0
+StandsFor sources steps (Unlisted routed) = (job_value sources (steps + 1) ≡ Ok (Routed routed)) × (is_last sources steps ≡ false)
+StandsFor sources steps work = job_value sources steps ≡ Ok work
+
+-- a job that has so much after so many steps
 pub record HasMade (step : JobStep) (work : Work) (steps : ℕ) : Type 0 where
-  pub value : job_value step.sources steps ≡ Ok work
+  pub value : StandsFor step.sources steps work
   pub from_one : 1 ≤ step.number
   pub few : HasFewSteps step.sources
   pub going : IsNotOverBefore step.sources steps

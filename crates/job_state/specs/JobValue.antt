@@ -12,12 +12,14 @@ use Rattle.pathfinder.specs.PlacedNets.{nets_to_route, wiring_of}
 use Rattle.pathfinder.specs.Routings.{told_by_node}
 use Rattle.pathfinder.specs.Wiring.{Net}
 use Rattle.rr_graph.specs.Graph.{Basis, graph_of}
+use Rattle.rr_graph.specs.declared.resource.Resource.{Resource}
 use Rattle.strip_place.specs.Anneal.{PlacingUnderWay, is_finished, is_past_last, places_by_block}
 use Rattle.job_state.specs.declared.sources.JobKind.{JobKind}
 use Rattle.job_state.specs.declared.sources.JobKind.TheVariants.{Packing as PackingJob, Placing as PlacingJob, Routing as RoutingJob}
 use Rattle.job_state.specs.declared.sources.Sources.{Sources}
 use Rattle.job_state.specs.declared.work.Work.{Work}
-use Rattle.job_state.specs.declared.work.Work.TheVariants.{Packing, Packed, Placing, Placed, Routing, Routed, GaveUp, NoPath}
+use Rattle.job_state.specs.declared.work.Work.TheVariants.{Packing, Packed, Placing, Placed, Routing, Unlisted, Routed, GaveUp, NoPath}
+use Rattle.job_state.specs.RoutedCircuits.{pads_of}
 
 -- what a packing is computed from: it has no seed and no effort
 abbrev pub packing_sources : Arch → Strip → List ℕ → Sources
@@ -64,21 +66,25 @@ basis_in sources = record { arch = sources.arch; strip = sources.strip }
 unfoldable pub nets_in : Sources → Circuit → List Net
 nets_in sources circuit = nets_to_route (basis_in sources) (packed_of circuit sources.arch) (places_by_block (placing_at sources circuit (pass_count sources.strip)))
 
--- a routing makes an iteration a step: while it goes on it keeps its trees, at its end it tells them by node
-abbrev pub routing_stands : Basis → List Net → ℕ → RoutedTrees → Standing → Work
-routing_stands basis nets iterations routed More = Routing (record { basis = basis; state = record { nets = nets; iterations = iterations; trees = routed.trees; history = routed.history } })
-routing_stands basis nets iterations routed Done = Routed (told_by_node (graph_of basis) routed.trees)
-routing_stands basis nets iterations routed GivenUp = GaveUp
-routing_stands basis nets iterations routed (WithoutPath net) = NoPath net
+-- the pads of its blocks, at the same places
+unfoldable pub pads_in : Sources → Circuit → List Resource
+pads_in sources circuit = pads_of (packed_of circuit sources.arch) (places_by_block (placing_at sources circuit (pass_count sources.strip)))
 
-abbrev pub routing_after : Basis → List Net → ℕ → Work
-routing_after basis nets iterations = routing_stands basis nets iterations (routed_after (wiring_of basis) nets iterations) (routed_after (wiring_of basis) nets iterations).standing
+-- a routing makes an iteration a step: while it goes on it keeps its trees, at its end it tells them by node
+abbrev pub routing_stands : Basis → List Resource → List Net → ℕ → RoutedTrees → Standing → Work
+routing_stands basis pads nets iterations routed More = Routing (record { basis = basis; pads = pads; state = record { nets = nets; iterations = iterations; trees = routed.trees; history = routed.history } })
+routing_stands basis pads nets iterations routed Done = Routed (record { basis = basis; routes = told_by_node (graph_of basis) routed.trees; pads = pads })
+routing_stands basis pads nets iterations routed GivenUp = GaveUp
+routing_stands basis pads nets iterations routed (WithoutPath net) = NoPath net
+
+abbrev pub routing_after : Basis → List Resource → List Net → ℕ → Work
+routing_after basis pads nets iterations = routing_stands basis pads nets iterations (routed_after (wiring_of basis) nets iterations) (routed_after (wiring_of basis) nets iterations).standing
 
 -- a job of that kind after so many steps
 abbrev pub work_of : JobKind → Sources → Circuit → ℕ → Work
 work_of PackingJob sources circuit steps = packing_after circuit sources.arch steps
 work_of PlacingJob sources circuit steps = placing_stands (placing_at sources circuit steps)
-work_of RoutingJob sources circuit steps = routing_after (basis_in sources) (nets_in sources circuit) steps
+work_of RoutingJob sources circuit steps = routing_after (basis_in sources) (pads_in sources circuit) (nets_in sources circuit) steps
 
 abbrev pub value_of : Sources → Result Circuit BlifFault → ℕ → Result Work BlifFault
 value_of sources (Ok circuit) steps = Ok (work_of sources.kind sources circuit steps)
@@ -95,6 +101,7 @@ is_whole (Packed packed) = true
 is_whole (Placing placing) = false
 is_whole (Placed placing) = true
 is_whole (Routing routing) = false
+is_whole (Unlisted routed) = false
 is_whole (Routed routes) = true
 is_whole GaveUp = true
 is_whole (NoPath net) = true

@@ -5,3 +5,5 @@ pub mod Job
 pub mod Steps
 pub mod Held
 pub mod Ends
+pub mod RoutedCircuits
+pub mod RoutedSet

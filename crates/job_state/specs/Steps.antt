@@ -1,10 +1,10 @@
 -- Private: a work after one step more, and whose it is.
-use Rattle.std.specs.Prelude.{◌+◌}
+use Rattle.std.specs.Prelude.{◌≡◌, ◌+◌}
 use Rattle.strip_place.specs.Anneal.{one_more}
 use Rattle.job_state.specs.declared.sources.JobKind.{JobKind}
 use Rattle.job_state.specs.declared.sources.JobKind.TheVariants.{Packing as PackingJob, Placing as PlacingJob, Routing as RoutingJob}
 use Rattle.job_state.specs.declared.work.Work.{Work}
-use Rattle.job_state.specs.declared.work.Work.TheVariants.{Packing, Packed, Placing, Placed, Routing, Routed, GaveUp, NoPath}
+use Rattle.job_state.specs.declared.work.Work.TheVariants.{Packing, Packed, Placing, Placed, Routing, Unlisted, Routed, GaveUp, NoPath}
 use Rattle.job_state.specs.JobValue.{packing_after, placing_stands, routing_after}
 
 -- what is whole has no step left
@@ -13,7 +13,8 @@ next_work (Packing packing) = packing_after packing.circuit packing.arch (packin
 next_work (Packed packed) = Packed packed
 next_work (Placing placing) = placing_stands (one_more placing)
 next_work (Placed placing) = Placed placing
-next_work (Routing routing) = routing_after routing.basis routing.state.nets (routing.state.iterations + 1)
+next_work (Routing routing) = routing_after routing.basis routing.pads routing.state.nets (routing.state.iterations + 1)
+next_work (Unlisted routed) = Routed routed
 next_work (Routed routes) = Routed routes
 next_work GaveUp = GaveUp
 next_work (NoPath net) = NoPath net
@@ -25,6 +26,12 @@ kind_of (Packed packed) = PackingJob
 kind_of (Placing placing) = PlacingJob
 kind_of (Placed placing) = PlacingJob
 kind_of (Routing routing) = RoutingJob
+kind_of (Unlisted routed) = RoutingJob
 kind_of (Routed routes) = RoutingJob
 kind_of GaveUp = RoutingJob
 kind_of (NoPath net) = RoutingJob
+
+-- what a step without memory leaves: the work as it was, or with what its next step has found, which isn't listed yet
+abbrev pub IsLeft : Work → Work → Type 0
+IsLeft old (Unlisted routed) = next_work old ≡ Routed routed
+IsLeft old new = new ≡ old

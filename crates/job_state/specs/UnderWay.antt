@@ -2,11 +2,14 @@
 use Rattle.pathfinder.specs.Negotiation.{More}
 use Rattle.pathfinder.specs.PlacedNets.{wiring_of}
 use Rattle.pathfinder.specs.Routings.{RoutingState, IsAfter}
+use Rattle.std.specs.Prelude.{List}
 use Rattle.rr_graph.specs.Graph.{Basis}
+use Rattle.rr_graph.specs.declared.resource.Resource.{Resource}
 
--- a routing between two iterations, and what its strip's graph stands on
+-- a routing between two iterations, with what its strip's graph stands on and the pads of its blocks
 pub record RoutingUnderWay : Type 0 where
   pub basis : Basis
+  pub pads : List Resource
   pub state : RoutingState
 
 -- it goes on

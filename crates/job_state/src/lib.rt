@@ -13,9 +13,11 @@
 #![tactic(auto)]
 
 mod ending;
+mod held;
 mod job;
 mod packing;
 mod parked;
+mod routed;
 mod routing;
 mod shared_text;
 mod sources;

@@ -1,5 +1,5 @@
 //! A job as its slot keeps it.
-ghost use Rattle.std.specs.Prelude.{◌≡◌, ◌≤◌, IfOk, None, Ok, false, true};
+ghost use Rattle.std.specs.Prelude.{◌≡◌, ◌≤◌, All, AllPairs, IfOk, None, Ok, false, true};
 ghost use Rattle.cluster.specs.Clusters.{PackedCircuit, packed_of, packing_steps, unfit_of};
 ghost use Rattle.grid.specs.declared.fit.Fit.TheVariants.{Fits};
 ghost use Rattle.grid.specs.Fits.{fit_of};
@@ -9,9 +9,13 @@ ghost use Rattle.job_state.specs.declared.work.Work.{Work};
 ghost use Rattle.job_state.specs.Ends.{IsEndOf, IsOfNets};
 ghost use Rattle.job_state.specs.Held.{HasFewSteps};
 ghost use Rattle.job_state.specs.Job.{first_step, is_over};
+ghost use Rattle.job_state.specs.RoutedSet.{resources_of};
+ghost use Rattle.rr_graph.specs.declared.resource.Resource.{Resource};
+ghost use Rattle.rr_graph.specs.Resources.{IsEarlier, has, is_there};
 ghost use Rattle.job_state.specs.JobValue.{circuit_in, end_value, is_whole, job_value, packing_sources, pass_count, placing_at, placing_sources};
 
 use crate::ending::RoutingEnd;
+use crate::held::pads_of;
 use crate::job::AnyJob;
 use crate::packing::PackingJob;
 use crate::routing::RoutingJob;
@@ -22,7 +26,7 @@ use arch_file::SharedArch;
 use blif::SharedCircuit;
 use cluster::{Packed, Packing, SharedPacked};
 use pathfinder::Routing;
-use rr_graph::Fabric;
+use rr_graph::{Fabric, Resource};
 use std::alloc::{AllocError, Global};
 use std::marker::Model;
 use strip_place::{Placing, laws_of_passes};
@@ -114,9 +118,11 @@ impl Parked {
         ensures going { IfOk result (λ job. is_over job ≡ false) }
     {
         let placing = placing.placing();
-        let graph = Fabric::new(alloc, sources.arch.arch(), placing.strip())?;
+        let arch = sources.arch.clone()?;
+        let pads = pads_of(alloc, placing)?;
+        let graph = Fabric::new(alloc, arch.arch(), placing.strip())?;
         let routing = Routing::start(alloc, &graph, placing)?;
-        let work = Work::Routing(RoutingJob::new(alloc, graph, routing));
+        let work = Work::Routing(RoutingJob::new(alloc, arch, graph, pads, routing));
         Ok(Parked::begin(id, generation, sources, work))
     }
 
@@ -198,10 +204,26 @@ impl Parked {
         ensures nets { IfOk (circuit_in self.now.step.sources) (λ circuit. IsOfNets (packed_of circuit self.now.step.sources.arch) result) }
     {
         match &self.work {
-            Work::Routed(routes) => RoutingEnd::Routed(routes),
+            Work::Routed(listed) => RoutingEnd::Routed(listed.routes()),
             Work::GaveUp => RoutingEnd::GaveUp,
             Work::NoPath(net) => RoutingEnd::NoPath(*net),
             _ => unreachable!(),
+        }
+    }
+
+    /// What the circuit of a finished routing holds of its strip, in node order: the pins and wires of its routes and the pads of
+    /// its blocks, each once. Nothing where the routing ended without routes.
+    pub fn resources(&self) -> &[Resource]
+        requires kind { self.now.step.sources.kind ≡ JobKind.Routing }
+        requires over { is_over self.now ≡ true }
+        requires put { self.now.made ≡ false }
+        ensures order { AllPairs IsEarlier result.now }
+        ensures exact { (r : Resource) → has result.now r ≡ has (resources_of self.now.step.sources) r }
+        ensures there { All (λ r. is_there self.now.step.sources.arch self.now.step.sources.strip r ≡ true) result.now }
+    {
+        match &self.work {
+            Work::Routed(listed) => listed.resources(),
+            _ => &[],
         }
     }
 }

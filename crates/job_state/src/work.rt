@@ -2,13 +2,14 @@
 ghost use Rattle.std.specs.Prelude.{◌≡◌, ◌≢◌, IfErr, IfOk, false};
 ghost use Rattle.job_state.specs.declared.sources.JobKind.{JobKind};
 ghost use Rattle.job_state.specs.JobValue.{is_whole, placing_stands};
-ghost use Rattle.job_state.specs.Steps.{kind_of, next_work};
+ghost use Rattle.job_state.specs.declared.work.Work.{Work};
+ghost use Rattle.job_state.specs.Steps.{IsLeft, kind_of, next_work};
 ghost use Rattle.strip_place.specs.Anneal.{one_more};
 
 use crate::packing::PackingJob;
+use crate::routed::{Listed, Routed};
 use crate::routing::RoutingJob;
 use cluster::SharedPacked;
-use pathfinder::Routes;
 use strip_place::{PassEnd, Placing};
 
 /// What a job has made.
@@ -24,8 +25,10 @@ pub(crate) enum Work {
     Placed(Placing),
     /// A routing under way.
     Routing(RoutingJob),
+    /// A routing's last iteration found these routes, but there was no memory to list what they hold.
+    Unlisted(Routed),
     /// A routing found these routes.
-    Routed(Routes),
+    Routed(Listed),
     /// A routing was given up after its last iteration.
     GaveUp,
     /// A routing found no path for the net of that number.
@@ -33,11 +36,12 @@ pub(crate) enum Work {
 }
 
 impl Work {
-    /// Makes one step more. Without memory the work comes back as it was. A placing takes none.
+    /// Makes one step more. Without memory the work comes back as it was, or with routes that aren't listed yet. A placing takes
+    /// none.
     pub(crate) fn next(self) -> Result<Work, Work>
         requires { is_whole self ≡ false }
         ensures made { IfOk result (λ work. work ≡ next_work self) }
-        ensures back { IfErr result (λ work. work ≡ self) }
+        ensures back { IfErr result (λ work. IsLeft self work) }
         ensures memory { IfErr result (λ work. kind_of self ≢ JobKind.Placing) }
     {
         match self {
@@ -46,10 +50,8 @@ impl Work {
                 Err(packing) => Err(Work::Packing(packing)),
             },
             Work::Placing(placing) => Ok(passed(placing)),
-            Work::Routing(routing) => match routing.next() {
-                Ok(work) => Ok(work),
-                Err(routing) => Err(Work::Routing(routing)),
-            },
+            Work::Routing(routing) => routing.next(),
+            Work::Unlisted(routed) => ended(routed),
             Work::Packed(_) | Work::Placed(_) | Work::Routed(_) | Work::GaveUp | Work::NoPath(_) =>
                 unreachable!(),
         }
@@ -60,7 +62,7 @@ impl Work {
         ensures { result ≡ is_whole self.now }
     {
         match self {
-            Work::Packing(_) | Work::Placing(_) | Work::Routing(_) => false,
+            Work::Packing(_) | Work::Placing(_) | Work::Routing(_) | Work::Unlisted(_) => false,
             Work::Packed(_) | Work::Placed(_) | Work::Routed(_) | Work::GaveUp | Work::NoPath(_) =>
                 true,
         }
@@ -74,5 +76,16 @@ fn passed(mut placing: Placing) -> Work
     match placing.pass() {
         PassEnd::More => Work::Placing(placing),
         PassEnd::Last => Work::Placed(placing),
+    }
+}
+
+/// A routing with routes, to be listed. Without memory they come back.
+pub(crate) fn ended(routed: Routed) -> Result<Work, Work>
+    ensures made { IfOk result (λ work. work ≡ Work.Routed routed) }
+    ensures back { IfErr result (λ work. work ≡ Work.Unlisted routed) }
+{
+    match routed.listed() {
+        Ok(listed) => Ok(Work::Routed(listed)),
+        Err(routed) => Err(Work::Unlisted(routed)),
     }
 }

@@ -7,3 +7,4 @@ pub mod JobNames
 pub mod Content
 pub mod Standing
 pub mod Outcomes
+pub mod RoutedSet

@@ -43,5 +43,5 @@ place_file_of value = []
 
 -- the `.route` file of a whole routing on a whole placing
 abbrev pub route_file_of : Result Work BlifFault → Result Work BlifFault → List ℕ
-route_file_of (Ok (Placed placing)) (Ok (Routed routes)) = route_text_of placing.strip placing.packed (places_by_block placing) routes
+route_file_of (Ok (Placed placing)) (Ok (Routed routed)) = route_text_of placing.strip placing.packed (places_by_block placing) routed.routes
 route_file_of placing routing = []

@@ -1,7 +1,10 @@
 //! One tenancy: its commands, and its job that leaves and comes back.
-ghost use Rattle.std.specs.Prelude.{◌≡◌, ◌<◌, false, true, option_and_then, IfOk};
+ghost use Rattle.std.specs.Prelude.{◌≡◌, ◌<◌, All, AllPairs, false, true, option_and_then, IfOk};
 ghost use Rattle.grid.specs.Sizes.{IsStripSize};
+ghost use Rattle.rr_graph.specs.declared.resource.Resource.{Resource};
+ghost use Rattle.rr_graph.specs.Resources.{IsEarlier, has, is_there};
 ghost use Rattle.tenant_slot.specs.Results.{ending_told};
+ghost use Rattle.tenant_slot.specs.RoutedSet.{routed_set};
 ghost use Rattle.tenant_slot.specs.SingleUser.{circuit_in, is_lawful, is_next, start};
 ghost use Rattle.tenant_slot.specs.Answer.{Answers, IsAnswerTo, accepted};
 ghost use Rattle.tenant_slot.specs.Slot.{GivesBack, IsAdvanceOf, Puts, Serves, Takes, is_takeable};
@@ -18,6 +21,7 @@ use crate::standing::{Change, Standing};
 use arch_file::SharedArch;
 use grid::Strip;
 use job_state::{AnyJob, Back, Done, RoutingEnd, Sources};
+use rr_graph::Resource;
 use std::alloc::{AllocError, Global};
 use std::marker::Model;
 
@@ -255,6 +259,19 @@ impl Slot {
                 RoutingEnd::GaveUp | RoutingEnd::NoPath(_) => unreachable!(),
             },
             _ => unreachable!(),
+        }
+    }
+
+    /// What the circuit holds of its strip, in node order: in the state Routed the pins and wires of its routes and the pads of its
+    /// blocks, each once, and nothing in the others.
+    pub fn routed(&self) -> &[Resource]
+        ensures order { AllPairs IsEarlier result.now }
+        ensures exact { (r : Resource) → has result.now r ≡ has (routed_set self.now.state) r }
+        ensures there { All (λ r. is_there self.now.state.arch self.now.state.strip r ≡ true) result.now }
+    {
+        match &self.standing.content {
+            Content::Routed(_, _, _, routing) => routing.resources(),
+            _ => &[],
         }
     }
 

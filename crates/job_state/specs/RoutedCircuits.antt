@@ -1,0 +1,67 @@
+-- A routed circuit, and what it holds of its strip.
+use Rattle.std.specs.Prelude.{ℕ, ◌≡◌, ◌+◌, ◌<◌, List, [], ◌∷◌, ◌++◌, length, slice_index_or, true, All, AllPairs}
+use Rattle.std.specs.List.{flat_map, range_with_len}
+use Rattle.std.specs.Option.{option_to_list}
+use Rattle.arch_file.specs.declared.arch.Arch.{Arch}
+use Rattle.cluster.specs.declared.block.Block.{Block}
+use Rattle.cluster.specs.declared.block.Block.TheVariants.{InputPad, OutputPad, Cluster}
+use Rattle.cluster.specs.Blocks.{blocks_of}
+use Rattle.cluster.specs.Clusters.{PackedCircuit}
+use Rattle.grid.specs.declared.Strip.{Strip}
+use Rattle.grid.specs.declared.place.Place.{Place}
+use Rattle.rr_graph.specs.declared.node.Node.{Node}
+use Rattle.rr_graph.specs.declared.resource.ResourceKind.TheVariants.{Pad}
+use Rattle.rr_graph.specs.declared.resource.Resource.{Resource}
+use Rattle.rr_graph.specs.Graph.{Basis}
+use Rattle.rr_graph.specs.Resources.{IsEarlier, has, is_there, resource_of}
+use Rattle.strip_place.specs.Placed.{block_at, place_of}
+
+-- what the graph of its strip stands on, the paths of each net's tree by node, and the pads of its blocks
+pub record RoutedCircuit : Type 0 where
+  pub basis : Basis
+  pub routes : List (List (List Node))
+  pub pads : List Resource
+
+abbrev pub routed_on : Arch → Strip → List (List (List Node)) → List Resource → RoutedCircuit
+routed_on arch strip routes pads = record { basis = record { arch = arch; strip = strip }; routes = routes; pads = pads }
+
+-- the pad at a place
+abbrev pub pad_at : Place → Resource
+pad_at place = record { x = place.x; kind = Pad; y = place.y; n = place.subblock }
+
+-- a block for an input or an output stands on a pad, a cluster doesn't
+abbrev pub pad_of : Block → Place → List Resource
+pad_of (InputPad net) place = pad_at place ∷ []
+pad_of (OutputPad net) place = pad_at place ∷ []
+pad_of (Cluster cluster) place = []
+
+-- the pads of all blocks, by the block's number
+abbrev pub pads_of : PackedCircuit → List Place → List Resource
+pads_of packed places = flat_map (λ block. pad_of (block_at packed block) (place_of places block)) (range_with_len 0 (length (blocks_of packed)))
+
+-- the pins and wires on a path, on the paths of a tree, and of all trees
+abbrev pub on_path : List Node → List Resource
+on_path path = flat_map (λ node. option_to_list (resource_of node)) path
+
+abbrev pub on_tree : List (List Node) → List Resource
+on_tree tree = flat_map on_path tree
+
+abbrev pub on_trees : List (List (List Node)) → List Resource
+on_trees trees = flat_map on_tree trees
+
+-- what it holds: the pins and wires of its trees, and its pads
+abbrev pub held_by : RoutedCircuit → List Resource
+held_by routed = on_trees routed.routes ++ routed.pads
+
+-- each of these is of the strip
+abbrev pub AreThere : Basis → List Resource → Type 0
+AreThere basis resources = All (λ resource. is_there basis.arch basis.strip resource ≡ true) resources
+
+-- a list has the same resources in node order, each once
+pub record ListsAll (resources list : List Resource) : Type 0 where
+  pub in_order : AllPairs IsEarlier list
+  pub exact : (resource : Resource) → has list resource ≡ has resources resource
+
+-- Private: none stands before the one that it follows
+abbrev pub IsInOrder : List Resource → Type 0
+IsInOrder list = (k : ℕ) (d : Resource) → k + 1 < length list → IsEarlier (slice_index_or list (k + 1) d) (slice_index_or list k d) → ⊥

@@ -1,0 +1,17 @@
+-- What a tenancy's circuit holds of its strip.
+use Rattle.std.specs.Prelude.{List, []}
+use Rattle.job_state.specs.RoutedSet.{resources_of}
+use Rattle.job_state.specs.declared.sources.JobKind.TheVariants.{Routing as RoutingJob}
+use Rattle.rr_graph.specs.declared.resource.Resource.{Resource}
+use Rattle.tenant_slot.specs.declared.reply.StateName.{StateName}
+use Rattle.tenant_slot.specs.declared.reply.StateName.TheVariants.{Routed}
+use Rattle.tenant_slot.specs.SingleUser.{State, sources_of}
+
+abbrev pub held_in : StateName → State → List Resource
+held_in Routed state = resources_of (sources_of state RoutingJob)
+held_in name state = []
+
+-- in the state Routed the pins and wires of its routes and the pads of its blocks, and nothing in the others. They stand in
+-- no order, and some of them more than once
+unfoldable pub routed_set : State → List Resource
+routed_set state = held_in state.name state
