@@ -1,5 +1,5 @@
 -- What jobs begin with.
-use Rattle.std.proofs.Common.{ℕ, ◌≡◌, ◌+◌, ◌<◌, ◌≤◌, Bool, true, false, Result, Ok, Err, IfOk, nat_lt, if◌then◌else◌, arith, refl, sym, ap, ◌∙◌, lt-ltb, le-ltb}
+use Rattle.std.proofs.Common.{ℕ, ◌≡◌, ◌+◌, ◌<◌, ◌≤◌, Bool, true, false, List, Result, Ok, Err, IfOk, nat_lt, if◌then◌else◌, arith, refl, sym, ap, ◌∙◌, lt-ltb, le-ltb}
 use Rattle.arch_file.specs.declared.arch.Arch.{Arch}
 use Rattle.blif.specs.declared.circuit.Circuit.{Circuit}
 use Rattle.blif.specs.declared.fault.BlifFault.{BlifFault}
@@ -8,12 +8,15 @@ use Rattle.grid.specs.declared.Strip.{Strip}
 use Rattle.pathfinder.specs.PlacedNets.{nets_to_route}
 use Rattle.pathfinder.specs.Routings.{RoutingState}
 use Rattle.rr_graph.specs.Graph.{Basis}
+use Rattle.rr_graph.specs.declared.resource.Resource.{Resource}
 use Rattle.strip_place.specs.Anneal.{PlacingUnderWay, is_past_last, places_by_block}
 use Rattle.job_state.specs.declared.sources.JobKind.{JobKind}
 use Rattle.job_state.specs.declared.sources.JobKind.TheVariants.{Packing as PackingJob, Placing as PlacingJob, Routing as RoutingJob}
 use Rattle.job_state.specs.declared.sources.Sources.{Sources}
 use Rattle.job_state.specs.declared.work.Work.TheVariants.{Packing, Packed, Placing, Placed, Routing}
-use Rattle.job_state.specs.JobValue.{basis_in, circuit_in, end_value, step_count, is_last, is_whole, is_whole_value, job_value, nets_in, packing_sources, pass_count, placing_at, placing_sources, routing_after, value_of, work_of}
+use Rattle.job_state.specs.JobValue.{basis_in, circuit_in, end_value, step_count, is_last, is_whole, is_whole_value, job_value, nets_in, pads_in, packing_sources, pass_count, placing_at, placing_sources, routing_after, value_of, work_of}
+use Rattle.job_state.specs.declared.work.Work.{Work}
+use Rattle.job_state.specs.RoutedCircuits.{pads_of}
 use Rattle.job_state.specs.UnderWay.{GoesOn}
 use Rattle.job_state.proofs.Ended.{packed_value, placing_whole}
 use Rattle.job_state.proofs.NextStep.{as_value}
@@ -56,7 +59,7 @@ over_past_last sources steps kind law more =
     ] refl)
 
 -- routings
-routing_work : (kind : JobKind) (sources : Sources) (circuit : Circuit) → kind ≡ RoutingJob → work_of kind sources circuit 0 ≡ routing_after (basis_in sources) (nets_in sources circuit) 0
+routing_work : (kind : JobKind) (sources : Sources) (circuit : Circuit) → kind ≡ RoutingJob → work_of kind sources circuit 0 ≡ routing_after (basis_in sources) (pads_in sources circuit) (nets_in sources circuit) 0
 routing_work PackingJob sources circuit k = absurd (cc)
 routing_work PlacingJob sources circuit k = absurd (cc)
 routing_work RoutingJob sources circuit k = refl
@@ -68,17 +71,25 @@ nets_are sources circuit placed basis on from =
     ap (λ (other : PlacingUnderWay). nets_to_route basis other.packed (places_by_block other)) from
     ∙ ap (λ other. nets_to_route other (packed_of circuit sources.arch) (places_by_block (placing_at sources circuit (pass_count sources.strip)))) on
 
-routing_value : (sources : Sources) (circuit : Result Circuit BlifFault) (steps : ℕ) (placed : PlacingUnderWay) (basis : Basis) (state : RoutingState) → sources.kind ≡ RoutingJob →
+pads_are : (sources : Sources) (circuit : Circuit) (placed : PlacingUnderWay) → placed ≡ placing_at sources circuit (pass_count sources.strip) → pads_of placed.packed (places_by_block placed) ≡ pads_in sources circuit
+unfolding pads_in
+pads_are sources circuit placed from = ap (λ (other : PlacingUnderWay). pads_of other.packed (places_by_block other)) from
+
+abbrev goes_from : Basis → List Resource → RoutingState → Work
+goes_from basis pads state = Routing (record { basis = basis; pads = pads; state = state })
+
+routing_value : (sources : Sources) (circuit : Result Circuit BlifFault) (steps : ℕ) (placed : PlacingUnderWay) (basis : Basis) (pads : List Resource) (state : RoutingState) → sources.kind ≡ RoutingJob →
     value_of (placing_sources sources.arch sources.strip sources.text sources.seed sources.effort) circuit steps ≡ Ok (Placed placed) →
     IfOk circuit (λ circuit. placed ≡ placing_at sources circuit (pass_count sources.strip)) →
-    basis ≡ basis_in sources → state.nets ≡ nets_to_route basis placed.packed (places_by_block placed) → state.iterations ≡ 0 → GoesOn basis state →
-    value_of sources circuit 0 ≡ Ok (Routing (record { basis = basis; state = state }))
-routing_value sources (Ok circuit) steps placed basis state kind is from on nets count after =
-    let begins : Routing (record { basis = basis; state = state }) ≡ routing_after basis (nets_in sources circuit) 0 =
-    goes_on basis (nets_in sources circuit) 0 state (nets ∙ nets_are sources circuit placed basis on from) count after in
+    basis ≡ basis_in sources → pads ≡ pads_of placed.packed (places_by_block placed) → state.nets ≡ nets_to_route basis placed.packed (places_by_block placed) → state.iterations ≡ 0 → GoesOn basis state →
+    value_of sources circuit 0 ≡ Ok (Routing (record { basis = basis; pads = pads; state = state }))
+routing_value sources (Ok circuit) steps placed basis pads state kind is from on held nets count after =
+    let begins : Routing (record { basis = basis; pads = pads_in sources circuit; state = state }) ≡ routing_after basis (pads_in sources circuit) (nets_in sources circuit) 0 =
+    goes_on basis (pads_in sources circuit) (nets_in sources circuit) 0 state (nets ∙ nets_are sources circuit placed basis on from) count after in
     ap as_value
-    (routing_work sources.kind sources circuit kind ∙ ap (λ other. routing_after other (nets_in sources circuit) 0) (sym on) ∙ sym begins)
-routing_value sources (Err fault) steps placed basis state kind is from on nets count after = absurd (cc)
+    (routing_work sources.kind sources circuit kind ∙ ap (λ other. routing_after other (pads_in sources circuit) (nets_in sources circuit) 0) (sym on) ∙ sym begins
+    ∙ ap (λ other. goes_from basis other state) (sym (held ∙ pads_are sources circuit placed from)))
+routing_value sources (Err fault) steps placed basis pads state kind is from on held nets count after = absurd (cc)
 
 placed_on : (sources : Sources) (circuit : Result Circuit BlifFault) (steps : ℕ) (placed : PlacingUnderWay) → value_of sources circuit steps ≡ Ok (Placed placed) → IfOk circuit (λ circuit. placed ≡ placing_at sources circuit (pass_count sources.strip)) →
     (placed.packed.arch ≡ sources.arch) × (placed.strip ≡ sources.strip)
@@ -95,15 +106,15 @@ abbrev basis_on : Arch → Strip → Basis
 basis_on arch strip = record { arch = arch; strip = strip }
 
 -- a routing begins with the nets between the places of a whole placing
-pub routing_begins : (sources : Sources) (placed : PlacingUnderWay) (graph : Basis) (state : RoutingState) → sources.kind ≡ RoutingJob →
+pub routing_begins : (sources : Sources) (placed : PlacingUnderWay) (graph : Basis) (pads : List Resource) (state : RoutingState) → sources.kind ≡ RoutingJob →
     end_value (placing_sources sources.arch sources.strip sources.text sources.seed sources.effort) ≡ Ok (Placed placed) →
     IfOk (circuit_in sources) (λ circuit. placed ≡ placing_at sources circuit (pass_count sources.strip)) →
-    graph.arch ≡ sources.arch → graph.strip ≡ sources.strip → state.nets ≡ nets_to_route graph placed.packed (places_by_block placed) → state.iterations ≡ 0 → GoesOn graph state →
-    job_value sources 0 ≡ Ok (Routing (record { basis = graph; state = state }))
-routing_begins sources placed graph state kind is from arch strip nets count after =
+    graph.arch ≡ sources.arch → graph.strip ≡ sources.strip → pads ≡ pads_of placed.packed (places_by_block placed) → state.nets ≡ nets_to_route graph placed.packed (places_by_block placed) → state.iterations ≡ 0 → GoesOn graph state →
+    job_value sources 0 ≡ Ok (Routing (record { basis = graph; pads = pads; state = state }))
+routing_begins sources placed graph pads state kind is from arch strip held nets count after =
     let steps = step_count (placing_sources sources.arch sources.strip sources.text sources.seed sources.effort) in
     let on : graph ≡ basis_in sources = ap (λ other. basis_on other graph.strip) arch ∙ ap (λ other. basis_on sources.arch other) strip in
-    routing_value sources (circuit_in sources) steps placed graph state kind is from on nets count after
+    routing_value sources (circuit_in sources) steps placed graph pads state kind is from on held nets count after
 
 -- packings
 begun_stands : (circuit : Circuit) (arch : Arch) (goes : Bool) → goes ≡ true →

@@ -8,6 +8,7 @@ use Rattle.pathfinder.specs.Negotiation.{Routed as RoutedTrees, Standing, More, 
 use Rattle.pathfinder.specs.PlacedNets.{wiring_of}
 use Rattle.pathfinder.specs.Wiring.{Net}
 use Rattle.rr_graph.specs.Graph.{Basis}
+use Rattle.rr_graph.specs.declared.resource.Resource.{Resource}
 use Rattle.strip_place.specs.Anneal.{PlacingUnderWay, is_finished, is_past_last}
 use Rattle.job_state.specs.declared.sources.JobKind.{JobKind}
 use Rattle.job_state.specs.declared.sources.JobKind.TheVariants.{Packing as PackingJob, Placing as PlacingJob, Routing as RoutingJob}
@@ -15,7 +16,7 @@ use Rattle.job_state.specs.declared.sources.Sources.{Sources}
 use Rattle.job_state.specs.declared.work.Work.{Work}
 use Rattle.job_state.specs.declared.work.Work.TheVariants.{Packing, Packed, Placing, Placed}
 use Rattle.job_state.specs.Held.{HasFewSteps, IsNotOverBefore}
-use Rattle.job_state.specs.JobValue.{basis_in, circuit_in, end_value, is_last, is_whole, is_whole_value, job_value, nets_in, pass_count, placing_at, routing_stands, value_of, work_of}
+use Rattle.job_state.specs.JobValue.{basis_in, circuit_in, end_value, is_last, is_whole, is_whole_value, job_value, nets_in, pads_in, pass_count, placing_at, routing_stands, value_of, work_of}
 use Rattle.job_state.specs.Steps.{kind_of}
 use Rattle.job_state.proofs.StepCounts.{few_made, pass_count_is, step_count_is}
 
@@ -23,11 +24,11 @@ either_kind : (kind : JobKind) (test : Bool) (a b : Work) → kind_of a ≡ kind
 either_kind kind true a b ka kb = ka
 either_kind kind false a b ka kb = kb
 
-routing_kind : (basis : Basis) (nets : List Net) (steps : ℕ) (routed : RoutedTrees) (standing : Standing) → kind_of (routing_stands basis nets steps routed standing) ≡ RoutingJob
-routing_kind basis nets steps routed More = refl
-routing_kind basis nets steps routed Done = refl
-routing_kind basis nets steps routed GivenUp = refl
-routing_kind basis nets steps routed (WithoutPath net) = refl
+routing_kind : (basis : Basis) (pads : List Resource) (nets : List Net) (steps : ℕ) (routed : RoutedTrees) (standing : Standing) → kind_of (routing_stands basis pads nets steps routed standing) ≡ RoutingJob
+routing_kind basis pads nets steps routed More = refl
+routing_kind basis pads nets steps routed Done = refl
+routing_kind basis pads nets steps routed GivenUp = refl
+routing_kind basis pads nets steps routed (WithoutPath net) = refl
 
 work_kind : (kind : JobKind) (sources : Sources) (circuit : Circuit) (steps : ℕ) → kind_of (work_of kind sources circuit steps) ≡ kind
 work_kind PackingJob sources circuit steps =
@@ -36,7 +37,7 @@ work_kind PlacingJob sources circuit steps =
     either_kind PlacingJob (is_finished (placing_at sources circuit steps)) (Placed (placing_at sources circuit steps)) (Placing (placing_at sources circuit steps)) refl refl
 work_kind RoutingJob sources circuit steps =
     let routed : RoutedTrees = routed_after (wiring_of (basis_in sources)) (nets_in sources circuit) steps in
-    routing_kind (basis_in sources) (nets_in sources circuit) steps routed routed.standing
+    routing_kind (basis_in sources) (pads_in sources circuit) (nets_in sources circuit) steps routed routed.standing
 
 value_kind : (sources : Sources) (circuit : Result Circuit BlifFault) (steps : ℕ) (work : Work) → value_of sources circuit steps ≡ Ok work → kind_of work ≡ sources.kind
 value_kind sources (Ok circuit) steps work is =

@@ -9,10 +9,11 @@ use Rattle.job_state.specs.declared.work.Work.{Work}
 use Rattle.job_state.specs.declared.work.Work.TheVariants.{Placed}
 use Rattle.job_state.specs.Held.{HasMade, IsNotOverBefore, steps_made}
 use Rattle.job_state.specs.Job.{JobState, is_over}
-use Rattle.job_state.specs.JobValue.{circuit_in, end_value, pass_count, placing_at, is_last, is_whole, is_whole_value, job_value}
-use Rattle.job_state.specs.Steps.{next_work}
+use Rattle.job_state.specs.JobValue.{circuit_in, end_value, pass_count, placing_at, is_last, job_value}
+use Rattle.job_state.specs.Steps.{IsLeft, next_work}
 use Rattle.job_state.proofs.Ended.{made_at_end, placed_made}
-use Rattle.job_state.proofs.NextStep.{as_value, next_value}
+use Rattle.job_state.proofs.NextStep.{as_value}
+use Rattle.job_state.proofs.Stands.{as_stands, stands_left, stands_next, stands_over}
 use Rattle.job_state.proofs.StepCounts.{few_made}
 
 one_more : (number : ℕ) → 1 ≤ number → number - 1 + 1 ≡ number
@@ -29,14 +30,17 @@ not_before sources number from_one before at fewer less =
 -- the step is made
 pub stepped : (step : JobStep) (work new : Work) → HasMade step work (step.number - 1) → is_last step.sources (step.number - 1) ≡ false → new ≡ next_work work → HasMade step new step.number
 stepped step work new holds going is =
-    let more : is_whole work ≡ false = ap is_whole_value (sym holds.value) ∙ going in
-    let next : job_value step.sources (step.number - 1 + 1) ≡ Ok (next_work work) = next_value step.sources (step.number - 1) work holds.value more in
+    let next : job_value step.sources (step.number - 1 + 1) ≡ Ok (next_work work) = stands_next step.sources (step.number - 1) work holds.value going in
     record {
-      value = ap (λ steps. job_value step.sources steps) (sym (one_more step.number holds.from_one)) ∙ (next ∙ ap as_value (sym is));
+      value = as_stands step.sources step.number new (ap (λ steps. job_value step.sources steps) (sym (one_more step.number holds.from_one)) ∙ (next ∙ ap as_value (sym is)));
       from_one = holds.from_one;
       few = holds.few;
       going = not_before step.sources step.number holds.from_one holds.going going;
     }
+
+-- what a step without memory leaves
+pub left : (step : JobStep) (work new : Work) (steps : ℕ) → HasMade step work steps → is_last step.sources steps ≡ false → IsLeft work new → HasMade step new steps
+left step work new steps holds going is = record { value = stands_left step.sources steps work new holds.value going is; from_one = holds.from_one; few = holds.few; going = holds.going }
 
 -- the steps made are few
 pub few_steps_made : (step : JobStep) (work : Work) (steps : ℕ) → HasMade step work steps → steps ≤ 8192
@@ -44,7 +48,7 @@ few_steps_made step work steps holds = few_made step.sources steps holds.few.0 h
 
 -- what is made where the job is over
 pub made_last : (step : JobStep) (work : Work) (steps : ℕ) → HasMade step work steps → is_last step.sources steps ≡ true → end_value step.sources ≡ Ok work
-made_last step work steps holds at = made_at_end step.sources steps work holds.few holds.going at holds.value
+made_last step work steps holds at = made_at_end step.sources steps work holds.few holds.going at (stands_over step.sources steps work holds.value at)
 
 -- the same as its holder sees it, where its last step was put
 pub kept_over : (job : JobState) (step : JobStep) (work : Work) (made : Bool) → record { step = step; made = made } ≡ job → HasMade step work (steps_made step made) → job.made ≡ false → HasMade job.step work (job.step.number - 1)

@@ -1,3 +1,11 @@
+pub mod Gathered
+pub mod InOrder
+pub mod Sorted
+pub mod Pads
+pub mod There
+pub mod HeldAtEnd
+pub mod Legal
+pub mod Stands
 pub mod FewSteps
 pub mod NextStep
 pub mod StepCounts

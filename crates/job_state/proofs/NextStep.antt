@@ -8,13 +8,14 @@ use Rattle.pathfinder.specs.Negotiation.{Routed as RoutedTrees, Standing, More, 
 use Rattle.pathfinder.specs.PlacedNets.{wiring_of}
 use Rattle.pathfinder.specs.Wiring.{Net}
 use Rattle.rr_graph.specs.Graph.{Basis}
+use Rattle.rr_graph.specs.declared.resource.Resource.{Resource}
 use Rattle.strip_place.specs.Anneal.{PlacingUnderWay, is_finished}
 use Rattle.job_state.specs.declared.sources.JobKind.{JobKind}
 use Rattle.job_state.specs.declared.sources.JobKind.TheVariants.{Packing as PackingJob, Placing as PlacingJob, Routing as RoutingJob}
 use Rattle.job_state.specs.declared.sources.Sources.{Sources}
 use Rattle.job_state.specs.declared.work.Work.{Work}
 use Rattle.job_state.specs.declared.work.Work.TheVariants.{Packing, Packed, Placing, Placed}
-use Rattle.job_state.specs.JobValue.{basis_in, circuit_in, nets_in, is_whole, job_value, packing_after, placing_at, placing_stands, routing_after, routing_stands, value_of, work_of}
+use Rattle.job_state.specs.JobValue.{basis_in, circuit_in, nets_in, pads_in, is_whole, job_value, packing_after, placing_at, placing_stands, routing_after, routing_stands, value_of, work_of}
 use Rattle.job_state.specs.Steps.{next_work}
 
 packing_next : (circuit : Circuit) (arch : Arch) (steps : ℕ) (goes : Bool) → let now : Work = if goes then Packing (record { circuit = circuit; arch = arch; made = steps }) else Packed (packed_of circuit arch) in
@@ -27,19 +28,19 @@ placing_next : (placing : PlacingUnderWay) (finished : Bool) → is_finished pla
 placing_next placing true is going = absurd (cc)
 placing_next placing false is going = rw is refl
 
-routing_next : (basis : Basis) (nets : List Net) (steps : ℕ) (routed : RoutedTrees) (standing : Standing) → is_whole (routing_stands basis nets steps routed standing) ≡ false →
-    routing_after basis nets (steps + 1) ≡ next_work (routing_stands basis nets steps routed standing)
-routing_next basis nets steps routed More going = refl
-routing_next basis nets steps routed Done going = absurd (cc)
-routing_next basis nets steps routed GivenUp going = absurd (cc)
-routing_next basis nets steps routed (WithoutPath net) going = absurd (cc)
+routing_next : (basis : Basis) (pads : List Resource) (nets : List Net) (steps : ℕ) (routed : RoutedTrees) (standing : Standing) → is_whole (routing_stands basis pads nets steps routed standing) ≡ false →
+    routing_after basis pads nets (steps + 1) ≡ next_work (routing_stands basis pads nets steps routed standing)
+routing_next basis pads nets steps routed More going = refl
+routing_next basis pads nets steps routed Done going = absurd (cc)
+routing_next basis pads nets steps routed GivenUp going = absurd (cc)
+routing_next basis pads nets steps routed (WithoutPath net) going = absurd (cc)
 
 work_next : (kind : JobKind) (sources : Sources) (circuit : Circuit) (steps : ℕ) → is_whole (work_of kind sources circuit steps) ≡ false → work_of kind sources circuit (steps + 1) ≡ next_work (work_of kind sources circuit steps)
 work_next PackingJob sources circuit steps going = packing_next circuit sources.arch steps (nat_lt steps (packing_steps circuit sources.arch)) going
 work_next PlacingJob sources circuit steps going = placing_next (placing_at sources circuit steps) (is_finished (placing_at sources circuit steps)) refl going
 work_next RoutingJob sources circuit steps going =
     let routed : RoutedTrees = routed_after (wiring_of (basis_in sources)) (nets_in sources circuit) steps in
-    routing_next (basis_in sources) (nets_in sources circuit) steps routed routed.standing going
+    routing_next (basis_in sources) (pads_in sources circuit) (nets_in sources circuit) steps routed routed.standing going
 
 -- the value of that work
 abbrev pub as_value : Work → Result Work BlifFault

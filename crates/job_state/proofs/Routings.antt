@@ -1,5 +1,5 @@
 -- What a routing that is over has made.
-use Rattle.std.proofs.Common.{ℕ, ◌≡◌, ◌<◌, true, List, length, map, Result, Ok, Err, IfOk, refl, sym, ap, subst, ◌∙◌}
+use Rattle.std.proofs.Common.{ℕ, ◌≡◌, ◌<◌, true, List, length, Result, Ok, Err, IfOk, refl, sym, ap, subst, ◌∙◌}
 use Rattle.std.proofs.lemmas.List.{length-map}
 use Rattle.blif.specs.declared.circuit.Circuit.{Circuit}
 use Rattle.blif.specs.declared.fault.BlifFault.{BlifFault}
@@ -7,14 +7,16 @@ use Rattle.cluster.specs.Blocks.{block_nets}
 use Rattle.cluster.specs.Clusters.{packed_of}
 use Rattle.pathfinder.specs.Negotiation.{Routed as RoutedTrees, Standing, More, Done, GaveUp as GivenUp, NoPath as WithoutPath, routed_after}
 use Rattle.pathfinder.specs.PlacedNets.{nets_to_route, wiring_of}
+use Rattle.pathfinder.specs.Routings.{told_by_node}
 use Rattle.pathfinder.specs.Wiring.{Net}
 use Rattle.rr_graph.specs.Graph.{Basis, graph_of}
-use Rattle.rr_graph.specs.declared.node.Node.{Node}
+use Rattle.rr_graph.specs.declared.resource.Resource.{Resource}
 use Rattle.job_state.specs.declared.sources.JobKind.{JobKind}
 use Rattle.job_state.specs.declared.sources.JobKind.TheVariants.{Packing as PackingJob, Placing as PlacingJob, Routing as RoutingJob}
 use Rattle.job_state.specs.declared.sources.Sources.{Sources}
 use Rattle.job_state.specs.declared.work.Work.TheVariants.{Routed, NoPath}
-use Rattle.job_state.specs.JobValue.{basis_in, circuit_in, is_last, is_whole, is_whole_value, job_value, nets_in, routing_stands, value_of, work_of}
+use Rattle.job_state.specs.JobValue.{basis_in, circuit_in, is_last, is_whole, is_whole_value, job_value, nets_in, pads_in, routing_stands, value_of, work_of}
+use Rattle.job_state.specs.RoutedCircuits.{RoutedCircuit}
 use Rattle.job_state.proofs.Iterations.{ends_by_thirty, of_nets}
 
 module _ (sources : Sources) (circuit : Circuit) where
@@ -22,47 +24,50 @@ module _ (sources : Sources) (circuit : Circuit) where
   unfolding nets_in nets_to_route
   as_many = length-map (block_nets (packed_of circuit sources.arch)) _
 
-module _ (basis : Basis) (nets : List Net) (steps : ℕ) (routed : RoutedTrees) where
-  routed_stands : (standing : Standing) (routes : List (List (List Node))) → routing_stands basis nets steps routed standing ≡ Routed routes → length routes ≡ length routed.trees
-  routed_stands More routes is = absurd (cc)
-  routed_stands Done routes is = rw (let same : map (λ tree. map (λ path. map (graph_of basis).node path) tree) routed.trees ≡ routes = cc in sym same) (length-map routed.trees _)
-  routed_stands GivenUp routes is = absurd (cc)
-  routed_stands (WithoutPath net) routes is = absurd (cc)
+module _ (basis : Basis) (pads : List Resource) (nets : List Net) (steps : ℕ) (routed : RoutedTrees) where
+  routed_stands : (standing : Standing) (made : RoutedCircuit) → routing_stands basis pads nets steps routed standing ≡ Routed made → (length made.routes ≡ length routed.trees) × (made.basis ≡ basis)
+  routed_stands More made is = absurd (cc)
+  routed_stands Done made is =
+      let same : record { basis = basis; routes = told_by_node (graph_of basis) routed.trees; pads = pads } ≡ made = cc in
+      (ap (λ (other : RoutedCircuit). length other.routes) (sym same) ∙ length-map routed.trees _, ap (λ (other : RoutedCircuit). other.basis) (sym same))
+  routed_stands GivenUp made is = absurd (cc)
+  routed_stands (WithoutPath net) made is = absurd (cc)
 
-  no_path_stands : (standing : Standing) (net : ℕ) → routing_stands basis nets steps routed standing ≡ NoPath net → standing ≡ WithoutPath net
+  no_path_stands : (standing : Standing) (net : ℕ) → routing_stands basis pads nets steps routed standing ≡ NoPath net → standing ≡ WithoutPath net
   no_path_stands More net is = absurd (cc)
   no_path_stands Done net is = absurd (cc)
   no_path_stands GivenUp net is = absurd (cc)
   no_path_stands (WithoutPath other) net is = ap (λ (number : ℕ). WithoutPath number) (cc)
 
-  whole_stands : (standing : Standing) → (standing ≡ More → ⊥) → is_whole (routing_stands basis nets steps routed standing) ≡ true
+  whole_stands : (standing : Standing) → (standing ≡ More → ⊥) → is_whole (routing_stands basis pads nets steps routed standing) ≡ true
   whole_stands More going = absurd (going refl)
   whole_stands Done going = refl
   whole_stands GivenUp going = refl
   whole_stands (WithoutPath net) going = refl
 
 module _ (sources : Sources) (circuit : Circuit) where
-  routed_work : (kind : JobKind) (steps : ℕ) (routes : List (List (List Node))) → kind ≡ RoutingJob → work_of kind sources circuit steps ≡ Routed routes → length routes ≡ length (nets_in sources circuit)
-  routed_work PackingJob steps routes k is = absurd (cc)
-  routed_work PlacingJob steps routes k is = absurd (cc)
-  routed_work RoutingJob steps routes k is =
-      routed_stands (basis_in sources) (nets_in sources circuit) steps (routed_after (wiring_of (basis_in sources)) (nets_in sources circuit) steps) (routed_after (wiring_of (basis_in sources)) (nets_in sources circuit) steps).standing routes is ∙ (of_nets (wiring_of (basis_in sources)) (nets_in sources circuit) steps).long
+  routed_work : (kind : JobKind) (steps : ℕ) (made : RoutedCircuit) → kind ≡ RoutingJob → work_of kind sources circuit steps ≡ Routed made → (length made.routes ≡ length (nets_in sources circuit)) × (made.basis ≡ basis_in sources)
+  routed_work PackingJob steps made k is = absurd (cc)
+  routed_work PlacingJob steps made k is = absurd (cc)
+  routed_work RoutingJob steps made k is =
+      let stands = routed_stands (basis_in sources) (pads_in sources circuit) (nets_in sources circuit) steps (routed_after (wiring_of (basis_in sources)) (nets_in sources circuit) steps) (routed_after (wiring_of (basis_in sources)) (nets_in sources circuit) steps).standing made is in
+      (stands.0 ∙ (of_nets (wiring_of (basis_in sources)) (nets_in sources circuit) steps).long, stands.1)
 
   no_path_work : (kind : JobKind) (steps net : ℕ) → kind ≡ RoutingJob → work_of kind sources circuit steps ≡ NoPath net → net < length (nets_in sources circuit)
   no_path_work PackingJob steps net k is = absurd (cc)
   no_path_work PlacingJob steps net k is = absurd (cc)
   no_path_work RoutingJob steps net k is =
-      (of_nets (wiring_of (basis_in sources)) (nets_in sources circuit) steps).named net (no_path_stands (basis_in sources) (nets_in sources circuit) steps (routed_after (wiring_of (basis_in sources)) (nets_in sources circuit) steps) (routed_after (wiring_of (basis_in sources)) (nets_in sources circuit) steps).standing net is)
+      (of_nets (wiring_of (basis_in sources)) (nets_in sources circuit) steps).named net (no_path_stands (basis_in sources) (pads_in sources circuit) (nets_in sources circuit) steps (routed_after (wiring_of (basis_in sources)) (nets_in sources circuit) steps) (routed_after (wiring_of (basis_in sources)) (nets_in sources circuit) steps).standing net is)
 
   last_work : (kind : JobKind) (steps : ℕ) → kind ≡ RoutingJob → steps ≡ 30 → is_whole (work_of kind sources circuit steps) ≡ true
   last_work PackingJob steps k last = absurd (cc)
   last_work PlacingJob steps k last = absurd (cc)
-  last_work RoutingJob steps k last = whole_stands (basis_in sources) (nets_in sources circuit) steps (routed_after (wiring_of (basis_in sources)) (nets_in sources circuit) steps) (routed_after (wiring_of (basis_in sources)) (nets_in sources circuit) steps).standing (ends_by_thirty (wiring_of (basis_in sources)) (nets_in sources circuit) steps last)
+  last_work RoutingJob steps k last = whole_stands (basis_in sources) (pads_in sources circuit) (nets_in sources circuit) steps (routed_after (wiring_of (basis_in sources)) (nets_in sources circuit) steps) (routed_after (wiring_of (basis_in sources)) (nets_in sources circuit) steps).standing (ends_by_thirty (wiring_of (basis_in sources)) (nets_in sources circuit) steps last)
 
-routed_value : (sources : Sources) (circuit : Result Circuit BlifFault) (steps : ℕ) (routes : List (List (List Node))) → sources.kind ≡ RoutingJob → value_of sources circuit steps ≡ Ok (Routed routes) →
-    IfOk circuit (λ circuit. length routes ≡ length (block_nets (packed_of circuit sources.arch)))
-routed_value sources (Ok circuit) steps routes kind is = routed_work sources circuit sources.kind steps routes kind (cc) ∙ as_many sources circuit
-routed_value sources (Err fault) steps routes kind is = tt
+routed_value : (sources : Sources) (circuit : Result Circuit BlifFault) (steps : ℕ) (made : RoutedCircuit) → sources.kind ≡ RoutingJob → value_of sources circuit steps ≡ Ok (Routed made) →
+    IfOk circuit (λ circuit. length made.routes ≡ length (block_nets (packed_of circuit sources.arch))) × (made.basis ≡ basis_in sources)
+routed_value sources (Ok circuit) steps made kind is = let work = routed_work sources circuit sources.kind steps made kind (cc) in (work.0 ∙ as_many sources circuit, work.1)
+routed_value sources (Err fault) steps made kind is = absurd (cc)
 
 no_path_value : (sources : Sources) (circuit : Result Circuit BlifFault) (steps net : ℕ) → sources.kind ≡ RoutingJob → value_of sources circuit steps ≡ Ok (NoPath net) →
     IfOk circuit (λ circuit. net < length (block_nets (packed_of circuit sources.arch)))
@@ -70,9 +75,13 @@ no_path_value sources (Ok circuit) steps net kind is = subst (λ count. net < co
 no_path_value sources (Err fault) steps net kind is = tt
 
 -- as many routes as nets
-pub routed_made : (sources : Sources) (steps : ℕ) (routes : List (List (List Node))) → sources.kind ≡ RoutingJob → job_value sources steps ≡ Ok (Routed routes) →
-    IfOk (circuit_in sources) (λ circuit. length routes ≡ length (block_nets (packed_of circuit sources.arch)))
-routed_made sources steps routes kind is = routed_value sources (circuit_in sources) steps routes kind is
+pub routed_made : (sources : Sources) (steps : ℕ) (made : RoutedCircuit) → sources.kind ≡ RoutingJob → job_value sources steps ≡ Ok (Routed made) →
+    IfOk (circuit_in sources) (λ circuit. length made.routes ≡ length (block_nets (packed_of circuit sources.arch)))
+routed_made sources steps made kind is = (routed_value sources (circuit_in sources) steps made kind is).0
+
+-- on the strip
+pub routed_on_strip : (sources : Sources) (steps : ℕ) (made : RoutedCircuit) → sources.kind ≡ RoutingJob → job_value sources steps ≡ Ok (Routed made) → made.basis ≡ basis_in sources
+routed_on_strip sources steps made kind is = (routed_value sources (circuit_in sources) steps made kind is).1
 
 -- one of the nets
 pub no_path_made : (sources : Sources) (steps net : ℕ) → sources.kind ≡ RoutingJob → job_value sources steps ≡ Ok (NoPath net) →

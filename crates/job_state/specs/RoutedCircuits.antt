@@ -35,9 +35,12 @@ pad_of (InputPad net) place = pad_at place ∷ []
 pad_of (OutputPad net) place = pad_at place ∷ []
 pad_of (Cluster cluster) place = []
 
--- the pads of all blocks, by the block's number
+-- the pads of the blocks below a number, and of all blocks, by the block's number
+abbrev pub pads_below : PackedCircuit → List Place → ℕ → List Resource
+pads_below packed places count = flat_map (λ block. pad_of (block_at packed block) (place_of places block)) (range_with_len 0 count)
+
 abbrev pub pads_of : PackedCircuit → List Place → List Resource
-pads_of packed places = flat_map (λ block. pad_of (block_at packed block) (place_of places block)) (range_with_len 0 (length (blocks_of packed)))
+pads_of packed places = pads_below packed places (length (blocks_of packed))
 
 -- the pins and wires on a path, on the paths of a tree, and of all trees
 abbrev pub on_path : List Node → List Resource

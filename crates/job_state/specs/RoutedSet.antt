@@ -1,5 +1,5 @@
 -- What the circuit of a finished routing holds of its strip, as a function of what the routing is computed from.
-use Rattle.std.specs.Prelude.{List, [], Result, Ok, Err}
+use Rattle.std.specs.Prelude.{List, [], Result, Ok}
 use Rattle.blif.specs.declared.fault.BlifFault.{BlifFault}
 use Rattle.rr_graph.specs.declared.resource.Resource.{Resource}
 use Rattle.job_state.specs.declared.sources.Sources.{Sources}

@@ -1,6 +1,7 @@
 //! The list of what a routed circuit holds of its strip.
 ghost use Rattle.std.specs.Prelude.{◌≡◌, ◌++◌, ◌<◌, IfOk, [], length, slice_index_or};
 ghost use Rattle.std.specs.Option.{option_to_list};
+ghost use Rattle.rr_graph.specs.Resources.{resource_of};
 ghost use Rattle.job_state.specs.RoutedCircuits.{AreThere, IsInOrder, ListsAll, on_path, on_tree, on_trees, pad_of, pads_of};
 ghost use Rattle.strip_place.specs.Anneal.{places_by_block};
 
@@ -11,19 +12,20 @@ use rr_graph::{Node, Resource, ResourceKind};
 use std::alloc::{AllocError, Global};
 use strip_place::Placing;
 
-/// The pad at the place of a block, where the block stands on one.
-fn pad_of(block: Block, place: Place) -> Option<Resource>
-    ensures { option_to_list result ≡ pad_of block place }
+/// Adds the pad of a block, where the block stands on one.
+fn add_pad(mut pads: Vec<Resource>, block: Block, place: Place) -> Result<Vec<Resource>, AllocError>
+    ensures { IfOk result (λ new. new.items ≡ pads.items ++ pad_of block place) }
 {
     match block {
-        Block::InputPad(_) | Block::OutputPad(_) => Some(Resource {
+        Block::InputPad(_) | Block::OutputPad(_) => pads.push(Resource {
             x: place.x,
             kind: ResourceKind::Pad,
             y: place.y,
             n: place.subblock,
-        }),
-        Block::Cluster(_) => None,
+        })?,
+        Block::Cluster(_) => {}
     }
+    Ok(pads)
 }
 
 /// The pads of the blocks, by number.
@@ -36,11 +38,19 @@ pub(crate) fn pads_of(alloc: Global, placing: &Placing) -> Result<Vec<Resource>,
     let _strip = placing.strip();
     let mut pads = Vec::new(alloc);
     for block in 0..placing.packed().block_count() {
-        if let Some(pad) = pad_of(placing.packed().block(block), placing.place_of(block)) {
-            pads.push(pad)?;
-        }
+        pads = add_pad(pads, placing.packed().block(block), placing.place_of(block))?;
     }
     Ok(pads)
+}
+
+/// Adds the pin or the wire that a node stands for.
+fn add_node(mut list: Vec<Resource>, node: Node) -> Result<Vec<Resource>, AllocError>
+    ensures { IfOk result (λ new. new.items ≡ list.items ++ option_to_list (resource_of node)) }
+{
+    if let Some(resource) = Resource::of(node) {
+        list.push(resource)?;
+    }
+    Ok(list)
 }
 
 /// Adds the pins and wires on a path.
@@ -48,9 +58,7 @@ fn add_path(mut list: Vec<Resource>, path: &[Node]) -> Result<Vec<Resource>, All
     ensures { IfOk result (λ new. new.items ≡ list.items ++ on_path path.now) }
 {
     for node in path {
-        if let Some(resource) = Resource::of(*node) {
-            list.push(resource)?;
-        }
+        list = add_node(list, *node)?;
     }
     Ok(list)
 }

@@ -118,11 +118,11 @@ impl Parked {
         ensures going { IfOk result (λ job. is_over job ≡ false) }
     {
         let placing = placing.placing();
-        let arch = sources.arch.clone()?;
+        let shared = sources.arch.clone()?;
         let pads = pads_of(alloc, placing)?;
-        let graph = Fabric::new(alloc, arch.arch(), placing.strip())?;
+        let graph = Fabric::new(alloc, sources.arch.arch(), placing.strip())?;
         let routing = Routing::start(alloc, &graph, placing)?;
-        let work = Work::Routing(RoutingJob::new(alloc, arch, graph, pads, routing));
+        let work = Work::Routing(RoutingJob::new(alloc, shared, graph, pads, routing));
         Ok(Parked::begin(id, generation, sources, work))
     }
 

@@ -1,8 +1,6 @@
 //! A routed circuit, and what it holds of its strip.
-ghost use Rattle.std.specs.Prelude.{◌≡◌, ◌++◌, All, IfErr, IfOk, true};
-ghost use Rattle.job_state.specs.declared.work.Work.TheVariants as work;
+ghost use Rattle.std.specs.Prelude.{◌≡◌, IfErr, IfOk};
 ghost use Rattle.job_state.specs.RoutedCircuits.{AreThere, ListsAll, held_by};
-ghost use Rattle.rr_graph.specs.Resources.{is_there};
 
 use crate::held::list_of;
 use arch_file::SharedArch;
@@ -41,13 +39,13 @@ pub(crate) struct Listed {
 }
 
 impl Model for Listed {
-    ghost use Rattle.job_state.specs.RoutedCircuits.{ListsAll, RoutedCircuit, held_by};
+    ghost use Rattle.job_state.specs.RoutedCircuits.{AreThere, ListsAll, RoutedCircuit, held_by};
 
     ghost Value = { RoutedCircuit };
 
     ghost view = { λ l. l.routed };
 
-    ghost invariant = { λ l. ListsAll (held_by l.routed) l.resources.items };
+    ghost invariant = { λ l. ListsAll (held_by l.routed) l.resources.items × AreThere l.routed.basis l.resources.items };
 }
 
 impl Routed {

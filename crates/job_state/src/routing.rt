@@ -9,7 +9,7 @@ ghost use Rattle.job_state.specs.UnderWay.{GoesOn};
 use crate::routed::Routed;
 use crate::work::{Work, ended};
 use arch_file::SharedArch;
-use pathfinder::{IterEnd, Routes, Routing};
+use pathfinder::{IterEnd, Routes, Routing, strip_wiring};
 use rr_graph::{Fabric, Resource, StripGraph};
 use std::alloc::Global;
 use std::marker::Model;
@@ -74,6 +74,7 @@ impl RoutingJob {
             routing,
         } = self;
         let _count = graph.count();
+        strip_wiring();
         match routing.iteration(alloc, &graph) {
             Ok(IterEnd::Again(routing)) => Ok(Work::Routing(RoutingJob::new(
                 alloc, arch, graph, pads, routing,

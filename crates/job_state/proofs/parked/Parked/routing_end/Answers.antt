@@ -5,13 +5,13 @@ use Rattle.job_state.proofs.parked.Parked.routing_end.Goals as goal
 
 pub returns-in-Routed-clause-value : goal.returns-in-Routed-clause-value
 returns-in-Routed-clause-value c =
-    ended c.args.self.now c.self.inside.step _ c.self.inside.made c.self.view_is (rw c.in-Routed.is at c.self.invariant) c.requires.over c.requires.put
+    (_, ended c.args.self.now c.self.inside.step _ c.self.inside.made c.self.view_is (rw c.in-Routed.is at c.self.invariant) c.requires.over c.requires.put, c.routes.ensures)
 
 pub returns-in-Routed-clause-nets : goal.returns-in-Routed-clause-nets
 returns-in-Routed-clause-nets c =
     let job = c.args.self.now in
     let kept = kept_over job c.self.inside.step _ c.self.inside.made c.self.view_is (rw c.in-Routed.is at c.self.invariant) c.requires.put in
-    routed_made job.step.sources (job.step.number - 1) _ c.requires.kind kept.value
+    rw c.routes.ensures (routed_made job.step.sources (job.step.number - 1) _ c.requires.kind kept.value)
 
 pub returns-in-GaveUp-clause-value : goal.returns-in-GaveUp-clause-value
 returns-in-GaveUp-clause-value c =

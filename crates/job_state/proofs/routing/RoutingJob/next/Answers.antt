@@ -1,9 +1,22 @@
-use Rattle.std.proofs.Common.{arith}
+use Rattle.std.proofs.Common.{◌≤◌, ◌^◌, arith}
+use Rattle.pathfinder.specs.PlacedNets.{wiring_of}
+use Rattle.pathfinder.specs.Routings.{IsDone}
+use Rattle.pathfinder.specs.Wiring.{IsWiring}
+use Rattle.rr_graph.specs.Graph.{graph_of}
+use Rattle.job_state.proofs.There.{done_there}
 use Rattle.job_state.proofs.RoutingSteps.{few_nets}
 use Rattle.job_state.proofs.routing.RoutingJob.next.Goals as goal
 
 pub overflow_cast-result : goal.overflow_cast-result
 overflow_cast-result c =
     let without = rw c.in-Ok-NoPath.field-0-is at c.in-Ok-NoPath.ensures.end in
-    let few = few_nets c.self.inside.graph c.self.inside.routing c.in-Ok-NoPath.net c.self.invariant without in
+    let few = few_nets c.self.inside.graph c.self.inside.routing c.in-Ok-NoPath.net c.self.invariant.2 without in
     omega (arith, few)
+
+pub routed_on-requires-clause-routes : goal.routed_on-requires-clause-routes
+routed_on-requires-clause-routes c =
+    let basis = c.self.inside.graph in
+    let few : (graph_of basis).count ≤ 2 ^ 23 = omega (arith, c.count-count.ensures.few, c.count-count.ensures.value) in
+    let law : IsWiring (wiring_of basis) = c.strip_wiring.ensures basis c.count-count.ensures.basis few in
+    let done : IsDone basis c.self.inside.routing c.in-Ok-Done.routes = rw c.in-Ok-Done.field-0-is at c.in-Ok-Done.ensures.end in
+    done_there basis c.count-count.ensures.lawful law c.self.inside.routing c.self.invariant.2 c.in-Ok-Done.routes done

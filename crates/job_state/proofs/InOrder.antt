@@ -1,0 +1,141 @@
+-- Resources in node order, each once.
+use Rattle.std.proofs.Common.{ℕ, ◌≡◌, ◌+◌, ◌-◌, ◌<◌, ◌≤◌, inl, inr, Bool, true, false, ◌||◌, List, [], ◌∷◌, ◌++◌, length, take, get_or, arith, refl, sym, ap, subst, ◌∙◌}
+use Rattle.std.specs.Prelude.{AllPairs}
+use Rattle.std.proofs.lemmas.Bool.{cases_lt, cases_eq}
+use Rattle.std.proofs.lemmas.Bool.Decides.{nat_tests}
+use Rattle.std.proofs.lemmas.List.{length_push, get_or_push, get_or_default, take_all}
+use Rattle.std.proofs.lemmas.List.Folds.{list_any_more, list_any-append, list_any_at}
+use Rattle.std.proofs.lemmas.List.Quantifiers.{all_pairs_push}
+use Rattle.rr_graph.specs.declared.resource.ResourceKind.{ResourceKind}
+use Rattle.rr_graph.specs.declared.resource.ResourceKind.TheVariants.{Opin, Ipin, ChanX, ChanY, Pad}
+use Rattle.rr_graph.specs.declared.resource.Resource.{Resource}
+use Rattle.rr_graph.specs.Resources.{IsEarlier, has, is_same, resource_rank}
+use Rattle.job_state.specs.RoutedCircuits.{IsInOrder, ListsAll}
+
+same_kind : (a b : ResourceKind) → resource_rank a ≡ resource_rank b → a ≡ b
+same_kind Opin Opin e = refl
+same_kind Opin Ipin e = absurd (omega (arith, e))
+same_kind Opin ChanX e = absurd (omega (arith, e))
+same_kind Opin ChanY e = absurd (omega (arith, e))
+same_kind Opin Pad e = absurd (omega (arith, e))
+same_kind Ipin Opin e = absurd (omega (arith, e))
+same_kind Ipin Ipin e = refl
+same_kind Ipin ChanX e = absurd (omega (arith, e))
+same_kind Ipin ChanY e = absurd (omega (arith, e))
+same_kind Ipin Pad e = absurd (omega (arith, e))
+same_kind ChanX Opin e = absurd (omega (arith, e))
+same_kind ChanX Ipin e = absurd (omega (arith, e))
+same_kind ChanX ChanX e = refl
+same_kind ChanX ChanY e = absurd (omega (arith, e))
+same_kind ChanX Pad e = absurd (omega (arith, e))
+same_kind ChanY Opin e = absurd (omega (arith, e))
+same_kind ChanY Ipin e = absurd (omega (arith, e))
+same_kind ChanY ChanX e = absurd (omega (arith, e))
+same_kind ChanY ChanY e = refl
+same_kind ChanY Pad e = absurd (omega (arith, e))
+same_kind Pad Opin e = absurd (omega (arith, e))
+same_kind Pad Ipin e = absurd (omega (arith, e))
+same_kind Pad ChanX e = absurd (omega (arith, e))
+same_kind Pad ChanY e = absurd (omega (arith, e))
+same_kind Pad Pad e = refl
+
+abbrev make : ℕ → ResourceKind → ℕ → ℕ → Resource
+make x kind y n = record { x = x; kind = kind; y = y; n = n }
+
+of_parts : (a b : Resource) → a.x ≡ b.x → resource_rank a.kind ≡ resource_rank b.kind → a.y ≡ b.y → a.n ≡ b.n → a ≡ b
+of_parts a b x kind y n = ap (λ t. make t a.kind a.y a.n) x ∙ (ap (λ t. make b.x t a.y a.n) (same_kind a.kind b.kind kind) ∙ (ap (λ t. make b.x b.kind t a.n) y ∙ ap (λ t. make b.x b.kind b.y t) n))
+
+-- what is the same is equal, and the other way round
+pub same_is : (a b : Resource) → is_same a b ≡ true → a ≡ b
+same_is a b is = of_parts a b (grind (arith, nat_tests)) (grind (arith, nat_tests)) (grind (arith, nat_tests)) (grind (arith, nat_tests))
+
+pub is_itself : (a : Resource) → is_same a a ≡ true
+is_itself a = grind (arith, nat_tests)
+
+pub earlier_trans : (a b c : Resource) → IsEarlier a b → IsEarlier b c → IsEarlier a c
+earlier_trans a b c p q = grind (arith, p, q)
+
+-- of two that neither stands before the other
+pub neither : (a b : Resource) → (IsEarlier a b → ⊥) → (IsEarlier b a → ⊥) → a ≡ b
+neither a b p q =
+    let x : a.x ≡ b.x = elim (cases_lt a.x b.x) [ inl l ↦ absurd (p (inl l)) | inr g ↦ elim (cases_lt b.x a.x) [ inl l ↦ absurd (q (inl l)) | inr h ↦ omega (arith, g, h) ] ] in
+    let kind : resource_rank a.kind ≡ resource_rank b.kind =
+    elim (cases_lt (resource_rank a.kind) (resource_rank b.kind)) [ inl l ↦ absurd (p (inr (x, inl l))) | inr g ↦ elim (cases_lt (resource_rank b.kind) (resource_rank a.kind)) [ inl l ↦ absurd (q (inr (sym x, inl l))) | inr h ↦ omega (arith, g, h) ] ] in
+    let y : a.y ≡ b.y = elim (cases_lt a.y b.y) [ inl l ↦ absurd (p (inr (x, inr (kind, inl l)))) | inr g ↦ elim (cases_lt b.y a.y) [ inl l ↦ absurd (q (inr (sym x, inr (sym kind, inl l)))) | inr h ↦ omega (arith, g, h) ] ] in
+    let n : a.n ≡ b.n =
+    elim (cases_lt a.n b.n) [ inl l ↦ absurd (p (inr (x, inr (kind, inr (y, l))))) | inr g ↦ elim (cases_lt b.n a.n) [ inl l ↦ absurd (q (inr (sym x, inr (sym kind, inr (sym y, l))))) | inr h ↦ omega (arith, g, h) ] ] in
+    of_parts a b x kind y n
+
+-- what was listed of the resources so far
+pub record ListsBelow (sorted : List Resource) (index : ℕ) (list : List Resource) : Type 0 where
+  pub in_order : AllPairs IsEarlier list
+  pub exact : (resource : Resource) → has list resource ≡ has (take index sorted) resource
+  pub some : 0 < index → 0 < length list
+  pub few : length list ≤ index
+  pub last : (d : Resource) → 0 < index → get_or list (length list - 1) d ≡ get_or sorted (index - 1) d
+
+pub lists_none : (sorted : List Resource) → ListsBelow sorted 0 []
+lists_none sorted = record { in_order = λ i j d less below. absurd (omega (arith, below)); exact = λ resource. refl; some = λ less. absurd (omega (arith, less)); few = omega arith; last = λ d less. absurd (omega (arith, less)) }
+
+pub lists_all : (sorted list : List Resource) → ListsBelow sorted (length sorted) list → ListsAll sorted list
+lists_all sorted list below =
+    let all : take (length sorted) sorted ≡ sorted = take_all (length sorted) sorted (omega arith) in
+    record { in_order = below.in_order; exact = λ resource. below.exact resource ∙ ap (λ t. has t resource) all }
+
+-- all of a list in order stand before what stands behind its last
+before_next : (list : List Resource) (next : Resource) → AllPairs IsEarlier list → ((d : Resource) → 0 < length list → IsEarlier (get_or list (length list - 1) d) next) → (k : ℕ) (d : Resource) → k < length list → IsEarlier (get_or list k d) next
+before_next list next pairs last k d less =
+    elim (cases_eq k (length list - 1)) [
+      | inl e ↦ subst (λ t. IsEarlier (get_or list t d) next) (sym e) (last d (omega (arith, less)))
+      | inr other ↦ earlier_trans _ _ _ (pairs k (length list - 1) d (omega (arith, less, other)) (omega (arith, less))) (last d (omega (arith, less)))
+    ]
+
+or_none : (b c : Bool) → (b || (c || false)) ≡ (b || c)
+or_none true c = refl
+or_none false true = refl
+or_none false false = refl
+
+-- one more is listed, and is one more of the resources
+has_more : (sorted list : List Resource) (index : ℕ) (d resource : Resource) → index < length sorted → has list resource ≡ has (take index sorted) resource → has (list ++ get_or sorted index d ∷ []) resource ≡ has (take (index + 1) sorted) resource
+has_more sorted list index d resource less e =
+    let pushed : has (list ++ get_or sorted index d ∷ []) resource ≡ (has list resource || (is_same resource (get_or sorted index d) || false)) = list_any-append (is_same resource) list (get_or sorted index d ∷ []) in
+    pushed ∙ (or_none (has list resource) (is_same resource (get_or sorted index d)) ∙ (ap (λ t. t || is_same resource (get_or sorted index d)) e ∙ sym (list_any_more (is_same resource) sorted index d less)))
+
+-- the next one is listed where it is the first, or stands behind the last
+pub lists_more : (sorted list : List Resource) (index : ℕ) (d : Resource) → ListsBelow sorted index list → index < length sorted →
+    (0 < index → IsEarlier (get_or sorted (index - 1) d) (get_or sorted index d)) → ListsBelow sorted (index + 1) (list ++ get_or sorted index d ∷ [])
+lists_more sorted list index d below less behind =
+    let next = get_or sorted index d in
+    record {
+      in_order = all_pairs_push IsEarlier list next below.in_order (before_next list next below.in_order
+          (λ e some. (let positive : 0 < index = omega (arith, some, below.few) in
+          let last : get_or list (length list - 1) e ≡ get_or sorted (index - 1) d = below.last e positive ∙ get_or_default sorted (index - 1) e d (omega (arith, less)) in
+          subst (λ (t : Resource). IsEarlier t next) (sym last) (behind positive))));
+      exact = λ resource. has_more sorted list index d resource less (below.exact resource);
+      some = λ positive. omega (arith, length_push list next);
+      few = omega (arith, length_push list next, below.few);
+      last = λ e positive. get_or_push list next e (length (list ++ next ∷ []) - 1) (omega (arith, length_push list next)) ∙ (get_or_default sorted index d e less ∙ ap (λ k. get_or sorted k e) (omega arith));
+    }
+
+-- what is there already isn't new
+or_there : (b c : Bool) → (c ≡ true → b ≡ true) → (b || c) ≡ b
+or_there true c there = refl
+or_there false true there = sym (there refl)
+or_there false false there = refl
+
+-- and left out where it is the last again
+pub lists_same : (sorted list : List Resource) (index : ℕ) (d : Resource) → IsInOrder sorted → ListsBelow sorted index list → index < length sorted → 0 < index →
+    (IsEarlier (get_or sorted (index - 1) d) (get_or sorted index d) → ⊥) → ListsBelow sorted (index + 1) list
+lists_same sorted list index d up below less positive behind =
+    let place : index - 1 + 1 ≡ index = omega (arith, positive) in
+    let again : get_or sorted (index - 1) d ≡ get_or sorted index d =
+    neither (get_or sorted (index - 1) d) (get_or sorted index d) behind (subst (λ k. IsEarlier (get_or sorted k d) (get_or sorted (index - 1) d) → ⊥) place (up (index - 1) d (omega (arith, less, positive)))) in
+    record {
+      in_order = below.in_order;
+      exact = λ resource. below.exact resource ∙ sym (list_any_more (is_same resource) sorted index d less ∙ or_there (has (take index sorted) resource) (is_same resource (get_or sorted index d))
+          (λ same. sym (below.exact resource) ∙ list_any_at (is_same resource) list (length list - 1) d (omega (arith, below.some positive))
+          (ap (is_same resource) (below.last d positive ∙ again) ∙ same)));
+      some = λ later. below.some positive;
+      few = omega (arith, below.few);
+      last = λ e later. below.last e positive ∙ (get_or_default sorted (index - 1) e d (omega (arith, less)) ∙ (again ∙ (get_or_default sorted index d e less ∙ ap (λ k. get_or sorted k e) (omega arith))));
+    }

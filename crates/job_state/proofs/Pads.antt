@@ -1,0 +1,63 @@
+-- The pads of placed blocks are on the strip.
+use Rattle.std.proofs.Common.{ℕ, suc, zero, ◌≡◌, ◌+◌, ◌≤◌, inl, inr, Bool, true, false, ◌||◌, List, [], length, arith, refl, ap, subst, le-leb, lt-ltb, eq-eqb}
+use Rattle.std.specs.Prelude.{All}
+use Rattle.std.proofs.lemmas.Bool.{and_from}
+use Rattle.std.proofs.lemmas.List.Elements.{All-append, All-cons, All-contains, All-nil}
+use Rattle.arch_file.specs.declared.arch.Arch.{Arch}
+use Rattle.cluster.specs.declared.block.Block.{Block}
+use Rattle.cluster.specs.declared.block.Block.TheVariants.{InputPad, OutputPad, Cluster}
+use Rattle.cluster.specs.Blocks.{blocks_of}
+use Rattle.cluster.specs.Clusters.{PackedCircuit}
+use Rattle.grid.specs.declared.Strip.{Strip}
+use Rattle.grid.specs.declared.place.Place.{Place}
+use Rattle.grid.specs.declared.place.Kind.{Kind}
+use Rattle.grid.specs.declared.place.Kind.TheVariants.{Pad}
+use Rattle.grid.specs.Fits.{kind_of}
+use Rattle.grid.specs.Places.{places_of}
+use Rattle.grid.specs.PlaceLaws.{IsPlaceIn}
+use Rattle.rr_graph.specs.declared.resource.Resource.{Resource}
+use Rattle.rr_graph.specs.Resources.{is_there}
+use Rattle.strip_place.specs.Placed.{ArePlaced, block_at, place_of}
+use Rattle.job_state.specs.RoutedCircuits.{pad_at, pad_of, pads_below, pads_of}
+use Rattle.job_state.proofs.Gathered.{gathered_to}
+
+-- the places of a strip are in their rows
+abbrev Within : Strip → Type 0
+Within strip = (kind : Kind) → All (IsPlaceIn strip kind) (places_of strip kind)
+
+or_left : (a b : Bool) → a ≡ true → (a || b) ≡ true
+or_left a b is = ap (λ t. t || b) is
+
+or_right : (a b : Bool) → b ≡ true → (a || b) ≡ true
+or_right true b is = refl
+or_right false b is = is
+
+module _ (arch : Arch) (strip : Strip) where
+  abbrev IsThere : Resource → Type 0
+  IsThere resource = is_there arch strip resource ≡ true
+
+  pad_there : (place : Place) → IsPlaceIn strip Pad place → IsThere (pad_at place)
+  pad_there place within =
+      and_from _ _ (le-leb 1 place.x within.column.0) (and_from _ _ (le-leb place.x strip.width within.column.1) (and_from _ _ (elim within.row.0 [
+        | inl below ↦ or_left _ _ (eq-eqb place.y 0 below)
+        | inr above ↦ or_right _ _ (eq-eqb place.y (strip.rows + 1) above)
+      ]) (lt-ltb place.subblock strip.io_rat within.row.1)))
+
+  block_there : (block : Block) (place : Place) → IsPlaceIn strip (kind_of block) place → All IsThere (pad_of block place)
+  block_there (InputPad net) place within = All-cons IsThere (pad_at place) [] (pad_there place within) (All-nil IsThere)
+  block_there (OutputPad net) place within = All-cons IsThere (pad_at place) [] (pad_there place within) (All-nil IsThere)
+  block_there (Cluster cluster) place within = All-nil IsThere
+
+  below_there : (packed : PackedCircuit) (places : List Place) → ArePlaced strip packed places → Within strip → (count : ℕ) → count ≤ length (blocks_of packed) → All IsThere (pads_below packed places count)
+  below_there packed places placed within zero few = All-nil IsThere
+  below_there packed places placed within (suc count) few =
+      let next : count + 1 ≡ suc count = omega arith in
+      let here : IsPlaceIn strip (kind_of (block_at packed count)) (place_of places count) =
+      All-contains (IsPlaceIn strip (kind_of (block_at packed count))) (places_of strip (kind_of (block_at packed count))) (place_of places count) (within (kind_of (block_at packed count))) (placed.by_kind count few) in
+      subst (λ many. All IsThere (pads_below packed places many)) next
+      (subst (All IsThere) (gathered_to (λ number. pad_of (block_at packed number) (place_of places number)) count)
+      (All-append IsThere (pads_below packed places count) (pad_of (block_at packed count) (place_of places count)) (below_there packed places placed within count (omega (arith, few)))
+      (block_there (block_at packed count) (place_of places count) here)))
+
+  pub pads_there : (packed : PackedCircuit) (places : List Place) → ArePlaced strip packed places → Within strip → All IsThere (pads_of packed places)
+  pads_there packed places placed within = below_there packed places placed within (length (blocks_of packed)) (omega arith)

@@ -1,0 +1,93 @@
+-- What routes hold is on the strip, and so is a list of it.
+use Rattle.std.proofs.Common.{ℕ, ◌≡◌, ◌+◌, ◌<◌, inl, inr, true, List, [], ◌∷◌, ◌++◌, map, get_or, arith, sym, subst, ◌∙◌}
+use Rattle.std.specs.Prelude.{All}
+use Rattle.std.specs.Option.{option_to_list}
+use Rattle.std.proofs.lemmas.Bool.{false≢true, or_cases}
+use Rattle.std.proofs.lemmas.List.Elements.{All-append, All-cons, All-nil, All-tail}
+use Rattle.std.proofs.lemmas.List.Folds.{list_any_at}
+use Rattle.rr_graph.specs.declared.node.Node.{Node}
+use Rattle.rr_graph.specs.declared.node.NodeKind.{NodeKind}
+use Rattle.rr_graph.specs.declared.node.NodeKind.TheVariants.{Source, Sink, Opin, Ipin, ChanX, ChanY}
+use Rattle.rr_graph.specs.declared.resource.Resource.{Resource}
+use Rattle.rr_graph.specs.Geometry.{is_node}
+use Rattle.rr_graph.specs.Graph.{Basis, IsRoutingGraph, graph_of}
+use Rattle.rr_graph.specs.Resources.{has, is_same, is_there, resource_of}
+use Rattle.arch_file.specs.declared.arch.Arch.{Arch}
+use Rattle.grid.specs.declared.Strip.{Strip}
+use Rattle.pathfinder.specs.Negotiation.{Tree, routed_after}
+use Rattle.pathfinder.specs.PlacedNets.{wiring_of}
+use Rattle.pathfinder.specs.Wiring.{IsWiring}
+use Rattle.pathfinder.specs.Routings.{IsDone, RoutingState, told_by_node}
+use Rattle.job_state.specs.RoutedCircuits.{AreThere, ListsAll, on_path, on_tree, on_trees}
+use Rattle.job_state.specs.UnderWay.{GoesOn}
+use Rattle.job_state.proofs.Legal.{legal_within}
+use Rattle.job_state.proofs.InOrder.{is_itself, same_is}
+
+-- what holds of each of them holds of one that they have
+found : (P : Resource → Type 0) (all : List Resource) (resource : Resource) → has all resource ≡ true → All P all → P resource
+found P [] resource is each = absurd (false≢true is)
+found P (first ∷ rest) resource is each = elim (or_cases (is_same resource first) (has rest resource) is) [
+  | inl same ↦ subst P (sym (same_is resource first same)) (each 0 resource (omega arith))
+  | inr later ↦ found P rest resource later (All-tail P first rest each)
+]
+
+pub listed_there : (basis : Basis) (all list : List Resource) → ListsAll all list → AreThere basis all → AreThere basis list
+listed_there basis all list lists there k d less =
+    let resource = get_or list k d in
+    found (λ r. is_there basis.arch basis.strip r ≡ true) all resource (sym (lists.exact resource) ∙ list_any_at (is_same resource) list k d less (is_itself resource)) there
+
+module _ (basis : Basis) where
+  abbrev IsThere : Resource → Type 0
+  IsThere resource = is_there basis.arch basis.strip resource ≡ true
+
+  abbrev IsNodeOf : Node → Type 0
+  IsNodeOf node = is_node basis.arch basis.strip node ≡ true
+
+  of_kind : (x : ℕ) (kind : NodeKind) (y n : ℕ) → IsNodeOf (record { x = x; kind = kind; y = y; n = n }) → All IsThere (option_to_list (resource_of (record { x = x; kind = kind; y = y; n = n })))
+  of_kind x Source y n is = All-nil IsThere
+  of_kind x Sink y n is = All-nil IsThere
+  of_kind x Opin y n is = All-cons IsThere _ [] is (All-nil IsThere)
+  of_kind x Ipin y n is = All-cons IsThere _ [] is (All-nil IsThere)
+  of_kind x ChanX y n is = All-cons IsThere _ [] is (All-nil IsThere)
+  of_kind x ChanY y n is = All-cons IsThere _ [] is (All-nil IsThere)
+
+  on_path_there : (path : List Node) → All IsNodeOf path → All IsThere (on_path path)
+  on_path_there [] each = All-nil IsThere
+  on_path_there (node ∷ path) each =
+      All-append IsThere (option_to_list (resource_of node)) (on_path path) (of_kind node.x node.kind node.y node.n (each 0 node (omega arith))) (on_path_there path (All-tail IsNodeOf node path each))
+
+  on_tree_there : (tree : List (List Node)) → All (All IsNodeOf) tree → All IsThere (on_tree tree)
+  on_tree_there [] each = All-nil IsThere
+  on_tree_there (path ∷ tree) each = All-append IsThere (on_path path) (on_tree tree) (on_path_there path (each 0 path (omega arith))) (on_tree_there tree (All-tail (All IsNodeOf) path tree each))
+
+  on_trees_there : (trees : List (List (List Node))) → All (All (All IsNodeOf)) trees → All IsThere (on_trees trees)
+  on_trees_there [] each = All-nil IsThere
+  on_trees_there (tree ∷ trees) each = All-append IsThere (on_tree tree) (on_trees trees) (on_tree_there tree (each 0 tree (omega arith))) (on_trees_there trees (All-tail (All (All IsNodeOf)) tree trees each))
+
+  -- trees of the graph's nodes, by number
+  abbrev IsWithin : ℕ → Type 0
+  IsWithin number = number < (graph_of basis).count
+
+  told_nodes : {X Y : Type 0} (P : X → Type 0) (Q : Y → Type 0) (f : X → Y) → ((x : X) → P x → Q (f x)) → (xs : List X) → All P xs → All Q (map f xs)
+  told_nodes P Q f keeps [] each = All-nil Q
+  told_nodes P Q f keeps (x ∷ xs) each = All-cons Q (f x) (map f xs) (keeps x (each 0 x (omega arith))) (told_nodes P Q f keeps xs (All-tail P x xs each))
+
+  pub routes_there : IsRoutingGraph basis (graph_of basis) → (trees : List Tree) → All (All (All IsWithin)) trees → AreThere basis (on_trees (told_by_node (graph_of basis) trees))
+  routes_there lawful trees within =
+      on_trees_there (told_by_node (graph_of basis) trees)
+      (told_nodes (All (All IsWithin)) (All (All IsNodeOf)) (λ tree. map (λ path. map (graph_of basis).node path) tree)
+      (told_nodes (All IsWithin) (All IsNodeOf) (λ path. map (graph_of basis).node path) (told_nodes IsWithin IsNodeOf (graph_of basis).node lawful.nodes)) trees within)
+
+  -- the routes of a routing that is done
+  pub done_there : IsRoutingGraph basis (graph_of basis) → IsWiring (wiring_of basis) → (old : RoutingState) → GoesOn basis old → (routes : List (List (List Node))) → IsDone basis old routes → AreThere basis (on_trees routes)
+  done_there lawful law old after routes done =
+      let trees : List Tree = (routed_after (wiring_of basis) old.nets (old.iterations + 1)).trees in
+      subst (λ other. AreThere basis (on_trees other)) (sym done.exact) (routes_there lawful trees (legal_within (wiring_of basis) law old.nets trees after.are_nets.each done.legal))
+
+-- what routes hold, and pads
+pub both_there : (basis : Basis) (arch : Arch) (strip : Strip) (on_routes pads : List Resource) → arch ≡ basis.arch → strip ≡ basis.strip → AreThere basis on_routes → AreThere basis pads → AreThere (record { arch = arch; strip = strip }) (on_routes ++ pads)
+both_there basis arch strip on_routes pads of_arch of_strip there pads_there = rw (of_arch, of_strip) (All-append (λ resource. is_there basis.arch basis.strip resource ≡ true) on_routes pads there pads_there)
+
+-- on the same strip
+pub on_same_strip : (basis other : Basis) (resources : List Resource) → other.arch ≡ basis.arch → other.strip ≡ basis.strip → AreThere basis resources → AreThere other resources
+on_same_strip basis other resources of_arch of_strip there = rw (of_arch, of_strip) there
