@@ -1,5 +1,5 @@
 -- What a slot carries along after an accepted command.
-use Rattle.std.proofs.Common.{◌≡◌, ℕ, ◌+◌, ◌-◌, ◌<◌, ◌≤◌, Bool, true, false, Option, Some, None, refl, sym, ap, subst, ◌∙◌, arith}
+use Rattle.std.proofs.Common.{◌≡◌, ℕ, ◌+◌, ◌<◌, true, Option, Some, None, refl, sym, ap, subst, ◌∙◌, arith}
 use Rattle.std.specs.Prelude.{is_some, IfSome}
 use Rattle.arch_file.specs.declared.arch.Arch.{Arch}
 use Rattle.grid.specs.declared.Strip.{Strip}
@@ -14,7 +14,7 @@ use Rattle.tenant_slot.specs.declared.standing.Change.{Change}
 use Rattle.tenant_slot.specs.declared.standing.Change.TheVariants.{Load, Replace, Begin, Place, Stop, Empty as EmptyAll}
 use Rattle.tenant_slot.specs.declared.standing.Running.{Running}
 use Rattle.tenant_slot.specs.declared.standing.Standing.{Standing}
-use Rattle.tenant_slot.specs.Answer.{Begins, IsAnswerTo, IsBegun, Outcome}
+use Rattle.tenant_slot.specs.Answer.{Begins, IsAnswerTo, Outcome}
 use Rattle.tenant_slot.specs.Content.{HasContent, IsNetlist, cut_back, name_at_rest, packing_in, text_of}
 use Rattle.tenant_slot.specs.JobNames.{before, during}
 use Rattle.tenant_slot.specs.SingleUser.{sources_from}

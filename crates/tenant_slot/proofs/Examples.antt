@@ -5,8 +5,8 @@ use Rattle.blif.specs.declared.circuit.Circuit.{Circuit}
 use Rattle.blif.specs.declared.fault.BlifFaultKind.TheVariants.{TooWide}
 use Rattle.grid.specs.declared.Strip.{Strip}
 use Rattle.job_state.specs.JobValue.{packing_sources, placing_sources}
-use Rattle.tenant_slot.specs.declared.reply.StateName.TheVariants.{Empty, Loaded, Packing, Packed, Placing, Placed, Routing, Routed, Unrouted}
-use Rattle.tenant_slot.specs.declared.command.Command.TheVariants.{Upload, Change, Place, Route, Cancel, Net, Status, Withdraw, PlaceFile, RouteFile}
+use Rattle.tenant_slot.specs.declared.reply.StateName.TheVariants.{Empty, Loaded, Packing, Packed, Placing, Placed, Routing, Unrouted}
+use Rattle.tenant_slot.specs.declared.command.Command.TheVariants.{Upload, Change, Route, Cancel, Net, Status, Withdraw, PlaceFile, RouteFile}
 use Rattle.tenant_slot.specs.declared.event.Event.TheVariants.{Command as Asked, Advance as Stepped}
 use Rattle.tenant_slot.specs.declared.event.Advance.{Advance}
 use Rattle.tenant_slot.specs.declared.reply.StepReply.TheVariants.{Stale}

@@ -1,24 +1,19 @@
 -- What is carried along where a command is lawful.
-use Rattle.std.proofs.Common.{◌≡◌, ℕ, ◌+◌, ◌-◌, ◌<◌, ◌≤◌, Bool, true, false, not, Option, Some, None, Result, Ok, Err, refl, sym, ap, ◌∙◌, arith}
-use Rattle.std.specs.Prelude.{is_some, IfSome, IfOk, IfErr, option_map}
+use Rattle.std.proofs.Common.{◌≡◌, ℕ, true, false, Option, Some, None, refl}
+use Rattle.std.specs.Prelude.{is_some}
 use Rattle.arch_file.specs.declared.arch.Arch.{Arch}
 use Rattle.grid.specs.declared.Strip.{Strip}
 use Rattle.job_state.specs.declared.sources.JobKind.{JobKind}
 use Rattle.job_state.specs.declared.sources.JobKind.TheVariants.{Packing as PackingJob, Placing as PlacingJob, Routing as RoutingJob}
-use Rattle.job_state.specs.Job.{JobState, is_over}
-use Rattle.job_state.specs.JobValue.{is_last, packing_sources, placing_sources, routing_sources}
-use Rattle.job_state.specs.declared.sources.Sources.{Sources}
-use Rattle.job_state.specs.declared.step.JobStep.{JobStep}
 use Rattle.tenant_slot.specs.declared.command.Command.{Command}
 use Rattle.tenant_slot.specs.declared.command.Command.TheVariants.{Pack, Place}
 use Rattle.tenant_slot.specs.declared.content.Content.{Content}
 use Rattle.tenant_slot.specs.declared.content.Content.TheVariants.{Empty, Loaded, Packed, Placed, Routed, Unrouted}
 use Rattle.tenant_slot.specs.declared.content.Netlist.{Netlist}
-use Rattle.tenant_slot.specs.declared.reply.StateName.{StateName}
-use Rattle.tenant_slot.specs.declared.reply.StateName.TheVariants.{Empty as EmptyName, Loaded as LoadedName, Packing as PackingName, Packed as PackedName, Placing as PlacingName, Placed as PlacedName, Routing as RoutingName, Routed as RoutedName, Unrouted as UnroutedName}
+use Rattle.tenant_slot.specs.declared.reply.StateName.TheVariants.{Packing as PackingName, Placing as PlacingName, Routing as RoutingName}
 use Rattle.tenant_slot.specs.declared.standing.Running.{Running}
-use Rattle.tenant_slot.specs.Content.{HasContent, IsMadeOf, IsNetlist, cut_back, name_at_rest, netlist_in, packing_in, placing_in, text_of}
-use Rattle.tenant_slot.specs.JobNames.{before, during}
+use Rattle.tenant_slot.specs.Content.{HasContent, IsNetlist, netlist_in, packing_in, text_of}
+use Rattle.tenant_slot.specs.JobNames.{during}
 use Rattle.tenant_slot.specs.SingleUser.{is_lawful}
 use Rattle.tenant_slot.specs.Standing.{name_of}
 

@@ -4,4 +4,5 @@ mod Serving
 mod Accepting
 mod Putting
 mod Taking
+mod RoutedSets
 mod Examples

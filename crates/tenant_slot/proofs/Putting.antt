@@ -9,7 +9,7 @@ use Rattle.job_state.specs.declared.sources.JobKind.{JobKind}
 use Rattle.job_state.specs.declared.sources.JobKind.TheVariants.{Packing as PackingJob, Placing as PlacingJob, Routing as RoutingJob}
 use Rattle.job_state.specs.declared.sources.Sources.{Sources}
 use Rattle.job_state.specs.declared.step.JobStep.{JobStep}
-use Rattle.job_state.specs.Job.{JobState, is_over, next_step}
+use Rattle.job_state.specs.Job.{JobState, next_step}
 use Rattle.job_state.specs.JobValue.{end_value, is_last, packing_sources, placing_sources, routing_sources}
 use Rattle.tenant_slot.specs.declared.event.Advance.{Advance}
 use Rattle.tenant_slot.specs.declared.event.Event.{Event}
@@ -25,7 +25,7 @@ use Rattle.tenant_slot.specs.declared.failure.RoutingFailure.{RoutingFailure}
 use Rattle.tenant_slot.specs.declared.standing.Running.{Running}
 use Rattle.tenant_slot.specs.declared.standing.Standing.{Standing}
 use Rattle.tenant_slot.specs.JobNames.{before, during}
-use Rattle.tenant_slot.specs.Content.{CanFinish, HasContent, IsMadeOf, IsNetlist, finished_with, name_at_rest, routed_with, text_of}
+use Rattle.tenant_slot.specs.Content.{CanFinish, HasContent, IsMadeOf, name_at_rest, routed_with}
 use Rattle.tenant_slot.specs.Results.{failure_of}
 use Rattle.tenant_slot.specs.SingleUser.{State, advance, advanced, after, answer_to, finished, go_on, is_next, routed_unless, running, sources_from, sources_of, step}
 use Rattle.tenant_slot.specs.Slot.{IsAdvanceOf, SlotState, after_event, out_after, running_sources}
@@ -166,7 +166,7 @@ from_placed PackingJob is = absurd (cc)
 from_placed PlacingJob is = absurd (cc)
 from_placed RoutingJob is = refl
 
-from_routed : (kind : JobKind) → RoutedName ≡ before kind → ⊥
+pub from_routed : (kind : JobKind) → RoutedName ≡ before kind → ⊥
 from_routed PackingJob is = absurd (cc)
 from_routed PlacingJob is = absurd (cc)
 from_routed RoutingJob is = absurd (cc)

@@ -1,22 +1,16 @@
 -- What `pack` and `place` are answered.
-use Rattle.std.proofs.Common.{◌≡◌, ℕ, ◌+◌, ◌<◌, Bool, true, false, Option, Some, None, Result, Ok, Err, refl, sym, ap, subst, ◌∙◌, arith}
-use Rattle.std.specs.Prelude.{is_some, nat_lt, IfOk, IfErr, if◌then◌else◌}
-use Rattle.arch_file.specs.declared.arch.Arch.{Arch}
+use Rattle.std.proofs.Common.{◌≡◌, ℕ, ◌+◌, ◌<◌, Bool, true, false, Option, Some, None, Result, Ok, Err, refl, sym, ap, subst, ◌∙◌}
+use Rattle.std.specs.Prelude.{nat_lt, IfOk, IfErr, if◌then◌else◌}
 use Rattle.blif.specs.CircuitOf.{circuit_of}
-use Rattle.blif.specs.declared.circuit.Circuit.{Circuit}
-use Rattle.blif.specs.declared.fault.BlifFault.{BlifFault}
 use Rattle.cluster.specs.Clusters.{packed_of, unfit_of}
 use Rattle.grid.specs.Fits.{fit_of}
-use Rattle.grid.specs.declared.Strip.{Strip}
 use Rattle.job_state.specs.JobValue.{packing_sources, placing_sources}
 use Rattle.tenant_slot.specs.declared.command.Command.{Command}
 use Rattle.tenant_slot.specs.declared.command.Command.TheVariants.{Pack, Place}
 use Rattle.tenant_slot.specs.declared.content.Netlist.{Netlist}
-use Rattle.tenant_slot.specs.declared.event.Event.TheVariants.{Command as Asked}
 use Rattle.tenant_slot.specs.declared.not_served.NotServed.{NotServed}
 use Rattle.tenant_slot.specs.declared.not_served.NotServed.TheVariants.{NoMemory}
 use Rattle.tenant_slot.specs.declared.reply.Misfit.{Misfit}
-use Rattle.tenant_slot.specs.declared.reply.Reply.{Reply}
 use Rattle.tenant_slot.specs.declared.reply.Reply.TheVariants.{Refused}
 use Rattle.tenant_slot.specs.declared.reply.Refusal.TheVariants.{WrongState, BadEffort}
 use Rattle.tenant_slot.specs.declared.reply.StateName.{StateName}
@@ -24,7 +18,7 @@ use Rattle.tenant_slot.specs.declared.reply.StateName.TheVariants.{Empty as Empt
 use Rattle.tenant_slot.specs.Answer.{Answers, Outcome}
 use Rattle.tenant_slot.specs.Content.{IsNetlist}
 use Rattle.tenant_slot.specs.Outcomes.{job_begun, pack_outcome, place_outcome}
-use Rattle.tenant_slot.specs.SingleUser.{State, is_lawful, misfit_of, pack, pack_unless, place, place_unless, serve}
+use Rattle.tenant_slot.specs.SingleUser.{is_lawful, misfit_of, pack, pack_unless, place, place_unless, serve}
 use Rattle.tenant_slot.specs.Slot.{SlotState}
 
 -- a call that answers so, or finds no memory

@@ -1,7 +1,7 @@
 -- What a slot carries along after a take, and once a job is given back.
-use Rattle.std.proofs.Common.{◌≡◌, ℕ, ◌+◌, ◌-◌, ◌<◌, ◌≤◌, Bool, true, false, not, Option, Some, None, refl, sym, ap, subst, ◌∙◌, arith}
+use Rattle.std.proofs.Common.{◌≡◌, ℕ, ◌+◌, ◌-◌, Bool, true, false, not, Option, Some, None, refl, sym, ap, subst, ◌∙◌, arith}
 use Rattle.std.specs.Prelude.{◌↔◌, ◌==◌, ◌&&◌, is_some, is_none, nat_lt, option_map, IfSome}
-use Rattle.std.proofs.lemmas.Bool.Decides.{Decides-eqb, nat_tests}
+use Rattle.std.proofs.lemmas.Bool.Decides.{Decides-eqb}
 use Rattle.arch_file.specs.declared.arch.Arch.{Arch}
 use Rattle.grid.specs.declared.Strip.{Strip}
 use Rattle.job_state.specs.declared.sources.JobKind.{JobKind}
@@ -13,10 +13,10 @@ use Rattle.tenant_slot.specs.declared.content.Content.{Content}
 use Rattle.tenant_slot.specs.declared.event.Advance.{Advance}
 use Rattle.tenant_slot.specs.declared.standing.Running.{Running}
 use Rattle.tenant_slot.specs.declared.standing.Standing.{Standing}
-use Rattle.tenant_slot.specs.SingleUser.{State, is_next, running, sources_of}
+use Rattle.tenant_slot.specs.SingleUser.{State, is_next, sources_of}
 use Rattle.tenant_slot.specs.Slot.{GivesBack, IsAdvanceOf, SlotState, is_takeable, next_job, running_sources}
 use Rattle.tenant_slot.specs.Standing.{IsSlot, ready_of, ready_with, seen, seen_state, without_ready}
-use Rattle.tenant_slot.proofs.Putting.{IsNextStep, at_rest_none, next_of, running_during, some_same, standing_of, step_of, step_of-same}
+use Rattle.tenant_slot.proofs.Putting.{at_rest_none, next_of, running_during, some_same, standing_of, step_of, step_of-same}
 
 -- how a step is written down depends on its generation, its number and its sources
 pub written_of : (state : State) (step : JobStep) (id generation number : ℕ) (sources : Sources) (made : Advance) → generation ≡ step.generation → number ≡ step.number → sources ≡ step.sources →

@@ -1,5 +1,5 @@
 -- A reply before it is given.
-use Rattle.std.specs.Prelude.{ℕ, ◌≡◌, ◌+◌, ◌<◌, Result, Ok, Err, Option, Some, option_map, true, false, ⊤}
+use Rattle.std.specs.Prelude.{ℕ, ◌≡◌, ◌<◌, Result, Ok, Err, Option, Some, option_map, true, ⊤}
 use Rattle.job_state.specs.Job.{first_step}
 use Rattle.job_state.specs.declared.sources.JobKind.TheVariants.{Placing as PlacingJob}
 use Rattle.tenant_slot.specs.declared.standing.Change.{Change}

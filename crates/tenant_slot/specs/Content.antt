@@ -1,11 +1,11 @@
 -- Private: what is there where no job runs, and what a finished job makes of it.
-use Rattle.std.specs.Prelude.{ℕ, ◌≡◌, List, [], Ok, ⊤, Bool, true, false, Option, Some, None}
+use Rattle.std.specs.Prelude.{ℕ, ◌≡◌, List, [], Ok, ⊤, true, false, Option, Some, None}
 use Rattle.arch_file.specs.declared.arch.Arch.{Arch}
 use Rattle.blif.specs.CircuitOf.{circuit_of}
 use Rattle.grid.specs.declared.Strip.{Strip}
 use Rattle.job_state.specs.Job.{JobState, is_over}
 use Rattle.job_state.specs.declared.sources.JobKind.{JobKind}
-use Rattle.job_state.specs.declared.sources.JobKind.TheVariants.{Packing as PackingJob, Placing as PlacingJob, Routing as RoutingJob}
+use Rattle.job_state.specs.declared.sources.JobKind.TheVariants.{Routing as RoutingJob}
 use Rattle.job_state.specs.declared.sources.Sources.{Sources}
 use Rattle.job_state.specs.JobValue.{end_value, packing_sources, placing_sources, routing_sources}
 use Rattle.tenant_slot.specs.declared.content.Content.{Content}

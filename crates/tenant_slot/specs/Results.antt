@@ -8,7 +8,7 @@ use Rattle.cluster.specs.Blocks.{block_nets, net_name}
 use Rattle.cluster.specs.Clusters.{PackedCircuit, packed_of}
 use Rattle.job_state.specs.declared.work.Work.{Work}
 use Rattle.job_state.specs.declared.work.Work.TheVariants.{Placed, Routed, GaveUp as GivenUp, NoPath as WithoutPath}
-use Rattle.strip_place.specs.Anneal.{PlacingUnderWay, places_by_block}
+use Rattle.strip_place.specs.Anneal.{places_by_block}
 use Rattle.tenant_slot.specs.declared.failure.RoutingFailure.{RoutingFailure}
 use Rattle.tenant_slot.specs.declared.failure.RoutingFailure.TheVariants.{GaveUp as FailedAll, NoPath as FailedNet}
 use Rattle.tenant_slot.specs.declared.reply.Ending.{Ending}

@@ -1,5 +1,5 @@
-use Rattle.std.proofs.Common.{◌≡◌, Some, true, false, refl, sym, ap, subst, ◌∙◌}
-use Rattle.tenant_slot.specs.Slot.{GivesBack, IsAdvanceOf, SlotState, next_job}
+use Rattle.std.proofs.Common.{◌≡◌, Some, true, false, refl, sym, ap, ◌∙◌}
+use Rattle.tenant_slot.specs.Slot.{IsAdvanceOf, SlotState, next_job}
 use Rattle.tenant_slot.specs.SingleUser.{is_next}
 use Rattle.tenant_slot.specs.Standing.{seen, seen_state}
 use Rattle.tenant_slot.proofs.Taking.{is_back, is_given_back, is_not_back, is_stood, written_of}
