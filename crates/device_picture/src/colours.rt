@@ -1,0 +1,24 @@
+//! The colours of tenancies.
+use crate::svg::{Part, write_parts};
+use line_text::{Failed, Sink};
+
+/// Writes the colour of the tenancy at a place of the list, as a value of CSS. Colours of places side by side lie far apart.
+pub(crate) fn write_colour<K: Sink>(sink: &mut K, place: usize) -> Result<(), Failed> {
+    let place = (place % 360) as u32;
+    let hue = (210 + 137 * place) % 360;
+    let light = match place % 3 {
+        0 => 42,
+        1 => 50,
+        _ => 34,
+    };
+    write_parts(
+        sink,
+        &[
+            Part::Text("hsl("),
+            Part::Number(hue),
+            Part::Text(",75%,"),
+            Part::Number(light),
+            Part::Text("%)"),
+        ],
+    )
+}

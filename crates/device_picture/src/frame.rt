@@ -1,0 +1,261 @@
+//! The sheet that the picture stands on: its size, its styles, its heading and the numbers beside it.
+ghost use Rattle.std.specs.Prelude.{◌≡◌, ◌≤◌};
+
+use crate::device::Device;
+use crate::geometry::Geometry;
+use crate::svg::{Part, write_parts};
+use line_text::{Failed, Sink};
+
+/// The styles: tracks, blocks and pads, wires, owned pads, output pins, input pins, strips, guard columns.
+const STYLES: &str = "<style>text{font-family:sans-serif;fill:#222}\
+.t{fill:none;stroke:#ccc;stroke-width:.15}\
+.b{fill:#f6f6f6;stroke:#888;stroke-width:.15}\
+.w{fill:none;stroke:currentColor;stroke-width:.6;stroke-linecap:round}\
+.p{fill:currentColor;fill-opacity:.4}\
+.o{fill:currentColor;stroke:#fff;stroke-width:.15}\
+.i{fill:#fff;stroke:currentColor;stroke-width:.25}\
+.s{fill:currentColor;fill-opacity:.1}\
+.g{fill:url(#guard)}</style>\n";
+
+/// How things are laid out on the sheet, in the lengths of the device.
+#[derive(Clone, Copy, Debug)]
+pub(crate) struct Frame {
+    pub(crate) geometry: Geometry,
+    /// The size of letters.
+    pub(crate) font: u32,
+    /// How long an entry of the legend is.
+    pub(crate) entry: u32,
+    /// How many entries of the legend stand side by side.
+    pub(crate) side: u32,
+    /// How long the sheet is.
+    pub(crate) width: u32,
+    /// How many lines the legend has.
+    pub(crate) lines: u32,
+    ghost font_small: { (1 ≤ font) × (font ≤ 400) },
+    ghost entry_small: { (1 ≤ entry) × (entry ≤ 20_000) },
+    ghost side_some: { (1 ≤ side) × (side ≤ 100) },
+    ghost width_small: { (1 ≤ width) × (width ≤ 60_000) },
+    ghost lines_small: { lines ≤ 300 },
+}
+
+impl Frame {
+    /// That of a device.
+    pub(crate) fn of(device: &Device<'_>) -> Self {
+        let geometry = Geometry::of(device);
+        let font = (geometry.length() / 90).max(1);
+        let entry = (device.longest_name() + 34) * font * 3 / 5 + 2 * font;
+        let width = (geometry.length() + 5 * font).max(entry + 2 * font);
+        let side = (width / entry).clamp(1, 100);
+        let entries = device.tenancies.len().min(256) as u32 + 4;
+        Frame {
+            geometry,
+            font,
+            entry,
+            side,
+            width,
+            lines: entries.div_ceil(side),
+        }
+    }
+
+    /// How far the device stands from the left.
+    fn left(&self) -> u32
+        ensures { result ≤ 1200 }
+    {
+        3 * self.font
+    }
+
+    /// How far the device's lower end stands from above.
+    fn ground(&self) -> u32
+        ensures { result ≤ 35_000 }
+    {
+        3 * self.font + self.geometry.height()
+    }
+
+    /// How far the legend stands from above.
+    pub(crate) fn legend(&self) -> u32
+        ensures { result ≤ 37_000 }
+    {
+        self.ground() + 4 * self.font
+    }
+
+    /// How high the sheet is.
+    fn height(&self) -> u32
+        ensures { result ≤ 300_000 }
+    {
+        self.legend() + 2 * self.lines * self.font
+    }
+
+    /// How many dots of a screen the sheet is long: 14 for a track where that is no more than 1,400, and 10 for a column at least.
+    fn dots(&self) -> u32
+        ensures { result ≤ 2_560 }
+    {
+        if self.width <= 100 {
+            14 * self.width
+        } else {
+            (10 * self.geometry.columns).max(1400)
+        }
+    }
+
+    /// Writes the beginning, up to the heading.
+    pub(crate) fn write_head<K: Sink>(&self, sink: &mut K) -> Result<(), Failed> {
+        let dots = self.dots();
+        let height = self.height();
+        write_parts(
+            sink,
+            &[
+                Part::Text("<svg xmlns=\"http://www.w3.org/2000/svg\" width=\""),
+                Part::Number(dots),
+                Part::Text("\" height=\""),
+                Part::Number(height * dots / self.width),
+                Part::Text("\" viewBox=\"0 0 "),
+                Part::Number(self.width),
+                Part::Text(" "),
+                Part::Number(height),
+                Part::Text("\" font-size=\""),
+                Part::Number(self.font),
+                Part::Text("\">\n"),
+                Part::Text(STYLES),
+                Part::Text("<rect width=\"100%\" height=\"100%\" fill=\"#fff\"/>\n"),
+            ],
+        )?;
+        self.write_hatching(sink)
+    }
+
+    /// Writes the hatching of guard columns.
+    fn write_hatching<K: Sink>(&self, sink: &mut K) -> Result<(), Failed> {
+        let step = Part::Number((self.font / 2).max(1));
+        write_parts(
+            sink,
+            &[
+                Part::Text(
+                    "<pattern id=\"guard\" patternUnits=\"userSpaceOnUse\" patternTransform=\"rotate(45)\" width=\"",
+                ),
+                step,
+                Part::Text("\" height=\""),
+                step,
+                Part::Text("\"><path d=\"M0 0v"),
+                step,
+                Part::Text("\" stroke=\"#777\" stroke-width=\""),
+                step,
+                Part::Text("\" stroke-opacity=\".6\"/></pattern>\n"),
+            ],
+        )
+    }
+
+    /// Writes the heading: the size of the device.
+    pub(crate) fn write_heading<K: Sink>(
+        &self,
+        sink: &mut K,
+        device: &Device<'_>,
+    ) -> Result<(), Failed> {
+        let size = device.size;
+        write_parts(
+            sink,
+            &[
+                Part::Text("<text x=\""),
+                Part::Number(self.font),
+                Part::Text("\" y=\""),
+                Part::Number(2 * self.font),
+                Part::Text("\" font-weight=\"bold\">"),
+                Part::Number(size.columns),
+                Part::Text(" × "),
+                Part::Number(size.rows),
+                Part::Text(" blocks, "),
+                Part::Number(size.tracks),
+                Part::Text(" tracks</text>\n"),
+            ],
+        )
+    }
+
+    /// Begins the group in which heights count upwards, and column 0 begins at 0.
+    pub(crate) fn begin_device<K: Sink>(&self, sink: &mut K) -> Result<(), Failed> {
+        self.begin_group(sink, self.left(), self.ground() + self.geometry.bottom())?;
+        write_parts(sink, &[Part::Text(" scale(1 -1)\">\n")])
+    }
+
+    /// Begins a group whose column 0 begins so far from the left, less the length of a block, and so far from above.
+    fn begin_group<K: Sink>(&self, sink: &mut K, x: u32, y: u32) -> Result<(), Failed> {
+        write_parts(
+            sink,
+            &[
+                Part::Text("<g transform=\"translate("),
+                Part::Number(x),
+                Part::Text(" "),
+                Part::Number(y),
+                Part::Text(") translate(-"),
+                Part::Number(self.geometry.block),
+                Part::Text(" 0)"),
+            ],
+        )
+    }
+
+    /// Ends a group.
+    pub(crate) fn end_group<K: Sink>(&self, sink: &mut K) -> Result<(), Failed> {
+        write_parts(sink, &[Part::Text("</g>\n")])
+    }
+
+    /// Writes the numbers of columns below the device.
+    pub(crate) fn write_columns<K: Sink>(&self, sink: &mut K) -> Result<(), Failed> {
+        let geometry = self.geometry;
+        let step = self.step();
+        self.begin_group(sink, self.left(), self.ground() + 2 * self.font)?;
+        write_parts(sink, &[Part::Text("\" text-anchor=\"middle\">\n")])?;
+        for column in 1..=geometry.columns {
+            if column % step == 0 {
+                let x = geometry.start(column) + geometry.block / 2;
+                write_number(sink, "<text x=\"", x, column)?;
+            }
+        }
+        self.end_group(sink)
+    }
+
+    /// Writes the numbers of rows left of the device.
+    pub(crate) fn write_rows<K: Sink>(&self, sink: &mut K) -> Result<(), Failed> {
+        let geometry = self.geometry;
+        let step = self.step();
+        let base = self.ground() + geometry.bottom();
+        write_parts(
+            sink,
+            &[
+                Part::Text("<g transform=\"translate("),
+                Part::Number(2 * self.font),
+                Part::Text(" "),
+                Part::Number(base),
+                Part::Text(")\" text-anchor=\"end\">\n"),
+            ],
+        )?;
+        for row in 1..=geometry.rows {
+            if row % step == 0 {
+                let y = geometry.start(row) + geometry.block / 2;
+                write_number(sink, "<text dy=\".35em\" y=\"-", y, row)?;
+            }
+        }
+        self.end_group(sink)
+    }
+
+    /// Of so many columns, or rows, one has its number beside it.
+    fn step(&self) -> u32
+        ensures { 1 ≤ result }
+    {
+        for step in [1, 2, 5, 10, 20, 50] {
+            if step * self.geometry.pitch() >= 3 * self.font {
+                return step;
+            }
+        }
+        100
+    }
+}
+
+/// Writes a number at a place.
+fn write_number<K: Sink>(sink: &mut K, start: &str, place: u32, number: u32) -> Result<(), Failed> {
+    write_parts(
+        sink,
+        &[
+            Part::Text(start),
+            Part::Number(place),
+            Part::Text("\">"),
+            Part::Number(number),
+            Part::Text("</text>\n"),
+        ],
+    )
+}

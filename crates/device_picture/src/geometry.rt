@@ -1,0 +1,130 @@
+//! Where things stand in the picture.
+//!
+//! Lengths are counted in the distance of two tracks. Columns and rows are squares side by side, `pitch` long: of column x the
+//! blocks and pads stand in the first `block` of it, and the vertical channel right of them in the rest. So does row y upwards, with the
+//! horizontal channel above its blocks. The pads of row 0 stand at its upper end, those above the last row at their row's lower end.
+ghost use Rattle.std.specs.Prelude.{◌≡◌, ◌+◌, ◌*◌, ◌≤◌};
+
+use crate::device::Device;
+
+/// Where things stand. Heights count upwards.
+#[derive(Clone, Copy, Debug)]
+pub(crate) struct Geometry {
+    /// How long and high a block is.
+    pub(crate) block: u32,
+    /// How wide a channel is.
+    pub(crate) channel: u32,
+    /// Columns of the device.
+    pub(crate) columns: u32,
+    /// Rows of the device.
+    pub(crate) rows: u32,
+    /// How long a pad is, with the gap behind it.
+    pub(crate) pad: u32,
+    /// How high a pad is.
+    pub(crate) pad_height: u32,
+    /// How many pins stand side by side in a block.
+    pub(crate) side: u32,
+    /// How long and high a pin is, with the gap behind it.
+    pub(crate) pin: u32,
+    /// How far the pins stand from the sides of their block.
+    pub(crate) inset: u32,
+    ghost block_small: { (4 ≤ block) × (block ≤ 65) },
+    ghost channel_small: { (1 ≤ channel) × (channel ≤ 65) },
+    ghost columns_small: { (1 ≤ columns) × (columns ≤ 256) },
+    ghost rows_small: { (1 ≤ rows) × (rows ≤ 64) },
+    ghost pad_small: { (2 ≤ pad) × (pad ≤ 65) },
+    ghost pad_low: { (2 ≤ pad_height) × (pad_height ≤ block) },
+    ghost side_small: { (1 ≤ side) × (side ≤ 13) },
+    ghost pin_small: { (1 ≤ pin) × (pin ≤ 65) },
+    ghost inset_small: { inset ≤ 65 },
+}
+
+impl Geometry {
+    /// That of a device: pins are as large as the largest number among them lets them be.
+    pub(crate) fn of(device: &Device<'_>) -> Self {
+        let size = device.size;
+        let side = side_of(device.last_pin());
+        let channel = size.tracks + 1;
+        let block = channel.max(side + 2).max(2 * size.pads).max(4);
+        let pin = (block - 2) / side;
+        Geometry {
+            block,
+            channel,
+            columns: size.columns,
+            rows: size.rows,
+            pad: block / size.pads,
+            pad_height: (block / 4).max(2),
+            side,
+            pin,
+            inset: (block - side * pin) / 2,
+        }
+    }
+
+    /// How far two columns, or two rows, stand apart.
+    pub(crate) fn pitch(&self) -> u32
+        ensures small { result ≤ 130 }
+        ensures block { self.now.block ≤ result }
+        ensures some { 5 ≤ result }
+    {
+        self.block + self.channel
+    }
+
+    /// Where column or row `number` begins.
+    pub(crate) fn start(&self, number: u32) -> u32
+        requires { number ≤ 257 }
+        ensures { result ≤ 33_410 }
+    {
+        number * self.pitch()
+    }
+
+    /// The line of a track in the channel behind column or row `number`.
+    pub(crate) fn track(&self, number: u32, track: u32) -> u32
+        requires number { number ≤ 257 }
+        requires track { track ≤ 144 }
+        ensures { result ≤ 33_700 }
+    {
+        self.start(number) + self.block + track + 1
+    }
+
+    /// The length of so many columns or rows.
+    pub(crate) fn span(&self, count: u32) -> u32
+        requires { count ≤ 257 }
+        ensures { result ≤ 33_410 }
+    {
+        count * self.pitch()
+    }
+
+    /// How long the device is, from its first channel to its last one.
+    pub(crate) fn length(&self) -> u32
+        ensures { result ≤ 33_500 }
+    {
+        self.span(self.columns) + self.channel
+    }
+
+    /// How high the device is, from the lower pads to the upper ones.
+    pub(crate) fn height(&self) -> u32
+        ensures { result ≤ 33_700 }
+    {
+        self.span(self.rows) + self.channel + 2 * self.pad_height
+    }
+
+    /// How high the lower end of the lower pads stands.
+    pub(crate) fn bottom(&self) -> u32
+        ensures { result ≤ 65 }
+    {
+        self.block - self.pad_height
+    }
+}
+
+/// The side of the least square that has room for the pins up to this one.
+fn side_of(last_pin: u32) -> u32
+    requires { last_pin ≤ 144 }
+    ensures { (1 ≤ result) × (result ≤ 13) }
+{
+    for side in 1..13 {
+        if last_pin < side * side {
+            return side;
+        }
+    }
+    13
+}

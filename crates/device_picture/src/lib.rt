@@ -1,0 +1,35 @@
+//! A picture of the device: who owns which wire, pin and pad, as an SVG.
+//!
+//! [`read_device`] reads what the service's program printed: the operator's section with the lines of `op list` and of
+//! `op owners`, whose last ones count. A line that is no such line, or that does not fit the others, is refused with its
+//! number. [`draw`] writes the picture to a [`line_text::Sink`], in small pieces, so the sink should have a buffer; it never
+//! holds a whole picture. Wires of one owner and track that adjoin are one line.
+//!
+//! It is proved that both are safe and return, that what was read stands on the device, and how the words of a fault begin.
+//! What the picture shows is tested, and looked at.
+#![tactic(auto)]
+
+mod colours;
+mod device;
+mod fault;
+mod frame;
+mod geometry;
+mod ground;
+mod legend;
+mod marks;
+mod owned_line;
+mod picture;
+mod reader;
+mod runs;
+mod scanner;
+mod size;
+mod svg;
+mod tenancy;
+mod wires;
+
+pub use device::{Device, Owned};
+pub use fault::{Fault, InputFault, ReadError};
+pub use picture::{DrawError, draw};
+pub use reader::read_device;
+pub use size::DeviceSize;
+pub use tenancy::Tenancy;

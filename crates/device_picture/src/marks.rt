@@ -1,0 +1,126 @@
+//! Pins and pads as rectangles.
+ghost use Rattle.std.specs.Prelude.{◌≡◌, ◌≤◌};
+
+use crate::device::Owned;
+use crate::geometry::Geometry;
+use crate::svg::{Part, write_parts};
+use line_text::{Failed, Sink};
+use rr_graph::{Resource, ResourceKind};
+
+/// How many nodes one path draws at most.
+pub(crate) const LONGEST_PATH: usize = 4096;
+
+/// A rectangle.
+#[derive(Clone, Copy, Debug)]
+struct Mark {
+    x: u32,
+    y: u32,
+    width: u32,
+    height: u32,
+}
+
+/// Writes the pins or the pads of one kind among these nodes, as paths of a class.
+pub(crate) fn write_marks<K: Sink>(
+    sink: &mut K,
+    geometry: Geometry,
+    owned: &[Owned],
+    kind: ResourceKind,
+    class: &str,
+) -> Result<(), Failed> {
+    for part in owned.chunks(LONGEST_PATH) {
+        write_parts(
+            sink,
+            &[
+                Part::Text("<path class=\""),
+                Part::Text(class),
+                Part::Text("\" d=\""),
+            ],
+        )?;
+        write_path(sink, geometry, part, kind)?;
+        write_parts(sink, &[Part::Text("\"/>\n")])?;
+    }
+    Ok(())
+}
+
+/// Writes the pins or the pads of one kind among these nodes.
+fn write_path<K: Sink>(
+    sink: &mut K,
+    geometry: Geometry,
+    owned: &[Owned],
+    kind: ResourceKind,
+) -> Result<(), Failed> {
+    for one in owned {
+        if one.node.kind == kind {
+            write_mark(sink, mark_of(geometry, *one))?;
+        }
+    }
+    Ok(())
+}
+
+/// Writes a rectangle.
+fn write_mark<K: Sink>(sink: &mut K, mark: Mark) -> Result<(), Failed> {
+    write_parts(
+        sink,
+        &[
+            Part::Text("M"),
+            Part::Number(mark.x),
+            Part::Text(" "),
+            Part::Number(mark.y),
+            Part::Text("h"),
+            Part::Number(mark.width),
+            Part::Text("v"),
+            Part::Number(mark.height),
+            Part::Text("h-"),
+            Part::Number(mark.width),
+            Part::Text("z"),
+        ],
+    )
+}
+
+/// The rectangle of a pin or a pad.
+fn mark_of(geometry: Geometry, owned: Owned) -> Mark {
+    let node = owned.node;
+    let is_pad = node.y == 0 || node.y > geometry.rows;
+    if !is_pad {
+        return pin_mark(geometry, node);
+    }
+    if node.kind == ResourceKind::Pad {
+        pad_mark(geometry, node, geometry.pad_height)
+    } else {
+        pad_mark(geometry, node, geometry.pad_height / 2)
+    }
+}
+
+/// The part of a pad that is so high, on the side of the channel.
+fn pad_mark(geometry: Geometry, node: Resource, height: u32) -> Mark
+    requires column { node.x ≤ 256 }
+    requires row { node.y ≤ 65 }
+    requires number { node.n ≤ 144 }
+    requires height { height ≤ geometry.pad_height }
+{
+    Mark {
+        x: geometry.start(node.x) + node.n * geometry.pad,
+        y: if node.y == 0 {
+            geometry.block.saturating_sub(height)
+        } else {
+            geometry.start(node.y)
+        },
+        width: geometry.pad - 1,
+        height,
+    }
+}
+
+/// The place of a pin in its block: they stand side by side from the lower left corner on.
+fn pin_mark(geometry: Geometry, node: Resource) -> Mark
+    requires column { node.x ≤ 256 }
+    requires row { node.y ≤ 65 }
+    requires number { node.n ≤ 144 }
+{
+    let length = geometry.pin - geometry.pin / 4;
+    Mark {
+        x: geometry.start(node.x) + geometry.inset + node.n % geometry.side * geometry.pin,
+        y: geometry.start(node.y) + geometry.inset + node.n / geometry.side * geometry.pin,
+        width: length,
+        height: length,
+    }
+}

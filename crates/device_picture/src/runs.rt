@@ -1,0 +1,97 @@
+//! Wires that adjoin.
+ghost use Rattle.std.specs.Prelude.{◌≡◌, ◌+◌, ◌≤◌, IfSome};
+
+use std::alloc::{AllocError, Global};
+
+/// Wires of one owner and track in one channel, each beside the next one.
+#[derive(Clone, Copy, Debug)]
+pub(crate) struct Run {
+    /// The channel: its row if it is horizontal, else its column.
+    pub(crate) channel: u32,
+    pub(crate) track: u32,
+    /// The column, or the row, of the last wire.
+    pub(crate) last: u32,
+    /// How many wires they are.
+    pub(crate) count: u32,
+    ghost channel_small: { channel ≤ 256 },
+    ghost track_small: { track ≤ 144 },
+    ghost last_small: { last ≤ 256 },
+    ghost count_small: { count ≤ last + 1 },
+}
+
+impl Run {
+    /// A wire alone.
+    pub(crate) fn new(channel: u32, track: u32, last: u32) -> Self
+        requires channel { channel ≤ 256 }
+        requires track { track ≤ 144 }
+        requires last { last ≤ 256 }
+    {
+        Run {
+            channel,
+            track,
+            last,
+            count: 1,
+        }
+    }
+
+    /// These wires and that one behind them. None where it does not adjoin the last of them.
+    fn with(self, next: Run) -> Option<Run> {
+        let adjoins = self.channel == next.channel && self.track == next.track;
+        if !adjoins || next.last != self.last + 1 {
+            return None;
+        }
+        Some(Run {
+            channel: next.channel,
+            track: next.track,
+            last: next.last,
+            count: self.count + 1,
+        })
+    }
+}
+
+/// The runs that may still grow, by lane. A lane is a place where at most one grows at a time.
+#[derive(Debug, Drop)]
+pub(crate) struct Runs {
+    open: Vec<Option<Run>>,
+}
+
+impl Runs {
+    /// So many lanes, with no run.
+    pub(crate) fn new(alloc: Global, lanes: usize) -> Result<Self, AllocError> {
+        Ok(Runs {
+            open: Vec::from_elem(alloc, None, lanes)?,
+        })
+    }
+
+    /// Lets a lane's run grow by a wire, or begins a new one, and gives back the one that grows no more. A wire
+    /// beyond the lanes is a run alone.
+    pub(crate) fn push(&mut self, lane: usize, wire: Run) -> Option<Run> {
+        let Some(place) = self.open.get_mut(lane) else {
+            return Some(wire);
+        };
+        let Some(run) = *place else {
+            *place = Some(wire);
+            return None;
+        };
+        match run.with(wire) {
+            Some(longer) => {
+                *place = Some(longer);
+                None
+            }
+            None => {
+                *place = Some(wire);
+                Some(run)
+            }
+        }
+    }
+
+    /// The runs that are open, by lane.
+    pub(crate) fn open(&self) -> &[Option<Run>] {
+        self.open.as_slice()
+    }
+
+    /// Forgets all runs.
+    pub(crate) fn clear(&mut self) {
+        self.open.fill(None);
+    }
+}

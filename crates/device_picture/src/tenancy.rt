@@ -1,0 +1,101 @@
+//! The lines of `op list`.
+ghost use Rattle.std.specs.Prelude.{◌≡◌, ◌+◌, ◌≤◌, length, true};
+
+use crate::scanner::Scanner;
+use crate::size::DeviceSize;
+use rr_graph::ResourceKind;
+
+/// How long a name may be.
+const LONGEST_NAME: usize = 32;
+
+/// A tenancy that lives on the device.
+#[derive(Clone, Copy, Debug)]
+pub struct Tenancy<'t> {
+    pub id: u32,
+    /// Letters, digits and `_`, 1 to 32 of them.
+    pub name: &'t [u8],
+    /// How many columns stand before its strip.
+    pub offset: u32,
+    /// How many columns its strip has.
+    pub width: u32,
+    /// Letters.
+    pub state: &'t [u8],
+    ghost on_largest: { offset + width ≤ 256 },
+    ghost name_short: { length name.now ≤ 32 },
+}
+
+impl<'t> Tenancy<'t> {
+    /// The tenancy that a line of `op list` tells: `ID NAME OFFSET WIDTH STATE`. None where it tells none on this device.
+    pub(crate) fn read(size: DeviceSize, line: &'t [u8]) -> Option<Self> {
+        let mut scanner = Scanner::new(line);
+        let id = scanner.number()?;
+        scanner.text(" ")?;
+        let name = scanner.word();
+        scanner.text(" ")?;
+        let offset = scanner.number()?;
+        scanner.text(" ")?;
+        let width = scanner.number()?;
+        scanner.text(" ")?;
+        let state = scanner.word();
+        let words = is_name(name) && is_state(state) && scanner.is_done();
+        if !words || !is_on_device(size, offset, width) {
+            return None;
+        }
+        Some(Tenancy {
+            id,
+            name,
+            offset,
+            width,
+            state,
+        })
+    }
+
+    /// How long its name is.
+    pub(crate) fn name_length(&self) -> u32
+        ensures { result ≤ 32 }
+    {
+        self.name.len() as u32
+    }
+
+    /// Whether a column is one of its strip's.
+    pub(crate) fn has_column(&self, column: u32) -> bool {
+        self.offset < column && column <= self.offset + self.width
+    }
+
+    /// Whether a column, counted from 1, stands right beside its strip.
+    pub(crate) fn is_beside(&self, column: u32) -> bool {
+        column == self.offset || column == self.offset + self.width + 1
+    }
+
+    /// Whether a node of that kind in that column is one of its strip's. The vertical channel before the strip's first column is.
+    pub(crate) fn has_node(&self, kind: ResourceKind, column: u32) -> bool {
+        self.has_column(column) || (kind == ResourceKind::ChanY && column == self.offset)
+    }
+
+    /// Whether an unused column stands between the two strips.
+    pub(crate) fn is_parted(&self, other: &Tenancy<'_>) -> bool {
+        self.offset + self.width < other.offset || other.offset + other.width < self.offset
+    }
+}
+
+/// Whether a strip of so many columns behind so many others is one of the device.
+fn is_on_device(size: DeviceSize, offset: u32, width: u32) -> bool
+    ensures { result ≡ true → offset + width ≤ 256 }
+{
+    width >= 1 && width <= size.columns && offset <= size.columns - width
+}
+
+/// Whether these are 1 to 32 letters, digits and `_`.
+fn is_name(word: &[u8]) -> bool
+    ensures { result ≡ true → length word.now ≤ 32 }
+{
+    let lawful = word
+        .iter()
+        .all(|byte| byte.is_ascii_alphanumeric() || *byte == b'_');
+    !word.is_empty() && word.len() <= LONGEST_NAME && lawful
+}
+
+/// Whether these are letters.
+fn is_state(word: &[u8]) -> bool {
+    !word.is_empty() && word.iter().all(|byte| byte.is_ascii_alphabetic())
+}

@@ -1,0 +1,136 @@
+//! Wires as lines.
+ghost use Rattle.std.specs.Prelude.{◌≡◌, ◌≤◌, IfSome};
+
+use crate::device::Owned;
+use crate::geometry::Geometry;
+use crate::marks::LONGEST_PATH;
+use crate::runs::{Run, Runs};
+use crate::svg::{Part, write_parts};
+use line_text::{Failed, Sink};
+use rr_graph::ResourceKind;
+
+/// Which way a channel goes.
+#[derive(Clone, Copy, Debug, PartialEq, Eq)]
+pub(crate) enum Direction {
+    Across,
+    Upwards,
+}
+
+/// Writes the wires that go one way among these nodes, as paths. Wires that adjoin are one line.
+pub(crate) fn write_wires<K: Sink>(
+    sink: &mut K,
+    geometry: Geometry,
+    owned: &[Owned],
+    direction: Direction,
+    runs: &mut Runs,
+) -> Result<(), Failed> {
+    runs.clear();
+    for part in owned.chunks(LONGEST_PATH) {
+        begin_path(sink)?;
+        write_ended(sink, geometry, part, direction, runs)?;
+        end_path(sink)?;
+    }
+    begin_path(sink)?;
+    write_open(sink, geometry, direction, runs)?;
+    end_path(sink)
+}
+
+/// Begins a path of wires.
+fn begin_path<K: Sink>(sink: &mut K) -> Result<(), Failed> {
+    write_parts(sink, &[Part::Text("<path class=\"w\" d=\"")])
+}
+
+/// Ends a path.
+fn end_path<K: Sink>(sink: &mut K) -> Result<(), Failed> {
+    write_parts(sink, &[Part::Text("\"/>\n")])
+}
+
+/// Writes the lines that end among these nodes.
+fn write_ended<K: Sink>(
+    sink: &mut K,
+    geometry: Geometry,
+    owned: &[Owned],
+    direction: Direction,
+    runs: &mut Runs,
+) -> Result<(), Failed> {
+    for one in owned {
+        if let Some(wire) = wire_of(*one, direction) {
+            let lane = lane_of(geometry, wire, direction);
+            if let Some(run) = runs.push(lane, wire) {
+                write_run(sink, geometry, run, direction)?;
+            }
+        }
+    }
+    Ok(())
+}
+
+/// Writes the lines that have not ended.
+fn write_open<K: Sink>(
+    sink: &mut K,
+    geometry: Geometry,
+    direction: Direction,
+    runs: &Runs,
+) -> Result<(), Failed> {
+    for open in runs.open() {
+        if let Some(run) = *open {
+            write_run(sink, geometry, run, direction)?;
+        }
+    }
+    Ok(())
+}
+
+/// A node as a wire that goes that way. None where it is none.
+fn wire_of(owned: Owned, direction: Direction) -> Option<Run> {
+    let node = owned.node;
+    match (node.kind, direction) {
+        (ResourceKind::ChanX, Direction::Across) => Some(Run::new(node.y, node.n, node.x)),
+        (ResourceKind::ChanY, Direction::Upwards) => Some(Run::new(node.x, node.n, node.y)),
+        _ => None,
+    }
+}
+
+/// Where a wire's run grows. In node order the wires of a column come one column at a time.
+fn lane_of(geometry: Geometry, wire: Run, direction: Direction) -> usize {
+    let lane = match direction {
+        Direction::Across => wire.channel * geometry.channel + wire.track,
+        Direction::Upwards => wire.track,
+    };
+    lane as usize
+}
+
+/// Writes a line.
+fn write_run<K: Sink>(
+    sink: &mut K,
+    geometry: Geometry,
+    run: Run,
+    direction: Direction,
+) -> Result<(), Failed> {
+    let along = geometry.track(run.last, run.track);
+    let across = geometry.track(run.channel, run.track);
+    let length = geometry.span(run.count);
+    match direction {
+        Direction::Across => write_line(sink, along, across, "h-", length),
+        Direction::Upwards => write_line(sink, across, along, "v-", length),
+    }
+}
+
+/// Writes a line back from a point, by the command for its direction.
+pub(crate) fn write_line<K: Sink>(
+    sink: &mut K,
+    x: u32,
+    y: u32,
+    command: &str,
+    length: u32,
+) -> Result<(), Failed> {
+    write_parts(
+        sink,
+        &[
+            Part::Text("M"),
+            Part::Number(x),
+            Part::Text(" "),
+            Part::Number(y),
+            Part::Text(command),
+            Part::Number(length),
+        ],
+    )
+}
