@@ -1,0 +1,114 @@
+//! Random circuits.
+ghost use Rattle.std.specs.Prelude.{◌≡◌, ◌≤◌, ◌<◌};
+
+use crate::draws::{Source, Square};
+use crate::pieces::{Piece, write_pieces};
+use crate::plan::{Plan, side_of};
+use line_text::{Failed, Sink};
+use rand_core::utils::NextWord;
+use rand_pcg::Pcg32;
+
+/// Of so many tables one has a latch behind it.
+const LATCHED: u32 = 16;
+
+/// Writes the netlist of a tenancy: tables of two inputs or more, one in 16 followed by a latch.
+pub(crate) fn write_circuit<K: Sink>(sink: &mut K, plan: Plan, tenancy: u32) -> Result<(), Failed> {
+    let square = Square {
+        tables: plan.wishes.tables,
+        side: side_of(plan.wishes.tables, 87),
+        inputs: plan.ends(),
+    };
+    write_ends(sink, square)?;
+    let mut words = Pcg32::new(plan.wishes.seed, u64::from(tenancy));
+    for table in 0..square.tables {
+        write_table(sink, square, &mut words, plan.wishes.inputs, table)?;
+    }
+    write_pieces(sink, &[Piece::Text(".end\n")])
+}
+
+/// Writes what stands before the tables: the inputs, the clock and the outputs.
+fn write_ends<K: Sink>(sink: &mut K, square: Square) -> Result<(), Failed> {
+    write_pieces(sink, &[Piece::Text(".model random\n.inputs")])?;
+    for input in 0..square.inputs {
+        write_source(sink, Source::Input(input))?;
+    }
+    write_pieces(sink, &[Piece::Text("\n.clock clk\n.outputs")])?;
+    let outputs = square.inputs.min(square.tables);
+    for output in 0..outputs {
+        write_source(sink, Source::Table(output * square.tables / outputs))?;
+    }
+    write_pieces(sink, &[Piece::Text("\n")])
+}
+
+/// Writes a table, and the latch behind it.
+fn write_table<K: Sink>(
+    sink: &mut K,
+    square: Square,
+    words: &mut Pcg32,
+    most: u32,
+    table: u32,
+) -> Result<(), Failed>
+    requires table { table < square.tables }
+    requires most { (1 ≤ most) × (most ≤ 8) }
+{
+    let draws = most - words.next_word() % (most / 2 + 1);
+    let (sources, count) = drawn(square, words, table, draws);
+    write_pieces(sink, &[Piece::Text(".names")])?;
+    for source in &sources[..count] {
+        write_source(sink, *source)?;
+    }
+    write_pieces(
+        sink,
+        &[Piece::Text(" n"), Piece::Number(table), Piece::Text("\n")],
+    )?;
+    for _source in &sources[..count] {
+        write_pieces(sink, &[Piece::Text("1")])?;
+    }
+    write_pieces(sink, &[Piece::Text(" 1\n")])?;
+    write_latch(sink, table)
+}
+
+/// The distinct sources of so many draws, and their number.
+fn drawn(square: Square, words: &mut Pcg32, table: u32, draws: u32) -> ([Source; 8], usize)
+    requires table { table < square.tables }
+    requires draws { (1 ≤ draws) × (draws ≤ 8) }
+    ensures { result.1 ≤ 8 }
+{
+    let mut sources = [Source::Input(0); 8];
+    let mut count = 0;
+    for _draw in 0..draws {
+        let source = square.draw(words, table);
+        if !sources[..count].contains(&source) {
+            sources[count] = source;
+            count += 1;
+        }
+    }
+    (sources, count)
+}
+
+/// Writes the latch behind a table, if it has one.
+fn write_latch<K: Sink>(sink: &mut K, table: u32) -> Result<(), Failed> {
+    if table % LATCHED != 0 {
+        return Ok(());
+    }
+    write_pieces(
+        sink,
+        &[
+            Piece::Text(".latch n"),
+            Piece::Number(table),
+            Piece::Text(" q"),
+            Piece::Number(table),
+            Piece::Text(" re clk 2\n"),
+        ],
+    )
+}
+
+/// Writes the name of a source behind a space.
+fn write_source<K: Sink>(sink: &mut K, source: Source) -> Result<(), Failed> {
+    let (start, number) = match source {
+        Source::Input(input) => (" i", input),
+        Source::Table(table) if table % LATCHED == 0 => (" q", table),
+        Source::Table(table) => (" n", table),
+    };
+    write_pieces(sink, &[Piece::Text(start), Piece::Number(number)])
+}

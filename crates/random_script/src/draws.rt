@@ -1,0 +1,71 @@
+//! Random draws.
+ghost use Rattle.std.specs.Prelude.{◌≡◌, ◌+◌, ◌≤◌, ◌<◌};
+
+use rand_core::utils::NextWord;
+use rand_pcg::Pcg32;
+
+/// Where the tables of a circuit stand for the draws: in a square, row by row. Tables that are wired together stand near one another.
+#[derive(Clone, Copy, Debug)]
+pub(crate) struct Square {
+    /// How many tables there are.
+    pub(crate) tables: u32,
+    /// How many stand side by side.
+    pub(crate) side: u32,
+    /// How many inputs the circuit has.
+    pub(crate) inputs: u32,
+    ghost tables_some: { (1 ≤ tables) × (tables ≤ 7_500) },
+    ghost side_some: { (1 ≤ side) × (side ≤ 87) },
+    ghost inputs_some: { (1 ≤ inputs) × (inputs ≤ 200) },
+}
+
+/// What a table reads.
+#[derive(Clone, Copy, Debug, PartialEq, Eq)]
+pub(crate) enum Source {
+    /// The input of that number.
+    Input(u32),
+    /// The table of that number, or the latch behind it.
+    Table(u32),
+}
+
+impl Square {
+    /// Draws a source near a table: so far left or right and up or down, each by a power law. Where no other table stands there, it is an input of
+    /// the circuit, by the table's column.
+    pub(crate) fn draw(&self, words: &mut Pcg32, table: u32) -> Source
+        requires { table < self.now.tables }
+    {
+        let column = table % self.side;
+        let across = shifted(column, words.next_word());
+        let row = shifted(table / self.side, words.next_word());
+        match self.table_at(across, row) {
+            Some(near) if near != table => Source::Table(near),
+            _ => Source::Input(column * self.inputs / self.side),
+        }
+    }
+
+    /// The table in that column and row, if one stands there.
+    fn table_at(&self, column: Option<u32>, row: Option<u32>) -> Option<u32> {
+        let column = column?;
+        let row = row?;
+        if column >= self.side || row >= self.side {
+            return None;
+        }
+        let table = row * self.side + column;
+        if table < self.tables {
+            Some(table)
+        } else {
+            None
+        }
+    }
+}
+
+/// A place so far from another: a distance of at least d comes once in d + 1 draws, either way as often.
+fn shifted(place: u32, word: u32) -> Option<u32>
+    requires { place ≤ 7_500 }
+{
+    let distance = 65_536 / (word % 65_536 + 1) - 1;
+    if word / 65_536 % 2 == 0 {
+        Some(place + distance)
+    } else {
+        place.checked_sub(distance)
+    }
+}

@@ -1,0 +1,19 @@
+//! Scripts with random circuits, to measure the service with.
+//!
+//! A [`Plan`] says how many tables a circuit has and how many tenancies have one each; it chooses a device that has room for
+//! them. [`write_script`] writes the whole script to a [`line_text::Sink`], in small pieces and without memory, so the sink should have a
+//! buffer: the architecture, and for each tenancy its admission, its netlist and its commands up to the route file. One plan always gives the same bytes.
+//!
+//! It is proved that both are safe and return, and that a plan keeps the service's limits. That a circuit has a placing and a
+//! routing on its device is only tested.
+#![tactic(auto)]
+
+mod architecture;
+mod circuit;
+mod draws;
+mod pieces;
+mod plan;
+mod script;
+
+pub use plan::{Phase, Plan, Wishes};
+pub use script::write_script;

@@ -1,0 +1,145 @@
+//! What a script is about, and the device that it wants.
+ghost use Rattle.std.specs.Prelude.{◌≡◌, ◌+◌, ◌*◌, ◌/◌, ◌≤◌, ◌<◌};
+
+/// The last thing that a script's tenants ask for.
+#[derive(Clone, Copy, Debug, PartialEq, Eq, PartialOrd, Ord)]
+pub enum Phase {
+    Reading,
+    Packing,
+    Placing,
+    Routing,
+}
+
+/// What somebody wants to measure.
+#[derive(Clone, Copy, Debug, PartialEq, Eq)]
+pub struct Wishes {
+    /// Tables of each circuit, 1 to 7,500.
+    pub tables: u32,
+    /// Tenancies with a circuit each, 1 to 64.
+    pub tenancies: u32,
+    /// Inputs of a table, at most, 1 to 8.
+    pub inputs: u32,
+    /// Tables of a cluster, at most, 1 to 16.
+    pub cluster: u32,
+    /// Where the random draws begin.
+    pub seed: u64,
+    /// Where the script ends.
+    pub until: Phase,
+}
+
+/// A script's circuits and its device.
+#[derive(Clone, Copy, Debug, PartialEq, Eq)]
+pub struct Plan {
+    pub(crate) wishes: Wishes,
+    /// Columns of each strip.
+    pub(crate) width: u32,
+    /// Rows of the device.
+    pub(crate) rows: u32,
+    /// Tracks of each channel.
+    pub(crate) tracks: u32,
+    ghost tables_lawful: { (1 ≤ wishes.tables) × (wishes.tables ≤ 7_500) },
+    ghost tenancies_lawful: { (1 ≤ wishes.tenancies) × (wishes.tenancies ≤ 64) },
+    ghost inputs_lawful: { (1 ≤ wishes.inputs) × (wishes.inputs ≤ 8) },
+    ghost cluster_lawful: { (1 ≤ wishes.cluster) × (wishes.cluster ≤ 16) },
+    ghost rows_lawful: { (1 ≤ rows) × (rows ≤ 64) },
+    ghost tracks_lawful: { (1 ≤ tracks) × (tracks ≤ 64) },
+    ghost width_lawful: { (1 ≤ width) × (width ≤ 256) },
+    ghost strips_fit: { wishes.tenancies * (width + 1) ≤ 257 },
+}
+
+impl Plan {
+    /// A plan for these wishes. None where one is beyond its limits, or where no device has room for all strips.
+    ///
+    /// The device has a fourth more logic places than there are full clusters; it is a square, as far as 64 rows and 256 columns allow.
+    pub fn new(wishes: Wishes) -> Option<Self> {
+        let circuit = (1..=7500).contains(&wishes.tables) && (1..=64).contains(&wishes.tenancies);
+        let device = (1..=8).contains(&wishes.inputs) && (1..=16).contains(&wishes.cluster);
+        if !circuit || !device {
+            return None;
+        }
+        let clusters = wishes.tables.div_ceil(wishes.cluster);
+        let places = clusters + clusters / 4 + 1;
+        let square = side_of(places, 64);
+        if let Some(plan) = Plan::with_rows(wishes, places, square) {
+            return Some(plan);
+        }
+        Plan::with_rows(wishes, places, 64)
+    }
+
+    /// A plan for strips with so many logic places in so many rows, if all strips have room.
+    fn with_rows(wishes: Wishes, places: u32, rows: u32) -> Option<Self>
+        requires tables { (1 ≤ wishes.tables) × (wishes.tables ≤ 7_500) }
+        requires tenancies { (1 ≤ wishes.tenancies) × (wishes.tenancies ≤ 64) }
+        requires inputs { (1 ≤ wishes.inputs) × (wishes.inputs ≤ 8) }
+        requires cluster { (1 ≤ wishes.cluster) × (wishes.cluster ≤ 16) }
+        requires places { (1 ≤ places) × (places ≤ 10_000) }
+        requires rows { (1 ≤ rows) × (rows ≤ 64) }
+    {
+        let width = places.div_ceil(rows);
+        if width > 256 || wishes.tenancies * (width + 1) > 257 {
+            return None;
+        }
+        Some(Plan {
+            wishes,
+            width,
+            rows,
+            tracks: tracks_for(wishes),
+        })
+    }
+
+    /// Columns of the device: a strip for each tenancy, and a column between two strips.
+    pub fn columns(&self) -> u32
+        ensures { result ≤ 256 }
+    {
+        self.wishes.tenancies * (self.width + 1) - 1
+    }
+
+    /// Rows of the device.
+    pub fn rows(&self) -> u32 {
+        self.rows
+    }
+
+    /// Tracks of each channel. That they are enough is only tested.
+    pub fn tracks(&self) -> u32 {
+        self.tracks
+    }
+
+    /// How many inputs, and how many outputs, a circuit has at most: one for each column of its strip.
+    pub(crate) fn ends(&self) -> u32
+        ensures { (1 ≤ result) × (result ≤ 200) }
+    {
+        self.width.min(200)
+    }
+
+    /// How many inputs a cluster has: those of all its tables, less what they share.
+    pub(crate) fn cluster_inputs(&self) -> u32
+        ensures { (1 ≤ result) × (result ≤ 68) }
+    {
+        (self.wishes.inputs * (self.wishes.cluster + 1) / 2).max(1)
+    }
+}
+
+/// The side of the least square with so many places, and at most the largest side.
+pub(crate) fn side_of(places: u32, largest: u32) -> u32
+    requires { (1 ≤ largest) × (largest ≤ 100) }
+    ensures { (1 ≤ result) × (result ≤ largest) }
+{
+    for side in 1..largest {
+        if places <= side * side {
+            return side;
+        }
+    }
+    largest
+}
+
+/// Tracks for circuits of that kind: more for larger circuits, for more inputs and for larger clusters.
+fn tracks_for(wishes: Wishes) -> u32
+    requires tables { wishes.tables ≤ 7_500 }
+    requires inputs { wishes.inputs ≤ 8 }
+    requires cluster { (1 ≤ wishes.cluster) × (wishes.cluster ≤ 16) }
+    ensures { (1 ≤ result) × (result ≤ 64) }
+{
+    let spread = 4 + side_of(wishes.tables, 87) * 3 / 10;
+    let more = spread * (2 + wishes.inputs) * (8 + wishes.cluster) / 54;
+    more.clamp(8, 64)
+}
