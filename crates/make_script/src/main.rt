@@ -39,9 +39,10 @@ fn written(rt: &HostRuntime, plan: Plan) -> ExitCode {
     };
     let mut sink = StdSink::new(buffer);
     let script = write_script(&mut sink, plan);
-    match script.is_ok() && sink.into_writer().flush().is_ok() {
-        true => ExitCode::SUCCESS,
-        false => ended(rt, "output: failed", 1),
+    if script.is_ok() && sink.into_writer().flush().is_ok() {
+        ExitCode::SUCCESS
+    } else {
+        ended(rt, "output: failed", 1)
     }
 }
 

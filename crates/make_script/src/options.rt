@@ -8,12 +8,13 @@ use std::convert::AsStr;
 
 const ABOUT: &str = "Prints a script for fpgad with random circuits, to measure it with";
 
-const EXAMPLE: &str = "Its first line names the options of fpgad. Example: make_script --tables 60 > my.script && fpgad --tracks 8 --columns 10 --rows 9 < my.script";
+const EXAMPLE: &str =
+    "Its first line names the options of fpgad. Example: make_script --tables 60 > my.script && fpgad --tracks 8 --columns 10 --rows 9 < my.script";
 
 const NO_ROOM: &str = "no device has room for so many tenancies with so many tables";
 
 /// The phases by their words.
-const PHASES: [&str; 4] = ["reading", "packing", "placing", "routing"];
+static PHASES: [&str; 4] = ["reading", "packing", "placing", "routing"];
 
 /// The plan that these words give, the first being the program's name. An error is clap's, and a call for help is one.
 pub fn read_plan<'a, S: AsStr>(alloc: Global, words: &'a [S]) -> Result<Plan, Error> {
@@ -30,7 +31,9 @@ pub fn read_plan<'a, S: AsStr>(alloc: Global, words: &'a [S]) -> Result<Plan, Er
 
 /// What the program takes.
 fn command<'a>(alloc: Global) -> Result<Command<'a>, AllocError> {
-    let tables = number(alloc, "tables", "N", "400", 7500).help("Tables of each circuit, 1 to 7500");
+    let tables = number(alloc, "tables", "N", "400", 7500).help(
+        "Tables of each circuit, 1 to 7500",
+    );
     let tenancies = number(alloc, "tenancies", "T", "1", 64).help(
         "Tenancies with a circuit each, 1 to 64",
     );
@@ -45,7 +48,7 @@ fn command<'a>(alloc: Global) -> Result<Command<'a>, AllocError> {
     let until = Arg::new(alloc, "until")
         .long("until")
         .value_name("PHASE")
-        .value_parser(value_parser(PHASES.as_slice()))
+        .value_parser(PHASES.as_slice())
         .help("The last phase that the tenants ask for")
         .default_value("routing");
     let command = Command::new(alloc, "make_script")

@@ -140,6 +140,7 @@ fn tracks_for(wishes: Wishes) -> u32
     ensures { (1 ≤ result) × (result ≤ 64) }
 {
     let spread = 4 + side_of(wishes.tables, 87) * 3 / 10;
-    let more = spread * (2 + wishes.inputs) * (8 + wishes.cluster) / 54;
+    let clusters = 9 + 5 * (wishes.cluster - 1).min(2) + wishes.cluster;
+    let more = spread * (2 + wishes.inputs) * clusters / 60;
     more.clamp(8, 64)
 }
