@@ -11,7 +11,9 @@ use Rattle.arch_file.specs.declared.fault.Keyword.TheVariants.{IoRat, ChanWidthI
 use Rattle.arch_file.specs.Draft.{Follows, IsLimited, Sets, found_with}
 use Rattle.arch_file.specs.FcTypes.{is_fractional_type}
 use Rattle.arch_file.specs.Values.{decimal_from, is_fractional_from, whole_from}
-use Rattle.arch_file.specs.Words.{rank_of, same_keyword}
+use Rattle.arch_file.specs.Ranks.{rank_of}
+use Rattle.arch_file.proofs.KeywordRanks.{alike_by_rank}
+use Rattle.arch_file.specs.Words.{same_keyword}
 
 abbrev Words : Type 0
 Words = List (List ℕ)
@@ -81,7 +83,7 @@ IsPlain keyword = (other : Keyword) → rank_of other < 11 → same_keyword othe
 pub IsPlain-from_rank : (keyword : Keyword) → 11 ≤ rank_of keyword → IsPlain keyword
 IsPlain-from_rank keyword high other low =
     let differs : rank_of other ≡ rank_of keyword → ⊥ = omega arith in
-    not_same (eqb (rank_of other) (rank_of keyword)) refl differs
+    alike_by_rank other keyword ∙ not_same (eqb (rank_of other) (rank_of keyword)) refl differs
   where
     not_same : (b : Bool) → eqb (rank_of other) (rank_of keyword) ≡ b → (rank_of other ≡ rank_of keyword → ⊥) → b ≡ false
     not_same true same differs = absurd (differs (eqb-true (rank_of other) (rank_of keyword) same))
@@ -89,7 +91,7 @@ IsPlain-from_rank keyword high other low =
 
 pub mark_stands : (stands : List Bool) (found : Keyword → Option Words) (keyword other : Keyword) (words : Words) → length stands ≡ 14 → get_or stands (rank_of other) false ≡ is_some (found other) → get_or (set stands (rank_of keyword) true) (rank_of other) false ≡ is_some (found_with found keyword words other)
 mark_stands stands found keyword other words ranks stood =
-    mark_place stands (rank_of keyword) (rank_of other) (same_keyword other keyword) refl (omega (arith, rank_below keyword))
+    mark_place stands (rank_of keyword) (rank_of other) (same_keyword other keyword) (sym (alike_by_rank other keyword)) (omega (arith, rank_below keyword))
     ∙ ap (λ b. b || same_keyword other keyword) stood ∙ sym (is_some_or (same_keyword other keyword) (found other) words)
 
 -- a keyword that has no value stands now
@@ -137,7 +139,7 @@ limit_set false found more words value old new limit is sets was limits is_there
 -- a keyword that didn't stand has its value now, and stands
 pub Follows-set : (old mid : Draft) (found : Keyword → Option Words) (seen : List Pin) (keyword : Keyword) (words : Words) → get_or old.stands (rank_of keyword) false ≡ false → Follows old found seen → Sets old keyword words mid → Follows (record mid { stands = set mid.stands (rank_of keyword) true }) (found_with found keyword words) seen
 Follows-set old mid found seen keyword words fresh follows sets =
-    let new = λ (other : Keyword). or_new (same_keyword other keyword) (found other) words (λ same. sym (follows.stands other) ∙ ap (λ n. get_or old.stands n false) (eqb-true (rank_of other) (rank_of keyword) same) ∙ fresh) in
+    let new = λ (other : Keyword). or_new (same_keyword other keyword) (found other) words (λ same. sym (follows.stands other) ∙ ap (λ n. get_or old.stands n false) (eqb-true (rank_of other) (rank_of keyword) (sym (alike_by_rank other keyword) ∙ same)) ∙ fresh) in
     record {
       ranks = length-set mid.stands (rank_of keyword) true ∙ ap length sets.stands ∙ follows.ranks;
       stands = λ other. rw sets.stands (mark_stands old.stands found keyword other words follows.ranks (follows.stands other));

@@ -19,7 +19,8 @@ use Rattle.arch_file.specs.Pins.{clock_count, output_count}
 use Rattle.arch_file.specs.Values.{reach}
 use Rattle.arch_file.specs.FaultLists.{comes_before, only_if, word_of}
 use Rattle.arch_file.specs.Readings.{least_kind}
-use Rattle.arch_file.specs.Words.{rank_of, required}
+use Rattle.arch_file.specs.Ranks.{rank_of}
+use Rattle.arch_file.specs.Words.{required}
 
 -- keywords by their places among those that must stand
 abbrev Rise : Keyword → Keyword → Type 0

@@ -1,6 +1,7 @@
 mod DraftLemmas
 mod EndLemmas
 mod Examples
+mod KeywordRanks
 mod LineLemmas
 mod PinLemmas
 mod ReadLemmas

@@ -1,5 +1,5 @@
 -- The faults of one line, and the lists with one more line.
-use Rattle.std.proofs.Common.{◌≡◌, ◌∙◌, ℕ, ◌+◌, ◌<◌, ◌≤◌, List, [], ◌∷◌, ◌++◌, Bool, true, false, cond, ◌||◌, ◌==◌, Option, Some, None, is_some, refl, ap, sym, arith, count_by, nat_lt, length, get_or, codes}
+use Rattle.std.proofs.Common.{◌≡◌, ◌∙◌, ℕ, ◌+◌, ◌<◌, ◌≤◌, List, [], ◌∷◌, ◌++◌, Bool, true, false, cond, ◌||◌, ◌==◌, Option, Some, None, is_some, refl, ap, sym, arith, count_by, nat_lt, length, get_or, codes, eqb}
 use Rattle.std.specs.Option.{option_or, option_to_list}
 use Rattle.std.specs.Str.{bytes_eq}
 use Rattle.std.specs.List.{cons_option}
@@ -24,7 +24,9 @@ use Rattle.arch_file.specs.Pins.{clock_count, has_side, input_count, is_clock_cl
 use Rattle.arch_file.specs.PinLine.{pin_in, pin_line_faults}
 use Rattle.arch_file.specs.Segment.{segment_faults}
 use Rattle.arch_file.specs.Values.{decimal_faults, decimal_in, is_fc_type, is_subset, one_faults, value_faults, whole_faults, whole_in, width_faults, word_faults}
-use Rattle.arch_file.specs.Words.{is_pin_keyword, lone, rank_of, same_keyword}
+use Rattle.arch_file.specs.Ranks.{rank_of}
+use Rattle.arch_file.proofs.KeywordRanks.{alike_by_rank}
+use Rattle.arch_file.specs.Words.{is_pin_keyword, lone, same_keyword}
 
 -- `Repeated` comes before those
 abbrev IsRepeatedFirst : List ArchFaultKind → Type 0
@@ -84,13 +86,15 @@ keyword_faults-pin before keyword words pin = rw pin refl
 
 -- `segment` is no pin's keyword, and has no value
 pub segment_rank : (keyword : Keyword) → same_keyword keyword Segment ≡ true → rank_of keyword ≡ 11
-segment_rank keyword same = eqb-true (rank_of keyword) 11 same
+segment_rank keyword same = eqb-true (rank_of keyword) 11 (sym (alike_by_rank keyword Segment) ∙ same)
 
 pub segment_pin : (keyword : Keyword) → same_keyword keyword Segment ≡ true → is_pin_keyword keyword ≡ false
-segment_pin keyword same = rw (segment_rank keyword same) refl
+segment_pin keyword same = rw (alike_by_rank keyword Inpin, alike_by_rank keyword Outpin, segment_rank keyword same) refl
 
 pub pin_rank : (keyword : Keyword) → is_pin_keyword keyword ≡ true → 11 ≤ rank_of keyword
-pin_rank keyword pin = grind (arith, nat_tests)
+pin_rank keyword pin =
+    let ranks : (eqb (rank_of keyword) 12 || eqb (rank_of keyword) 13) ≡ true = rw (← alike_by_rank keyword Inpin, ← alike_by_rank keyword Outpin) pin in
+    grind (arith, nat_tests, ranks)
 
 -- a line that is no pin's gives no pin
 pub no_pin : (seen : List Pin) (keyword : Keyword) (words : List (List ℕ)) → is_pin_keyword keyword ≡ false → seen ++ option_to_list (pin_behind (Some keyword) words) ≡ seen

@@ -20,7 +20,8 @@ use Rattle.arch_file.specs.Pins.{has_side, is_clock_class, is_input_class}
 use Rattle.arch_file.specs.PinLine.{pin_in, pin_line_faults}
 use Rattle.arch_file.specs.Segment.{segment_faults}
 use Rattle.arch_file.specs.Values.{value_faults}
-use Rattle.arch_file.specs.Words.{is_pin_keyword, is_unread, keyword_of, rank_of, same_keyword, texts}
+use Rattle.arch_file.specs.Ranks.{rank_of}
+use Rattle.arch_file.specs.Words.{is_pin_keyword, is_unread, keyword_of, same_keyword, texts}
 use Rattle.arch_file.proofs.DraftLemmas.{Follows-mark, Follows-set}
 use Rattle.arch_file.proofs.LineLemmas.{Follows-add, Follows-same, keyword_faults-pin, keyword_faults-segment, keyword_faults-value, no_pin, one_pin, pin_rank, pins_of-push, segment_pin, segment_rank, words_at-push}
 

@@ -19,7 +19,8 @@ use Rattle.arch_file.specs.Readings.{least_kind}
 use Rattle.arch_file.specs.FcTypes.{is_fractional_type}
 use Rattle.arch_file.specs.Pins.{clock_count, has_side, input_count, is_clock_class, is_input_class}
 use Rattle.arch_file.specs.Values.{decimal_from, is_fractional_from, whole_from}
-use Rattle.arch_file.specs.Words.{rank_of, same_keyword}
+use Rattle.arch_file.specs.Ranks.{rank_of}
+use Rattle.arch_file.specs.Words.{same_keyword}
 
 -- a number from 1 to a limit, where it is there
 abbrev pub IsLimited : Bool → ℕ → ℕ → Type 0

@@ -6,6 +6,7 @@ pub mod Faults
 pub mod FcTypes
 pub mod PinLine
 pub mod Pins
+pub mod Ranks
 pub mod Readings
 pub mod Segment
 pub mod SideWords

@@ -1,5 +1,5 @@
 -- The words of the architecture file.
-use Rattle.std.specs.Prelude.{ℕ, ◌==◌, nat_eq, Bool, ◌||◌, List, [], ◌∷◌, codes, Option, Some, None}
+use Rattle.std.specs.Prelude.{ℕ, nat_eq, Bool, ◌||◌, List, [], ◌∷◌, codes, Option, Some, None}
 use Rattle.std.specs.List.{find, starts_with}
 use Rattle.std.specs.Str.{bytes_eq}
 pub use Rattle.line_text.specs.Words.{texts}
@@ -29,26 +29,9 @@ required =
     IoRat ∷ ChanWidthIo ∷ ChanWidthX ∷ ChanWidthY ∷ SubblocksPerClb ∷ SubblockLutSize ∷ FcType ∷ FcOutput ∷ FcInput ∷ FcPad
     ∷ SwitchBlockType ∷ Segment ∷ []
 
--- the place of a keyword among all
-abbrev pub rank_of : Keyword → ℕ
-rank_of IoRat = 0
-rank_of ChanWidthIo = 1
-rank_of ChanWidthX = 2
-rank_of ChanWidthY = 3
-rank_of SubblocksPerClb = 4
-rank_of SubblockLutSize = 5
-rank_of FcType = 6
-rank_of FcOutput = 7
-rank_of FcInput = 8
-rank_of FcPad = 9
-rank_of SwitchBlockType = 10
-rank_of Segment = 11
-rank_of Inpin = 12
-rank_of Outpin = 13
-
--- they are one keyword
+-- they are spelled alike
 abbrev pub same_keyword : Keyword → Keyword → Bool
-same_keyword first second = rank_of first == rank_of second
+same_keyword first second = bytes_eq (text_of first) (text_of second)
 
 -- its lines are pins
 abbrev pub is_pin_keyword : Keyword → Bool

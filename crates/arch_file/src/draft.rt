@@ -6,7 +6,8 @@ ghost use Rattle.arch_file.specs.Draft.{AddsPin, Ends, error_at, FollowsLines, R
 ghost use Rattle.arch_file.specs.Readings.{Finds};
 ghost use Rattle.arch_file.specs.Pins.{is_input_class, output_count};
 ghost use Rattle.arch_file.specs.Values.{value_faults};
-ghost use Rattle.arch_file.specs.Words.{is_pin_keyword, rank_of, required, same_keyword, texts};
+ghost use Rattle.arch_file.specs.Ranks.{rank_of};
+ghost use Rattle.arch_file.specs.Words.{is_pin_keyword, required, same_keyword, texts};
 
 use crate::arch::{Arch, Pin, PinClass, Pins};
 use crate::fault::{ArchError, ArchFault, ArchFaultKind, Keyword};

@@ -1,6 +1,7 @@
 //! The keywords of the architecture file.
 ghost use Rattle.std.specs.Prelude.{◌≡◌, ◌<◌, option_map};
-ghost use Rattle.arch_file.specs.Words.{is_pin_keyword, is_unread, keyword_of, lone, rank_of, same_keyword, text_of, texts};
+ghost use Rattle.arch_file.specs.Ranks.{rank_of};
+ghost use Rattle.arch_file.specs.Words.{is_pin_keyword, is_unread, keyword_of, lone, same_keyword, text_of, texts};
 
 use crate::fault::Keyword;
 use line_text::is_word;

@@ -60,57 +60,70 @@ fn refused_architectures(rt: HostRuntime) -> Result<(), Fail> {
     Ok(())
 }
 
-#[test]
-fn each_fault_is_told_at_its_line(rt: HostRuntime) -> Result<(), Fail> {
-    let changes = [
-        (1, "io_rat 2 3", "4 BadNumber 1"),
-        (1, "io_rat 2\nio_rat", "2 Repeated 2"),
-        (2, "chan_width_io 0.5", "5 NotProfile 2"),
-        (3, "chan_width_x", "4 BadNumber 3"),
-        (3, "chan_width_x gaussian", "5 NotProfile 3"),
-        (4, "chan_width_y uniform one", "4 BadNumber 4"),
-        (5, "inpin 0 bottom", "1 Unknown 5"),
-        (5, "inpin class:", "6 BadClass 5"),
-        (5, "inpin class: 0 global north", "6 BadClass 5"),
-        (6, "inpin class: 0 left left", "7 BadSide 6"),
-        (6, "inpin class: 2 global left", "6 BadClass 8"),
-        (
-            7,
-            "outpin class: 1 top\noutpin class: 1 top",
-            "6 BadClass 0",
-        ),
-        (8, "inpin class: 2 global global", "7 BadSide 8"),
-        (9, "subblock 1", "1 Unknown 9"),
-        (9, "", "3 Missing 0"),
-        (11, "Fc_type relative", "5 NotProfile 11"),
-        (12, "Fc_output 1 2", "4 BadNumber 12"),
-        (
-            16,
-            "segment frequency: 1 length: 1 Frac_cb: 1 Frac_sb:",
-            "4 BadNumber 16",
-        ),
-        (
-            16,
-            "segment frequency: 1 length: 2 Frac_cb: 1 Frac_sb: 1",
-            "5 NotProfile 16",
-        ),
-        (
-            16,
-            "segment frequency: 1 length: 1 length: 1 Frac_cb: 1 Frac_sb: 1",
-            "5 NotProfile 16",
-        ),
-        (
-            16,
-            "segment frequency: 1 length: 1 Frac_cb: 1",
-            "5 NotProfile 16",
-        ),
-        (17, "R_minW_nmos\nC_ipin 1 2\nT_ipin x", "ok"),
-    ];
+/// Asserts what the reader tells of the smallest architecture with one line changed, for each of these changes.
+fn assert_told<H: Abort + AllocGlobal>(
+    rt: &H,
+    changes: &[(usize, &str, &str)],
+) -> Result<(), Fail> {
     for (number, line, want) in changes {
-        let text = changed(rt.alloc(), &[(number, line)])?;
-        assert_eq!(rt; told(rt.alloc(), text.as_str())?.as_str(), want);
+        let text = changed(rt.alloc(), &[(*number, *line)])?;
+        assert_eq!(rt; told(rt.alloc(), text.as_str())?.as_str(), *want);
     }
     Ok(())
+}
+
+#[test]
+fn each_fault_of_a_value_is_told_at_its_line(rt: HostRuntime) -> Result<(), Fail> {
+    assert_told(
+        &rt,
+        &[
+            (1, "io_rat 2 3", "4 BadNumber 1"),
+            (1, "io_rat 2\nio_rat", "2 Repeated 2"),
+            (2, "chan_width_io 0.5", "5 NotProfile 2"),
+            (3, "chan_width_x", "4 BadNumber 3"),
+            (3, "chan_width_x gaussian", "5 NotProfile 3"),
+            (4, "chan_width_y uniform one", "4 BadNumber 4"),
+            (9, "subblock 1", "1 Unknown 9"),
+            (9, "", "3 Missing 0"),
+            (11, "Fc_type relative", "5 NotProfile 11"),
+            (12, "Fc_output 1 2", "4 BadNumber 12"),
+            (17, "R_minW_nmos\nC_ipin 1 2\nT_ipin x", "ok"),
+        ],
+    )
+}
+
+#[test]
+fn each_fault_of_a_pin_is_told_at_its_line(rt: HostRuntime) -> Result<(), Fail> {
+    let second_output = "outpin class: 1 top\noutpin class: 1 top";
+    assert_told(
+        &rt,
+        &[
+            (5, "inpin 0 bottom", "1 Unknown 5"),
+            (5, "inpin class:", "6 BadClass 5"),
+            (5, "inpin class: 0 global north", "6 BadClass 5"),
+            (6, "inpin class: 0 left left", "7 BadSide 6"),
+            (6, "inpin class: 2 global left", "6 BadClass 8"),
+            (7, second_output, "6 BadClass 0"),
+            (8, "inpin class: 2 global global", "7 BadSide 8"),
+        ],
+    )
+}
+
+#[test]
+fn each_fault_of_a_segment_is_told_at_its_line(rt: HostRuntime) -> Result<(), Fail> {
+    let odd = "segment frequency: 1 length: 1 Frac_cb: 1 Frac_sb:";
+    let long = "segment frequency: 1 length: 2 Frac_cb: 1 Frac_sb: 1";
+    let twice = "segment frequency: 1 length: 1 length: 1 Frac_cb: 1 Frac_sb: 1";
+    let few = "segment frequency: 1 length: 1 Frac_cb: 1";
+    assert_told(
+        &rt,
+        &[
+            (16, odd, "4 BadNumber 16"),
+            (16, long, "5 NotProfile 16"),
+            (16, twice, "5 NotProfile 16"),
+            (16, few, "5 NotProfile 16"),
+        ],
+    )
 }
 
 #[test]
