@@ -120,13 +120,8 @@ impl<'t> Checker<'t> {
     {
         let args = args_of(words);
         let fault = match keyword {
-            Keyword::Model => {
-                if self.begun {
-                    Some(BlifFaultKind::Unknown)
-                } else {
-                    None
-                }
-            }
+            Keyword::Model if self.begun => Some(BlifFaultKind::Unknown),
+            Keyword::Model | Keyword::Skipped => None,
             Keyword::Inputs => {
                 self.nets.number_all(args, numbers)?;
                 drive(alloc, &self.clocks, &mut self.drivers, args)?
@@ -155,7 +150,6 @@ impl<'t> Checker<'t> {
                 self.ended = true;
                 None
             }
-            Keyword::Skipped => None,
             Keyword::Other => Some(BlifFaultKind::Unknown),
             Keyword::Row => row_fault(self.cover, words),
         };
