@@ -1,5 +1,6 @@
 mod DecimalLemmas
 mod Examples
+mod FirstPlaces
 pub mod InOrder
 mod LineLemmas
 mod OnePass

@@ -4,6 +4,8 @@ ghost use Rattle.std.specs.List.{position_or_len};
 ghost use Rattle.line_text.specs.Lines.{is_not_ascii, physical_lines};
 ghost use Rattle.line_text.specs.Physical.{IsContent, first_line, is_plain as is_plain_byte, later_lines};
 
+use memchr::memchr;
+
 /// Whether the byte ends no line, begins no comment and may stand outside comments.
 fn is_plain(byte: u8) -> bool
     ensures { result ≡ is_plain_byte byte }
@@ -27,10 +29,11 @@ fn split_plain(text: &[u8]) -> (&[u8], &[u8])
 }
 
 /// The place of the first LF.
+#[tactic(auto, using(crate::proofs::FirstPlaces::first_place))]
 fn line_end(text: &[u8]) -> Option<usize>
     ensures { result ≡ position (λ byte. byte == 10) text.now }
 {
-    text.iter().position(|byte| *byte == b'\n')
+    memchr(b'\n', text)
 }
 
 /// The first physical line of a text without its LF, and what follows it.
