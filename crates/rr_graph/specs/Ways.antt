@@ -1,5 +1,5 @@
 -- Ways to a sink: how many nodes at least follow a node, and which ends of its edges matter.
-use Rattle.std.specs.Prelude.{ℕ, ◌+◌, ◌*◌, ◌/◌, ◌≤◌, ◌==◌, ◌&&◌, ◌||◌, not, Bool, Option, Some, None, List, filter, if◌then◌else◌}
+use Rattle.std.specs.Prelude.{ℕ, ◌≡◌, ◌+◌, ◌*◌, ◌/◌, ◌<◌, ◌≤◌, length, slice_index_or, ◌==◌, ◌&&◌, ◌||◌, not, Bool, Option, Some, None, List, filter, if◌then◌else◌}
 use Rattle.arch_file.specs.declared.arch.Arch.{Arch}
 use Rattle.grid.specs.declared.Strip.{Strip}
 use Rattle.rr_graph.specs.declared.node.NodeKind.{NodeKind}
@@ -15,6 +15,10 @@ is_own is_block sink node = (node.x == sink.x) && ((node.y == sink.y) && (is_blo
 -- an input of the sink's block, or its pad, meets the track
 abbrev pub is_met : Arch → Strip → Node → ℕ → Bool
 is_met arch strip sink track = if is_block_row strip sink.y then is_read arch track else meets_track arch.fc_pad arch.tracks sink.n track
+
+-- of the first tracks, whether each is met
+abbrev pub AreMet : Arch → Strip → Node → List Bool → Type 0
+AreMet arch strip sink tracks = (track : ℕ) (d : Bool) → track < length tracks → slice_index_or tracks track d ≡ is_met arch strip sink track
 
 -- how far the middle of a wire lies from that of the sink's block or pad, in half steps
 abbrev pub from_sink : Node → NodeKind → ℕ → ℕ → ℕ

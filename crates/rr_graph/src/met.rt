@@ -1,9 +1,10 @@
 //! Which tracks the inputs of a logic block meet, and those of each pad, in a table.
 ghost use Rattle.std.specs.Prelude.{◌≡◌, ◌≤◌, ◌<◌, IfOk};
+ghost use Rattle.arch_file.specs.declared.arch.Arch.{Arch};
 ghost use Rattle.arch_file.specs.Arch.{IsArch};
 ghost use Rattle.rr_graph.specs.Geometry.{is_read};
 ghost use Rattle.rr_graph.specs.Met.{met_by, IsMetTable};
-ghost use Rattle.rr_graph.specs.Ways.{is_met};
+ghost use Rattle.rr_graph.specs.Ways.{is_met, AreMet};
 
 use crate::geometry::{is_block_number, is_block_row};
 use crate::joins::meets_track;
@@ -79,5 +80,22 @@ pub(crate) fn is_met(table: &[bool], arch: &Arch, strip: Strip, sink: Node, trac
         met_in(table, arch, 0, track)
     } else {
         met_in(table, arch, sink.n + 1, track)
+    }
+}
+
+/// Which tracks the inputs of the sink's block meet, or its pad, from the first one on: as many as the table has there.
+pub(crate) fn met_row(table: &[bool], strip: Strip, sink: Node) -> &[bool]
+    requires { sink.n < 145 }
+    ensures { (arch : Arch) → IsMetTable arch table.now → AreMet arch strip sink result.now }
+{
+    let row = if is_block_row(strip, sink.y) {
+        0
+    } else {
+        sink.n as usize + 1
+    };
+    if row * 64 + 64 <= table.len() {
+        &table[row * 64..row * 64 + 64]
+    } else {
+        &table[0..0]
     }
 }

@@ -33,7 +33,7 @@ fn up_of(kind: NodeKind, y: u32) -> u64
 }
 
 /// How far the middle of a wire lies from that of the sink's block or pad, in half steps.
-fn from_sink(sink: Node, wire: Node) -> u64
+pub fn from_sink(sink: Node, wire: Node) -> u64
     ensures { result ≡ from_sink sink wire.kind wire.x wire.y }
 {
     gap(across_of(wire.kind, wire.x), 2 * sink.x as u64)
