@@ -3,7 +3,7 @@
 ghost use Rattle.std.specs.Prelude.{◌<◌, ◌≤◌, IfOk};
 
 use crate::jobs::TWO_TABLES;
-use crate::slots::{ask, packing, placing, routing, step, step_and_put, text};
+use crate::slots::{ask, packing, placing, routing, step, step_and_put, taken, text};
 use fixtures::{AND, ARCHITECTURE};
 use std::alloc::Global;
 use std::test::Fail;
@@ -47,9 +47,7 @@ fn done_before_take(slot: &mut Slot, act: &Command) -> Result<bool, &'static str
 fn done_before_step(slot: &mut Slot, act: &Command) -> Result<StepReply, &'static str>
     requires { slot.old.state.entries ≤ 9 }
 {
-    let Some(job) = slot.take() else {
-        return Err("there is no step to take");
-    };
+    let job = taken(slot)?;
     let asked = ask(slot, act);
     let reply = step_and_put(slot, job);
     asked?;
@@ -60,9 +58,7 @@ fn done_before_step(slot: &mut Slot, act: &Command) -> Result<StepReply, &'stati
 fn done_before_put(slot: &mut Slot, act: &Command) -> Result<StepReply, &'static str>
     requires { slot.old.state.entries ≤ 9 }
 {
-    let Some(job) = slot.take() else {
-        return Err("there is no step to take");
-    };
+    let job = taken(slot)?;
     match job.step() {
         Ok(done) => {
             let asked = ask(slot, act);
@@ -87,9 +83,7 @@ fn done_after_put(slot: &mut Slot, act: &Command) -> Result<bool, &'static str> 
 fn done_before_giving_back(slot: &mut Slot, act: &Command) -> Result<bool, &'static str>
     requires { slot.old.state.entries ≤ 9 }
 {
-    let Some(job) = slot.take() else {
-        return Err("there is no step to take");
-    };
+    let job = taken(slot)?;
     let asked = ask(slot, act);
     slot.give_back(job.into_back());
     asked?;
@@ -185,5 +179,32 @@ fn asked_for_its_status(rt: HostRuntime) -> Result<(), Fail> {
     let reply = done_before_put(&mut slot, &Command::Status);
     drop(slot);
     assert_eq!(rt; reply?, StepReply::Advanced);
+    Ok(())
+}
+
+/// Takes a step, withdraws all, begins the same job again, and puts the step and then one of the new job.
+fn begun_again(slot: &mut Slot, upload: &Command) -> Result<(StepReply, StepReply), &'static str>
+    requires { slot.old.state.entries ≤ 9 }
+{
+    let job = taken(slot)?;
+    let withdrawn = ask(slot, &Command::Withdraw);
+    let loaded = ask(slot, upload);
+    let packed = ask(slot, &Command::Pack);
+    let late = step_and_put(slot, job);
+    withdrawn?;
+    loaded?;
+    packed?;
+    Ok((late?, step(slot)?))
+}
+
+#[test]
+fn begun_again_while_out(rt: HostRuntime) -> Result<(), Fail> {
+    let upload = Command::Upload(text(rt.alloc(), TWO_TABLES)?);
+    let mut slot = packing(rt.alloc(), ARCHITECTURE, TWO_TABLES)?;
+    let replies = begun_again(&mut slot, &upload);
+    drop(slot);
+    let (late, own) = replies?;
+    assert_eq!(rt; late, StepReply::Stale);
+    assert_eq!(rt; own, StepReply::Advanced);
     Ok(())
 }

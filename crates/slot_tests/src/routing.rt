@@ -3,6 +3,7 @@ ghost use Rattle.arch_file.specs.Arch.{IsWithin};
 
 use crate::slots::{ask, finished, placed, routing, status, step, strip, tracked};
 use fixtures::{AND, ARCHITECTURE, ONE_TRACK_A_PIN};
+use rr_graph::{Resource, ResourceKind};
 use std::alloc::Global;
 use std::test::Fail;
 use tenant_slot::{Command, Ending, FileKind, Refusal, Reply, Slot, StateName, Status, StepReply};
@@ -25,6 +26,50 @@ fn a_routed_netlist_has_its_file(rt: HostRuntime) -> Result<(), Fail> {
     };
     assert_eq!(rt; kind, FileKind::Route);
     assert_eq!(rt; text.as_bytes().len(), 391);
+    Ok(())
+}
+
+fn resource(x: u32, kind: ResourceKind, y: u32, n: u32) -> Resource {
+    Resource { x, kind, y, n }
+}
+
+/// Whether a list has, in node order, what the nets of the routed netlist hold: `a` goes from the first pad over a horizontal and
+/// a vertical wire, `b` from the second over one wire, and `f` over one above to a third pad.
+fn is_all_that_is_held(list: &[Resource]) -> bool {
+    let held = [
+        resource(0, ResourceKind::ChanY, 1, 1),
+        resource(1, ResourceKind::Opin, 0, 0),
+        resource(1, ResourceKind::Opin, 0, 1),
+        resource(1, ResourceKind::Opin, 1, 2),
+        resource(1, ResourceKind::Ipin, 1, 0),
+        resource(1, ResourceKind::Ipin, 1, 1),
+        resource(1, ResourceKind::Ipin, 2, 0),
+        resource(1, ResourceKind::ChanX, 0, 0),
+        resource(1, ResourceKind::ChanX, 0, 1),
+        resource(1, ResourceKind::ChanX, 1, 0),
+        resource(1, ResourceKind::Pad, 0, 0),
+        resource(1, ResourceKind::Pad, 0, 1),
+        resource(1, ResourceKind::Pad, 2, 0),
+    ];
+    list == held.as_slice()
+}
+
+#[test]
+fn a_routed_netlist_holds_its_routes_and_pads(rt: HostRuntime) -> Result<(), Fail> {
+    let mut slot = routing(rt.alloc(), ARCHITECTURE, AND)?;
+    let first = step(&mut slot);
+    let before = slot.routed().len();
+    let second = step(&mut slot);
+    let held = is_all_that_is_held(slot.routed());
+    let withdrawn = ask(&mut slot, &Command::Withdraw);
+    let after = slot.routed().len();
+    drop(slot);
+    first?;
+    assert_eq!(rt; second?, StepReply::Finished);
+    withdrawn?;
+    assert_eq!(rt; before, 0);
+    assert!(rt; held);
+    assert_eq!(rt; after, 0);
     Ok(())
 }
 

@@ -122,6 +122,20 @@ pub(crate) fn packing(alloc: Global, arch: &str, netlist: &str) -> Result<Slot, 
     Err("the packing doesn't begin".into())
 }
 
+/// Takes the running job's next step, which is the slot's own.
+#[tactic(auto, using(crate::proofs::Entries::taken_so))]
+pub(crate) fn taken(slot: &mut Slot) -> Result<AnyJob, &'static str>
+    ensures own { IfOk result (λ job. job.step.id ≡ slot.old.id) }
+    ensures room { IfOk result (λ job. slot.old.state.entries < 65536) }
+    ensures id { slot.new.id ≡ slot.old.id }
+    ensures few { slot.new.state.entries ≡ slot.old.state.entries }
+{
+    match slot.take() {
+        Some(job) => Ok(job),
+        None => Err("there is no step to take"),
+    }
+}
+
 /// Steps a job of the slot and puts it. Without memory it is given back.
 #[tactic(auto, using(crate::proofs::Entries::put_so, crate::proofs::Entries::given_back))]
 pub(crate) fn step_and_put(slot: &mut Slot, job: AnyJob) -> Result<StepReply, &'static str>
@@ -147,9 +161,7 @@ pub(crate) fn step(slot: &mut Slot) -> Result<StepReply, &'static str>
     ensures id { slot.new.id ≡ slot.old.id }
     ensures few { slot.new.state.entries ≤ slot.old.state.entries + 1 }
 {
-    let Some(job) = slot.take() else {
-        return Err("there is no step to take");
-    };
+    let job = taken(slot)?;
     step_and_put(slot, job)
 }
 
