@@ -99,6 +99,9 @@ fn write_owned<K: Sink>(
     owned: &[Owned],
     runs: &mut Runs,
 ) -> Result<(), Failed> {
+    if owned.is_empty() {
+        return Ok(());
+    }
     write_wires(sink, geometry, owned, Direction::Across, runs)?;
     write_wires(sink, geometry, owned, Direction::Upwards, runs)?;
     write_marks(sink, geometry, owned, ResourceKind::Pad, "p")?;

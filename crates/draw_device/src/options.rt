@@ -6,9 +6,11 @@ use line_text::decimal_u32;
 use std::alloc::{AllocError, Global};
 use std::convert::AsStr;
 
-const ABOUT: &str = "Draws the device as an SVG, from what fpgad printed: `op list` and `op owners`";
+const ABOUT: &str =
+    "Draws the device as an SVG, from what fpgad printed: `op list` and `op owners`";
 
-const EXAMPLE: &str = "Example: fpgad --tracks 8 --columns 10 --rows 8 < my.script | draw_device --tracks 8 --columns 10 --rows 8 > my.svg";
+const EXAMPLE: &str =
+    "Example: fpgad --tracks 8 --columns 10 --rows 8 < my.script | draw_device --tracks 8 --columns 10 --rows 8 > my.svg";
 
 /// The size of the device that these words give, the first being the program's name. An error is clap's, and a call for help is one.
 pub fn read_options<'a, S: AsStr>(alloc: Global, words: &'a [S]) -> Result<DeviceSize, Error> {

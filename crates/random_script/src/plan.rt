@@ -1,5 +1,5 @@
 //! What a script is about, and the device that it wants.
-ghost use Rattle.std.specs.Prelude.{◌≡◌, ◌+◌, ◌*◌, ◌/◌, ◌≤◌, ◌<◌};
+ghost use Rattle.std.specs.Prelude.{◌≡◌, ◌+◌, ◌*◌, ◌/◌, ◌≤◌, ◌<◌, IfSome};
 
 /// The last thing that a script's tenants ask for.
 #[derive(Clone, Copy, Debug, PartialEq, Eq, PartialOrd, Ord)]
@@ -51,7 +51,9 @@ impl Plan {
     /// A plan for these wishes. None where one is beyond its limits, or where no device has room for all strips.
     ///
     /// The device has a fourth more logic places than there are full clusters; it is a square, as far as 64 rows and 256 columns allow.
-    pub fn new(wishes: Wishes) -> Option<Self> {
+    pub fn new(wishes: Wishes) -> Option<Self>
+        ensures { IfSome result (λ plan. plan.wishes ≡ wishes) }
+    {
         let circuit = (1..=7500).contains(&wishes.tables) && (1..=64).contains(&wishes.tenancies);
         let device = (1..=8).contains(&wishes.inputs) && (1..=16).contains(&wishes.cluster);
         if !circuit || !device {
@@ -74,6 +76,7 @@ impl Plan {
         requires cluster { (1 ≤ wishes.cluster) × (wishes.cluster ≤ 16) }
         requires places { (1 ≤ places) × (places ≤ 10_000) }
         requires rows { (1 ≤ rows) × (rows ≤ 64) }
+        ensures { IfSome result (λ plan. plan.wishes ≡ wishes) }
     {
         let width = places.div_ceil(rows);
         if width > 256 || wishes.tenancies * (width + 1) > 257 {
@@ -95,12 +98,16 @@ impl Plan {
     }
 
     /// Rows of the device.
-    pub fn rows(&self) -> u32 {
+    pub fn rows(&self) -> u32
+        ensures { (1 ≤ result) × (result ≤ 64) }
+    {
         self.rows
     }
 
     /// Tracks of each channel. That they are enough is only tested.
-    pub fn tracks(&self) -> u32 {
+    pub fn tracks(&self) -> u32
+        ensures { (1 ≤ result) × (result ≤ 64) }
+    {
         self.tracks
     }
 

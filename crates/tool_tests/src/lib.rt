@@ -1,0 +1,13 @@
+//! What the picture of a device shows and why an input for it is refused, and which scripts are made to measure with.
+//!
+//! - `pictures`: marks and lines whose places follow from the sizes by hand, and a sink that fails.
+//! - `inputs`: the fault of each input that is refused, with its line.
+//! - `scripts`: architectures and netlists that the service's own readers take, and the limits of a plan.
+#![tactic(auto)]
+
+#[cfg(test)]
+mod inputs;
+#[cfg(test)]
+mod pictures;
+#[cfg(test)]
+mod scripts;
