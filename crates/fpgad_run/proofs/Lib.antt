@@ -1,11 +1,4 @@
-mod AheadLemmas
 mod Examples
-mod HeldLemmas
-mod LineLemmas
 mod NameLemmas
-mod OperatorLemmas
-mod ReadingLemmas
 mod SectionLemmas
-mod Stepping
 mod Telling
-mod Walked

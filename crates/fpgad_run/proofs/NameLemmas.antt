@@ -4,7 +4,8 @@ use Rattle.std.specs.Borrow.{Bor}
 use Rattle.std.specs.List.{list_any, position_or_len}
 use Rattle.std.specs.Str.{bytes_eq}
 use Rattle.std.proofs.lemmas.List.{map_push}
-use Rattle.fpgad_run.specs.Names.{texts, has_name, number_of, with_name}
+use Rattle.line_text.specs.Words.{texts}
+use Rattle.fpgad_run.specs.Names.{has_name, number_of, with_name}
 
 pub has_name-texts : (slices : List (Bor (List ℕ))) (name : List ℕ) → list_any (λ slice. bytes_eq name slice.now) slices ≡ has_name (texts slices) name
 has_name-texts [] name = refl

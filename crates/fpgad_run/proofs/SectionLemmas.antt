@@ -11,7 +11,7 @@ use Rattle.std.specs.declared.alloc.AllocError.{AllocError}
 use Rattle.std.proofs.lemmas.Bool.{false≢true}
 use Rattle.line_text.specs.declared.source.Failed.{Failed}
 use Rattle.vpr_files.specs.Writing.{Writes}
-use Rattle.fpgad_run.specs.Held.{held}
+use Rattle.operator.specs.Held.{held}
 use Rattle.fpgad_run.specs.Zipped.{zipped}
 
 abbrev pub Text : Type 0

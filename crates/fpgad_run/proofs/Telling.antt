@@ -1,30 +1,30 @@
 -- The acts of a script that runs, told one after another.
-use Rattle.std.proofs.Common.{◌≡◌, ℕ, List, [], ◌∷◌, ◌++◌, length, Option, Some, None, Result, Ok, Err, refl, sym, ap, ◌∙◌, subst, append-nil}
+use Rattle.std.proofs.Common.{◌≡◌, ℕ, List, [], ◌∷◌, ◌++◌, length, Result, Ok, Err, refl, sym, ap, ◌∙◌, subst, append-nil}
 use Rattle.std.specs.Prelude.{map, IfOk, OnOk}
 use Rattle.std.specs.List.{flat_map}
 use Rattle.std.proofs.lemmas.Grind.{flat_map-append}
 use Rattle.std.proofs.lemmas.List.{map_push}
-use Rattle.service_core.specs.History.{History}
 use Rattle.service_core.specs.declared.device.Device.{Device}
 use Rattle.service_core.specs.Headline.{AreParted, EachIsAlone}
 use Rattle.service_core.specs.Run.{Call, Run}
-use Rattle.service_core.specs.Service.{ServiceState, empty, live_of}
+use Rattle.service_core.specs.Service.{ServiceState, empty}
 use Rattle.fpgad_run.specs.declared.program.Running.{Running}
-use Rattle.fpgad_run.specs.declared.operator_line.OperatorLine.TheVariants.{Admit, Evict, List as ListAll, Step, Take, Put}
 use Rattle.sessions.specs.declared.line.SessionLine.{SessionLine}
-use Rattle.fpgad_run.specs.declared.act.Act.{Act}
-use Rattle.fpgad_run.specs.declared.act.Act.TheVariants.{Operator, Session}
-use Rattle.fpgad_run.specs.OperatorText.{last_id}
+use Rattle.script_text.specs.declared.act.Act.{Act}
+use Rattle.script_text.specs.declared.act.Act.TheVariants.{Operator, Session}
+use Rattle.operator.specs.OperatorText.{last_id}
 use Rattle.sessions.specs.declared.told.Answer.{Answer}
 use Rattle.sessions.specs.SessionAnswer.{Asks, IsAnswer}
 use Rattle.sessions.specs.EndToEnd.{LineIsToldAlone}
 use Rattle.fpgad_run.specs.EndToEnd.{AreToldAlone, IsToldAlone}
 use Rattle.sessions.specs.SessionText.{answer_text}
-use Rattle.fpgad_run.specs.Held.{held}
-use Rattle.fpgad_run.specs.Run.{Stage, Section, Telling, Tells, IsAdmission, IsAnswered, calls_of, output_of, sections_after, told_operator, told_session}
+use Rattle.operator.specs.Held.{held}
+use Rattle.operator.specs.Serving.{Stage}
+use Rattle.fpgad_run.specs.Run.{Section, Telling, Tells, IsAnswered, calls_of, output_of, sections_after, told_operator, told_session}
 use Rattle.sessions.proofs.StepLemmas.{Run-append}
-use Rattle.fpgad_run.specs.HeldJobs.{HeldList}
-use Rattle.fpgad_run.proofs.Stepping.{lengths-run, steady_asks}
+use Rattle.operator.specs.HeldJobs.{HeldList}
+use Rattle.operator.proofs.Served.{served_runs}
+use Rattle.operator.proofs.Stepping.{lengths-run, steady_asks}
 use Rattle.fpgad_run.specs.Told.{Begins, IsEven, Serves, sections_of, stage_of, told_so_far}
 use Rattle.fpgad_run.specs.declared.options.Options.{Options}
 use Rattle.arch_file.specs.declared.arch.Arch.{Arch}
@@ -72,20 +72,8 @@ progress_more start old new acts act p s =
     }
 
 -- the calls are a run of the core
-Run-one : (a b : ServiceState) (calls : List Call) (new : ServiceState) → calls ≡ [] → new ≡ a → Run a calls new
-Run-one a b calls new none same = rw none same
-
-admission_runs : (live : Option History) (old : Stage) (name : List ℕ) (width : ℕ) (calls : List Call) (text : List ℕ) (new : Stage) → IsAdmission live old name width calls text new → Run old.service calls new.service
-admission_runs (Some h) old name width calls text new is = rw is.0 (ap (λ (s : Stage). s.service) is.2)
-admission_runs None old name width calls text new is = rw is.4 (new.service, is.1, refl)
-
 pub answered_runs : (old : Stage) (act : Act (List ℕ)) (calls : List Call) (text : List ℕ) (new : Stage) → IsAnswered old act calls text new → Run old.service calls new.service
-answered_runs old (Operator (Admit name width)) calls text new is = admission_runs (live_of old.service.histories (last_id old.names name)) old name width calls text new is
-answered_runs old (Operator (Evict name)) calls text new is = rw is.4 (new.service, is.1, refl)
-answered_runs old (Operator (Step name count)) calls text new is = is.3
-answered_runs old (Operator (Take name)) calls text new is = rw is.4 (new.service, is.1, refl)
-answered_runs old (Operator (Put number)) calls text new is = is.2
-answered_runs old (Operator ListAll) calls text new is = rw is.0 (ap (λ (s : Stage). s.service) is.2)
+answered_runs old (Operator line) calls text new is = served_runs old line calls text new is
 answered_runs old (Session name line) calls text new is = is.2
 
 pub told_runs : (old : Stage) (ts : List Telling) (new : Stage) → Tells old ts new → Run old.service (calls_of ts) new.service

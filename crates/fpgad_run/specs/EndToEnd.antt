@@ -5,10 +5,11 @@ use Rattle.service_core.specs.Run.{Call}
 use Rattle.sessions.specs.declared.told.Answer.{Answer}
 use Rattle.sessions.specs.EndToEnd.{LineIsToldAlone}
 use Rattle.sessions.specs.SessionText.{answer_text}
-use Rattle.fpgad_run.specs.declared.act.Act.{Act}
-use Rattle.fpgad_run.specs.declared.act.Act.TheVariants.{Operator, Session}
-use Rattle.fpgad_run.specs.OperatorText.{last_id}
-use Rattle.fpgad_run.specs.Run.{Stage, Telling, IsAnswered}
+use Rattle.script_text.specs.declared.act.Act.{Act}
+use Rattle.script_text.specs.declared.act.Act.TheVariants.{Operator, Session}
+use Rattle.operator.specs.OperatorText.{last_id}
+use Rattle.operator.specs.Serving.{Stage}
+use Rattle.fpgad_run.specs.Run.{Telling, IsAnswered}
 
 -- a session's line is told what its name's last tenancy is told alone, after its own events of the calls before
 abbrev pub IsToldAlone : Device → Stage → List Call → Act (List ℕ) → List ℕ → Type 0

@@ -15,12 +15,13 @@ use Rattle.fpgad_run.specs.declared.outcome.Outcome.{Outcome}
 use Rattle.fpgad_run.specs.declared.outcome.Outcome.TheVariants.{Done, ArchUnreadable, ArchRefused, InputFailed, OutputFailed, ScriptFault, NoMemory}
 use Rattle.fpgad_run.specs.declared.program.Architecture.{Architecture}
 use Rattle.fpgad_run.specs.declared.program.Architecture.TheVariants.{InScript, Text, Unreadable}
-use Rattle.fpgad_run.specs.declared.act.Act.{Act}
+use Rattle.script_text.specs.declared.act.Act.{Act}
 use Rattle.line_text.specs.Lines.{physical_lines}
-use Rattle.fpgad_run.specs.Texts.{bytes_ahead}
-use Rattle.fpgad_run.specs.Script.{Acts, acts_from, script_of}
+use Rattle.script_text.specs.Texts.{bytes_ahead}
+use Rattle.script_text.specs.Script.{Acts, acts_from, script_of}
 use Rattle.fpgad_run.specs.EndToEnd.{AreToldAlone}
-use Rattle.fpgad_run.specs.Run.{Stage, Telling, Tells, calls_of, written}
+use Rattle.operator.specs.Serving.{Stage}
+use Rattle.fpgad_run.specs.Run.{Telling, Tells, calls_of, written}
 
 -- the architecture and the script's acts, or the fault of the one before that of the other
 abbrev pub Start : Type 0

@@ -8,9 +8,10 @@ use Rattle.sessions.specs.SessionAnswer.{IsAnswer}
 use Rattle.sessions.specs.SessionText.{answer_text}
 use Rattle.fpgad_run.specs.declared.program.Running.{Running}
 use Rattle.fpgad_run.specs.declared.sections.Sections.{Sections}
-use Rattle.fpgad_run.specs.Held.{held}
-use Rattle.fpgad_run.specs.declared.act.Act.{Act}
-use Rattle.fpgad_run.specs.Run.{Stage, Section, IsAnswered, output_of, told_operator, told_session, with_text}
+use Rattle.operator.specs.Held.{held}
+use Rattle.script_text.specs.declared.act.Act.{Act}
+use Rattle.operator.specs.Serving.{Stage}
+use Rattle.fpgad_run.specs.Run.{Section, IsAnswered, output_of, told_operator, told_session, with_text}
 use Rattle.fpgad_run.specs.Zipped.{zipped}
 
 abbrev pub stage_of : Running → Stage

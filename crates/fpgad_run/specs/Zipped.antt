@@ -1,7 +1,7 @@
 -- Private: how the sections are kept.
 use Rattle.std.specs.Prelude.{ℕ, List, [], ◌∷◌}
 use Rattle.line_text.specs.declared.memory_sink.MemorySink.{MemorySink}
-use Rattle.fpgad_run.specs.Held.{held}
+use Rattle.operator.specs.Held.{held}
 use Rattle.fpgad_run.specs.Run.{Section}
 
 -- a name and a text each

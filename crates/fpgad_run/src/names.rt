@@ -1,7 +1,5 @@
 ghost use Rattle.std.specs.Prelude.{◌≡◌, ◌<◌, [], length, slice_get, Some, IfOk};
-ghost use Rattle.std.specs.List.{list_all};
 ghost use Rattle.fpgad_run.specs.Names.{number_of, with_name};
-ghost use Rattle.fpgad_run.specs.Script.{is_name, is_name_byte};
 
 use indexmap::IndexSet;
 use std::alloc::{AllocError, Global};
@@ -15,7 +13,7 @@ pub(crate) struct Names<'t> {
 
 impl<'t> Model for Names<'t> {
     ghost use Rattle.std.specs.Prelude.{List, ℕ};
-    ghost use Rattle.fpgad_run.specs.Names.{texts};
+    ghost use Rattle.line_text.specs.Words.{texts};
 
     ghost Value = { List (List ℕ) };
 
@@ -53,23 +51,4 @@ impl<'t> Names<'t> {
         let (number, _) = self.names.insert_full(name)?;
         Ok(number)
     }
-}
-
-/// Whether the bytes may be a name.
-pub(crate) fn is_name(name: &[u8]) -> bool
-    ensures { result ≡ is_name name.now }
-{
-    !name.is_empty() && name.len() <= 32 && are_name_bytes(name)
-}
-
-fn are_name_bytes(name: &[u8]) -> bool
-    ensures { result ≡ list_all is_name_byte name.now }
-{
-    name.iter().all(|b| is_name_byte(*b))
-}
-
-fn is_name_byte(b: u8) -> bool
-    ensures { result ≡ is_name_byte b }
-{
-    b.is_ascii_alphanumeric() || b == b'_'
 }

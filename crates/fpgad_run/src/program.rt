@@ -1,19 +1,16 @@
 ghost use Rattle.std.specs.Prelude.{◌≡◌, ◌+◌, ◌<◌, ◌≤◌, ◌^◌, [], Ok, length, true, OnOk, IfOk, IfSome};
 ghost use Rattle.arch_file.specs.Arch.{IsArch, arch_of};
-ghost use Rattle.fpgad_run.specs.Script.{named_act, script_of};
+ghost use Rattle.script_text.specs.Script.{named_act, script_of};
 ghost use Rattle.fpgad_run.specs.Program.{Decides, IsReplies, Replies, Writes, checked, start_of};
 
-use crate::act::Act;
-use crate::held_jobs::HeldJobs;
-use crate::operator::Operator;
 use crate::options::Options;
 use crate::outcome::Outcome;
-use crate::script::{Script, ScriptError, read_script};
 use crate::sections::{Sections, push_section};
-use crate::texts::cut_text;
 use arch_file::{Arch, ArchError, read_arch};
 use line_text::{MemorySink, ReadError, Sink, Source, read_all, write_all};
-use service_core::{Core, Device, headline};
+use operator::{HeldJobs, Operator};
+use script_text::{Act, Script, ScriptError, cut_text, read_script};
+use service_core::{Device, Service, headline};
 use sessions::end_to_end;
 use std::alloc::{AllocError, Global};
 
@@ -137,7 +134,7 @@ fn serve(
     requires { IsArch arch }
     ensures { IfOk result (λ output. IsReplies options.now (Ok (arch, script.entry)) output.items) }
 {
-    let core = Core::new(
+    let core = Service::new(
         alloc,
         Device {
             arch,
@@ -153,7 +150,7 @@ fn serve(
 
 /// A script that runs: the core, the operator's names and jobs, and what was told so far.
 struct Running<'t> {
-    core: Core,
+    core: Service,
     operator: Operator<'t>,
     jobs: HeldJobs,
     operator_text: MemorySink,
@@ -167,7 +164,7 @@ impl<'t> Running<'t> {
     ghost use Rattle.fpgad_run.specs.Program.{device_of};
     ghost use Rattle.fpgad_run.specs.Told.{Begins, IsEven, Serves, told_so_far};
 
-    fn new(alloc: Global, core: Core) -> Self
+    fn new(alloc: Global, core: Service) -> Self
         requires { core.histories ≡ [] }
         ensures { Begins core result }
     {

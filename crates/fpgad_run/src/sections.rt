@@ -5,7 +5,7 @@ ghost use Rattle.fpgad_run.specs.Zipped.{zipped};
 
 use crate::names::Names;
 use line_text::{Failed, MemorySink};
-use service_core::Core;
+use service_core::Service;
 use sessions::{Answer, SessionLine, answer};
 use std::alloc::{AllocError, Global};
 
@@ -35,7 +35,7 @@ impl<'t> Sections<'t> {
     /// none gets one, the last.
     pub(crate) fn answer(
         &mut self,
-        core: &mut Core,
+        core: &mut Service,
         name: &'t [u8],
         id: u32,
         line: SessionLine,

@@ -1,5 +1,5 @@
 use Rattle.std.proofs.Common.{◌∙◌, ap}
-use Rattle.fpgad_run.specs.Run.{Stage}
+use Rattle.operator.specs.Serving.{Stage}
 use Rattle.fpgad_run.proofs.Telling.{begins_own}
 use Rattle.fpgad_run.proofs.program.serve.Goals as goal
 

@@ -1,5 +1,6 @@
 use Rattle.std.proofs.Common.{◌∙◌, ap}
-use Rattle.fpgad_run.specs.Names.{texts, number_of, with_name}
+use Rattle.line_text.specs.Words.{texts}
+use Rattle.fpgad_run.specs.Names.{number_of, with_name}
 use Rattle.fpgad_run.proofs.NameLemmas.{number_of-texts, with_name-texts}
 use Rattle.fpgad_run.proofs.names.Names.number.Goals as goal
 

@@ -1,6 +1,6 @@
 use Rattle.std.proofs.Common.{◌≡◌, ◌++◌, ◌∙◌, ap, codes, append_assoc, rules}
 use Rattle.std.specs.List.{flat_map}
-use Rattle.fpgad_run.specs.Held.{held}
+use Rattle.operator.specs.Held.{held}
 use Rattle.fpgad_run.specs.Run.{heading, section_text}
 use Rattle.fpgad_run.specs.Told.{sections_of}
 use Rattle.fpgad_run.proofs.program.Running.output.Goals as goal

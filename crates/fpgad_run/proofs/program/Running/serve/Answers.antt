@@ -1,7 +1,7 @@
 use Rattle.std.proofs.Common.{◌∙◌, sym, append-nil}
 use Rattle.sessions.specs.SessionText.{answer_text}
-use Rattle.fpgad_run.specs.Held.{held}
-use Rattle.fpgad_run.proofs.OperatorLemmas.{on_ok}
+use Rattle.operator.specs.Held.{held}
+use Rattle.operator.proofs.OperatorLemmas.{on_ok}
 use Rattle.fpgad_run.proofs.Telling.{session_answers, lengths-answered}
 use Rattle.fpgad_run.proofs.program.Running.serve.Goals as goal
 

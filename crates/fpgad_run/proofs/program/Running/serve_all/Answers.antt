@@ -4,9 +4,9 @@ use Rattle.std.proofs.lemmas.Iterator.Adapters.{YieldsList-from_vec}
 use Rattle.std.proofs.lemmas.Iterator.Consumers.{YieldsList-end}
 use Rattle.std.proofs.lemmas.List.{map-id, map_push}
 use Rattle.service_core.specs.Service.{ServiceState}
-use Rattle.fpgad_run.specs.declared.act.Act.{Act}
-use Rattle.fpgad_run.specs.Run.{Stage}
-use Rattle.fpgad_run.specs.Script.{named_act}
+use Rattle.script_text.specs.declared.act.Act.{Act}
+use Rattle.operator.specs.Serving.{Stage}
+use Rattle.script_text.specs.Script.{named_act}
 use Rattle.fpgad_run.proofs.Telling.{Progress, progress_more, on_ok_value, replies_all}
 use Rattle.fpgad_run.proofs.program.Running.serve_all.Goals as goal
 

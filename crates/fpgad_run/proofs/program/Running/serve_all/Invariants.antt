@@ -1,6 +1,6 @@
 use Rattle.std.proofs.Common.{[]}
 use Rattle.std.specs.Prelude.{map}
-use Rattle.fpgad_run.specs.Script.{named_act}
+use Rattle.script_text.specs.Script.{named_act}
 use Rattle.fpgad_run.proofs.Telling.{Progress}
 use Rattle.fpgad_run.proofs.program.Running.serve_all.Given as goal
 

@@ -3,7 +3,7 @@ use Rattle.std.specs.Prelude.{is_ok}
 use Rattle.std.proofs.lemmas.List.{get_or_default, length-set}
 use Rattle.line_text.specs.declared.memory_sink.MemorySink.{MemorySink}
 use Rattle.sessions.specs.SessionText.{answer_text}
-use Rattle.fpgad_run.specs.Held.{held}
+use Rattle.operator.specs.Held.{held}
 use Rattle.fpgad_run.specs.Names.{number_of, with_name}
 use Rattle.fpgad_run.specs.Run.{with_text}
 use Rattle.fpgad_run.specs.Zipped.{zipped}

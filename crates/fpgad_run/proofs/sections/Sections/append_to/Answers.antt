@@ -1,5 +1,5 @@
 use Rattle.std.proofs.Common.{◌≡◌, ◌++◌, ◌∙◌, ap, rules}
-use Rattle.fpgad_run.specs.Held.{held}
+use Rattle.operator.specs.Held.{held}
 use Rattle.fpgad_run.specs.Run.{heading}
 use Rattle.fpgad_run.proofs.SectionLemmas.{held_as, section-told}
 use Rattle.fpgad_run.proofs.sections.Sections.append_to.Goals as goal

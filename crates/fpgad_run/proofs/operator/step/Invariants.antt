@@ -1,7 +1,0 @@
-use Rattle.fpgad_run.specs.Held.{held}
-use Rattle.fpgad_run.specs.Operators.{Steps}
-use Rattle.fpgad_run.proofs.operator.step.Given as goal
-
--- the steps so far
-abbrev pub invariant-loop-number : goal.invariant-loop-number
-invariant-loop-number l = Steps l.fn.core l.fn.id l.number (held l.fn.reply) (held l.reply) l.core

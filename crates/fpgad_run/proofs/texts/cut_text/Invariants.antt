@@ -1,9 +1,0 @@
-use Rattle.std.proofs.Common.{length}
-use Rattle.fpgad_run.proofs.Walked.{Walked}
-use Rattle.fpgad_run.proofs.texts.cut_text.Given as goal
-
-abbrev pub invariant-loop-rest : goal.invariant-loop-rest
-invariant-loop-rest l = Walked l.fn.number l.bytes l.rest l.number
-
-abbrev pub decreases-loop-rest : goal.decreases-loop-rest
-decreases-loop-rest l = length l.rest

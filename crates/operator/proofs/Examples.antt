@@ -1,0 +1,14 @@
+-- Examples that are computed.
+use Rattle.std.proofs.Common.{◌≡◌, ◌∷◌, [], codes, refl}
+use Rattle.tenant_slot.specs.declared.reply.StepReply.TheVariants.{Finished}
+use Rattle.sessions.specs.declared.steps.StepOutcome.TheVariants.{Recorded, Nothing}
+use Rattle.operator.specs.OperatorText.{last_id, outcome_text}
+
+finished : outcome_text (Recorded Finished) ≡ codes "finished\n"
+finished = refl
+
+nothing : outcome_text Nothing ≡ codes "none\n"
+nothing = refl
+
+last_of_two : last_id (codes "T" ∷ codes "U" ∷ codes "T" ∷ []) (codes "T") ≡ 3
+last_of_two = refl

@@ -1,0 +1,5 @@
+mod Examples
+mod HeldLemmas
+pub mod OperatorLemmas
+pub mod Served
+pub mod Stepping

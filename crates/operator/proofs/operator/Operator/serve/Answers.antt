@@ -1,0 +1,72 @@
+use Rattle.std.proofs.Common.{ℕ, [], ◌∷◌, refl, sym, ap, subst, ◌∙◌}
+use Rattle.service_core.specs.Calls.{IsTaken}
+use Rattle.service_core.specs.Run.Call.{Evict as EvictCall, Take as TakeCall}
+use Rattle.operator.specs.OperatorText.{evicted_text, list_text, outcome_text, taken_text}
+use Rattle.operator.proofs.OperatorLemmas.{on_ok, lengths-evicted, evicts}
+use Rattle.operator.specs.Serving.{tried_calls, tried_text}
+use Rattle.operator.proofs.Stepping.{lengths-run, steady_held}
+use Rattle.operator.proofs.operator.Operator.serve.Goals as goal
+
+pub returns-in-Evict : goal.returns-in-Evict
+returns-in-Evict c =
+    rw c.in-Evict.is
+    (on_ok c.push_evicted.result
+    (λ appended. (
+      EvictCall c.last_id.result c.evict-answer.result ∷ [],
+      evicted_text c.evict-answer.result,
+      evicts c.args.self.now c.args.jobs.now c.args.core.now c.evict-answer.new.self c.in-Evict.name.now c.last_id.result c.evict-answer.result c.last_id.ensures c.evict-answer.ensures,
+      appended,
+      c.requires ∙ lengths-evicted c.args.core.now c.evict-answer.new.self c.last_id.result c.evict-answer.result c.evict-answer.ensures,
+    ))
+    c.push_evicted.ensures)
+
+pub returns-in-List : goal.returns-in-List
+returns-in-List c =
+    rw c.in-List.is
+    (on_ok c.list.result (λ appended. ([], list_text c.args.core.now c.args.self.now, (refl, refl, refl), appended, c.requires)) c.list.ensures)
+
+pub returns-in-Admit : goal.returns-in-Admit
+returns-in-Admit c = rw c.in-Admit.is (on_ok c.admit.result (λ admits. admits c.args.jobs.now) c.admit.ensures)
+
+pub returns-in-Step : goal.returns-in-Step
+returns-in-Step c =
+    rw c.in-Step.is
+    (on_ok c.step.result
+    (λ s. (
+      tried_calls s.tried,
+      tried_text s.tried,
+      (s.tried, s.counted, rw (← c.last_id-in-Step.ensures) s.makes, s.runs, refl, refl, refl, refl),
+      s.told,
+      c.requires ∙ sym s.even,
+    ))
+    c.step.ensures)
+
+pub returns-in-Put : goal.returns-in-Put
+returns-in-Put c =
+    let put = c.put-outcome.ensures.put in
+    rw c.in-Put.is
+    (on_ok c.push_outcome.result
+    (λ appended. (
+      put.0,
+      outcome_text c.put-outcome.result,
+      (c.put-outcome.result, put.1, put.2, refl, c.put-outcome.ensures.jobs, refl),
+      appended,
+      c.requires ∙ lengths-run c.args.core.now c.put-outcome.new.core put.0 (steady_held _ put.0 c.put-outcome.result put.1) put.2,
+    ))
+    c.push_outcome.ensures)
+
+pub returns-in_ok-number-in-Take : goal.returns-in_ok-number-in-Take
+returns-in_ok-number-in-Take c =
+    let id = c.last_id-in-Take.result in
+    let new = c.take.new.core in
+    let taken = c.in_ok-number-in-Take.ensures in
+    rw c.in-Take.is
+    (on_ok c.push_taken.result
+    (λ appended. (
+      TakeCall id taken.0 ∷ [],
+      taken_text c.in_ok-number-in-Take.number,
+      (taken.0, (let P : ℕ → Type 0 = λ n. IsTaken c.args.core.now n taken.0 new in subst P c.last_id-in-Take.ensures taken.1), refl, taken.2, ap (λ n. TakeCall n taken.0 ∷ []) c.last_id-in-Take.ensures, ap taken_text taken.3),
+      appended,
+      c.requires ∙ lengths-run c.args.core.now new (TakeCall id taken.0 ∷ []) (tt, tt) (new, taken.1, refl),
+    ))
+    c.push_taken.ensures)

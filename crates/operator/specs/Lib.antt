@@ -1,0 +1,6 @@
+pub mod Held
+pub mod HeldJobs
+pub mod Ids
+pub mod OperatorText
+pub mod Operators
+pub mod Serving

@@ -1,0 +1,145 @@
+ghost use Rattle.std.specs.Prelude.{◌≡◌, ◌+◌, ◌^◌, ◌<◌, ◌∷◌, ◌++◌, [], length, OnOk};
+ghost use Rattle.operator.specs.OperatorText.{last_id, list_text};
+ghost use Rattle.operator.specs.Held.{held};
+ghost use Rattle.operator.specs.Operators.{Steps};
+
+use crate::held_jobs::HeldJobs;
+use crate::reply::{
+    push_admitted, push_evicted, push_listed, push_outcome, push_refused, push_taken,
+};
+use indexmap::IndexMap;
+use line_text::MemorySink;
+use script_text::OperatorLine;
+use service_core::Service;
+use sessions::make_step;
+use std::alloc::{AllocError, Global};
+use std::marker::Model;
+
+/// The operator: names over ids, one live tenancy a name. Its value is the names of all ids, the newest first; the oldest
+/// has id 1.
+#[derive(Drop)]
+pub struct Operator<'t> {
+    ids: IndexMap<&'t [u8], u32>,
+    admitted: Vec<&'t [u8]>,
+}
+
+impl<'t> Model for Operator<'t> {
+    ghost use Rattle.std.specs.Prelude.{List, ℕ};
+    ghost use Rattle.operator.specs.Ids.{AreLastIds, newest_first};
+
+    ghost Value = { List (List ℕ) };
+
+    ghost view = { λ o. newest_first o.admitted.items };
+
+    ghost invariant = { λ o. AreLastIds o.ids.entries (newest_first o.admitted.items) };
+}
+
+impl<'t> Operator<'t> {
+    ghost use Rattle.operator.specs.Operators.{Admits, Answers};
+
+    pub fn new(alloc: Global) -> Self
+        ensures { result ≡ [] }
+    {
+        Operator {
+            ids: IndexMap::new(alloc),
+            admitted: Vec::new(alloc),
+        }
+    }
+
+    /// The last id that the name was given, or 0.
+    pub fn last_id(&self, name: &[u8]) -> u32
+        ensures { result ≡ last_id self.now name.now }
+    {
+        match self.ids.get(&name) {
+            Some(id) => *id,
+            None => 0,
+        }
+    }
+
+    /// Does what a line of the operator asks, and appends its reply.
+    pub fn serve(
+        &mut self,
+        core: &mut Service,
+        jobs: &mut HeldJobs,
+        line: OperatorLine<&'t [u8]>,
+        reply: &mut MemorySink,
+    ) -> Result<(), AllocError>
+        requires { length self.old ≡ length core.old.histories }
+        ensures { OnOk result (Answers self.old jobs.old core.old line.entry (held reply.old) (held reply.new) self.new jobs.new core.new) }
+    {
+        match line {
+            OperatorLine::Admit(name, width) => self.admit(core, name, width, reply),
+            OperatorLine::Evict(name) => {
+                let answer = core.evict(self.last_id(name));
+                push_evicted(reply, &answer)
+            }
+            OperatorLine::List => self.list(core, reply),
+            OperatorLine::Step(name, count) => step(core, self.last_id(name), count, reply),
+            OperatorLine::Take(name) => {
+                let number = jobs.take(core, self.last_id(name))?;
+                push_taken(reply, number)
+            }
+            OperatorLine::Put(number) => {
+                let outcome = jobs.put(core, number);
+                push_outcome(reply, outcome)
+            }
+        }
+    }
+
+    fn admit(
+        &mut self,
+        core: &mut Service,
+        name: &'t [u8],
+        width: u32,
+        reply: &mut MemorySink,
+    ) -> Result<(), AllocError>
+        requires { length self.old ≡ length core.old.histories }
+        ensures { OnOk result (Admits self.old core.old name.now width (held reply.old) (held reply.new) self.new core.new) }
+    {
+        if core.state(self.last_id(name)).is_some() {
+            return push_refused(reply, 7, "NameInUse");
+        }
+        let answer = core.admit(width);
+        match &answer {
+            Ok((id, _)) => {
+                self.add(name, *id)?;
+                push_admitted(reply, &answer)
+            }
+            Err(_) => push_admitted(reply, &answer),
+        }
+    }
+
+    /// Notes the id that a name was given.
+    fn add(&mut self, name: &'t [u8], id: u32) -> Result<(), AllocError>
+        requires { id ≡ length self.old + 1 }
+        ensures { OnOk result (self.new ≡ name.now ∷ self.old) }
+    {
+        self.admitted.reserve(1)?;
+        self.ids.insert(name, id)?;
+        self.admitted.push(name).unwrap();
+        Ok(())
+    }
+
+    /// Appends a line for each live tenancy, by id.
+    fn list(&self, core: &Service, reply: &mut MemorySink) -> Result<(), AllocError>
+        requires { length self.now ≡ length core.now.histories }
+        ensures { OnOk result (held reply.new ≡ held reply.old ++ list_text core.now self.now) }
+    {
+        let names = self.admitted.as_slice();
+        for place in 0..core.admissions() {
+            push_listed(reply, core, place + 1, names[place as usize])?;
+        }
+        Ok(())
+    }
+}
+
+/// Makes the next step of a tenancy's job so many times, and appends the outcome of each as a line.
+fn step(core: &mut Service, id: u32, count: u32, reply: &mut MemorySink) -> Result<(), AllocError>
+    ensures { OnOk result (Steps core.old id count (held reply.old) (held reply.new) core.new) }
+{
+    for number in 0..count {
+        let outcome = make_step(core, id);
+        push_outcome(reply, outcome)?;
+    }
+    Ok(())
+}

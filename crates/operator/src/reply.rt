@@ -1,0 +1,141 @@
+//! The lines that the operator is answered with.
+ghost use Rattle.std.specs.Prelude.{◌≡◌, ◌++◌, OnOk};
+ghost use Rattle.std.specs.List.{flat_map};
+ghost use Rattle.operator.specs.Held.{held};
+ghost use Rattle.operator.specs.OperatorText.{admitted_text, evicted_text, listed, outcome_text, outcome_word, refused_text, row_text, taken_text};
+
+use itoa::Buffer;
+use line_text::MemorySink;
+use service_core::{OpRefusal, Service};
+use sessions::{StepOutcome, step_word, write_parts, write_refused};
+use std::alloc::AllocError;
+
+/// Appends the line of a tenancy, if it is live.
+pub(crate) fn push_listed(
+    reply: &mut MemorySink,
+    core: &Service,
+    id: u32,
+    name: &[u8],
+) -> Result<(), AllocError>
+    ensures { OnOk result (held reply.new ≡ held reply.old ++ listed core.now id name.now) }
+{
+    let Some(state) = core.state(id) else {
+        return Ok(());
+    };
+    let offset = core.offset(id).unwrap_or(0);
+    let width = core.width(id).unwrap_or(0);
+    push_row(reply, id, name, offset, width, state.name())
+}
+
+/// Appends a line: an id, a name, an offset, a width and the name of a state.
+fn push_row<'t>(
+    reply: &mut MemorySink,
+    id: u32,
+    name: &'t [u8],
+    offset: u32,
+    width: u32,
+    state: &'t str,
+) -> Result<(), AllocError>
+    ensures { OnOk result (held reply.new ≡ held reply.old ++ row_text id name.now offset width state.now) }
+{
+    let (mut ids, mut offsets, mut widths) = (Buffer::new(), Buffer::new(), Buffer::new());
+    let id = ids.format(id).as_bytes();
+    let offset = offsets.format(offset).as_bytes();
+    let width = widths.format(width).as_bytes();
+    let state = state.as_bytes();
+    push_parts(
+        reply,
+        &[
+            id, b" ", name, b" ", offset, b" ", width, b" ", state, b"\n",
+        ],
+    )
+}
+
+/// Appends the line of what an admission was answered.
+pub(crate) fn push_admitted(
+    reply: &mut MemorySink,
+    answer: &Result<(u32, u32), OpRefusal>,
+) -> Result<(), AllocError>
+    ensures { OnOk result (held reply.new ≡ held reply.old ++ admitted_text answer.now) }
+{
+    match answer {
+        Ok((id, offset)) => {
+            let (mut ids, mut offsets) = (Buffer::new(), Buffer::new());
+            let id = ids.format(*id).as_bytes();
+            let offset = offsets.format(*offset).as_bytes();
+            push_parts(reply, &[b"ok ", id, b" ", offset, b"\n"])
+        }
+        Err(refusal) => push_refused(reply, refusal.number(), refusal.name()),
+    }
+}
+
+/// Appends the line of what an eviction was answered.
+pub(crate) fn push_evicted(
+    reply: &mut MemorySink,
+    answer: &Result<(), OpRefusal>,
+) -> Result<(), AllocError>
+    ensures { OnOk result (held reply.new ≡ held reply.old ++ evicted_text answer.now) }
+{
+    match answer {
+        Ok(()) => push_parts(reply, &[b"ok\n"]),
+        Err(refusal) => push_refused(reply, refusal.number(), refusal.name()),
+    }
+}
+
+/// Appends what the making of a step came to.
+pub(crate) fn push_outcome(reply: &mut MemorySink, outcome: StepOutcome) -> Result<(), AllocError>
+    ensures { OnOk result (held reply.new ≡ held reply.old ++ outcome_text outcome) }
+{
+    push_parts(reply, &[outcome_word(outcome), b"\n"])
+}
+
+/// What the making of a step came to, as a word.
+fn outcome_word(outcome: StepOutcome) -> &'static [u8]
+    ensures { result.now ≡ outcome_word outcome }
+{
+    match outcome {
+        StepOutcome::Recorded(reply) => step_word(reply),
+        StepOutcome::Full => b"full",
+        StepOutcome::Gone => b"gone",
+        StepOutcome::NoMemory => b"nomemory",
+        StepOutcome::Nothing => b"none",
+    }
+}
+
+/// Appends the number of a job that was taken.
+pub(crate) fn push_taken(reply: &mut MemorySink, number: Option<usize>) -> Result<(), AllocError>
+    ensures { OnOk result (held reply.new ≡ held reply.old ++ taken_text number) }
+{
+    match number {
+        Some(number) => {
+            let mut digits = Buffer::new();
+            let digits = digits.format(number).as_bytes();
+            push_parts(reply, &[b"ok job ", digits, b"\n"])
+        }
+        None => push_parts(reply, &[b"none\n"]),
+    }
+}
+
+/// Appends the parts, one behind the other.
+pub(crate) fn push_parts(reply: &mut MemorySink, parts: &[&[u8]]) -> Result<(), AllocError>
+    ensures { OnOk result (held reply.new ≡ held reply.old ++ flat_map (λ part. part.now) parts.now) }
+{
+    match write_parts(reply, parts) {
+        Ok(()) => Ok(()),
+        Err(_) => Err(AllocError),
+    }
+}
+
+/// Appends the line of a refusal.
+pub(crate) fn push_refused(
+    reply: &mut MemorySink,
+    number: u32,
+    name: &str,
+) -> Result<(), AllocError>
+    ensures { OnOk result (held reply.new ≡ held reply.old ++ refused_text number name.now) }
+{
+    match write_refused(reply, number, name) {
+        Ok(()) => Ok(()),
+        Err(_) => Err(AllocError),
+    }
+}

@@ -1,0 +1,5 @@
+mod AheadLemmas
+mod Examples
+mod LineLemmas
+mod ReadingLemmas
+mod Walked

@@ -1,0 +1,136 @@
+-- What is kept of a text, and the CRs at the ends of its lines.
+use Rattle.std.proofs.Common.{◌≡◌, ℕ, zero, suc, ◌+◌, ◌-◌, ◌<◌, ◌≤◌, List, [], ◌∷◌, ◌++◌, Bool, true, false, cond, eqb, length, take, min, inl, inr, length-take, length-append, append_assoc, refl, sym, ap, ◌∙◌, arith}
+use Rattle.std.specs.Prelude.{slice_index}
+use Rattle.std.specs.List.{flat_map, onto_first}
+use Rattle.std.proofs.lemmas.Bool.{cases_lt, eqb-true}
+use Rattle.std.proofs.lemmas.List.{take_all, take-take, take-append-le, length-take-le}
+use Rattle.std.proofs.Math.Seq.{take-append-add}
+use Rattle.line_text.specs.Lines.{physical_lines}
+use Rattle.sessions.specs.Items.{kept, without_cr}
+use Rattle.script_text.specs.Cuts.{IsEnded, without_crs}
+
+-- LF, and CR
+abbrev pub is_lf : ℕ → Bool
+is_lf b = eqb b 10
+
+abbrev pub is_cr : ℕ → Bool
+is_cr b = eqb b 13
+
+take-take-append : (n : ℕ) (xs ys : List ℕ) → take n (take n xs ++ ys) ≡ take n (xs ++ ys)
+take-take-append n xs ys = elim (cases_lt n (length xs)) [
+  | inl h ↦ let le : n ≤ length xs = omega arith in
+      let len : n ≤ length (take n xs) = rw (length-take-le n xs le) (omega arith) in
+      take-append-le n (take n xs) ys len ∙ take-take n n xs (omega arith) ∙ sym (take-append-le n xs ys le)
+  | inr h ↦ rw (take_all n xs h) refl
+]
+
+pub kept-kept : (xs ys : List ℕ) → kept (kept xs ++ ys) ≡ kept (xs ++ ys)
+unfolding kept
+kept-kept xs ys = take-take-append 1048577 xs ys
+
+take-min : (n : ℕ) (xs : List ℕ) → take (min (length xs) n) xs ≡ take n xs
+take-min n xs = elim (cases_lt n (length xs)) [
+  | inl h ↦ let e : min (length xs) n ≡ n = omega arith in ap (λ k. take k xs) e
+  | inr h ↦ let e : min (length xs) n ≡ length xs = omega arith in ap (λ k. take k xs) e ∙ take_all (length xs) xs (omega arith) ∙ sym (take_all n xs h)
+]
+
+-- what is appended as far as there is room
+pub kept-part : (xs ys : List ℕ) → length xs ≤ 1048577 → xs ++ take (min (length ys) (1048577 - length xs)) ys ≡ kept (xs ++ ys)
+unfolding kept
+kept-part xs ys h =
+    let e : 1048577 ≡ length xs + (1048577 - length xs) = omega arith in
+    ap (λ zs. xs ++ zs) (take-min (1048577 - length xs) ys) ∙ sym (ap (λ k. take k (xs ++ ys)) e ∙ take-append-add xs ys (1048577 - length xs))
+
+pub kept-short : (xs : List ℕ) → take (min (length xs) 1048577) xs ≡ kept xs
+unfolding kept
+kept-short xs = take-min 1048577 xs
+
+pub length-kept : (xs : List ℕ) → length (kept xs) ≤ 1048577
+unfolding kept
+length-kept xs = rw (length-take 1048577 xs) (omega arith)
+
+pub kept-all : (xs : List ℕ) → length xs ≤ 1048577 → kept xs ≡ xs
+unfolding kept
+kept-all xs h = take_all 1048577 xs h
+
+pub no_lines : (text : List ℕ) → length text ≡ 0 → physical_lines text ≡ []
+no_lines [] h = refl
+no_lines (b ∷ bytes) h = absurd (omega arith)
+
+-- a line as it stands in a text
+abbrev pub ended_line : List ℕ → List ℕ
+ended_line line = without_cr line ++ 10 ∷ []
+
+-- a byte that is no CR stays ahead of its line
+without_cr-later : (b : ℕ) (line : List ℕ) → eqb b 13 ≡ false → without_cr (b ∷ line) ≡ b ∷ without_cr line
+without_cr-later b [] e =
+    rw e (elim (eqb (slice_index [] 0) 13) as (λ v. b ∷ [] ≡ b ∷ cond v [] []) [ true ↦ refl | false ↦ refl ])
+without_cr-later b (c ∷ line) e =
+    let n : length (b ∷ c ∷ line) - 1 ≡ suc (length line) = omega arith in
+    let m : length (c ∷ line) - 1 ≡ length line = omega arith in
+    rw (n, m) (elim (eqb (slice_index (c ∷ line) (length line)) 13) as (λ v. cond v (b ∷ take (length line) (c ∷ line)) (b ∷ c ∷ line) ≡ b ∷ cond v (take (length line) (c ∷ line)) (c ∷ line)) [ true ↦ refl | false ↦ refl ])
+
+without_cr-none : without_cr [] ≡ []
+without_cr-none = elim (eqb (slice_index [] 0) 13) as (λ v. cond {A = List ℕ} v [] [] ≡ []) [ true ↦ refl | false ↦ refl ]
+
+-- and so among the lines of a text
+onto_line : (b : ℕ) (lines : List (List ℕ)) → eqb b 13 ≡ false → 0 < length lines → flat_map ended_line (onto_first b lines) ≡ b ∷ flat_map ended_line lines
+onto_line b [] e some = absurd (omega arith)
+onto_line b (line ∷ lines) e some = ap (λ l. (l ++ 10 ∷ []) ++ flat_map ended_line lines) (without_cr-later b line e)
+
+length-onto : (b : ℕ) (lines : List (List ℕ)) → 0 < length (onto_first b lines)
+length-onto b [] = omega arith
+length-onto b (line ∷ lines) = omega arith
+
+-- a text that isn't empty has a line
+some_lines : (b : ℕ) (text : List ℕ) → 0 < length (physical_lines (b ∷ text))
+some_lines b text = elim (eqb b 10) as (λ v. 0 < length (cond v ([] ∷ physical_lines text) (onto_first b (physical_lines text)))) [
+  | true ↦ omega arith
+  | false ↦ length-onto b (physical_lines text)
+]
+
+lines_ahead : (text : List ℕ) → 0 < length text → 0 < length (physical_lines text)
+lines_ahead [] some = absurd (omega arith)
+lines_ahead (b ∷ text) some = some_lines b text
+
+-- no byte of it is a CR
+abbrev pub HasNoCr : List ℕ → Type 0
+HasNoCr bytes = (k : ℕ) → k < length bytes → eqb (slice_index bytes k) 13 ≡ false
+
+-- so that its lines are as they stand
+whole_lines : (front : List ℕ) → HasNoCr front → without_crs (front ++ 10 ∷ []) ≡ front ++ 10 ∷ []
+whole_lines [] none = ap (λ l. (l ++ 10 ∷ []) ++ []) without_cr-none
+whole_lines (b ∷ front) none =
+    let later : without_crs (front ++ 10 ∷ []) ≡ front ++ 10 ∷ [] = whole_lines front (λ k within. none (suc k) (omega arith)) in
+    elim (eqb b 10) as (λ v. eqb b 10 ≡ v → flat_map ended_line (cond v ([] ∷ physical_lines (front ++ 10 ∷ [])) (onto_first b (physical_lines (front ++ 10 ∷ [])))) ≡ b ∷ (front ++ 10 ∷ [])) [
+      | true ↦ λ e. ap (λ l. (l ++ 10 ∷ []) ++ without_crs (front ++ 10 ∷ [])) without_cr-none ∙ ap (λ t. 10 ∷ t) later ∙ ap (λ c. c ∷ (front ++ 10 ∷ [])) (sym (eqb-true b 10 e))
+      | false ↦ λ e. onto_line b (physical_lines (front ++ 10 ∷ [])) (none 0 (omega arith)) (lines_ahead (front ++ 10 ∷ []) (rw (length-append front (10 ∷ [])) (omega arith))) ∙ ap (λ t. b ∷ t) later
+    ] refl
+
+slice_index-front : (front rest : List ℕ) (k : ℕ) → k < length front → slice_index (front ++ rest) k ≡ slice_index front k
+slice_index-front [] rest k within = absurd (omega arith)
+slice_index-front (b ∷ front) rest zero within = refl
+slice_index-front (b ∷ front) rest (suc k) within = slice_index-front front rest k (omega arith)
+
+HasNoCr-front : (front rest : List ℕ) → HasNoCr (front ++ rest) → HasNoCr front
+HasNoCr-front front rest none = λ k within. ap (λ b. eqb b 13) (sym (slice_index-front front rest k within)) ∙ none k (rw (length-append front rest) (omega arith))
+
+-- a text without CRs is as it stands
+pub without_crs-none : (text : List ℕ) → IsEnded text → HasNoCr text → without_crs text ≡ text
+without_crs-none text (inl empty) none = rw empty refl
+without_crs-none text (inr ended) none =
+    let front : HasNoCr ended.0 = HasNoCr-front ended.0 (10 ∷ []) (rw (← ended.1) none) in
+    ap without_crs ended.1 ∙ whole_lines ended.0 front ∙ sym ended.1
+
+pub no_cr : (text : List ℕ) → ((k : ℕ) → 0 ≤ k → k < length text → ¬ (eqb (slice_index text k) 13 ≡ true)) → HasNoCr text
+no_cr text never = λ k within. elim (eqb (slice_index text k) 13) as (λ v. ¬ (v ≡ true) → v ≡ false) [ true ↦ λ f. absurd (f refl) | false ↦ λ f. refl ] (never k (omega arith) within)
+
+-- one more line of a text
+pub kept_line : (text line after bytes : List ℕ) (lines : List (List ℕ)) → lines ≡ line ∷ physical_lines after → kept (kept (text ++ without_cr line) ++ 10 ∷ []) ≡ bytes →
+    kept (bytes ++ without_crs after) ≡ kept (text ++ flat_map ended_line lines)
+kept_line text line after bytes lines first is =
+    ap (λ b. kept (b ++ without_crs after)) (sym is ∙ kept-kept (text ++ without_cr line) (10 ∷ []))
+    ∙ kept-kept ((text ++ without_cr line) ++ 10 ∷ []) (without_crs after)
+    ∙ ap kept (append_assoc (text ++ without_cr line) (10 ∷ []) (without_crs after) ∙ append_assoc text (without_cr line) (10 ∷ without_crs after)
+    ∙ ap (λ t. text ++ t) (sym (append_assoc (without_cr line) (10 ∷ []) (without_crs after))))
+    ∙ ap (λ ls. kept (text ++ flat_map ended_line ls)) (sym first)

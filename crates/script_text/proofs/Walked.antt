@@ -1,0 +1,117 @@
+-- The lines of a text on the way to the one that ends it.
+use Rattle.std.proofs.Common.{◌≡◌, ℕ, ◌+◌, ◌-◌, ◌⊎◌, ◌<◌, ◌≤◌, List, [], ◌∷◌, ◌++◌, true, false, Option, Some, None, inl, inr, length, take, get_or, refl, sym, ap, ◌∙◌, arith, append_assoc, append-nil, length-append, length-drop}
+use Rattle.std.specs.Prelude.{option_map}
+use Rattle.std.specs.List.{position_or_len, before_first, after_first}
+use Rattle.std.proofs.lemmas.Bool.{cases_lt, eqb-true}
+use Rattle.std.proofs.lemmas.List.{drop_all}
+use Rattle.std.proofs.lemmas.List.Sums.{passes_at_first, split_at_first}
+use Rattle.std.proofs.Math.Seq.{take-append_seam}
+use Rattle.line_text.specs.Lines.{physical_lines}
+use Rattle.script_text.specs.Cuts.{HasNoEnd, IsCut, IsEnded}
+use Rattle.script_text.specs.Script.{acts_from}
+use Rattle.sessions.specs.Items.{ends_text}
+use Rattle.script_text.specs.Texts.{bytes_ahead}
+use Rattle.script_text.proofs.LineLemmas.{is_lf}
+
+-- a text is its first line, LF and the rest, unless nothing follows the line
+pub first_of : (text : List ℕ) → (text ≡ before_first is_lf text ++ 10 ∷ after_first is_lf text) ⊎ (after_first is_lf text ≡ [])
+first_of text = elim (cases_lt (position_or_len is_lf text) (length text)) [
+  | inl within ↦
+      let lf : get_or text (position_or_len is_lf text) 0 ≡ 10 = eqb-true _ _ (passes_at_first is_lf text 0 within) in
+      inl (split_at_first is_lf text 0 within ∙ ap (λ b. before_first is_lf text ++ b ∷ after_first is_lf text) lf)
+  | inr past ↦ inr (drop_all (position_or_len is_lf text + 1) text (omega arith))
+]
+
+pub shorter : (text : List ℕ) → 0 < length text → length (after_first is_lf text) < length text
+shorter text some = rw (length-drop (position_or_len is_lf text + 1) text) (omega arith)
+
+-- with that much text in front
+abbrev pub behind : List ℕ → Option (List ℕ) → Option (List ℕ)
+behind front text = option_map (λ bytes. front ++ bytes) text
+
+-- the front of the text has no line that ends it, and the rest begins with the line of that number
+pub record Walked (first : ℕ) (text rest : List ℕ) (number : ℕ) : Type 0 where
+  pub front : List ℕ
+  pub whole : text ≡ front ++ rest
+  pub ended : (front ≡ []) ⊎ ((before : List ℕ) × (front ≡ before ++ 10 ∷ [])) ⊎ (rest ≡ [])
+  pub ahead : bytes_ahead (physical_lines text) ≡ behind front (bytes_ahead (physical_lines rest))
+  pub acts : acts_from first true (physical_lines text) ≡ acts_from number true (physical_lines rest)
+  pub counted : number + length rest ≤ first + length text
+  pub later : first ≤ number
+
+behind-nothing : (text : Option (List ℕ)) → text ≡ behind [] text
+behind-nothing None = refl
+behind-nothing (Some bytes) = refl
+
+behind-behind : (a b : List ℕ) (text : Option (List ℕ)) → behind a (behind b text) ≡ behind (a ++ b) text
+behind-behind a b None = refl
+behind-behind a b (Some bytes) = ap Some (sym (append_assoc a b bytes))
+
+pub walked_none : (first : ℕ) (text : List ℕ) → Walked first text text first
+walked_none first text = record { front = []; whole = refl; ended = inl refl; ahead = behind-nothing (bytes_ahead (physical_lines text)); acts = refl; counted = omega arith; later = omega arith }
+
+line-behind : (line : List ℕ) (text : Option (List ℕ)) → option_map (λ bytes. line ++ 10 ∷ bytes) text ≡ behind (line ++ 10 ∷ []) text
+line-behind line None = refl
+line-behind line (Some bytes) = ap Some (sym (append_assoc line (10 ∷ []) bytes))
+
+passed : (line : List ℕ) (lines : List (List ℕ)) → ends_text line ≡ false → bytes_ahead (line ∷ lines) ≡ behind (line ++ 10 ∷ []) (bytes_ahead lines)
+passed line lines ends = rw ends (line-behind line (bytes_ahead lines))
+
+acts_passed : (number : ℕ) (line : List ℕ) (lines : List (List ℕ)) → ends_text line ≡ false → acts_from number true (line ∷ lines) ≡ acts_from (number + 1) true lines
+acts_passed number line lines ends = rw ends refl
+
+acts_found : (number : ℕ) (line : List ℕ) (lines : List (List ℕ)) → ends_text line ≡ true → acts_from number true (line ∷ lines) ≡ acts_from (number + 1) false lines
+acts_found number line lines ends = rw ends refl
+
+pub walked_more : (first : ℕ) (text rest line after : List ℕ) (number : ℕ) → Walked first text rest number → physical_lines rest ≡ line ∷ physical_lines after → length after < length rest →
+    (rest ≡ line ++ 10 ∷ after) ⊎ (after ≡ []) → ends_text line ≡ false → Walked first text after (number + 1)
+walked_more first text rest line after number w lines less (inl cut) ends = record {
+  front = w.front ++ (line ++ 10 ∷ []);
+  whole = w.whole ∙ ap (λ r. w.front ++ r) cut ∙ ap (λ r. w.front ++ r) (sym (append_assoc line (10 ∷ []) after)) ∙ sym (append_assoc w.front (line ++ 10 ∷ []) after);
+  ended = inr (inl (w.front ++ line, sym (append_assoc w.front line (10 ∷ []))));
+  ahead = w.ahead ∙ ap (λ ls. behind w.front (bytes_ahead ls)) lines ∙ ap (behind w.front) (passed line (physical_lines after) ends)
+      ∙ behind-behind w.front (line ++ 10 ∷ []) (bytes_ahead (physical_lines after));
+  acts = w.acts ∙ ap (acts_from number true) lines ∙ acts_passed number line (physical_lines after) ends;
+  counted = let was = w.counted in omega arith;
+  later = let was = w.later in omega arith;
+}
+walked_more first text rest line after number w lines less (inr over) ends =
+    let none : bytes_ahead (physical_lines after) ≡ None = ap (λ t. bytes_ahead (physical_lines t)) over in
+    record {
+      front = text;
+      whole = sym (append-nil text) ∙ ap (λ r. text ++ r) (sym over);
+      ended = inr (inr over);
+      ahead = w.ahead ∙ ap (λ ls. behind w.front (bytes_ahead ls)) lines ∙ ap (behind w.front) (passed line (physical_lines after) ends)
+          ∙ ap (λ s. behind w.front (behind (line ++ 10 ∷ []) s)) none ∙ ap (behind text) (sym none);
+      acts = w.acts ∙ ap (acts_from number true) lines ∙ acts_passed number line (physical_lines after) ends;
+      counted = let was = w.counted in omega arith;
+      later = let was = w.later in omega arith;
+    }
+
+ended_of : (front line rest after : List ℕ) → physical_lines rest ≡ line ∷ physical_lines after → (front ≡ []) ⊎ ((before : List ℕ) × (front ≡ before ++ 10 ∷ [])) ⊎ (rest ≡ []) → IsEnded front
+ended_of front line rest after lines (inl none) = inl none
+ended_of front line rest after lines (inr (inl some)) = inr some
+ended_of front line rest after lines (inr (inr over)) = let bad : [] ≡ line ∷ physical_lines after = rw over at lines in cc
+
+-- the line that ends the text
+pub walked_found : (first : ℕ) (text rest line after : List ℕ) (number : ℕ) → Walked first text rest number → physical_lines rest ≡ line ∷ physical_lines after → length after < length rest → ends_text line ≡ true →
+    IsCut first text (take (length text - length rest) text) (number + 1) after
+walked_found first text rest line after number w lines less ends =
+    let len : length text ≡ length w.front + length rest = ap length w.whole ∙ length-append w.front rest in
+    let count : length text - length rest ≡ length w.front = omega arith in
+    let front : take (length text - length rest) text ≡ w.front =
+    ap (λ n. take n text) count ∙ ap (take (length w.front)) w.whole ∙ take-append_seam w.front rest in
+    let here : bytes_ahead (line ∷ physical_lines after) ≡ Some [] = rw ends refl in
+    let was = w.counted in
+    let late = w.later in
+    rw front (record {
+      text = w.ahead ∙ ap (λ ls. behind w.front (bytes_ahead ls)) lines ∙ ap (behind w.front) here ∙ ap Some (append-nil w.front);
+      goes_on = w.acts ∙ ap (acts_from number true) lines ∙ acts_found number line (physical_lines after) ends;
+      ended = ended_of w.front line rest after lines w.ended;
+      counted = omega arith;
+      later = omega arith;
+    })
+
+pub walked_all : (first : ℕ) (text rest : List ℕ) (number : ℕ) → Walked first text rest number → length rest ≡ 0 → HasNoEnd first text
+walked_all first text [] number w none = (w.ahead, w.acts)
+walked_all first text (b ∷ bytes) number w none = absurd (omega arith)

@@ -1,0 +1,13 @@
+use Rattle.std.proofs.Common.{◌≡◌, drop, ap, ◌∙◌, rules}
+use Rattle.std.proofs.lemmas.List.{drop-drop}
+use Rattle.std.specs.List.{before_first, after_first}
+use Rattle.line_text.specs.Words.{is_blank}
+use Rattle.script_text.specs.Script.{form_in, without_blanks}
+use Rattle.script_text.proofs.form.form_of.Goals as goal
+
+pub returns : goal.returns
+unfolding form_in
+returns c =
+    let word : c.split_word.result.0.now ≡ before_first is_blank (without_blanks c.args.line.now) = search rules in
+    let rest : c.behind_blank.result.now ≡ after_first is_blank (without_blanks c.args.line.now) = c.behind_blank.ensures ∙ ap (drop 1) c.split_word.ensures.rest ∙ drop-drop 1 _ c.skip_blanks.result.now ∙ ap (after_first is_blank) c.skip_blanks.ensures in
+    rw (← word, ← rest) c.form_by.ensures

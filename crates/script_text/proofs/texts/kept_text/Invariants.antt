@@ -1,0 +1,14 @@
+use Rattle.std.proofs.Common.{◌≡◌, ◌++◌, ◌≤◌, length, vec_len}
+use Rattle.sessions.specs.Items.{kept}
+use Rattle.script_text.specs.Cuts.{without_crs}
+use Rattle.script_text.proofs.texts.kept_text.Given as goal
+
+-- the text so far, and the lines that are left, are all of it
+abbrev pub invariant-loop-rest : goal.invariant-loop-rest
+invariant-loop-rest l = record {
+  within : vec_len l.text ≤ 1048577;
+  same : kept (l.text.items ++ without_crs l.rest) ≡ kept (without_crs l.ahead);
+}
+
+abbrev pub decreases-loop-rest : goal.decreases-loop-rest
+decreases-loop-rest l = length l.rest

@@ -1,0 +1,33 @@
+-- Private: a script that is being read, and what it comes to from there.
+use Rattle.std.specs.Prelude.{ℕ, ◌≡◌, ◌≤◌, ◌<◌, ◌+◌, List, ◌++◌, length, map, true, false, Result, Ok, Err, ⊤}
+use Rattle.line_text.specs.Lines.{physical_lines}
+use Rattle.script_text.specs.declared.act.Act.{Act}
+use Rattle.script_text.specs.declared.script.Reader.{Reader}
+use Rattle.script_text.specs.declared.script.ScriptError.{ScriptError}
+use Rattle.script_text.specs.declared.script.ScriptError.TheVariants.{NoMemory, Fault}
+use Rattle.sessions.specs.declared.line.SessionLine.{SessionLine}
+use Rattle.sessions.specs.declared.line.TextKind.{TextKind}
+use Rattle.script_text.specs.Script.{Acts, acts_from, named_act}
+use Rattle.sessions.specs.Items.{text_ahead, text_item}
+
+abbrev pub with_acts : List (Act (List ℕ)) → Acts → Acts
+with_acts acts (Ok more) = Ok (acts ++ more)
+with_acts acts (Err fault) = Err fault
+
+-- the acts so far, and those of the lines that are left
+abbrev pub comes_to : Reader → Acts
+comes_to reader = with_acts (map named_act reader.acts.items) (acts_from reader.number false (physical_lines reader.rest.now))
+
+-- a part of the script is read, and its acts are taken or its fault is told
+abbrev pub Reads : Reader → Result (Unit {0}) ScriptError → Reader → Type 0
+Reads old (Ok u) new = (comes_to old ≡ comes_to new) × (length new.rest.now < length old.rest.now) × (new.number + length new.rest.now ≤ old.number + length old.rest.now)
+Reads old (Err (Fault fault)) new = comes_to old ≡ Err fault
+Reads old (Err NoMemory) new = ⊤
+
+-- the text that the script goes on with is read, if it ends
+pub record ReadsText (old : Reader) (kind : TextKind) (line : SessionLine) (new : Reader) : Type 0 where
+  pub line_is : line ≡ text_item kind (text_ahead (physical_lines old.rest.now))
+  pub acts : new.acts ≡ old.acts
+  pub goes_on : acts_from old.number true (physical_lines old.rest.now) ≡ acts_from new.number false (physical_lines new.rest.now)
+  pub shorter : length new.rest.now ≤ length old.rest.now
+  pub counted : new.number + length new.rest.now ≤ old.number + length old.rest.now

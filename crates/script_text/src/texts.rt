@@ -1,0 +1,74 @@
+//! Texts within a script: the lines up to one that is `.` alone.
+ghost use Rattle.std.specs.Prelude.{◌≡◌, ◌+◌, ◌<◌, ◌≤◌, ◌^◌, ◌++◌, length, vec_len, IfOk, OnOk, MatchOption};
+ghost use Rattle.sessions.specs.Items.{kept};
+ghost use Rattle.script_text.specs.Cuts.{HasNoEnd, IsCut, IsEnded, without_crs};
+
+use line_text::split_line;
+use memchr::memchr;
+use sessions::{is_point, without_cr};
+use std::alloc::{AllocError, Global};
+
+/// So many bytes of a text are kept, one more than a netlist may have.
+const MAX_KEPT: usize = 1_048_577;
+
+/// A text that is cut off from a script.
+#[derive(Clone, Copy)]
+pub struct Cut<'t> {
+    /// The lines of the text.
+    pub ahead: &'t [u8],
+    /// The number of the line behind the one that ends the text.
+    pub number: usize,
+    /// The script from that line on.
+    pub rest: &'t [u8],
+}
+
+/// Cuts off the text that these bytes of a script begin with, if a line ends it. Their first line has that number.
+pub fn cut_text(bytes: &[u8], number: usize) -> Option<Cut<'_>>
+    requires { number + length bytes.now < 2 ^ 64 }
+    ensures { MatchOption result (HasNoEnd number bytes.now) (λ cut. IsCut number bytes.now cut.ahead.now cut.number cut.rest.now) }
+{
+    let mut rest = bytes;
+    let mut number = number;
+    while !rest.is_empty() {
+        let (line, after) = split_line(rest);
+        number += 1;
+        if is_point(without_cr(line)) {
+            return Some(Cut {
+                ahead: &bytes[..bytes.len() - rest.len()],
+                number,
+                rest: after,
+            });
+        }
+        rest = after;
+    }
+    None
+}
+
+/// The lines of a text without the CRs at their ends, as far as they are kept.
+pub(crate) fn kept_text(alloc: Global, ahead: &[u8]) -> Result<Vec<u8>, AllocError>
+    requires { IsEnded ahead.now }
+    ensures { IfOk result (λ text. text.items ≡ kept (without_crs ahead.now)) }
+{
+    if memchr(b'\r', ahead).is_none() {
+        return Vec::from_slice(alloc, &ahead[..ahead.len().min(MAX_KEPT)]);
+    }
+    let mut text = Vec::new(alloc);
+    let mut rest = ahead;
+    while !rest.is_empty() {
+        let (line, after) = split_line(rest);
+        append_kept(&mut text, without_cr(line))?;
+        append_kept(&mut text, b"\n")?;
+        rest = after;
+    }
+    Ok(text)
+}
+
+/// Appends bytes as far as they are kept.
+fn append_kept(text: &mut Vec<u8>, bytes: &[u8]) -> Result<(), AllocError>
+    requires { vec_len text.old ≤ 1048577 }
+    ensures items { OnOk result (text.new.items ≡ kept (text.old.items ++ bytes.now)) }
+    ensures within { OnOk result (vec_len text.new ≤ 1048577) }
+{
+    let room = MAX_KEPT - text.len();
+    text.extend_from_slice(&bytes[..bytes.len().min(room)])
+}
