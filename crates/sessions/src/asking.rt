@@ -6,13 +6,13 @@ use crate::line::SessionLine;
 use crate::steps::{StepOutcome, run_steps};
 use crate::told::{Answer, write_answer};
 use line_text::{Failed, Sink};
-use service_core::{Core, NotServed};
+use service_core::{NotServed, Service};
 use tenant_slot::Command;
 
 /// Asks the core what a session's line asks, for the tenancy of that id, and writes what the session is told. The answer
 /// stands also where the writer fails: it has then taken a beginning of the text.
 pub fn answer<W: Sink>(
-    core: &mut Core,
+    core: &mut Service,
     id: u32,
     line: SessionLine,
     writer: &mut W,
@@ -26,7 +26,7 @@ pub fn answer<W: Sink>(
 }
 
 /// Asks the core.
-fn ask(core: &mut Core, id: u32, line: SessionLine) -> Answer
+fn ask(core: &mut Service, id: u32, line: SessionLine) -> Answer
     ensures { IsAnswer core.old id line result core.new }
 {
     match line {

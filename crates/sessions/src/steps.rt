@@ -3,7 +3,7 @@ ghost use Rattle.service_core.specs.Run.{Call, Run};
 ghost use Rattle.sessions.specs.Steps.{MakesStep, StepsAndPuts, Waits};
 
 use job_state::AnyJob;
-use service_core::{Core, PutReply};
+use service_core::{PutReply, Service};
 use tenant_slot::StepReply;
 
 /// What the making of a step of a tenancy's job came to.
@@ -22,7 +22,7 @@ pub enum StepOutcome {
 }
 
 /// Takes the next step of that tenancy's job, makes it and puts it.
-pub fn make_step(core: &mut Core, id: u32) -> StepOutcome
+pub fn make_step(core: &mut Service, id: u32) -> StepOutcome
     ensures { (calls : List Call) × MakesStep id calls result × Run core.old calls core.new }
 {
     match core.take(id) {
@@ -32,7 +32,7 @@ pub fn make_step(core: &mut Core, id: u32) -> StepOutcome
 }
 
 /// Makes the step of a job, and puts it. A job whose step finds no memory, or can't be put for want of it, is given back.
-pub fn step_and_put(core: &mut Core, job: AnyJob) -> StepOutcome
+pub fn step_and_put(core: &mut Service, job: AnyJob) -> StepOutcome
     ensures { (calls : List Call) × StepsAndPuts job calls result × Run core.old calls core.new }
 {
     match job.step() {
@@ -54,7 +54,7 @@ pub fn step_and_put(core: &mut Core, job: AnyJob) -> StepOutcome
 
 /// Makes steps of that tenancy's job until there is none to take, or memory lacks. Tells what the last came to. Each that is
 /// recorded is an entry of the journal, so they end.
-pub(crate) fn run_steps(core: &mut Core, id: u32) -> StepOutcome
+pub(crate) fn run_steps(core: &mut Service, id: u32) -> StepOutcome
     ensures { (calls : List Call) × Waits id calls result × Run core.old calls core.new }
 {
     'steps: loop {
