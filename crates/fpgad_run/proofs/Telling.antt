@@ -6,6 +6,7 @@ use Rattle.std.proofs.lemmas.Grind.{flat_map-append}
 use Rattle.std.proofs.lemmas.List.{map_push}
 use Rattle.service_core.specs.declared.device.Device.{Device}
 use Rattle.service_core.specs.Headline.{AreParted, EachIsAlone}
+use Rattle.service_core.specs.Owners.{IsExactBook}
 use Rattle.service_core.specs.Run.{Call, Run}
 use Rattle.service_core.specs.Service.{ServiceState, empty}
 use Rattle.fpgad_run.specs.declared.program.Running.{Running}
@@ -102,6 +103,7 @@ on_ok_value (Err e) f p = tt
 pub record IsHeadline : Type 0 where
   pub alone : (device : Device) (calls : List Call) (state : ServiceState) → Run (empty device) calls state → EachIsAlone device calls state
   pub parted : (device : Device) (calls : List Call) (state : ServiceState) → Run (empty device) calls state → AreParted device state
+  pub exact : (device : Device) (calls : List Call) (state : ServiceState) → Run (empty device) calls state → IsExactBook state
   pub line : (device : Device) (before : List Call) (old new : ServiceState) (id : ℕ) (line : SessionLine) (answer : Answer) → Run (empty device) before old → IsAnswer old id line answer new → LineIsToldAlone device old id before line answer
 
 telling_alone : IsHeadline → (device : Device) (before : List Call) (old new : Stage) (act : Act (List ℕ)) (calls : List Call) (text : List ℕ) → Run (empty device) before old.service → IsAnswered old act calls text new → IsToldAlone device old before act text
@@ -140,5 +142,6 @@ replies_all options arch all running acts output headline p same is =
       runs = runs;
       alone = headline.alone _ _ _ runs;
       parted = headline.parted _ _ _ runs;
+      exact = headline.exact _ _ _ runs;
       output_is = is ∙ ap (λ o. output_of o (sections_of running)) p.operator_text ∙ ap (λ ss. output_of (operator_texts p.tellings) ss) p.sections;
     }

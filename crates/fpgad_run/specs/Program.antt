@@ -9,6 +9,7 @@ use Rattle.arch_file.specs.Arch.{arch_of}
 use Rattle.service_core.specs.declared.device.Device.{Device}
 use Rattle.service_core.specs.Service.{empty}
 use Rattle.service_core.specs.Headline.{AreParted, EachIsAlone}
+use Rattle.service_core.specs.Owners.{IsExactBook}
 use Rattle.service_core.specs.Run.{Run}
 use Rattle.fpgad_run.specs.declared.options.Options.{Options}
 use Rattle.fpgad_run.specs.declared.outcome.Outcome.{Outcome}
@@ -42,7 +43,7 @@ abbrev pub device_of : Options → Arch → Device
 device_of options arch = record { arch = arch; columns = options.columns; rows = options.rows }
 
 -- the bytes are what a run of the acts from the empty device writes. Each session's line is told what its tenancy is told alone, by
--- the service for a single user; of the run's calls so is each tenancy, and the strips are parted
+-- the service for a single user; of the run's calls so is each tenancy, the strips are parted, and nothing has two owners
 pub record IsReplies (options : Options) (start : Start) (output : List ℕ) : Type 0 where
   pub arch : Arch
   pub acts : List (Act (List ℕ))
@@ -55,6 +56,7 @@ pub record IsReplies (options : Options) (start : Start) (output : List ℕ) : T
   pub runs : Run (empty (device_of options arch)) (calls_of tellings) last.service
   pub alone : EachIsAlone (device_of options arch) (calls_of tellings) last.service
   pub parted : AreParted (device_of options arch) last.service
+  pub exact : IsExactBook last.service
   pub output_is : output ≡ written tellings
 
 -- a script may be answered so

@@ -4,7 +4,7 @@ use Rattle.service_core.specs.History.{History}
 use Rattle.service_core.specs.Run.{Call, Run}
 use Rattle.service_core.specs.Service.{ServiceState, live_of}
 use Rattle.script_text.specs.declared.operator_line.OperatorLine.{OperatorLine}
-use Rattle.script_text.specs.declared.operator_line.OperatorLine.TheVariants.{Admit, Evict, List as ListAll, Step, Take, Put}
+use Rattle.script_text.specs.declared.operator_line.OperatorLine.TheVariants.{Admit, Evict, List as ListAll, Owners, Step, Take, Put}
 use Rattle.operator.specs.OperatorText.{last_id}
 use Rattle.operator.specs.Serving.{Stage, IsAdmission, IsServed}
 
@@ -23,3 +23,4 @@ served_runs old (Step name count) calls text new is = is.3
 served_runs old (Take name) calls text new is = rw is.4 (new.service, is.1, refl)
 served_runs old (Put number) calls text new is = is.2
 served_runs old ListAll calls text new is = rw is.0 (ap (λ (s : Stage). s.service) is.2)
+served_runs old Owners calls text new is = rw is.2 (ap (λ (s : Stage). s.service) is.4)

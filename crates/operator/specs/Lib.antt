@@ -3,4 +3,5 @@ pub mod HeldJobs
 pub mod Ids
 pub mod OperatorText
 pub mod Operators
+pub mod OwnersText
 pub mod Serving

@@ -9,9 +9,12 @@ use Rattle.service_core.specs.Run.Call.{Admit as AdmitCall, Evict as EvictCall, 
 use Rattle.service_core.specs.Calls.{IsAdmitted, IsEvicted, IsTaken}
 use Rattle.service_core.specs.Service.{ServiceState, live_of}
 use Rattle.script_text.specs.declared.operator_line.OperatorLine.{OperatorLine}
-use Rattle.script_text.specs.declared.operator_line.OperatorLine.TheVariants.{Admit, Evict, List as ListAll, Step, Take, Put}
+use Rattle.script_text.specs.declared.operator_line.OperatorLine.TheVariants.{Admit, Evict, List as ListAll, Owners, Step, Take, Put}
 use Rattle.sessions.specs.declared.steps.StepOutcome.{StepOutcome}
 use Rattle.sessions.specs.Steps.{MakesStep}
+use Rattle.device_book.specs.declared.book.Owned.{Owned}
+use Rattle.service_core.specs.Owners.{ListsOwnersOf}
+use Rattle.operator.specs.OwnersText.{owners_text}
 use Rattle.operator.specs.HeldJobs.{HeldList, PutsHeld, job_at, with_job, without_job}
 use Rattle.operator.specs.OperatorText.{admitted_text, evicted_text, last_id, list_text, names_after, outcome_text, refused_text, taken_text}
 
@@ -55,3 +58,5 @@ IsServed old (Put number) calls text new = (outcome : StepOutcome)
     × PutsHeld (job_at old.jobs number) calls outcome × Run old.service calls new.service
     × (new.names ≡ old.names) × (new.jobs ≡ without_job old.jobs number) × (text ≡ outcome_text outcome)
 IsServed old ListAll calls text new = (calls ≡ []) × (text ≡ list_text old.service old.names) × (new ≡ old)
+IsServed old Owners calls text new = (owners : List Owned)
+    × ListsOwnersOf old.service owners × (calls ≡ []) × (text ≡ owners_text old.service.device.rows owners) × (new ≡ old)

@@ -8,6 +8,7 @@
 
 mod held_jobs;
 mod operator;
+mod owners;
 mod reply;
 
 pub use held_jobs::HeldJobs;

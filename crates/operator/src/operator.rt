@@ -4,6 +4,7 @@ ghost use Rattle.operator.specs.Held.{held};
 ghost use Rattle.operator.specs.Operators.{Steps};
 
 use crate::held_jobs::HeldJobs;
+use crate::owners::push_owners;
 use crate::reply::{
     push_admitted, push_evicted, push_listed, push_outcome, push_refused, push_taken,
 };
@@ -74,6 +75,10 @@ impl<'t> Operator<'t> {
                 push_evicted(reply, &answer)
             }
             OperatorLine::List => self.list(core, reply),
+            OperatorLine::Owners => {
+                let owners = core.owners()?;
+                push_owners(reply, core.rows(), owners.as_slice())
+            }
             OperatorLine::Step(name, count) => step(core, self.last_id(name), count, reply),
             OperatorLine::Take(name) => {
                 let number = jobs.take(core, self.last_id(name))?;

@@ -5,7 +5,7 @@ use Rattle.std.specs.Char.{is_ascii_alphanumeric}
 use Rattle.std.specs.List.{list_all, position_or_len, before_first, after_first}
 use Rattle.std.specs.Str.{bytes_eq}
 use Rattle.script_text.specs.declared.operator_line.OperatorLine.{OperatorLine}
-use Rattle.script_text.specs.declared.operator_line.OperatorLine.TheVariants.{Admit, Evict, List as ListAll, Step, Take, Put}
+use Rattle.script_text.specs.declared.operator_line.OperatorLine.TheVariants.{Admit, Evict, List as ListAll, Owners, Step, Take, Put}
 use Rattle.script_text.specs.declared.act.Act.{Act}
 use Rattle.script_text.specs.declared.act.Act.TheVariants.{Operator, Session}
 use Rattle.sessions.specs.declared.line.LineForm.{LineForm}
@@ -30,7 +30,9 @@ is_name name = nat_lt 0 (length name) && nat_le (length name) 32 && list_all is_
 
 -- what the words after `op` ask, if they ask something
 abbrev pub operator_line : List (List ℕ) → Option (OperatorLine (List ℕ))
-operator_line (verb ∷ []) = if bytes_eq verb (codes "list") then Some ListAll else None
+operator_line (verb ∷ []) =
+    if bytes_eq verb (codes "list") then Some ListAll else
+    if bytes_eq verb (codes "owners") then Some Owners else None
 operator_line (verb ∷ name ∷ []) =
     if bytes_eq verb (codes "evict") && is_name name then Some (Evict name) else
     if bytes_eq verb (codes "take") && is_name name then Some (Take name) else
@@ -108,6 +110,7 @@ abbrev pub named_operator : OperatorLine (Bor (List ℕ)) → OperatorLine (List
 named_operator (Admit name width) = Admit name.now width
 named_operator (Evict name) = Evict name.now
 named_operator ListAll = ListAll
+named_operator Owners = Owners
 named_operator (Step name count) = Step name.now count
 named_operator (Take name) = Take name.now
 named_operator (Put number) = Put number

@@ -11,6 +11,8 @@ pub enum OperatorLine<N> {
     Admit(N, u32),
     Evict(N),
     List,
+    /// Who owns which pin, wire and pad.
+    Owners,
     /// So many steps of its running job.
     Step(N, u32),
     /// Its running job's next step is taken, and held.
@@ -24,7 +26,15 @@ pub(crate) fn operator_line<'t>(words: &[&'t [u8]]) -> Option<OperatorLine<&'t [
     ensures { option_map named_operator result ≡ operator_line (map (λ w. w.now) words.now) }
 {
     match words {
-        [verb] if is_word(*verb, "list") => Some(OperatorLine::List),
+        [verb] => {
+            if is_word(*verb, "list") {
+                Some(OperatorLine::List)
+            } else if is_word(*verb, "owners") {
+                Some(OperatorLine::Owners)
+            } else {
+                None
+            }
+        }
         [verb, name] => {
             if is_word(*verb, "evict") && is_name(*name) {
                 Some(OperatorLine::Evict(*name))

@@ -1,4 +1,4 @@
-//! The tenants' netlist on its way through the service: its lines, and its three files as they are told.
+//! The tenants' netlist on its way through the service: its lines, its three files as they are told, and what it holds in the end.
 use fixtures::AND;
 use std::alloc::{AllocError, Global};
 
@@ -94,3 +94,26 @@ pub(crate) fn routing_replies(alloc: Global) -> Result<String, AllocError> {
 
 /// What the operator is told for the steps among them.
 pub(crate) const ROUTING_STEPS: &str = "finished\nadvanced\nadvanced\nfinished\n";
+
+/// The lines of `op owners` for it, routed by the tenancy of that id in a strip with so many columns before it.
+pub(crate) fn owned(alloc: Global, columns: u8, id: u32) -> Result<String, AllocError> {
+    let before = u32::from(columns);
+    let x = before + 1;
+    format!(in alloc;
+        "\
+CHANY ({before},1) Track: 1 owner {id}
+OPIN ({x},0) Pad: 0 owner {id}
+OPIN ({x},0) Pad: 1 owner {id}
+OPIN ({x},1) Pin: 2 owner {id}
+IPIN ({x},1) Pin: 0 owner {id}
+IPIN ({x},1) Pin: 1 owner {id}
+IPIN ({x},2) Pad: 0 owner {id}
+CHANX ({x},0) Track: 0 owner {id}
+CHANX ({x},0) Track: 1 owner {id}
+CHANX ({x},1) Track: 0 owner {id}
+PAD ({x},0) Pad: 0 owner {id}
+PAD ({x},0) Pad: 1 owner {id}
+PAD ({x},2) Pad: 0 owner {id}
+"
+    )
+}

@@ -24,4 +24,4 @@ returns c = λ options arch starts.
     let yielded : c.loop-act.yielded ≡ c.into_acts-act-items.result.items = sym (map-id c.loop-act.yielded) ∙ end.0 in
     let all : map named_act c.loop-act.yielded ≡ c.args.script = ap (map named_act) yielded ∙ c.into_acts-act-items.ensures in
     let progress = (let P : ServiceState → Type 0 = λ s. Progress (record { names = []; jobs = []; service = s }) c.loop-act.self (map named_act c.loop-act.yielded) in subst P starts c.loop-act.invariant) in
-    on_ok_value c.output.result (λ output is. replies_all options arch c.args.script c.loop-act.self (map named_act c.loop-act.yielded) output.items (record { alone = c.headline.ensures.alone; parted = c.headline.ensures.parted; line = c.end_to_end.ensures }) progress all is) c.output.ensures
+    on_ok_value c.output.result (λ output is. replies_all options arch c.args.script c.loop-act.self (map named_act c.loop-act.yielded) output.items (record { alone = c.headline.ensures.alone; parted = c.headline.ensures.parted; exact = c.headline.ensures.exact; line = c.end_to_end.ensures }) progress all is) c.output.ensures

@@ -1,8 +1,10 @@
-use Rattle.std.proofs.Common.{ℕ, [], ◌∷◌, refl, sym, ap, subst, ◌∙◌}
+use Rattle.std.proofs.Common.{ℕ, ◌≡◌, [], ◌∷◌, ◌++◌, refl, sym, ap, subst, ◌∙◌}
 use Rattle.service_core.specs.Calls.{IsTaken}
 use Rattle.service_core.specs.Run.Call.{Evict as EvictCall, Take as TakeCall}
+use Rattle.operator.specs.OwnersText.{owners_text}
 use Rattle.operator.specs.OperatorText.{evicted_text, list_text, outcome_text, taken_text}
 use Rattle.operator.proofs.OperatorLemmas.{on_ok, lengths-evicted, evicts}
+use Rattle.operator.specs.Held.{held}
 use Rattle.operator.specs.Serving.{tried_calls, tried_text}
 use Rattle.operator.proofs.Stepping.{lengths-run, steady_held}
 use Rattle.operator.proofs.operator.Operator.serve.Goals as goal
@@ -24,6 +26,21 @@ pub returns-in-List : goal.returns-in-List
 returns-in-List c =
     rw c.in-List.is
     (on_ok c.list.result (λ appended. ([], list_text c.args.core.now c.args.self.now, (refl, refl, refl), appended, c.requires)) c.list.ensures)
+
+pub returns-in_ok-owners-in-Owners : goal.returns-in_ok-owners-in-Owners
+returns-in_ok-owners-in-Owners c =
+    let owners = c.in_ok-owners-in-Owners.owners.items in
+    let told : owners_text c.rows.result c.as_slice.result.now ≡ owners_text c.args.core.now.device.rows owners = rw (c.rows.ensures.value, c.as_slice.ensures.value) refl in
+    rw c.in-Owners.is
+    (on_ok c.push_owners.result
+    (λ appended. (
+      [],
+      owners_text c.args.core.now.device.rows owners,
+      (owners, c.in_ok-owners-in-Owners.ensures.value, refl, refl, refl),
+      appended ∙ ap (λ t. held c.args.reply.now ++ t) told,
+      c.requires,
+    ))
+    c.push_owners.ensures)
 
 pub returns-in-Admit : goal.returns-in-Admit
 returns-in-Admit c = rw c.in-Admit.is (on_ok c.admit.result (λ admits. admits c.args.jobs.now) c.admit.ensures)

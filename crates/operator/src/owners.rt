@@ -1,0 +1,86 @@
+//! The owners of a device's pins, wires and pads, as the operator is told them.
+ghost use Rattle.std.specs.Prelude.{◌≡◌, ◌++◌, OnOk};
+ghost use Rattle.std.specs.List.{flat_map};
+ghost use Rattle.operator.specs.Held.{held};
+ghost use Rattle.operator.specs.OwnersText.{node_of, owned_text, owners_text, pad_text, resource_text};
+
+use crate::reply::push_parts;
+use device_book::Owned;
+use itoa::Buffer;
+use line_text::MemorySink;
+use rr_graph::{Node, NodeKind, Resource, ResourceKind};
+use std::alloc::AllocError;
+use vpr_files::write_node;
+
+/// Appends how many resources are owned on a device with so many rows, and a line for each.
+pub(crate) fn push_owners(
+    reply: &mut MemorySink,
+    rows: u32,
+    owners: &[Owned],
+) -> Result<(), AllocError>
+    ensures { OnOk result (held reply.new ≡ held reply.old ++ owners_text rows owners.now) }
+{
+    let mut digits = Buffer::new();
+    let count = digits.format(owners.len()).as_bytes();
+    push_parts(reply, &[b"owners ", count, b"\n"])?;
+    push_each(reply, rows, owners)
+}
+
+/// Appends a line for each resource and its owner.
+fn push_each(reply: &mut MemorySink, rows: u32, owners: &[Owned]) -> Result<(), AllocError>
+    ensures { OnOk result (held reply.new ≡ held reply.old ++ flat_map (owned_text rows) owners.now) }
+{
+    for owned in owners {
+        push_owned(reply, rows, *owned)?;
+    }
+    Ok(())
+}
+
+/// Appends the line of a resource and its owner.
+fn push_owned(reply: &mut MemorySink, rows: u32, owned: Owned) -> Result<(), AllocError>
+    ensures { OnOk result (held reply.new ≡ held reply.old ++ owned_text rows owned) }
+{
+    let Owned { resource, id } = owned;
+    push_resource(reply, rows, resource)?;
+    let mut digits = Buffer::new();
+    push_parts(reply, &[b" owner ", digits.format(id).as_bytes(), b"\n"])
+}
+
+/// Appends a resource: a pin or a wire as its node stands in a `.route` file, and a pad likewise.
+fn push_resource(reply: &mut MemorySink, rows: u32, resource: Resource) -> Result<(), AllocError>
+    ensures { OnOk result (held reply.new ≡ held reply.old ++ resource_text rows resource) }
+{
+    let Some(node) = node_of(resource) else {
+        return push_pad(reply, resource);
+    };
+    match write_node(node, rows, reply) {
+        Ok(()) => Ok(()),
+        Err(_) => Err(AllocError),
+    }
+}
+
+/// Appends a pad.
+fn push_pad(reply: &mut MemorySink, pad: Resource) -> Result<(), AllocError>
+    ensures { OnOk result (held reply.new ≡ held reply.old ++ pad_text pad) }
+{
+    let (mut columns, mut rows, mut numbers) = (Buffer::new(), Buffer::new(), Buffer::new());
+    let x = columns.format(pad.x).as_bytes();
+    let y = rows.format(pad.y).as_bytes();
+    let n = numbers.format(pad.n).as_bytes();
+    push_parts(reply, &[b"PAD (", x, b",", y, b") Pad: ", n])
+}
+
+/// The node of a pin or a wire.
+fn node_of(resource: Resource) -> Option<Node>
+    ensures { result ≡ node_of resource }
+{
+    let kind = match resource.kind {
+        ResourceKind::Opin => NodeKind::Opin,
+        ResourceKind::Ipin => NodeKind::Ipin,
+        ResourceKind::ChanX => NodeKind::ChanX,
+        ResourceKind::ChanY => NodeKind::ChanY,
+        ResourceKind::Pad => return None,
+    };
+    let Resource { x, y, n, .. } = resource;
+    Some(Node { x, kind, y, n })
+}
