@@ -1,8 +1,9 @@
 -- Joined lines of small texts, and numbers, computed by the checker.
-use Rattle.std.proofs.Common.{Some, None, ◌≡◌, ℕ, List, [], ◌∷◌, Ok, Err, refl, codes}
+use Rattle.std.proofs.Common.{Some, None, ◌≡◌, ℕ, Bool, true, false, List, [], ◌∷◌, Ok, Err, refl, codes}
 use Rattle.line_text.specs.declared.fault.LineFault.TheVariants.{NotAscii}
 use Rattle.line_text.specs.Decimal.{decimal_of, millionths_of, whole_of}
 use Rattle.line_text.specs.Words.{words_of}
+use Rattle.line_text.specs.LeastFault.{Found, least_fault}
 use Rattle.line_text.specs.Lines.{JoinedLine, joined_bytes, kept, lines_of, physical_lines}
 
 abbrev numbered : ℕ → List (List ℕ) → JoinedLine
@@ -121,3 +122,19 @@ point_alone = refl
 
 two_points : millionths_of (codes "1.2.3") ≡ None
 two_points = refl
+
+-- the least fault, in whatever order the faults stand: of one line and number the first word's, and the end's after all lines
+abbrev found : Bool → ℕ → ℕ → ℕ → ℕ → Found ℕ
+found at_end line number word fault = record { at_end = at_end; line = line; number = number; word = word; fault = fault }
+
+least_word : least_fault (found false 3 5 1 10 ∷ found false 3 5 0 11 ∷ found true 1 2 0 12 ∷ []) ≡ Some 11
+least_word = refl
+
+least_word_swapped : least_fault (found true 1 2 0 12 ∷ found false 3 5 0 11 ∷ found false 3 5 1 10 ∷ []) ≡ Some 11
+least_word_swapped = refl
+
+least_number : least_fault (found false 3 5 0 10 ∷ found false 3 4 7 11 ∷ []) ≡ Some 11
+least_number = refl
+
+least_line : least_fault (found false 3 1 0 10 ∷ found false 2 9 0 11 ∷ []) ≡ Some 11
+least_line = refl

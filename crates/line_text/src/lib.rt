@@ -6,6 +6,9 @@
 //! lines that have words, as slices of the text, or the least fault: another byte than a blank or a printing ASCII character
 //! outside comments, or a joined line of more than [`MAX_LINE`] bytes. Netlists in BLIF and architecture files are read by it.
 //!
+//! A reader of a text that has no value to give answers a [`TextError`]: no memory, or the least of all faults of the text, by
+//! line, number and word, those of the end last (`specs/LeastFault.antt`).
+//!
 //! A [`Source`] gives bytes and a [`Sink`] takes them. Both answer [`Failed`] from their first failure on.
 #![tactic(auto)]
 
