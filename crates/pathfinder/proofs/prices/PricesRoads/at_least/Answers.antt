@@ -12,8 +12,8 @@ use Rattle.pathfinder.proofs.InRange.{tabled_lawful}
 use Rattle.pathfinder.proofs.Strips.{strip_wiring}
 use Rattle.pathfinder.proofs.prices.PricesRoads.at_least.Goals as goal
 
-pub further_from-further-requires : goal.further_from-further-requires
-further_from-further-requires g c =
+pub further-further-requires : goal.further-further-requires
+further-further-requires g c =
     let prices = c.args.self.now in
     let basis = g.G.StripGraph.basis prices.graph.now in
     subst (λ (node : Node). is_node basis.arch basis.strip node ≡ true) prices.aim.is (c.count-count.ensures.lawful.nodes prices.goal prices.aim.within)
@@ -27,7 +27,7 @@ returns-then-goal-aim g c =
     let lawful = tabled_lawful (wiring_of basis) (strip_wiring basis c.count-count.ensures.lawful few) prices.iterations prices.history.now prices.held.now prices.lawful in
     let place = (graph_of basis).node c.args.node in
     let at : IsNoMore c.entering.result (raised prices.pins prices.lasts.now prices.sink c.node-place.result (further_to basis.arch basis.strip prices.sink c.node-place.result)) =
-    subst (λ further. IsNoMore c.entering.result (raised prices.pins prices.lasts.now prices.sink c.node-place.result further)) c.further_from-further.ensures c.entering.ensures in
+    subst (λ further. IsNoMore c.entering.result (raised prices.pins prices.lasts.now prices.sink c.node-place.result further)) c.further-further.ensures c.entering.ensures in
     let here : IsNoMore c.entering.result (raised prices.pins prices.lasts.now prices.sink place (further_to basis.arch basis.strip prices.sink place)) =
     subst (λ (node : Node). IsNoMore c.entering.result (raised prices.pins prices.lasts.now prices.sink node (further_to basis.arch basis.strip prices.sink node))) c.node-place.ensures at in
     let bound = aimed_bound basis c.count-count.ensures.lawful prices.goal prices.sink prices.aim at_prices lawful refl (λ node. refl) prices.pins prices.lasts.now prices.entered c.args.node c.requires.node c.entering.result here in
