@@ -1,18 +1,23 @@
 -- A resource's place is its own.
-use Rattle.std.proofs.Common.{◌≡◌, ℕ, ◌+◌, ◌*◌, ◌/◌, ◌%◌, ◌<◌, ◌≤◌, List, length, get_or, take, ◌||◌, Bool, true, false, Option, None, refl, inl, inr, ◌⊎◌, sym, ap, ◌∙◌, arith, get_or-set_same, get_or-set_other}
+use Rattle.std.proofs.Common.{◌≡◌, ℕ, ◌+◌, ◌*◌, ◌/◌, ◌%◌, ◌<◌, ◌≤◌, List, [], ◌∷◌, length, get_or, map, take, ◌||◌, Bool, true, false, Option, None, refl, inl, inr, ◌⊎◌, sym, ap, ◌∙◌, arith, get_or-set_same, get_or-set_other}
 use Rattle.std.specs.Prelude.{if◌then◌else◌}
 use Rattle.std.proofs.Math.ListN.{set}
 use Rattle.std.proofs.Math.Nat.{div-lt_iff_lt-mul, mul-le-mul_right}
 use Rattle.std.proofs.lemmas.Nat.{div-add-mod', div-mul-add, mod-mul-add, mod_below}
 use Rattle.std.proofs.lemmas.Bool.Decides.{nat_tests}
 use Rattle.std.proofs.lemmas.Bool.{false≢true, and_from, cases_lt, cases_eq, le-leb, lt-ltb}
-use Rattle.std.proofs.lemmas.List.Folds.{list_any_more}
+use Rattle.std.proofs.lemmas.List.{map_more}
+use Rattle.std.proofs.lemmas.List.Folds.{list_any-append}
 use Rattle.rr_graph.specs.declared.resource.ResourceKind.{ResourceKind}
 use Rattle.rr_graph.specs.declared.resource.ResourceKind.TheVariants.{Opin, Ipin, ChanX, ChanY, Pad}
 use Rattle.rr_graph.specs.declared.resource.Resource.{Resource}
-use Rattle.rr_graph.specs.Resources.{IsEarlier, has, is_same, resource_rank}
+use Rattle.rr_graph.specs.Resources.{IsEarlier, has, is_same, moved_resource, resource_rank}
 use Rattle.device_book.specs.declared.book.Extent.{Extent}
 use Rattle.device_book.specs.Owners.{AreOwned, owner_of, in_book, number_of, size_of}
+
+or_false : (b : Bool) → (b || false) ≡ b
+or_false true = refl
+or_false false = refl
 
 pub rank_below : (kind : ResourceKind) → resource_rank kind < 5
 rank_below Opin = omega arith
@@ -103,19 +108,29 @@ owner_of-set extent owners resource value other long is = by_device (in_book ext
     by_device true e false f = get_or-set_other owners (number_of extent resource) (number_of extent other) value None (λ same. false≢true (sym f ∙ same_place extent other resource e is same))
 
 -- one more of them has the owner
-pub write_more : (extent : Extent) (old now : List (Option ℕ)) (resources : List Resource) (index : ℕ) (value : Option ℕ) (d : Resource) → index < length resources →
-    length now ≡ size_of extent → in_book extent (get_or resources index d) ≡ true →
-    AreOwned (record { extent = extent; owners = old }) (take index resources) value (record { extent = extent; owners = now }) →
-    AreOwned (record { extent = extent; owners = old }) (take (index + 1) resources) value (record { extent = extent; owners = set now (number_of extent (get_or resources index d)) value })
-write_more extent old now resources index value d lt long there owned = (
+pub write_more : (extent : Extent) (old now : List (Option ℕ)) (offset : ℕ) (resources : List Resource) (index : ℕ) (value : Option ℕ) (d : Resource) → index < length resources →
+    length now ≡ size_of extent → in_book extent (moved_resource offset (get_or resources index d)) ≡ true →
+    AreOwned (record { extent = extent; owners = old }) (map (moved_resource offset) (take index resources)) value (record { extent = extent; owners = now }) →
+    AreOwned (record { extent = extent; owners = old }) (map (moved_resource offset) (take (index + 1) resources)) value (record { extent = extent; owners = set now (number_of extent (moved_resource offset (get_or resources index d))) value })
+write_more extent old now offset resources index value d lt long there owned = (
   refl,
   λ other.
-      owner_of-set extent now (get_or resources index d) value other long there
-      ∙ (ap (λ t. if is_same other (get_or resources index d) then value else t) (owned.1 other)
-      ∙ (merged (is_same other (get_or resources index d)) (has (take index resources) other) value (owner_of (record { extent = extent; owners = old }) other)
-      ∙ sym (ap (λ t. if t then value else owner_of (record { extent = extent; owners = old }) other) (list_any_more (is_same other) resources index d lt)))),
+      owner_of-set extent now new value other long there
+      ∙ (ap (λ t. if is_same other new then value else t) (owned.1 other)
+      ∙ (merged (is_same other new) (has before other) value (owner_of (record { extent = extent; owners = old }) other)
+      ∙ sym (ap (λ t. if t then value else owner_of (record { extent = extent; owners = old }) other) (one_more other)))),
 )
   where
+    new : Resource
+    new = moved_resource offset (get_or resources index d)
+
+    before : List Resource
+    before = map (moved_resource offset) (take index resources)
+
+    one_more : (other : Resource) → has (map (moved_resource offset) (take (index + 1) resources)) other ≡ (has before other || is_same other new)
+    one_more other = ap (λ xs. has xs other) (map_more (moved_resource offset) resources index d lt)
+        ∙ (list_any-append (is_same other) before (new ∷ []) ∙ ap (λ b. has before other || b) (or_false (is_same other new)))
+
     merged : (new before : Bool) (value rest : Option ℕ) → (if new then value else (if before then value else rest)) ≡ (if before || new then value else rest)
     merged true true value rest = refl
     merged true false value rest = refl
@@ -153,11 +168,15 @@ same_kind Pad Pad e = refl
 abbrev pub make : ℕ → ResourceKind → ℕ → ℕ → Resource
 make x kind y n = record { x = x; kind = kind; y = y; n = n }
 
+-- what is the same is one
+pub same_resource : (a b : Resource) → is_same a b ≡ true → a ≡ b
+same_resource a b is =
+    let same = same_parts a b is in
+    ap (λ x. make x a.kind a.y a.n) same.x ∙ (ap (λ k. make b.x k a.y a.n) (same_kind a.kind b.kind same.rank) ∙ (ap (λ y. make b.x b.kind y a.n) same.y ∙ ap (λ n. make b.x b.kind b.y n) same.n))
+
 -- a place has one resource
 pub one_resource : (extent : Extent) (a b : Resource) → in_book extent a ≡ true → in_book extent b ≡ true → number_of extent a ≡ number_of extent b → a ≡ b
-one_resource extent a b in_a in_b e =
-    let same = same_parts a b (same_place extent a b in_a in_b e) in
-    ap (λ x. make x a.kind a.y a.n) same.x ∙ (ap (λ k. make b.x k a.y a.n) (same_kind a.kind b.kind same.rank) ∙ (ap (λ y. make b.x b.kind y a.n) same.y ∙ ap (λ n. make b.x b.kind b.y n) same.n))
+one_resource extent a b in_a in_b e = same_resource a b (same_place extent a b in_a in_b e)
 
 -- of two numbers in digits the high digits decide, and then the low
 by_digits : (a b c d n : ℕ) → b < n → d < n → a * n + b < c * n + d → (a < c) ⊎ ((a ≡ c) × (b < d))

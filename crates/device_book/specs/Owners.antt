@@ -1,8 +1,8 @@
 -- Who owns which resource of a device.
-use Rattle.std.specs.Prelude.{ℕ, ◌≡◌, ◌+◌, ◌*◌, ◌≤◌, List, length, replicate, Bool, ◌&&◌, nat_le, nat_lt, max, Option, Some, None, if◌then◌else◌, slice_index_or, AllPairs, Contains, ◌↔◌}
+use Rattle.std.specs.Prelude.{ℕ, ◌≡◌, ◌+◌, ◌*◌, ◌≤◌, List, length, replicate, All, Bool, true, ◌&&◌, nat_le, nat_lt, max, Option, Some, None, if◌then◌else◌, slice_index_or, AllPairs, Contains, ◌↔◌}
 use Rattle.arch_file.specs.declared.arch.Arch.{Arch}
 use Rattle.rr_graph.specs.declared.resource.Resource.{Resource}
-use Rattle.rr_graph.specs.Resources.{IsEarlier, has, resource_rank}
+use Rattle.rr_graph.specs.Resources.{IsEarlier, has, moved_resource, resource_rank}
 use Rattle.device_book.specs.declared.book.Extent.{Extent}
 use Rattle.device_book.specs.declared.book.Owned.{Owned}
 
@@ -37,6 +37,10 @@ owner_of book resource = if in_book book.extent resource then slice_index_or boo
 
 abbrev pub IsFree : Owners → Resource → Type 0
 IsFree book resource = owner_of book resource ≡ None
+
+-- the book has a place for each of these, so many columns to the right
+abbrev pub StandIn : Extent → ℕ → List Resource → Type 0
+StandIn extent offset resources = All (λ resource. in_book extent (moved_resource offset resource) ≡ true) resources
 
 -- those and no others have that owner now
 abbrev pub AreOwned : Owners → List Resource → Option ℕ → Owners → Type 0

@@ -1,8 +1,8 @@
 //! The book of owners.
-ghost use Rattle.std.specs.Prelude.{◌≡◌, ◌+◌, ◌<◌, ◌≤◌, ◌*◌, All, IfOk, None, Some, length, max, true};
+ghost use Rattle.std.specs.Prelude.{◌≡◌, ◌+◌, ◌<◌, ◌≤◌, ◌*◌, All, IfOk, None, Some, length, map, max, true};
 ghost use Rattle.arch_file.specs.Arch.{IsArch};
-ghost use Rattle.device_book.specs.Owners.{AreOwned, Claims, IsBook, IsExtent, IsFree, ListsOwners, Releases, extent_of, in_book, nobody, number_of, owner_of, size_of};
-ghost use Rattle.rr_graph.specs.Resources.{resource_rank};
+ghost use Rattle.device_book.specs.Owners.{AreOwned, Claims, IsBook, IsExtent, IsFree, ListsOwners, Releases, StandIn, extent_of, in_book, nobody, number_of, owner_of, size_of};
+ghost use Rattle.rr_graph.specs.Resources.{moved_resource, resource_rank};
 
 use arch_file::Arch;
 use rr_graph::{Resource, ResourceKind};
@@ -74,23 +74,23 @@ impl Book {
         listed(alloc, self.extent, self.owners.as_slice())
     }
 
-    /// Gives resources that nobody owns to a tenancy.
-    pub fn claim(&mut self, id: u16, resources: &[Resource])
-        requires there { All (λ resource. in_book self.old.extent resource ≡ true) resources.now }
-        requires free { All (IsFree self.old) resources.now }
-        ensures { Claims self.old id resources.now self.new }
+    /// Gives resources that nobody owns to a tenancy: those of its strip, so many columns to the right.
+    pub fn claim(&mut self, id: u16, offset: u32, resources: &[Resource])
+        requires there { StandIn self.old.extent offset resources.now }
+        requires free { All (IsFree self.old) (map (moved_resource offset) resources.now) }
+        ensures { Claims self.old id (map (moved_resource offset) resources.now) self.new }
     {
         let extent = self.extent;
-        write(&mut self.owners, extent, Some(id), resources);
+        write(&mut self.owners, extent, Some(id), offset, resources);
     }
 
-    /// Takes resources from the tenancy that owns them.
-    pub fn release(&mut self, resources: &[Resource])
-        requires there { All (λ resource. in_book self.old.extent resource ≡ true) resources.now }
-        ensures { Releases self.old resources.now self.new }
+    /// Takes resources from the tenancy that owns them: those of its strip, so many columns to the right.
+    pub fn release(&mut self, offset: u32, resources: &[Resource])
+        requires there { StandIn self.old.extent offset resources.now }
+        ensures { Releases self.old (map (moved_resource offset) resources.now) self.new }
     {
         let extent = self.extent;
-        write(&mut self.owners, extent, None, resources);
+        write(&mut self.owners, extent, None, offset, resources);
     }
 }
 
@@ -153,16 +153,23 @@ fn rank(kind: ResourceKind) -> usize
     }
 }
 
-/// Writes the same owner at each of these.
-fn write(owners: &mut [Option<u16>], extent: Extent, owner: Option<u16>, resources: &[Resource])
+/// Writes the same owner at each of these, moved by so many columns.
+fn write(
+    owners: &mut [Option<u16>],
+    extent: Extent,
+    owner: Option<u16>,
+    offset: u32,
+    resources: &[Resource],
+)
     requires extent { IsExtent extent }
     requires long { length owners.old ≡ size_of extent }
-    requires there { All (λ resource. in_book extent resource ≡ true) resources.now }
+    requires there { StandIn extent offset resources.now }
     ensures long { length owners.new ≡ length owners.old }
-    ensures owned { AreOwned (record { extent = extent; owners = owners.old }) resources.now owner (record { extent = extent; owners = owners.new }) }
+    ensures owned { AreOwned (record { extent = extent; owners = owners.old }) (map (moved_resource offset) resources.now) owner (record { extent = extent; owners = owners.new }) }
 {
     for resource in resources {
-        owners[number_of(extent, *resource)] = owner;
+        let place = number_of(extent, resource.moved(offset));
+        owners[place] = owner;
     }
 }
 

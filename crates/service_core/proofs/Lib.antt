@@ -1,5 +1,9 @@
 mod Examples
 pub mod Lists
+pub mod Held
+pub mod Holdings
+pub mod Exact
+pub mod Columns
 pub mod Histories
 pub mod Keeps
 pub mod Slots
@@ -8,3 +12,7 @@ pub mod Effects
 pub mod Counting
 pub mod Alone
 pub mod Parted
+pub mod Owning
+pub mod Alike
+pub mod There
+pub mod Booking

@@ -1,5 +1,5 @@
 -- What the main theorem says of a list of calls and the state after it.
-use Rattle.std.specs.Prelude.{ℕ, ◌≡◌, List, Some, IfSome, IsSomeAnd}
+use Rattle.std.specs.Prelude.{ℕ, ◌≡◌, List, Option, Some, IfSome, IsSomeAnd}
 use Rattle.strips.specs.Plan.{IsParted}
 use Rattle.job_state.specs.declared.step.JobStep.{JobStep}
 use Rattle.tenant_slot.specs.declared.reply.StepReply.{StepReply}
@@ -7,7 +7,7 @@ use Rattle.tenant_slot.specs.declared.reply.StepReply.TheVariants.{Advanced, Fin
 use Rattle.tenant_slot.specs.SingleUser.{run}
 use Rattle.tenant_slot.specs.Slot.{next_job}
 use Rattle.service_core.specs.declared.device.Device.{Device}
-use Rattle.service_core.specs.History.{slot_of, state_of}
+use Rattle.service_core.specs.History.{History, slot_of, state_of}
 use Rattle.service_core.specs.Service.{ServiceState, history_of, live_of, live_width, placed_width, strip_on}
 use Rattle.service_core.specs.Run.{Call}
 use Rattle.service_core.specs.OwnEvents.{own_events, own_replies}
@@ -31,3 +31,22 @@ abbrev pub Counts : StepReply → Type 0 → Type 0
 Counts Stale is_next = is_next → ⊥
 Counts Advanced is_next = is_next
 Counts Finished is_next = is_next
+
+-- two tenancies of devices of one architecture and one number of rows, with strips of one width
+pub record AreAlike (device other : Device) (h g : History) : Type 0 where
+  pub arch : device.arch ≡ other.arch
+  pub rows : device.rows ≡ other.rows
+  pub width : h.strip.width ≡ g.strip.width
+
+-- each is one that was admitted
+abbrev pub BothHave : (History → History → Type 0) → Option History → Option History → Type 0
+BothHave P (Some h) (Some g) = P h g
+BothHave P h g = ⊥
+
+abbrev pub HaveSameStrip : Device → ServiceState → ℕ → Device → ServiceState → ℕ → Type 0
+HaveSameStrip device state id other other_state other_id = BothHave (AreAlike device other) (history_of state.histories id) (history_of other_state.histories other_id)
+
+-- they have the same replies, and are in the same state
+abbrev pub AreToldTheSame : ServiceState → ℕ → List Call → ServiceState → ℕ → List Call → Type 0
+AreToldTheSame state id calls other_state other_id other_calls =
+    (own_replies id calls ≡ own_replies other_id other_calls) × BothHave (λ h g. state_of h ≡ state_of g) (history_of state.histories id) (history_of other_state.histories other_id)

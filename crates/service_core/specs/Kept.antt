@@ -1,13 +1,21 @@
 -- Private: what the core keeps, and what its own looks at it tell.
-use Rattle.std.specs.Prelude.{ℕ, ◌≡◌, ◌-◌, ◌<◌, ◌≤◌, List, length, true, Result, Ok, Err, Some, All, slice_index_or}
+use Rattle.std.specs.Prelude.{ℕ, ◌≡◌, ◌-◌, ◌<◌, ◌≤◌, ◌↔◌, List, length, map, true, Result, Ok, Err, Some, All, slice_index_or}
 use Rattle.arch_file.specs.Arch.{IsArch, IsWithin}
 use Rattle.strips.specs.declared.placed_strip.PlacedStrip.{PlacedStrip}
-use Rattle.strips.specs.Plan.{IsFirstFit}
+use Rattle.rr_graph.specs.declared.resource.Resource.{Resource}
+use Rattle.rr_graph.specs.Resources.{moved_resource}
+use Rattle.strips.specs.Plan.{IsFirstFit, IsParted, offset_of}
+use Rattle.device_book.specs.Owners.{Claims, IsFree, Owners, extent_of, owner_of}
+use Rattle.tenant_slot.specs.declared.reply.StepReply.{StepReply}
+use Rattle.tenant_slot.specs.declared.reply.StepReply.TheVariants.{Finished}
+use Rattle.tenant_slot.specs.RoutedSet.{routed_set}
 use Rattle.service_core.specs.declared.device.Device.{Device}
 use Rattle.service_core.specs.declared.op_refusal.OpRefusal.{OpRefusal}
 use Rattle.service_core.specs.Calls.{CanAdmit, RefusesAdmission}
-use Rattle.service_core.specs.History.{History}
-use Rattle.service_core.specs.Service.{IsAloneOn, ServiceState, history_of, live_width, placed_width}
+use Rattle.service_core.specs.History.{History, state_of}
+use Rattle.service_core.specs.Service.{IsAloneOn, ServiceState, history_of, live_of, live_width, placed_width}
+use Rattle.service_core.specs.Owners.{IsOwner}
+use Rattle.service_core.specs.Tenancy.{StandsIn}
 
 -- the device keeps the limits
 pub record IsDevice (device : Device) : Type 0 where
@@ -22,10 +30,16 @@ pub record IsService (device : Device) (strips : List PlacedStrip) (histories : 
   pub ids : (id : ℕ) (h : History) → history_of histories id ≡ Some h → h.id ≡ id
   pub alone : All (IsAloneOn device) histories
 
--- and the device keeps the limits
-pub record IsSound (device : Device) (strips : List PlacedStrip) (histories : List History) : Type 0 where
+-- the book of a device has each owner, and no other
+pub record KeepsBook (book : Owners) (state : ServiceState) : Type 0 where
+  pub extent : book.extent ≡ extent_of state.device.arch state.device.columns state.device.rows
+  pub exact : (resource : Resource) (id : ℕ) → (owner_of book resource ≡ Some id) ↔ IsOwner state resource id
+
+-- and the device keeps the limits, and its book is exact
+pub record IsSound (owners : Owners) (device : Device) (strips : List PlacedStrip) (histories : List History) : Type 0 where
   pub lawful : IsDevice device
   pub kept : IsService device strips histories
+  pub book : KeepsBook owners (record { device = device; plan = record { columns = device.columns; strips = strips }; histories = histories })
 
 -- a live tenancy is at its place in the list
 pub record IsLiveIn (histories : List History) (id : ℕ) : Type 0 where
@@ -33,6 +47,25 @@ pub record IsLiveIn (histories : List History) (id : ℕ) : Type 0 where
   pub within : id ≤ length histories
   pub flag : (d : History) → (slice_index_or histories (id - 1) d).live ≡ true
   pub history : (d : History) → history_of histories id ≡ Some (slice_index_or histories (id - 1) d)
+
+-- a live tenancy's strip stands there, parted from the others, and all that it has is in the book
+pub record IsPlaceOf (state : ServiceState) (id offset : ℕ) : Type 0 where
+  pub at : offset_of state.plan.strips id ≡ Some offset
+  pub parted : IsParted state.plan
+  pub stands : (h : History) → live_of state.histories id ≡ Some h → StandsIn (extent_of state.device.arch state.device.columns state.device.rows) offset h.arch h.strip
+
+-- what a tenancy holds on the device
+abbrev pub held_at : ℕ → History → List Resource
+held_at offset h = map (moved_resource offset) (routed_set (state_of h))
+
+-- nobody owns what the tenancy holds
+abbrev pub AreFree : Owners → ℕ → History → Type 0
+AreFree book offset h = All (IsFree book) (held_at offset h)
+
+-- a tenancy whose job has finished takes up what it holds now
+abbrev pub TakesUp : Owners → ℕ → ℕ → History → StepReply → Owners → Type 0
+TakesUp old id offset h Finished new = Claims old id (held_at offset h) new
+TakesUp old id offset h reply new = new ≡ old
 
 -- the look at the refusals that need no memory gives the offset
 abbrev pub ChecksAdmission : ServiceState → ℕ → Result ℕ OpRefusal → Type 0

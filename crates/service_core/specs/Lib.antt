@@ -2,6 +2,7 @@ pub mod History
 pub mod Receipt
 pub mod Names
 pub mod Service
+pub mod Owners
 pub mod Calls
 pub mod Run
 pub mod OwnEvents

@@ -1,17 +1,23 @@
 -- Private: what a tenancy keeps, and what its calls do.
-use Rattle.std.specs.Prelude.{ℕ, ◌≡◌, ◌<◌, List, length, Bool, true, false, Result, Ok, Err, Option, Some, None, IfSome}
+use Rattle.std.specs.Prelude.{ℕ, ◌≡◌, ◌<◌, ◌⊎◌, List, [], length, map, Bool, true, false, Result, Ok, Err, Option, Some, None, IfSome}
 use Rattle.std.specs.declared.alloc.AllocError.{AllocError}
 use Rattle.arch_file.specs.declared.arch.Arch.{Arch}
 use Rattle.grid.specs.declared.Strip.{Strip}
+use Rattle.rr_graph.specs.declared.resource.Resource.{Resource}
+use Rattle.rr_graph.specs.Resources.{is_there, moved_resource}
+use Rattle.device_book.specs.declared.book.Extent.{Extent}
+use Rattle.device_book.specs.Owners.{Owners, Releases, in_book}
 use Rattle.job_state.specs.declared.step.JobStep.{JobStep}
 use Rattle.job_state.specs.Job.{JobState}
 use Rattle.tenant_slot.specs.declared.command.Command.{Command}
 use Rattle.tenant_slot.specs.declared.event.Event.TheVariants.{Command as Asked}
 use Rattle.tenant_slot.specs.declared.reply.StepReply.{StepReply}
 use Rattle.tenant_slot.specs.declared.reply.Reply.{Reply}
+use Rattle.tenant_slot.specs.declared.reply.Reply.TheVariants.{Accepted}
 use Rattle.tenant_slot.specs.declared.not_served.NotServed.{NotServed}
 use Rattle.tenant_slot.specs.declared.not_served.NotServed.TheVariants.{NoMemory, JournalFull}
 use Rattle.tenant_slot.specs.SingleUser.{start, step, state_after}
+use Rattle.tenant_slot.specs.RoutedSet.{routed_set}
 use Rattle.tenant_slot.specs.Slot.{GivesBack, SlotState, is_takeable, next_job}
 use Rattle.service_core.specs.declared.entry.Entry.{Entry}
 use Rattle.service_core.specs.History.{History, IsReplayed, events_of, slot_of, state_of, with_entry, with_out}
@@ -46,3 +52,18 @@ PutsHistory old done (Err back) new = (back.0 ≡ done) × (new ≡ old)
 -- what a job that is given back leads to
 abbrev pub GivesHistoryBack : History → JobState → History → Type 0
 GivesHistoryBack old job new = (out : Bool) × GivesBack (slot_of old) job (slot_of (with_out out old)) × (new ≡ with_out out old)
+
+-- what a strip has, so many columns to the right, has its place in the book
+abbrev pub StandsIn : Extent → ℕ → Arch → Strip → Type 0
+StandsIn extent offset arch strip = (resource : Resource) → is_there arch strip resource ≡ true → in_book extent (moved_resource offset resource) ≡ true
+
+-- a tenancy that is answered that its state changes gives up what it held, and none else does
+abbrev pub GivesUp : Owners → List Resource → Reply → Owners → Type 0
+GivesUp old held (Accepted name) new = Releases old held new
+GivesUp old held reply new = new ≡ old
+
+-- a tenancy gives up what it held, or keeps it
+abbrev pub GivesUpOrKeeps : Owners → ℕ → History → Owners → History → Type 0
+GivesUpOrKeeps book offset old left new =
+    (Releases book (map (moved_resource offset) (routed_set (state_of old))) left × (routed_set (state_of new) ≡ []))
+    ⊎ ((left ≡ book) × (routed_set (state_of new) ≡ routed_set (state_of old)))

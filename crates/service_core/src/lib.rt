@@ -1,9 +1,10 @@
 //! All tenancies on one device: who is admitted and where, and what each is answered.
 //!
-//! - `Core` is the machine. The operator's calls are `admit` and `evict`, a tenant's is `tenant`.
-//! - The next step of a tenancy's running job leaves the core by `take`, is made anywhere, and comes back by `put`, or by
+//! - `Service` is the machine. The operator's calls are `admit` and `evict`, a tenant's is `tenant`.
+//! - The next step of a tenancy's running job leaves the service by `take`, is made anywhere, and comes back by `put`, or by
 //!   `give_back` if it wasn't made: at once, late or never.
 //! - A tenancy has a journal of its own, kept when it ends: each event that was served, with its reply.
+//! - What a routed circuit holds of the device is its tenancy's, and is told by `owners`: nothing has two owners.
 //! - Each tenancy is answered as if it were alone on a device of its strip's size (`headline`). `specs/`
 //!   says what one call does (`Calls`), and what any list of them does (`Run`, `Headline`).
 #![tactic(auto)]
@@ -19,13 +20,11 @@ mod service;
 mod tenancy;
 
 pub use device::Device;
+pub use device_book::Owned;
 pub use entry::Entry;
-pub use law::{believed, headline};
+pub use law::{believed, headline, same_alone};
 pub use not_served::{NotServed, Note, NoteCause};
 pub use op_refusal::OpRefusal;
 pub use put_reply::PutReply;
 pub use receipt::Receipt;
 pub use service::{MAX_ADMISSIONS, Service};
-
-/// The core: the pure machine of all tenancies.
-pub type Core = Service;

@@ -1,10 +1,13 @@
-ghost use Rattle.std.specs.Prelude.{◌≡◌, ◌≤◌, ◌+◌, IfOk, None, All, MatchBool, length, option_map, option_copied, slice_get};
+ghost use Rattle.std.specs.Prelude.{◌≡◌, ◌≤◌, ◌+◌, IfOk, None, All, MatchBool, true, length, option_map, option_copied, slice_get};
 ghost use Rattle.arch_file.specs.Arch.{IsArch};
-ghost use Rattle.strips.specs.Plan.{offset_of};
+ghost use Rattle.strips.specs.Plan.{IsLaidOut, offset_of};
 ghost use Rattle.service_core.specs.History.{state_of};
 ghost use Rattle.service_core.specs.Service.{AreAlone, empty, journal_of, live_of};
-ghost use Rattle.service_core.specs.Calls.{IsAdmitted, IsEvicted, IsGivenBack, IsServed, IsTaken, Puts};
-ghost use Rattle.service_core.specs.Kept.{ChecksAdmission, IsLiveIn};
+ghost use Rattle.service_core.specs.Calls.{IsAdmitted, IsEvicted, IsGivenBack, IsServed, IsTaken, Puts, takeable_in};
+ghost use Rattle.service_core.specs.Kept.{AreFree, ChecksAdmission, IsLiveIn, IsPlaceOf, TakesUp};
+ghost use Rattle.service_core.specs.Owners.{IsExactBook, ListsOwnersOf};
+ghost use Rattle.service_core.specs.Tenancy.{StandsIn};
+ghost use Rattle.tenant_slot.specs.declared.reply.StepReply.{StepReply};
 ghost use Rattle.service_core.specs.Headline.{AreParted};
 
 use crate::device::Device;
@@ -15,12 +18,13 @@ use crate::put_reply::PutReply;
 use crate::receipt::Receipt;
 use crate::tenancy::Tenancy;
 use arch_file::SharedArch;
+use device_book::{Book, Owned};
 use grid::Strip;
 use job_state::{AnyJob, Back, Done};
 use std::alloc::{AllocError, Global};
 use std::marker::Model;
 use strips::{Layout, PlacedStrip};
-use tenant_slot::{Command, MAX_ENTRIES, StateName};
+use tenant_slot::{Command, MAX_ENTRIES, StateName, StepReply};
 
 /// The most admissions: ids are 1 to 65,535, and no id is given twice.
 pub const MAX_ADMISSIONS: usize = 65_535;
@@ -34,6 +38,7 @@ pub struct Service {
     rows: u32,
     layout: Layout,
     tenancies: Vec<Tenancy>,
+    book: Book,
 }
 
 impl Model for Service {
@@ -48,7 +53,7 @@ impl Model for Service {
       histories = s.tenancies.items;
     } };
 
-    ghost invariant = { λ s. IsSound (record { arch = s.arch; columns = s.layout.columns; rows = s.rows }) s.layout.strips s.tenancies.items };
+    ghost invariant = { λ s. IsSound s.book (record { arch = s.arch; columns = s.layout.columns; rows = s.rows }) s.layout.strips s.tenancies.items };
 }
 
 impl Service {
@@ -66,12 +71,14 @@ impl Service {
             columns,
             rows,
         } = device;
+        let book = Book::new(alloc, &arch, columns, rows)?;
         Ok(Service {
             alloc,
             arch: SharedArch::new(alloc, arch)?,
             rows,
             layout: Layout::new(columns),
             tenancies: Vec::new(alloc),
+            book,
         })
     }
 
@@ -93,6 +100,20 @@ impl Service {
             return None;
         }
         Some(self.tenancies[id as usize - 1].state())
+    }
+
+    /// Whether `take` would give a job.
+    pub fn has_step(&self, id: u32) -> bool
+        ensures { result ≡ takeable_in (live_of self.now.histories id) }
+    {
+        is_live(&self.tenancies, id) && self.tenancies[id as usize - 1].has_step()
+    }
+
+    /// How many rows of logic blocks the device has.
+    pub fn rows(&self) -> u32
+        ensures value { result ≡ self.now.device.rows }
+    {
+        self.rows
     }
 
     /// The width of a live tenancy's strip, in columns.
@@ -125,6 +146,26 @@ impl Service {
             return None;
         }
         self.tenancies[id as usize - 1].entry(place)
+    }
+
+    /// Each pin, wire and pad of the device that is owned, with its owner, in node order: what the tenancy has routed, where
+    /// its strip stands. Nothing has two owners.
+    pub fn owners(&self) -> Result<Vec<Owned>, AllocError>
+        ensures value { IfOk result (λ list. ListsOwnersOf self.now list.items) }
+        ensures exact { IsExactBook self.now }
+        ensures alone { AreAlone self.now }
+    {
+        self.book.owned(self.alloc)
+    }
+
+    /// Where a tenancy of that width would be admitted now, if there is memory, or why not. All strips are parted.
+    pub fn room_for(&self, width: u32) -> Result<u32, OpRefusal>
+        ensures admits { ChecksAdmission self.now width result }
+        ensures laid_out { IsLaidOut self.now.plan }
+        ensures parted { AreParted self.now.device self.now }
+    {
+        let _nobody = self.layout.offset(0);
+        self.check_admission(width)
     }
 
     /// Admits a tenancy, at the least offset that parts its strip from the others. Answers its id and offset.
@@ -171,9 +212,20 @@ impl Service {
         if !is_live(&self.tenancies, id) {
             return Err(OpRefusal::NoSuchTenancy);
         }
+        let offset = self.place_of(id);
+        let tenancy = &mut self.tenancies[id as usize - 1];
+        self.book.release(offset, tenancy.routed());
+        tenancy.close();
         self.layout.remove(id);
-        self.tenancies[id as usize - 1].close();
         Ok(())
+    }
+
+    /// Where a live tenancy's strip stands.
+    fn place_of(&self, id: u32) -> u32
+        requires { IsLiveIn self.now.histories id }
+        ensures { IsPlaceOf self.now id result }
+    {
+        self.offset(id).unwrap()
     }
 
     /// Serves a command of a live tenancy, as if it were alone.
@@ -184,9 +236,10 @@ impl Service {
             let cause = NoteCause::NoSuchTenancy;
             return Err(NotServed::NoSuchTenancy(Note { id, cause }));
         }
+        let offset = self.place_of(id);
         let tenancy = &mut self.tenancies[id as usize - 1];
         let place = tenancy.len();
-        match tenancy.serve(command) {
+        match tenancy.serve(&mut self.book, offset, command) {
             Ok((command, reply)) => Ok(Receipt {
                 id,
                 place,
@@ -221,13 +274,17 @@ impl Service {
             drop(done.park());
             return Ok(PutReply::Gone);
         }
+        let offset = self.place_of(id);
         let tenancy = &mut self.tenancies[id as usize - 1];
         if tenancy.len() == MAX_ENTRIES {
             drop(done.park());
             return Ok(PutReply::Full);
         }
         match tenancy.put(done) {
-            Ok(reply) => Ok(PutReply::Recorded(reply)),
+            Ok(reply) => {
+                claim(&mut self.book, id, offset, tenancy, reply);
+                Ok(PutReply::Recorded(reply))
+            }
             Err(back) => Err(back),
         }
     }
@@ -243,6 +300,20 @@ impl Service {
         } else {
             drop(back.park());
         }
+    }
+}
+
+/// Claims what a tenancy holds once a job of it has finished.
+fn claim(book: &mut Book, id: u32, offset: u32, tenancy: &Tenancy, reply: StepReply)
+    requires live { tenancy.now.live ≡ true }
+    requires id { id ≤ 65535 }
+    requires there { StandsIn book.old.extent offset tenancy.now.arch tenancy.now.strip }
+    requires free { reply ≡ StepReply.Finished → AreFree book.old offset tenancy.now }
+    ensures { TakesUp book.old id offset tenancy.now reply book.new }
+{
+    match reply {
+        StepReply::Finished => book.claim(id as u16, offset, tenancy.routed()),
+        StepReply::Advanced | StepReply::Stale => {}
     }
 }
 

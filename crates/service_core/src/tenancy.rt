@@ -1,13 +1,19 @@
-ghost use Rattle.std.specs.Prelude.{◌≡◌, ◌≤◌, ◌<◌, [], true, false, IfErr, IfOk, length, option_copied, slice_get};
+ghost use Rattle.std.specs.Prelude.{◌≡◌, ◌≤◌, ◌<◌, [], true, false, All, IfErr, IfOk, length, map, option_copied, slice_get};
+ghost use Rattle.rr_graph.specs.declared.resource.Resource.{Resource};
+ghost use Rattle.rr_graph.specs.Resources.{has, is_there, moved_resource};
 ghost use Rattle.grid.specs.Sizes.{IsStripSize};
 ghost use Rattle.tenant_slot.specs.Answer.{Answers};
+ghost use Rattle.tenant_slot.specs.Slot.{is_takeable};
 ghost use Rattle.service_core.specs.History.{closed, slot_of, state_of};
-ghost use Rattle.service_core.specs.Tenancy.{GivesHistoryBack, PutsHistory, ServesHistory, TakesHistory};
+ghost use Rattle.tenant_slot.specs.RoutedSet.{routed_set};
+ghost use Rattle.service_core.specs.Tenancy.{GivesHistoryBack, GivesUp, GivesUpOrKeeps, PutsHistory, ServesHistory, StandsIn, TakesHistory};
 
 use crate::entry::Entry;
 use arch_file::SharedArch;
+use device_book::Book;
 use grid::Strip;
 use job_state::{AnyJob, Back, Done};
+use rr_graph::Resource;
 use std::alloc::{AllocError, Global};
 use std::marker::Model;
 use tenant_slot::{
@@ -91,10 +97,41 @@ impl Tenancy {
         }
     }
 
-    /// Serves a command, and keeps it with its reply. Hands out both.
-    pub(crate) fn serve(&mut self, command: Command) -> Result<(Command, Reply), NotServed>
-        requires { self.old.live ≡ true }
-        ensures { ServesHistory self.old command result self.new }
+    /// Whether there is a step to take.
+    pub(crate) fn has_step(&self) -> bool
+        requires { self.now.live ≡ true }
+        ensures { result ≡ is_takeable (slot_of self.now) }
+    {
+        match &self.slot {
+            Some(slot) => slot.has_step(),
+            None => unreachable!(),
+        }
+    }
+
+    /// What it holds of its strip, in node order.
+    pub(crate) fn routed(&self) -> &[Resource]
+        requires { self.now.live ≡ true }
+        ensures exact { (resource : Resource) → has result.now resource ≡ has (routed_set (state_of self.now)) resource }
+        ensures there { All (λ resource. is_there self.now.arch self.now.strip resource ≡ true) result.now }
+    {
+        match &self.slot {
+            Some(slot) => slot.routed(),
+            None => unreachable!(),
+        }
+    }
+
+    /// Serves a command, and keeps it with its reply. Hands out both. What the tenancy holds is given up where its state
+    /// changes.
+    pub(crate) fn serve(
+        &mut self,
+        book: &mut Book,
+        offset: u32,
+        command: Command,
+    ) -> Result<(Command, Reply), NotServed>
+        requires live { self.old.live ≡ true }
+        requires there { StandsIn book.old.extent offset self.old.arch self.old.strip }
+        ensures served { ServesHistory self.old command result self.new }
+        ensures book { GivesUpOrKeeps book.old offset self.old book.new self.new }
     {
         let Some(slot) = &mut self.slot else {
             unreachable!()
@@ -104,6 +141,7 @@ impl Tenancy {
         }
         self.journal.reserve(1)?;
         let (answer, told) = answered(slot, &command)?;
+        give_up(book, offset, slot, answer.reply());
         let reply = slot.accept(answer);
         let event = Event::Command(command);
         self.journal.push(Entry { event, reply }).unwrap();
@@ -160,6 +198,16 @@ impl Tenancy {
         ensures { self.new ≡ closed self.old }
     {
         drop(self.slot.take());
+    }
+}
+
+/// Gives up what a tenancy holds where it is answered that its state changes.
+fn give_up(book: &mut Book, offset: u32, slot: &Slot, reply: &Reply)
+    requires { StandsIn book.old.extent offset slot.now.state.arch slot.now.state.strip }
+    ensures { GivesUp book.old (map (moved_resource offset) (routed_set slot.now.state)) reply.now book.new }
+{
+    if let Reply::Accepted(_) = reply {
+        book.release(offset, slot.routed());
     }
 }
 

@@ -1,5 +1,6 @@
 use Rattle.service_core.proofs.Alone.{each_alone}
 use Rattle.service_core.proofs.Parted.{are_parted}
+use Rattle.service_core.proofs.Owning.{one_owner}
 use Rattle.service_core.proofs.law.headline.Goals as goal
 
 pub returns-clause-alone : goal.returns-clause-alone
@@ -7,3 +8,6 @@ returns-clause-alone c = each_alone
 
 pub returns-clause-parted : goal.returns-clause-parted
 returns-clause-parted c = are_parted
+
+pub returns-clause-exact : goal.returns-clause-exact
+returns-clause-exact c = λ device calls state run. let parted = are_parted device calls state run in one_owner state parted.parted parted.of_live

@@ -3,7 +3,8 @@ use Rattle.strips.specs.Plan.{FitsAt, strip_of, offset_of}
 use Rattle.service_core.specs.History.{History}
 use Rattle.service_core.specs.Service.{admitted}
 use Rattle.service_core.specs.Kept.{ChecksAdmission}
-use Rattle.service_core.proofs.Keeps.{no_strip-next, IsService-admitted}
+use Rattle.service_core.proofs.Booking.{sound_admitted}
+use Rattle.service_core.proofs.Keeps.{no_strip-next}
 use Rattle.service_core.proofs.service.Service.admit.Goals as goal
 
 pub place-requires : goal.place-requires
@@ -25,7 +26,7 @@ invariant_of-self-2 c =
     let few : length hs < 65535 = can.0.ids_left in
     let same : c.len.result ≡ length hs = search rules in
     let items : c.push.new.self.items ≡ hs ++ admitted (record { arch = c.self.inside.arch; columns = c.self.inside.layout.columns; rows = c.self.inside.rows }) (length hs + 1) c.args.width ∷ [] = search rules in
-    rw (c.place.ensures, same, items) (record { lawful = c.self.invariant.lawful; kept = IsService-admitted _ c.self.inside.layout.strips hs c.args.width c.in_ok-offset.offset c.self.invariant.kept few })
+    rw (c.place.ensures, same, items) (sound_admitted c.self.inside.book _ c.self.inside.layout.strips hs c.args.width c.in_ok-offset.offset c.self.invariant few)
 
 pub returns : goal.returns
 returns c =

@@ -2,7 +2,8 @@ use Rattle.std.proofs.Common.{◌≡◌, ◌-◌, get_or, rules, sym, ◌∙◌}
 use Rattle.service_core.specs.History.{History}
 use Rattle.service_core.specs.Kept.{IsLiveIn}
 use Rattle.service_core.proofs.Keeps.{history-live}
-use Rattle.service_core.proofs.Serving.{IsService-given, IsGivenBack-live}
+use Rattle.service_core.proofs.Booking.{sound_given}
+use Rattle.service_core.proofs.Serving.{IsGivenBack-live}
 use Rattle.service_core.proofs.service.Service.give_back.Goals as goal
 
 pub give_back-requires-clause-id : goal.give_back-requires-clause-id
@@ -18,7 +19,7 @@ invariant_of-self c =
     let old : History = c.index_mut.result.now in
     let live : IsLiveIn c.self.inside.tenancies.items c.id-id.result = search rules in
     let is : old ≡ get_or c.self.inside.tenancies.items (c.id-id.result - 1) old = search rules in
-    record { lawful = c.self.invariant.lawful; kept = IsService-given _ c.self.inside.layout.strips c.self.inside.tenancies.items c.id-id.result old c.args.back c.give_back.new.self c.self.invariant.kept live is c.give_back.ensures }
+    sound_given c.self.inside.book _ c.self.inside.layout.strips c.self.inside.tenancies.items c.id-id.result old c.args.back c.give_back.new.self c.self.invariant live is c.give_back.ensures
 
 pub returns-then-is_live : goal.returns-then-is_live
 returns-then-is_live c =

@@ -2,14 +2,15 @@ use Rattle.std.proofs.Common.{◌≡◌, ◌-◌, get_or, rules}
 use Rattle.service_core.specs.History.{History}
 use Rattle.service_core.specs.Kept.{IsLiveIn}
 use Rattle.service_core.proofs.Keeps.{history-live}
-use Rattle.service_core.proofs.Serving.{IsService-taken, IsTaken-live}
+use Rattle.service_core.proofs.Booking.{sound_taken}
+use Rattle.service_core.proofs.Serving.{IsTaken-live}
 use Rattle.service_core.proofs.service.Service.take.Goals as goal
 
 pub invariant_of-self : goal.invariant_of-self
 invariant_of-self c =
     let live : IsLiveIn c.self.inside.tenancies.items c.args.id = search rules in
     let is : c.index_mut.result.now ≡ get_or c.self.inside.tenancies.items (c.args.id - 1) c.index_mut.result.now = search rules in
-    record { lawful = c.self.invariant.lawful; kept = IsService-taken _ c.self.inside.layout.strips c.self.inside.tenancies.items c.args.id c.index_mut.result.now c.take.result c.take.new.self c.self.invariant.kept live is c.take.ensures }
+    sound_taken c.self.inside.book _ c.self.inside.layout.strips c.self.inside.tenancies.items c.args.id c.index_mut.result.now c.take.result c.take.new.self c.self.invariant live is c.take.ensures
 
 pub returns : goal.returns
 returns c =

@@ -1,0 +1,336 @@
+-- Each call keeps the book exact.
+use Rattle.std.proofs.Common.{◌≡◌, ◌≢◌, inl, inr, ℕ, ◌+◌, ◌-◌, ◌<◌, ◌≤◌, List, [], ◌∷◌, ◌++◌, length, get_or, map, Bool, true, false, eqb, Result, Ok, Err, Option, Some, None, refl, sym, ap, ◌∙◌, subst, arith}
+use Rattle.std.specs.Prelude.{All, option_map, if◌then◌else◌}
+use Rattle.std.specs.declared.alloc.AllocError.{AllocError}
+use Rattle.std.proofs.Math.ListN.{set}
+use Rattle.std.proofs.lemmas.Bool.Decides.{Decides-eqb}
+use Rattle.std.proofs.lemmas.Bool.{false≢true}
+use Rattle.std.proofs.lemmas.List.Elements.{All-head, All-tail}
+use Rattle.std.proofs.lemmas.Option.{none-some, same_Some}
+use Rattle.arch_file.specs.declared.arch.Arch.{Arch}
+use Rattle.grid.specs.declared.Strip.{Strip}
+use Rattle.rr_graph.specs.declared.resource.Resource.{Resource}
+use Rattle.rr_graph.specs.Resources.{has, is_there, moved_resource}
+use Rattle.strips.specs.declared.placed_strip.PlacedStrip.{PlacedStrip}
+use Rattle.strips.specs.Plan.{IsParted, offset_of, strip_of, without}
+use Rattle.device_book.specs.declared.book.Owned.{Owned}
+use Rattle.device_book.specs.Owners.{AreOwned, IsFree, ListsOwners, Owners, Releases, StandIn, extent_of, nobody, owner_of}
+use Rattle.job_state.specs.declared.step.JobStep.{JobStep}
+use Rattle.job_state.specs.Job.{JobState}
+use Rattle.tenant_slot.specs.declared.command.Command.{Command}
+use Rattle.tenant_slot.specs.declared.event.Event.TheVariants.{Command as Asked}
+use Rattle.tenant_slot.specs.declared.reply.Reply.{Reply}
+use Rattle.tenant_slot.specs.declared.reply.Reply.TheVariants.{Accepted, Status as InState, File, Refused, Step}
+use Rattle.tenant_slot.specs.declared.reply.StepReply.{StepReply}
+use Rattle.tenant_slot.specs.declared.reply.StepReply.TheVariants.{Advanced, Finished, Stale}
+use Rattle.tenant_slot.specs.declared.not_served.NotServed.{NotServed}
+use Rattle.tenant_slot.specs.declared.not_served.NotServed.TheVariants.{NoMemory, JournalFull}
+use Rattle.tenant_slot.specs.RoutedSet.{routed_set}
+use Rattle.tenant_slot.specs.SingleUser.{State, start, step}
+use Rattle.service_core.specs.declared.device.Device.{Device}
+use Rattle.service_core.specs.declared.entry.Entry.{Entry}
+use Rattle.service_core.specs.History.{History, closed, state_of, with_entry, with_out}
+use Rattle.service_core.specs.Headline.{AreParted}
+use Rattle.service_core.specs.Service.{AreAlone, IsAloneOn, ServiceState, admitted, history_of, if_live, live_of, live_width, modified, placed_width, strip_on}
+use Rattle.service_core.specs.Calls.{step_entry}
+use Rattle.service_core.specs.Owners.{IsExactBook, ListsOwnersOf}
+use Rattle.service_core.specs.Tenancy.{GivesHistoryBack, GivesUp, GivesUpOrKeeps, PutsHistory, ServesHistory, StandsIn, TakesHistory}
+use Rattle.service_core.specs.Kept.{AreFree, IsDevice, IsLiveIn, IsSound, KeepsBook, TakesUp, held_at}
+use Rattle.service_core.proofs.Lists.{All-history_of}
+use Rattle.service_core.proofs.Histories.{state_after-push}
+use Rattle.service_core.proofs.Keeps.{IsService-admitted, IsService-empty, IsService-evicted, if_live_some, live_is, set-kept, set-live}
+use Rattle.service_core.proofs.Serving.{IsService-given, IsService-put, IsService-served, IsService-taken}
+use Rattle.service_core.proofs.Held.{HeldAfter, IsOnStrip, StepHeld, command_held, step_held}
+use Rattle.service_core.proofs.Holdings.{all_had, has_all, moved_same, owned_same}
+use Rattle.service_core.proofs.Exact.{exact_claimed, exact_released, exact_same}
+use Rattle.service_core.proofs.Owning.{admitted_owned, evicted_other, evicted_owned, in_window, nobody_else, own_owned, owned_in, same_owned, set_live_of, set_other}
+use Rattle.service_core.proofs.There.{nobody_owns, stands}
+
+abbrev pub state_on : Device → List PlacedStrip → List History → ServiceState
+state_on device strips hs = record { device = device; plan = record { columns = device.columns; strips = strips }; histories = hs }
+
+keeps_same : (book : Owners) (device : Device) (strips after : List PlacedStrip) (hs new : List History) → ((k : ℕ) → owned_in after new k ≡ owned_in strips hs k) → KeepsBook book (state_on device strips hs) → KeepsBook book (state_on device after new)
+keeps_same book device strips after hs new same was = record { extent = was.extent; exact = exact_same book (owned_in strips hs) (owned_in after new) same was.exact }
+
+-- a new device
+pub sound_empty : (device : Device) → IsDevice device → IsSound (nobody (extent_of device.arch device.columns device.rows)) device [] []
+sound_empty device lawful = record {
+  lawful = lawful;
+  kept = IsService-empty device;
+  book = record { extent = refl; exact = λ r id. ((λ some. absurd (none-some id (sym (nobody_owns (extent_of device.arch device.columns device.rows) r) ∙ some))), (λ never. absurd (false≢true never))) };
+}
+
+-- an admission
+pub sound_admitted : (book : Owners) (device : Device) (strips : List PlacedStrip) (hs : List History) (width offset : ℕ) → IsSound book device strips hs → length hs < 65535 →
+    IsSound book device (strips ++ record { id = length hs + 1; offset = offset; width = width } ∷ []) (hs ++ admitted device (length hs + 1) width ∷ [])
+sound_admitted book device strips hs width offset was few = record {
+  lawful = was.lawful;
+  kept = IsService-admitted device strips hs width offset was.kept few;
+  book = keeps_same book device strips _ hs _ (λ k. admitted_owned device strips hs width offset k was.kept) was.book;
+}
+
+-- a take, and a job that is given back
+turned : (book : Owners) (device : Device) (strips : List PlacedStrip) (hs : List History) (id : ℕ) (old new : History) (out : Bool) → KeepsBook book (state_on device strips hs) → IsLiveIn hs id → old ≡ get_or hs (id - 1) old → new ≡ with_out out old → KeepsBook book (state_on device strips (set hs (id - 1) new))
+turned book device strips hs id old new out was live is changes =
+    subst (λ xs. KeepsBook book (state_on device strips xs)) (sym (set-live hs id old (with_out out) new live is changes)) (keeps_same book device strips strips hs (modified hs id (with_out out)) (same_owned strips hs id (with_out out) (λ h here. (refl, refl))) was)
+
+stayed : (book : Owners) (device : Device) (strips : List PlacedStrip) (hs : List History) (id : ℕ) (old new : History) → KeepsBook book (state_on device strips hs) → old ≡ get_or hs (id - 1) old → new ≡ old → KeepsBook book (state_on device strips (set hs (id - 1) new))
+stayed book device strips hs id old new was is same = subst (λ xs. KeepsBook book (state_on device strips xs)) (sym (set-kept hs id old new is same)) was
+
+pub sound_taken : (book : Owners) (device : Device) (strips : List PlacedStrip) (hs : List History) (id : ℕ) (old : History) (answer : Option JobState) (new : History) → IsSound book device strips hs → IsLiveIn hs id → old ≡ get_or hs (id - 1) old → TakesHistory old answer new → IsSound book device strips (set hs (id - 1) new)
+sound_taken book device strips hs id old answer new was live is taken = record { lawful = was.lawful; kept = IsService-taken device strips hs id old answer new was.kept live is taken; book = by_answer answer taken }
+  where
+    by_answer : (answer : Option JobState) → TakesHistory old answer new → KeepsBook book (state_on device strips (set hs (id - 1) new))
+    by_answer (Some job) taken = turned book device strips hs id old new true was.book live is taken.2
+    by_answer None taken = stayed book device strips hs id old new was.book is taken.1
+
+pub sound_given : (book : Owners) (device : Device) (strips : List PlacedStrip) (hs : List History) (id : ℕ) (old : History) (job : JobState) (new : History) → IsSound book device strips hs → IsLiveIn hs id → old ≡ get_or hs (id - 1) old → GivesHistoryBack old job new → IsSound book device strips (set hs (id - 1) new)
+sound_given book device strips hs id old job new was live is given = record { lawful = was.lawful; kept = IsService-given device strips hs id old job new was.kept live is given; book = turned book device strips hs id old new given.0 was.book live is given.2 }
+
+-- a live tenancy that is written, with what it holds
+module _ (book left : Owners) (device : Device) (strips : List PlacedStrip) (hs : List History) (id offset : ℕ) (old new : History)
+    (was : KeepsBook book (state_on device strips hs)) (live : IsLiveIn hs id) (is : old ≡ get_or hs (id - 1) old) (at : offset_of strips id ≡ Some offset) (its : new.live ≡ true) where
+  was_owned : owned_in strips hs id ≡ held_at offset old
+  was_owned = own_owned strips hs id offset old at (live_is hs id old live is)
+
+  is_owned : owned_in strips (set hs (id - 1) new) id ≡ held_at offset new
+  is_owned = own_owned strips (set hs (id - 1) new) id offset new at (set_live_of hs id old new live is its)
+
+  others : (k : ℕ) → k ≢ id → owned_in strips (set hs (id - 1) new) k ≡ owned_in strips hs k
+  others k differ = set_other strips hs id k old new live is differ
+
+  keeps_held : left ≡ book → routed_set (state_of new) ≡ routed_set (state_of old) → KeepsBook left (state_on device strips (set hs (id - 1) new))
+  keeps_held same held = subst (λ b. KeepsBook b (state_on device strips (set hs (id - 1) new))) (sym same) (keeps_same book device strips strips hs (set hs (id - 1) new) (λ k. by_id k (eqb k id) refl) was)
+    where
+      by_id : (k : ℕ) (b : Bool) → eqb k id ≡ b → owned_in strips (set hs (id - 1) new) k ≡ owned_in strips hs k
+      by_id k false e = others k (λ same. false≢true (sym e ∙ (Decides-eqb k id).1 same))
+      by_id k true e = subst (λ j. owned_in strips (set hs (id - 1) new) j ≡ owned_in strips hs j) (sym ((Decides-eqb k id).0 e)) (is_owned ∙ (ap (map (moved_resource offset)) held ∙ sym was_owned))
+
+  gives_up : Releases book (held_at offset old) left → routed_set (state_of new) ≡ [] → KeepsBook left (state_on device strips (set hs (id - 1) new))
+  gives_up released nothing = record {
+    extent = released.0 ∙ was.extent;
+    exact = exact_released book left (owned_in strips hs) (owned_in strips (set hs (id - 1) new)) id (subst (λ xs. AreOwned book xs None left) (sym was_owned) released) (is_owned ∙ ap (map (moved_resource offset)) nothing) others was.exact;
+  }
+
+  takes_up : AreOwned book (held_at offset new) (Some id) left → routed_set (state_of old) ≡ [] → AreFree book offset new → KeepsBook left (state_on device strips (set hs (id - 1) new))
+  takes_up claimed nothing free = record {
+    extent = claimed.0 ∙ was.extent;
+    exact = exact_claimed book left (owned_in strips hs) (owned_in strips (set hs (id - 1) new)) id (subst (λ xs. AreOwned book xs (Some id) left) (sym is_owned) claimed) (was_owned ∙ ap (map (moved_resource offset)) nothing) others
+        (λ r in_new. has_all (IsFree book) (held_at offset new) r free (ap (λ xs. has xs r) (sym is_owned) ∙ in_new)) was.exact;
+  }
+
+-- a command
+served_live : (old : History) (command : Command) (answer : Result (Command × Reply) NotServed) (new : History) → ServesHistory old command answer new → new.live ≡ old.live
+served_live old command (Ok told) new served = ap (λ (h : History). h.live) served.2
+served_live old command (Err JournalFull) new served = ap (λ (h : History). h.live) served.1
+served_live old command (Err NoMemory) new served = ap (λ (h : History). h.live) served.1
+
+pub sound_served : (book left : Owners) (device : Device) (strips : List PlacedStrip) (hs : List History) (id offset : ℕ) (old : History) (command : Command) (answer : Result (Command × Reply) NotServed) (new : History) →
+    IsSound book device strips hs → IsLiveIn hs id → old ≡ get_or hs (id - 1) old → offset_of strips id ≡ Some offset → old.live ≡ true → ServesHistory old command answer new → GivesUpOrKeeps book offset old left new →
+    IsSound left device strips (set hs (id - 1) new)
+sound_served book left device strips hs id offset old command answer new was live is at is_live served held = record {
+  lawful = was.lawful;
+  kept = IsService-served device strips hs id old command answer new was.kept live is served;
+  book = by_held held;
+}
+  where
+    its : new.live ≡ true
+    its = served_live old command answer new served ∙ is_live
+
+    by_held : GivesUpOrKeeps book offset old left new → KeepsBook left (state_on device strips (set hs (id - 1) new))
+    by_held (inl given) = gives_up book left device strips hs id offset old new was.book live is at its given.0 given.1
+    by_held (inr kept) = keeps_held book left device strips hs id offset old new was.book live is at its kept.0 kept.1
+
+-- what a served tenancy holds
+next_state : (old new : History) (e : Entry) → new ≡ with_entry e old → state_of new ≡ (step (state_of old) e.event).0
+next_state old new e is = ap state_of is ∙ state_after-push (start old.arch old.strip) old.entries e
+
+pub gives_up_or_keeps : (book left : Owners) (offset : ℕ) (old new : History) (reply : Reply) → GivesUp book (held_at offset old) reply left → HeldAfter (state_of old) (state_of new) reply → GivesUpOrKeeps book offset old left new
+gives_up_or_keeps book left offset old new (Accepted name) given held = inl (given, held)
+gives_up_or_keeps book left offset old new (InState status) given held = inr (given, held)
+gives_up_or_keeps book left offset old new (File kind text) given held = inr (given, held)
+gives_up_or_keeps book left offset old new (Refused refusal) given held = inr (given, held)
+gives_up_or_keeps book left offset old new (Step reply) given held = inr (given, held)
+
+-- a put
+put_held : (old : History) (done : JobStep) (reply : StepReply) (new : History) → PutsHistory old done (Ok reply) new → StepHeld (state_of old) (state_of new) reply
+put_held old done reply new put =
+    let e : Entry = step_entry done put.0 reply in
+    subst (λ s. StepHeld (state_of old) s reply) (sym (next_state old new e put.2)) (step_held (state_of old) _ reply put.1.told)
+
+pub put_live : (old : History) (done : JobStep) (reply : StepReply) (new : History) → PutsHistory old done (Ok reply) new → new.live ≡ old.live
+put_live old done reply new put = ap (λ (h : History). h.live) put.2
+
+pub sound_put : (book left : Owners) (device : Device) (strips : List PlacedStrip) (hs : List History) (id offset : ℕ) (old : History) (done : JobStep) (reply : StepReply) (new : History) →
+    IsSound book device strips hs → IsLiveIn hs id → old ≡ get_or hs (id - 1) old → offset_of strips id ≡ Some offset → old.live ≡ true → PutsHistory old done (Ok reply) new → (reply ≡ Finished → AreFree book offset new) →
+    TakesUp book id offset new reply left → IsSound left device strips (set hs (id - 1) new)
+sound_put book left device strips hs id offset old done reply new was live is at is_live put free takes = record {
+  lawful = was.lawful;
+  kept = IsService-put device strips hs id old done (Ok reply) new was.kept live is put;
+  book = by_reply reply (put_held old done reply new put) free takes;
+}
+  where
+    its : new.live ≡ true
+    its = put_live old done reply new put ∙ is_live
+
+    by_reply : (reply : StepReply) → StepHeld (state_of old) (state_of new) reply → (reply ≡ Finished → AreFree book offset new) → TakesUp book id offset new reply left → KeepsBook left (state_on device strips (set hs (id - 1) new))
+    by_reply Finished held free takes = takes_up book left device strips hs id offset old new was.book live is at its takes held (free refl)
+    by_reply Advanced held free takes = keeps_held book left device strips hs id offset old new was.book live is at its takes held
+    by_reply Stale held free takes = keeps_held book left device strips hs id offset old new was.book live is at its takes held
+
+pub sound_back : (book : Owners) (device : Device) (strips : List PlacedStrip) (hs : List History) (id : ℕ) (old : History) (done : JobStep) (back : JobStep × AllocError) (new : History) →
+    IsSound book device strips hs → IsLiveIn hs id → old ≡ get_or hs (id - 1) old → PutsHistory old done (Err back) new → IsSound book device strips (set hs (id - 1) new)
+sound_back book device strips hs id old done back new was live is put = record {
+  lawful = was.lawful;
+  kept = IsService-put device strips hs id old done (Err back) new was.kept live is put;
+  book = stayed book device strips hs id old new was.book is put.1;
+}
+
+-- an eviction
+pub sound_evicted : (book left : Owners) (device : Device) (strips : List PlacedStrip) (hs : List History) (id offset : ℕ) (old : History) →
+    IsSound book device strips hs → IsLiveIn hs id → old ≡ get_or hs (id - 1) old → offset_of strips id ≡ Some offset → Releases book (held_at offset old) left → IsSound left device (without strips id) (modified hs id closed)
+sound_evicted book left device strips hs id offset old was live is at released = record {
+  lawful = was.lawful;
+  kept = IsService-evicted device strips hs id was.kept;
+  book = record {
+    extent = released.0 ∙ was.book.extent;
+    exact = exact_released book left (owned_in strips hs) (owned_in (without strips id) (modified hs id closed)) id
+        (subst (λ xs. AreOwned book xs None left) (sym (own_owned strips hs id offset old at (live_is hs id old live is))) released) (evicted_owned strips hs id) (λ k differ. evicted_other strips hs id k differ) was.book.exact;
+  };
+}
+
+-- where a live tenancy's strip stands
+pub placed_strip : (strips : List PlacedStrip) (id offset : ℕ) → offset_of strips id ≡ Some offset → (s : PlacedStrip) × (strip_of strips id ≡ Some s) × (s.offset ≡ offset)
+placed_strip strips id offset at = by_strip (strip_of strips id) refl at
+  where
+    by_strip : (o : Option PlacedStrip) → strip_of strips id ≡ o → option_map (λ (s : PlacedStrip). s.offset) o ≡ Some offset → (s : PlacedStrip) × (strip_of strips id ≡ Some s) × (s.offset ≡ offset)
+    by_strip None e never = absurd (none-some offset never)
+    by_strip (Some s) e same = (s, e, same_Some _ _ same)
+
+strip_all : (P : PlacedStrip → Type 0) (strips : List PlacedStrip) (id : ℕ) (s : PlacedStrip) → strip_of strips id ≡ Some s → All P strips → P s
+strip_all P [] id s is all = absurd (none-some s is)
+strip_all P (t ∷ strips) id s is all =
+    elim (eqb t.id id) as (λ b. (if b then Some t else strip_of strips id) ≡ Some s → P s) [
+      | true ↦ λ same. subst P (same_Some _ _ same) (All-head P t strips all)
+      | false ↦ λ rest. strip_all P strips id s rest (All-tail P t strips all)
+    ] is
+
+-- its width
+its_width : (strips : List PlacedStrip) (hs : List History) (id : ℕ) (s : PlacedStrip) (h : History) → ((j : ℕ) → placed_width strips j ≡ live_width hs j) → strip_of strips id ≡ Some s → live_of hs id ≡ Some h → s.width ≡ h.strip.width
+its_width strips hs id s h linked found live =
+    same_Some _ _ (sym (ap (option_map (λ (s : PlacedStrip). s.width)) found) ∙ (linked id ∙ ap (option_map (λ (g : History). g.strip.width)) live))
+
+-- what a live tenancy takes up is nobody's
+pub put_free : (book : Owners) (device : Device) (strips : List PlacedStrip) (hs : List History) (id offset : ℕ) (old : History) (done : JobStep) (reply : StepReply) (new : History) →
+    IsSound book device strips hs → IsParted (record { columns = device.columns; strips = strips }) → IsLiveIn hs id → old ≡ get_or hs (id - 1) old → offset_of strips id ≡ Some offset → PutsHistory old done (Ok reply) new →
+    reply ≡ Finished → AreFree book offset new
+put_free book device strips hs id offset old done reply new was parted live is at put finished =
+    all_had (IsFree book) (held_at offset new) (λ r in_new. by_owner r in_new (owner_of book r) refl)
+  where
+    place : (s : PlacedStrip) × (strip_of strips id ≡ Some s) × (s.offset ≡ offset)
+    place = placed_strip strips id offset at
+
+    width : place.0.width ≡ new.strip.width
+    width = its_width strips hs id place.0 old was.kept.linked place.1 (live_is hs id old live is) ∙ sym (ap (λ (h : History). h.strip.width) put.2)
+
+    held_nothing : routed_set (state_of old) ≡ []
+    held_nothing = subst (StepHeld (state_of old) (state_of new)) finished (put_held old done reply new put)
+
+    owned_nothing : owned_in strips hs id ≡ []
+    owned_nothing = own_owned strips hs id offset old at (live_is hs id old live is) ∙ ap (map (moved_resource offset)) held_nothing
+
+    by_owner : (r : Resource) → has (held_at offset new) r ≡ true → (o : Option ℕ) → owner_of book r ≡ o → owner_of book r ≡ None
+    by_owner r in_new None e = e
+    by_owner r in_new (Some k) e = absurd (by_id (eqb k id) refl)
+      where
+        owned : has (owned_in strips hs k) r ≡ true
+        owned = (was.book.exact r k).0 e
+
+        window : (offset ≤ r.x) × (r.x ≤ offset + new.strip.width)
+        window = in_window offset new r in_new
+
+        same_place : place.0.offset ≡ offset
+        same_place = place.2
+
+        by_id : (b : Bool) → eqb k id ≡ b → ⊥
+        by_id true same = false≢true (ap (λ xs. has xs r) (sym (ap (owned_in strips hs) ((Decides-eqb k id).0 same) ∙ owned_nothing)) ∙ owned)
+        by_id false differ = nobody_else (record { columns = device.columns; strips = strips }) hs id k place.0 r parted was.kept.linked place.1
+            (omega (arith, window.0, same_place)) (omega (arith, window.1, same_place, width)) owned (λ same. false≢true (sym differ ∙ (Decides-eqb k id).1 same))
+
+-- a live tenancy's strip stands in the book
+pub stands_there : (state : ServiceState) (id offset : ℕ) (h : History) → AreParted state.device state → AreAlone state → offset_of state.plan.strips id ≡ Some offset → live_of state.histories id ≡ Some h →
+    StandsIn (extent_of state.device.arch state.device.columns state.device.rows) offset h.arch h.strip
+stands_there state id offset h parted all at live = λ r there.
+    let device : Device = state.device in
+    let place = placed_strip state.plan.strips id offset at in
+    let alone : IsAloneOn device h = All-history_of (IsAloneOn device) state.histories id h (if_live_some (history_of state.histories id) h live) all in
+    let inside : place.0.offset + place.0.width ≤ state.plan.columns = strip_all (λ s. s.offset + s.width ≤ state.plan.columns) state.plan.strips id place.0 place.1 parted.parted.inside in
+    let columns : state.plan.columns ≡ device.columns = parted.columns in
+    let width : place.0.width ≡ h.strip.width = its_width state.plan.strips state.histories id place.0 h parted.of_live place.1 live in
+    let same_place : place.0.offset ≡ offset = place.2 in
+    let wide : offset + h.strip.width ≤ device.columns = omega (arith, inside, width, same_place, columns) in
+    let is : is_there device.arch (strip_on device h.strip.width) r ≡ true = ap (λ a. is_there a (strip_on device h.strip.width) r) (sym alone.arch) ∙ (ap (λ s. is_there h.arch s r) (sym alone.strip) ∙ there) in
+    stands device.arch (strip_on device h.strip.width) device.columns offset r refl wide is
+
+-- a list that has just what it holds
+pub stand_in : (book : Owners) (offset : ℕ) (arch : Arch) (strip : Strip) (resources : List Resource) → StandsIn book.extent offset arch strip → All (λ r. is_there arch strip r ≡ true) resources → StandIn book.extent offset resources
+stand_in book offset arch strip resources stand there = λ i d lt. stand (get_or resources i d) (there i d lt)
+
+pub free_held : (book : Owners) (offset : ℕ) (h : History) (resources : List Resource) → ((r : Resource) → has resources r ≡ has (routed_set (state_of h)) r) → AreFree book offset h → All (IsFree book) (map (moved_resource offset) resources)
+free_held book offset h resources same free = all_had (IsFree book) (map (moved_resource offset) resources)
+    (λ r is. has_all (IsFree book) (held_at offset h) r free (sym (moved_same offset resources (routed_set (state_of h)) same r) ∙ is))
+
+-- a live tenancy has a strip
+pub has_offset : (strips : List PlacedStrip) (hs : List History) (id : ℕ) (h : History) → ((j : ℕ) → placed_width strips j ≡ live_width hs j) → live_of hs id ≡ Some h → (offset : ℕ) × (offset_of strips id ≡ Some offset)
+has_offset strips hs id h linked live = by_strip (strip_of strips id) refl
+  where
+    by_strip : (o : Option PlacedStrip) → strip_of strips id ≡ o → (offset : ℕ) × (offset_of strips id ≡ Some offset)
+    by_strip (Some s) e = (s.offset, ap (option_map (λ (s : PlacedStrip). s.offset)) e)
+    by_strip None e = absurd (none-some h.strip.width (sym (ap (option_map (λ (s : PlacedStrip). s.width)) e) ∙ (linked id ∙ ap (option_map (λ (g : History). g.strip.width)) live)))
+
+-- a live tenancy is one of them
+pub live_some : (device : Device) (hs : List History) (id : ℕ) → IsLiveIn hs id → (h : History) × (live_of hs id ≡ Some h)
+live_some device hs id live =
+    let d : History = admitted device 0 0 in
+    let h : History = get_or hs (id - 1) d in
+    (h, ap (λ o. if_live o) (live.history d) ∙ ap (λ b. if b then Some h else None) (live.flag d))
+
+-- what a slot's strip has, a tenancy's has
+pub there_for : (arch : Arch) (strip : Strip) (state : State) (resources : List Resource) → IsOnStrip arch strip state → All (λ r. is_there state.arch state.strip r ≡ true) resources → All (λ r. is_there arch strip r ≡ true) resources
+there_for arch strip state resources on all = λ i d lt.
+    ap (λ a. is_there a strip (get_or resources i d)) (sym on.arch_is) ∙ (ap (λ s. is_there state.arch s (get_or resources i d)) (sym on.strip_is) ∙ all i d lt)
+
+pub stands_for : (book : Owners) (offset : ℕ) (arch : Arch) (strip : Strip) (state : State) → IsOnStrip arch strip state → StandsIn book.extent offset arch strip → StandsIn book.extent offset state.arch state.strip
+stands_for book offset arch strip state on stand = λ r there.
+    stand r (ap (λ a. is_there a strip r) (sym on.arch_is) ∙ (ap (λ s. is_there state.arch s r) (sym on.strip_is) ∙ there))
+
+-- what is released and claimed where a list has just what is held
+pub released_held : (book left : Owners) (offset : ℕ) (held resources : List Resource) → ((r : Resource) → has resources r ≡ has held r) → Releases book (map (moved_resource offset) resources) left → Releases book (map (moved_resource offset) held) left
+released_held book left offset held resources same released = owned_same book left (map (moved_resource offset) resources) (map (moved_resource offset) held) None (moved_same offset resources held same) released
+
+pub claimed_held : (book left : Owners) (id offset : ℕ) (held resources : List Resource) → ((r : Resource) → has resources r ≡ has held r) → AreOwned book (map (moved_resource offset) resources) (Some id) left → AreOwned book (map (moved_resource offset) held) (Some id) left
+claimed_held book left id offset held resources same claimed = owned_same book left (map (moved_resource offset) resources) (map (moved_resource offset) held) (Some id) (moved_same offset resources held same) claimed
+
+-- a command that a slot has served
+pub slot_gives_up : (book left : Owners) (offset : ℕ) (old new : History) (state : State) (command : Command) (reply : Reply) → state ≡ state_of old → (step state (Asked command)).1 ≡ Some reply →
+    state_of new ≡ (step (state_of old) (Asked command)).0 → GivesUp book (map (moved_resource offset) (routed_set state)) reply left → GivesUpOrKeeps book offset old left new
+slot_gives_up book left offset old new state command reply is told after given =
+    let said : (step (state_of old) (Asked command)).1 ≡ Some reply = subst (λ s. (step s (Asked command)).1 ≡ Some reply) is told in
+    let held : GivesUp book (held_at offset old) reply left = subst (λ s. GivesUp book (map (moved_resource offset) (routed_set s)) reply left) is given in
+    gives_up_or_keeps book left offset old new reply held (subst (λ s. HeldAfter (state_of old) s reply) (sym after) (command_held (state_of old) command reply said))
+
+-- so in the book at hand
+pub in_book_there : (book : Owners) (device : Device) (offset : ℕ) (h : History) → book.extent ≡ extent_of device.arch device.columns device.rows →
+    StandsIn (extent_of device.arch device.columns device.rows) offset h.arch h.strip → StandsIn book.extent offset h.arch h.strip
+in_book_there book device offset h extent stand = subst (λ e. StandsIn e offset h.arch h.strip) (sym extent) stand
+
+-- the book has one owner of each
+pub one_in_book : (book : Owners) (state : ServiceState) → KeepsBook book state → IsExactBook state
+one_in_book book state keeps = λ r id other is is_other. same_Some _ _ (sym ((keeps.exact r id).1 is) ∙ (keeps.exact r other).1 is_other)
+
+-- and lists them
+pub listed_owners : (book : Owners) (state : ServiceState) (list : List Owned) → KeepsBook book state → ListsOwners book list → ListsOwnersOf state list
+listed_owners book state list keeps listed = record {
+  in_order = listed.in_order;
+  exact = λ owned. ((λ within. (keeps.exact owned.resource owned.id).0 ((listed.exact owned).0 within)), (λ is. (listed.exact owned).1 ((keeps.exact owned.resource owned.id).1 is)));
+}

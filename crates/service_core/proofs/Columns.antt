@@ -1,0 +1,162 @@
+-- What a tenancy holds of its strip stands in the strip's columns.
+use Rattle.std.proofs.Common.{◌≡◌, ℕ, zero, suc, ◌+◌, ◌≤◌, inl, inr, List, [], ◌∷◌, ◌++◌, length, get_or, map, ◌&&◌, ◌||◌, nat_le, true, Result, Ok, Err, arith}
+use Rattle.std.specs.Prelude.{All}
+use Rattle.std.specs.List.{flat_map, range_with_len}
+use Rattle.std.specs.Option.{option_to_list}
+use Rattle.std.proofs.lemmas.Bool.{and_parts, cases_lt, false≢true, leb-true}
+use Rattle.std.proofs.lemmas.List.{get_or_past}
+use Rattle.std.proofs.lemmas.List.Elements.{All-append, All-cons, All-nil, filter_passes}
+use Rattle.arch_file.specs.declared.arch.Arch.{Arch}
+use Rattle.blif.specs.declared.circuit.Circuit.{Circuit}
+use Rattle.blif.specs.declared.fault.BlifFault.{BlifFault}
+use Rattle.cluster.specs.declared.block.Block.{Block}
+use Rattle.cluster.specs.declared.block.Block.TheVariants.{InputPad, OutputPad, Cluster}
+use Rattle.cluster.specs.Clusters.{PackedCircuit, packed_of}
+use Rattle.cluster.specs.Blocks.{blocks_of}
+use Rattle.grid.specs.declared.Strip.{Strip}
+use Rattle.grid.specs.declared.place.Kind.{Kind}
+use Rattle.grid.specs.declared.place.Kind.TheVariants.{Logic, Pad}
+use Rattle.grid.specs.declared.place.Place.{Place}
+use Rattle.grid.specs.Places.{column_of, pads_at, place_at, places_of}
+use Rattle.rr_graph.specs.declared.node.NodeKind.{NodeKind}
+use Rattle.rr_graph.specs.declared.node.NodeKind.TheVariants as Nodes
+use Rattle.rr_graph.specs.declared.node.Node.{Node}
+use Rattle.rr_graph.specs.declared.resource.Resource.{Resource}
+use Rattle.rr_graph.specs.Geometry.{is_chan_y, is_node, is_slot}
+use Rattle.rr_graph.specs.Graph.{graph_of, make_node, nodes_of}
+use Rattle.rr_graph.specs.Resources.{has, resource_of}
+use Rattle.strip_place.specs.Anneal.{sites_by_block}
+use Rattle.strip_place.specs.Placed.{block_at}
+use Rattle.strip_place.specs.Placed.{place_of as place_of_block}
+use Rattle.strip_place.specs.Sites.{place_of, sites_of}
+use Rattle.pathfinder.specs.Negotiation.{Tree, Standing, More, Done, GaveUp as GivenUp, NoPath as WithoutPath, Routed as RoutedTrees, routed_after}
+use Rattle.pathfinder.specs.PlacedNets.{wiring_of}
+use Rattle.pathfinder.specs.Routings.{told_by_node}
+use Rattle.pathfinder.specs.Wiring.{Net}
+use Rattle.job_state.specs.declared.sources.Sources.{Sources}
+use Rattle.job_state.specs.JobValue.{basis_in, circuit_in, nets_in, pads_in, pass_count, placing_at, routing_sources, routing_stands, step_count, value_of}
+use Rattle.job_state.specs.RoutedCircuits.{on_path, on_tree, on_trees, pad_of, pads_of}
+use Rattle.job_state.specs.RoutedSet.{held_at_end, resources_of}
+use Rattle.tenant_slot.specs.declared.reply.StateName.{StateName}
+use Rattle.tenant_slot.specs.declared.reply.StateName.TheVariants.{Empty, Loaded, Packing, Packed, Placing, Placed, Routing, Routed, Unrouted}
+use Rattle.tenant_slot.specs.SingleUser.{State}
+use Rattle.tenant_slot.specs.RoutedSet.{held_in, routed_set}
+use Rattle.service_core.proofs.Holdings.{has_all}
+
+at_any : {X : Type 0} (P : X → Type 0) (xs : List X) (i : ℕ) (d : X) → All P xs → P d → P (get_or xs i d)
+at_any P xs i d all default = elim (cases_lt i (length xs)) [
+  | inl within ↦ all i d within
+  | inr past ↦ rw (get_or_past xs i d past) default
+]
+
+all_map : {X Y : Type 0} (P : Y → Type 0) (f : X → Y) (xs : List X) → ((x : X) → P (f x)) → All P (map f xs)
+all_map P f [] each = All-nil P
+all_map P f (x ∷ xs) each = All-cons P (f x) (map f xs) (each x) (all_map P f xs each)
+
+all_flat : {X Y : Type 0} (P : Y → Type 0) (f : X → List Y) (xs : List X) → ((x : X) → All P (f x)) → All P (flat_map f xs)
+all_flat P f [] each = All-nil P
+all_flat P f (x ∷ xs) each = All-append P (f x) (flat_map f xs) (each x) (all_flat P f xs each)
+
+module _ (strip : Strip) where
+  -- places
+  abbrev Stands : Place → Type 0
+  Stands place = place.x ≤ strip.width
+
+  in_column : (kind : Kind) (x : ℕ) → x ≤ strip.width → All Stands (column_of strip kind x)
+  in_column Logic x low = all_map Stands (λ y. place_at x y 0) (range_with_len 1 strip.rows) (λ y. low)
+  in_column Pad x low = all_flat Stands (pads_at strip x) (0 ∷ (strip.rows + 1) ∷ []) (λ y. all_map Stands (place_at x y) (range_with_len 0 strip.io_rat) (λ n. low))
+
+  in_columns_from : (kind : Kind) (a n : ℕ) → a + n ≤ strip.width + 1 → All Stands (flat_map (column_of strip kind) (range_with_len a n))
+  in_columns_from kind a zero few = All-nil Stands
+  in_columns_from kind a (suc n) few = All-append Stands (column_of strip kind a) (flat_map (column_of strip kind) (range_with_len (a + 1) n)) (in_column kind a (omega (arith, few))) (in_columns_from kind (a + 1) n (omega (arith, few)))
+
+  places_in : (kind : Kind) → All Stands (places_of strip kind)
+  unfolding places_of
+  places_in kind = in_columns_from kind 1 strip.width (omega arith)
+
+  site_in : (site : ℕ) → Stands (place_of strip site)
+  unfolding sites_of
+  site_in site = at_any Stands (places_of strip Logic ++ places_of strip Pad) site (place_at 0 0 0) (All-append Stands (places_of strip Logic) (places_of strip Pad) (places_in Logic) (places_in Pad)) (omega arith)
+
+  -- resources
+  abbrev IsIn : Resource → Type 0
+  IsIn resource = resource.x ≤ strip.width
+
+  pads_in_columns : (packed : PackedCircuit) (sites : List ℕ) → All IsIn (pads_of packed (map (place_of strip) sites))
+  pads_in_columns packed sites = all_flat IsIn (λ block. pad_of (block_at packed block) (place_of_block (map (place_of strip) sites) block)) (range_with_len 0 (length (blocks_of packed)))
+      (λ block. one (block_at packed block) (place_of_block (map (place_of strip) sites) block) (at_any Stands (map (place_of strip) sites) block (place_at 0 0 0) (all_map Stands (place_of strip) sites site_in) (omega arith)))
+    where
+      one : (block : Block) (place : Place) → Stands place → All IsIn (pad_of block place)
+      one (InputPad net) place low = All-cons IsIn _ [] low (All-nil IsIn)
+      one (OutputPad net) place low = All-cons IsIn _ [] low (All-nil IsIn)
+      one (Cluster cluster) place low = All-nil IsIn
+
+  -- a node of the graph, or none
+  abbrev NodeIn : Node → Type 0
+  NodeIn node = All IsIn (option_to_list (resource_of node))
+
+  kind_in : (x : ℕ) (kind : NodeKind) (y n : ℕ) → x ≤ strip.width → NodeIn (make_node x kind y n)
+  kind_in x Nodes.Source y n low = All-nil IsIn
+  kind_in x Nodes.Sink y n low = All-nil IsIn
+  kind_in x Nodes.Opin y n low = All-cons IsIn _ [] low (All-nil IsIn)
+  kind_in x Nodes.Ipin y n low = All-cons IsIn _ [] low (All-nil IsIn)
+  kind_in x Nodes.ChanX y n low = All-cons IsIn _ [] low (All-nil IsIn)
+  kind_in x Nodes.ChanY y n low = All-cons IsIn _ [] low (All-nil IsIn)
+
+  node_in : (arch : Arch) (node : Node) → is_node arch strip node ≡ true → NodeIn node
+  node_in arch node is =
+      let low : node.x ≤ strip.width = leb-true node.x strip.width (and_parts (nat_le node.x strip.width) ((nat_le 1 node.x || is_chan_y node.kind) && is_slot arch strip node.kind node.y node.n) is).0 in
+      kind_in node.x node.kind node.y node.n low
+
+  filtered_in : (arch : Arch) (nodes : List Node) → All (λ node. is_node arch strip node ≡ true) nodes → All NodeIn nodes
+  filtered_in arch nodes each = λ k d lt. node_in arch (get_or nodes k d) (each k d lt)
+
+  number_in : (arch : Arch) (number : ℕ) → NodeIn ((graph_of (record { arch = arch; strip = strip })).node number)
+  unfolding graph_of nodes_of
+  number_in arch number = at_any NodeIn (nodes_of (record { arch = arch; strip = strip })) number (make_node 0 Nodes.Source 0 0) (filtered_in arch (nodes_of (record { arch = arch; strip = strip })) (filter_passes (is_node arch strip) _)) (All-nil IsIn)
+
+  -- trees of any numbers
+  on_path_in : (arch : Arch) (path : List ℕ) → All IsIn (on_path (map (graph_of (record { arch = arch; strip = strip })).node path))
+  on_path_in arch [] = All-nil IsIn
+  on_path_in arch (number ∷ path) = All-append IsIn (option_to_list (resource_of ((graph_of (record { arch = arch; strip = strip })).node number))) (on_path (map (graph_of (record { arch = arch; strip = strip })).node path)) (number_in arch number) (on_path_in arch path)
+
+  on_tree_in : (arch : Arch) (tree : Tree) → All IsIn (on_tree (map (λ path. map (graph_of (record { arch = arch; strip = strip })).node path) tree))
+  on_tree_in arch [] = All-nil IsIn
+  on_tree_in arch (path ∷ tree) = All-append IsIn (on_path (map (graph_of (record { arch = arch; strip = strip })).node path)) (on_tree (map (λ path. map (graph_of (record { arch = arch; strip = strip })).node path) tree)) (on_path_in arch path) (on_tree_in arch tree)
+
+  on_trees_in : (arch : Arch) (trees : List Tree) → All IsIn (on_trees (told_by_node (graph_of (record { arch = arch; strip = strip })) trees))
+  on_trees_in arch [] = All-nil IsIn
+  on_trees_in arch (tree ∷ trees) = All-append IsIn (on_tree (map (λ path. map (graph_of (record { arch = arch; strip = strip })).node path) tree)) (on_trees (told_by_node (graph_of (record { arch = arch; strip = strip })) trees)) (on_tree_in arch tree) (on_trees_in arch trees)
+
+  standing_in : (arch : Arch) (pads : List Resource) (nets : List Net) (steps : ℕ) (routed : RoutedTrees) (standing : Standing) → All IsIn pads → All IsIn (held_at_end (Ok (routing_stands (record { arch = arch; strip = strip }) pads nets steps routed standing)))
+  standing_in arch pads nets steps routed More all = All-nil IsIn
+  standing_in arch pads nets steps routed Done all = All-append IsIn (on_trees (told_by_node (graph_of (record { arch = arch; strip = strip })) routed.trees)) pads (on_trees_in arch routed.trees) all
+  standing_in arch pads nets steps routed GivenUp all = All-nil IsIn
+  standing_in arch pads nets steps routed (WithoutPath net) all = All-nil IsIn
+
+  value_in : (arch : Arch) (text : List ℕ) (seed effort steps : ℕ) (circuit : Result Circuit BlifFault) → All IsIn (held_at_end (value_of (routing_sources arch strip text seed effort) circuit steps))
+  unfolding pads_in
+  value_in arch text seed effort steps (Err fault) = All-nil IsIn
+  value_in arch text seed effort steps (Ok circuit) =
+      let sources : Sources = routing_sources arch strip text seed effort in
+      let after = routed_after (wiring_of (basis_in sources)) (nets_in sources circuit) steps in
+      standing_in arch (pads_in sources circuit) (nets_in sources circuit) steps after after.standing (pads_in_columns (packed_of circuit arch) (sites_by_block (placing_at sources circuit (pass_count strip))))
+
+  resources_in : (arch : Arch) (text : List ℕ) (seed effort : ℕ) → All IsIn (resources_of (routing_sources arch strip text seed effort))
+  unfolding resources_of
+  resources_in arch text seed effort = value_in arch text seed effort (step_count (routing_sources arch strip text seed effort)) (circuit_in (routing_sources arch strip text seed effort))
+
+in_columns : (name : StateName) (state : State) (resource : Resource) → has (held_in name state) resource ≡ true → resource.x ≤ state.strip.width
+in_columns Empty state resource is = absurd (false≢true is)
+in_columns Loaded state resource is = absurd (false≢true is)
+in_columns Packing state resource is = absurd (false≢true is)
+in_columns Packed state resource is = absurd (false≢true is)
+in_columns Placing state resource is = absurd (false≢true is)
+in_columns Placed state resource is = absurd (false≢true is)
+in_columns Routing state resource is = absurd (false≢true is)
+in_columns Routed state resource is = has_all (λ r. r.x ≤ state.strip.width) (resources_of (routing_sources state.arch state.strip state.text state.seed state.effort)) resource (resources_in state.strip state.arch state.text state.seed state.effort) is
+in_columns Unrouted state resource is = absurd (false≢true is)
+
+pub columns_of_routed : (state : State) (resource : Resource) → has (routed_set state) resource ≡ true → resource.x ≤ state.strip.width
+unfolding routed_set
+columns_of_routed state resource is = in_columns state.name state resource is

@@ -1,0 +1,64 @@
+-- Claims and releases keep a book exact.
+use Rattle.std.proofs.Common.{◌≡◌, ◌≢◌, ℕ, List, [], Bool, true, false, eqb, Some, None, refl, sym, ap, ◌∙◌, subst}
+use Rattle.std.specs.Prelude.{◌↔◌, if◌then◌else◌}
+use Rattle.std.proofs.lemmas.Bool.Decides.{Decides-eqb}
+use Rattle.std.proofs.lemmas.Bool.{false≢true}
+use Rattle.std.proofs.lemmas.Option.{none-some, same_Some}
+use Rattle.rr_graph.specs.declared.resource.Resource.{Resource}
+use Rattle.rr_graph.specs.Resources.{has}
+use Rattle.device_book.specs.Owners.{AreOwned, Owners, owner_of}
+
+-- the book has just these owners, of what each has
+abbrev pub Exact : Owners → (ℕ → List Resource) → Type 0
+Exact book owned = (resource : Resource) (id : ℕ) → (owner_of book resource ≡ Some id) ↔ (has (owned id) resource ≡ true)
+
+pub exact_same : (book : Owners) (old new : ℕ → List Resource) → ((id : ℕ) → new id ≡ old id) → Exact book old → Exact book new
+exact_same book old new same exact = λ r id. subst (λ xs. (owner_of book r ≡ Some id) ↔ (has xs r ≡ true)) (sym (same id)) (exact r id)
+
+ids_differ : (id k : ℕ) → eqb k id ≡ false → k ≢ id
+ids_differ id k e same = false≢true (sym e ∙ (Decides-eqb k id).1 same)
+
+-- what one has is nobody's now
+pub exact_released : (book left : Owners) (old new : ℕ → List Resource) (id : ℕ) → AreOwned book (old id) None left → new id ≡ [] → ((k : ℕ) → k ≢ id → new k ≡ old k) → Exact book old → Exact left new
+exact_released book left old new id released nothing others exact = λ r k. by_id r k (eqb k id) refl (has (old id) r) refl
+  where
+    owner : (r : Resource) (b : Bool) → has (old id) r ≡ b → owner_of left r ≡ (if b then None else owner_of book r)
+    owner r b e = released.1 r ∙ ap (λ t. if t then None else owner_of book r) e
+
+    by_id : (r : Resource) (k : ℕ) (t : Bool) → eqb k id ≡ t → (b : Bool) → has (old id) r ≡ b → (owner_of left r ≡ Some k) ↔ (has (new k) r ≡ true)
+    by_id r k true e true h = ((λ some. absurd (none-some k (sym (owner r true h) ∙ some))), (λ in_new. absurd (false≢true (ap (λ xs. has xs r) (sym (ap new ((Decides-eqb k id).0 e) ∙ nothing)) ∙ in_new))))
+    by_id r k true e false h = (
+      (λ some. absurd (false≢true (sym h ∙ (exact r id).0 (sym (owner r false h) ∙ (some ∙ ap Some ((Decides-eqb k id).0 e)))))),
+      (λ in_new. absurd (false≢true (ap (λ xs. has xs r) (sym (ap new ((Decides-eqb k id).0 e) ∙ nothing)) ∙ in_new))),
+    )
+    by_id r k false e true h = (
+      (λ some. absurd (none-some k (sym (owner r true h) ∙ some))),
+      (λ in_new. absurd (ids_differ id k e (same_Some _ _ (sym ((exact r k).1 (ap (λ xs. has xs r) (sym (others k (ids_differ id k e))) ∙ in_new)) ∙ (exact r id).1 h)))),
+    )
+    by_id r k false e false h = (
+      (λ some. ap (λ xs. has xs r) (others k (ids_differ id k e)) ∙ (exact r k).0 (sym (owner r false h) ∙ some)),
+      (λ in_new. owner r false h ∙ (exact r k).1 (ap (λ xs. has xs r) (sym (others k (ids_differ id k e))) ∙ in_new)),
+    )
+
+-- what nobody had is that one's now
+pub exact_claimed : (book left : Owners) (old new : ℕ → List Resource) (id : ℕ) → AreOwned book (new id) (Some id) left → old id ≡ [] → ((k : ℕ) → k ≢ id → new k ≡ old k) →
+    ((r : Resource) → has (new id) r ≡ true → owner_of book r ≡ None) → Exact book old → Exact left new
+exact_claimed book left old new id claimed nothing others free exact = λ r k. by_id r k (eqb k id) refl (has (new id) r) refl
+  where
+    owner : (r : Resource) (b : Bool) → has (new id) r ≡ b → owner_of left r ≡ (if b then Some id else owner_of book r)
+    owner r b e = claimed.1 r ∙ ap (λ t. if t then Some id else owner_of book r) e
+
+    by_id : (r : Resource) (k : ℕ) (t : Bool) → eqb k id ≡ t → (b : Bool) → has (new id) r ≡ b → (owner_of left r ≡ Some k) ↔ (has (new k) r ≡ true)
+    by_id r k true e true h = ((λ some. ap (λ n. has (new n) r) ((Decides-eqb k id).0 e) ∙ h), (λ in_new. owner r true h ∙ ap Some (sym ((Decides-eqb k id).0 e))))
+    by_id r k true e false h = (
+      (λ some. absurd (false≢true (ap (λ xs. has xs r) (sym nothing) ∙ (exact r id).0 (sym (owner r false h) ∙ (some ∙ ap Some ((Decides-eqb k id).0 e)))))),
+      (λ in_new. absurd (false≢true (sym h ∙ (ap (λ n. has (new n) r) (sym ((Decides-eqb k id).0 e)) ∙ in_new)))),
+    )
+    by_id r k false e true h = (
+      (λ some. absurd (ids_differ id k e (same_Some _ _ (sym some ∙ owner r true h)))),
+      (λ in_new. absurd (none-some k (sym (free r h) ∙ (exact r k).1 (ap (λ xs. has xs r) (sym (others k (ids_differ id k e))) ∙ in_new)))),
+    )
+    by_id r k false e false h = (
+      (λ some. ap (λ xs. has xs r) (others k (ids_differ id k e)) ∙ (exact r k).0 (sym (owner r false h) ∙ some)),
+      (λ in_new. owner r false h ∙ (exact r k).1 (ap (λ xs. has xs r) (sym (others k (ids_differ id k e))) ∙ in_new)),
+    )

@@ -1,0 +1,56 @@
+-- Resources that are had, and had where a strip stands.
+use Rattle.std.proofs.Common.{◌≡◌, ℕ, ◌-◌, List, [], ◌∷◌, get_or, map, ◌&&◌, ◌||◌, nat_le, Bool, true, false, Option, refl, sym, ap, ◌∙◌, subst, arith}
+use Rattle.std.specs.Prelude.{All, if◌then◌else◌}
+use Rattle.std.proofs.lemmas.Bool.Decides.{nat_tests}
+use Rattle.std.proofs.lemmas.Bool.{false≢true}
+use Rattle.std.proofs.lemmas.List.Elements.{All-head, All-tail}
+use Rattle.std.proofs.lemmas.List.Folds.{list_any_at}
+use Rattle.rr_graph.specs.declared.resource.Resource.{Resource}
+use Rattle.rr_graph.specs.Resources.{has, is_same, moved_resource}
+use Rattle.device_book.specs.Owners.{AreOwned, Owners, owner_of}
+use Rattle.device_book.proofs.Places.{same_resource}
+
+-- a resource so many columns to the left
+abbrev pub moved_left : ℕ → Resource → Resource
+moved_left columns resource = record resource { x = resource.x - columns }
+
+and_false : (a : Bool) → (a && false) ≡ false
+and_false true = refl
+and_false false = refl
+
+same_moved : (o : ℕ) (r x : Resource) → is_same r (moved_resource o x) ≡ (nat_le o r.x && is_same (moved_left o r) x)
+same_moved o r x = grind (arith, nat_tests)
+
+or_and : (a b c : Bool) → ((a && b) || (a && c)) ≡ (a && (b || c))
+or_and true b c = refl
+or_and false b c = refl
+
+pub has-moved : (o : ℕ) (xs : List Resource) (r : Resource) → has (map (moved_resource o) xs) r ≡ (nat_le o r.x && has xs (moved_left o r))
+has-moved o [] r = sym (and_false (nat_le o r.x))
+has-moved o (x ∷ xs) r =
+    ap (λ b. b || has (map (moved_resource o) xs) r) (same_moved o r x)
+    ∙ (ap (λ b. (nat_le o r.x && is_same (moved_left o r) x) || b) (has-moved o xs r)
+    ∙ or_and (nat_le o r.x) (is_same (moved_left o r) x) (has xs (moved_left o r)))
+
+-- the same are had where the strip stands
+pub moved_same : (o : ℕ) (xs ys : List Resource) → ((r : Resource) → has xs r ≡ has ys r) → (r : Resource) → has (map (moved_resource o) xs) r ≡ has (map (moved_resource o) ys) r
+moved_same o xs ys same r = has-moved o xs r ∙ (ap (λ b. nat_le o r.x && b) (same (moved_left o r)) ∙ sym (has-moved o ys r))
+
+-- what is had is one of them
+pub has_all : (P : Resource → Type 0) (xs : List Resource) (r : Resource) → All P xs → has xs r ≡ true → P r
+has_all P [] r all is = absurd (false≢true is)
+has_all P (x ∷ xs) r all is =
+    elim (is_same r x) as (λ b. is_same r x ≡ b → (b || has xs r) ≡ true → P r) [
+      | true ↦ λ e h. subst P (sym (same_resource r x e)) (All-head P x xs all)
+      | false ↦ λ e h. has_all P xs r (All-tail P x xs all) h
+    ] refl is
+
+is_same-self : (r : Resource) → is_same r r ≡ true
+is_same-self r = grind (arith, nat_tests)
+
+pub all_had : (P : Resource → Type 0) (xs : List Resource) → ((r : Resource) → has xs r ≡ true → P r) → All P xs
+all_had P xs each = λ i d lt. each (get_or xs i d) (list_any_at (is_same (get_or xs i d)) xs i d lt (is_same-self (get_or xs i d)))
+
+-- owners by another list of the same
+pub owned_same : (old new : Owners) (xs ys : List Resource) (owner : Option ℕ) → ((r : Resource) → has xs r ≡ has ys r) → AreOwned old xs owner new → AreOwned old ys owner new
+owned_same old new xs ys owner same owned = (owned.0, λ r. owned.1 r ∙ ap (λ b. if b then owner else owner_of old r) (same r))

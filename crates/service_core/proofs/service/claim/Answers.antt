@@ -1,0 +1,17 @@
+use Rattle.std.proofs.Common.{sym, subst}
+use Rattle.tenant_slot.specs.RoutedSet.{routed_set}
+use Rattle.service_core.specs.History.{state_of}
+use Rattle.service_core.specs.Kept.{TakesUp}
+use Rattle.service_core.proofs.Booking.{claimed_held, free_held, stand_in}
+use Rattle.service_core.proofs.service.claim.Goals as goal
+
+pub claim-requires-clause-there : goal.claim-requires-clause-there
+claim-requires-clause-there c = stand_in c.args.book.now c.args.offset c.args.tenancy.now.arch c.args.tenancy.now.strip c.routed.result.now c.requires.there c.routed.ensures.there
+
+pub claim-requires-clause-free : goal.claim-requires-clause-free
+claim-requires-clause-free c = free_held c.args.book.now c.args.offset c.args.tenancy.now c.routed.result.now c.routed.ensures.exact (c.requires.free c.in-Finished.is)
+
+pub returns-in-Finished : goal.returns-in-Finished
+returns-in-Finished c =
+    subst (λ reply. TakesUp c.args.book.now c.args.id c.args.offset c.args.tenancy.now reply c.claim.new.self) (sym c.in-Finished.is)
+    (claimed_held c.args.book.now c.claim.new.self c.args.id c.args.offset (routed_set (state_of c.args.tenancy.now)) c.routed.result.now c.routed.ensures.exact c.claim.ensures)
