@@ -1,7 +1,7 @@
 -- What comes right before a sink.
-use Rattle.std.proofs.Common.{◌≡◌, ℕ, ◌+◌, ◌*◌, ◌/◌, ◌<◌, ◌≤◌, Bool, true, false, cond, ◌&&◌, ◌||◌, Option, Some, None, List, length, refl, sym, ap, subst, ◌∙◌, inl, inr, ◌⊎◌, arith}
-use Rattle.std.specs.Prelude.{◌==◌, nat_lt, nat_le, slice_get}
-use Rattle.std.proofs.lemmas.Bool.{and_parts, or_cases, cases_Bool, false≢true, cases_lt, eqb-true, leb-true}
+use Rattle.std.proofs.Common.{◌≡◌, ℕ, ◌+◌, ◌<◌, ◌≤◌, Bool, true, false, cond, ◌&&◌, ◌||◌, Option, Some, None, length, refl, sym, ap, subst, ◌∙◌, inl, inr, arith}
+use Rattle.std.specs.Prelude.{◌==◌, nat_lt, nat_le}
+use Rattle.std.proofs.lemmas.Bool.{and_parts, or_cases, false≢true, cases_lt, eqb-true, leb-true}
 use Rattle.std.proofs.lemmas.Option.{slice_get_past}
 use Rattle.arch_file.specs.declared.arch.Arch.{Arch}
 use Rattle.arch_file.specs.declared.arch.Pin.{Pin}
@@ -10,7 +10,7 @@ use Rattle.grid.specs.declared.Strip.{Strip}
 use Rattle.rr_graph.specs.declared.node.NodeKind.{NodeKind}
 use Rattle.rr_graph.specs.declared.node.NodeKind.TheVariants.{Source, Sink, Opin, Ipin, ChanX, ChanY}
 use Rattle.rr_graph.specs.declared.node.Node.{Node}
-use Rattle.rr_graph.specs.Geometry.{is_node, is_slot, is_pad_row, is_block_row, is_block_number, is_chan_y, pin_passes, across_of, up_of, gap}
+use Rattle.rr_graph.specs.Geometry.{is_node, is_slot, is_pad_row, is_block_row, is_block_number, is_chan_y, pin_passes}
 use Rattle.rr_graph.specs.Graph.{Basis, IsRoutingGraph, graph_of, make_node}
 use Rattle.rr_graph.specs.Ways.{is_own, from_sink, wire_further, further_by}
 use Rattle.arch_file.specs.declared.arch.Sides.{Sides}

@@ -1,19 +1,18 @@
 -- Bounds by last wires fall along an edge by no more than the edge's end costs.
-use Rattle.std.proofs.Common.{◌≡◌, ℕ, ◌+◌, ◌-◌, ◌*◌, ◌/◌, ◌<◌, ◌≤◌, ◌⊎◌, leb, eqb, cond, Bool, true, false, ◌&&◌, ◌||◌, List, Option, Some, None, get_or, refl, sym, ap, subst, ◌∙◌, inl, inr, arith}
-use Rattle.std.proofs.lemmas.Bool.{and_parts, or_cases, cases_lt, cases_Bool, eqb-true, eq-eqb, ne_eqb, le-leb, false≢true}
+use Rattle.std.proofs.Common.{◌≡◌, ℕ, ◌+◌, ◌/◌, ◌≤◌, eqb, cond, Bool, true, false, ◌&&◌, ◌||◌, List, Option, Some, None, refl, sym, ap, subst, ◌∙◌, inl, inr, arith}
+use Rattle.std.proofs.lemmas.Bool.{and_parts, or_cases, cases_lt, eqb-true, eq-eqb, ne_eqb, false≢true}
 use Rattle.std.proofs.lemmas.Bool.Decides.{nat_tests}
-use Rattle.std.specs.Option.{option_map}
 use Rattle.arch_file.specs.declared.arch.Arch.{Arch}
 use Rattle.arch_file.specs.declared.arch.Sides.{Sides}
 use Rattle.grid.specs.declared.Strip.{Strip}
 use Rattle.rr_graph.specs.declared.node.NodeKind.{NodeKind}
 use Rattle.rr_graph.specs.declared.node.NodeKind.TheVariants.{Source, Sink, Opin, Ipin, ChanX, ChanY}
 use Rattle.rr_graph.specs.declared.node.Node.{Node}
-use Rattle.rr_graph.specs.Geometry.{IsWire, joins, meets, meets_track, flexibility_of, runs_along, sides_at, across_of, up_of, gap, crosses, is_next}
-use Rattle.rr_graph.specs.Ways.{is_own, from_sink, wire_further, blocks_apart, further_by}
+use Rattle.rr_graph.specs.Geometry.{joins, meets_track, flexibility_of, runs_along, sides_at}
+use Rattle.rr_graph.specs.Ways.{is_own, from_sink, wire_further, further_by}
 use Rattle.rr_graph.proofs.GeometryLaws.{own_track}
 use Rattle.pathfinder.specs.declared.entry.PinPrices.{PinPrices}
-use Rattle.pathfinder.specs.Entries.{IsPinAt, AreLow, AreOrdered, IsBeside, side_price, last_at, lesser, wire_bound, other_bound, bound_by}
+use Rattle.pathfinder.specs.Entries.{IsPinAt, AreLow, AreOrdered, IsBeside, side_price, last_at, wire_bound, other_bound, bound_by}
 use Rattle.pathfinder.proofs.EntryPins.{some_number}
 
 -- ---- by numbers

@@ -1,4 +1,4 @@
-use Rattle.std.proofs.Common.{◌≡◌, ◌≤◌, ◌^◌, ℕ, arith}
+use Rattle.std.proofs.Common.{◌≤◌, arith}
 use Rattle.pathfinder.proofs.entry.PinPrices.with.Goals as goal
 
 pub returns-clause-ordered : goal.returns-clause-ordered
