@@ -1,4 +1,4 @@
-use Rattle.std.proofs.Common.{◌≡◌, ◌+◌, ◌*◌, ◌∙◌, ◌&&◌, ◌||◌, nat_le, sym, subst, arith}
+use Rattle.std.proofs.Common.{◌+◌, ◌*◌, ◌∙◌, ◌&&◌, ◌||◌, nat_le, sym, subst, arith}
 use Rattle.std.proofs.lemmas.Bool.{and_parts}
 use Rattle.rr_graph.specs.Node.{rank_of}
 use Rattle.rr_graph.specs.Column.{IsRising, AreSmall, Separates}
