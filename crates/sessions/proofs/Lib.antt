@@ -3,7 +3,7 @@ mod Counted
 mod EndToEndLemmas
 mod Examples
 mod KeptLemmas
-mod ReadingLemmas
+pub mod ReadingLemmas
 pub mod StepLemmas
 mod WaitLemmas
 mod WholeSessionLemmas

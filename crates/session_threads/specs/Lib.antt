@@ -1,0 +1,4 @@
+pub mod Inputs
+pub mod Outcomes
+pub mod Told
+pub mod WholeSession

@@ -1,0 +1,14 @@
+//! Sessions on threads of their own, beside the workers.
+//!
+//! [`run_session`] reads a session's input, asks the shared core what each item asks, and writes what it is told. Its
+//! transcript keeps it.
+#![tactic(auto)]
+
+mod input;
+mod items;
+mod lines;
+mod session;
+mod told;
+
+pub use session::run_session;
+pub use told::write_told;

@@ -1,0 +1,339 @@
+//! A session.
+ghost use Rattle.std.specs.Prelude.{◌≡◌, List, ℕ, IfSome, true, false};
+ghost use Rattle.std.specs.Io.KnownBytes.{prepend_known};
+ghost use Rattle.vpr_files.specs.Writing.{Writes};
+ghost use Rattle.session_threads.specs.Outcomes.{ComesTo, IsItem, is_item};
+ghost use Rattle.session_threads.specs.Told.{AnswersCommand, AnswersItem, NotesBy};
+ghost use Rattle.session_threads.specs.WholeSession.{EndsInput, EndsReading, Finishes, IsSession, Serves, ServesLine, TellsItem, Turns, WholeSession, Wrote};
+
+use crate::items::{ItemReader, Outcome};
+use crate::lines::{LineEnd, LineReader};
+use crate::told::{last_place, write_told};
+use job_queue::{Pass, Ready};
+use line_text::{Failed, Sink, Source};
+use sessions::SessionLine;
+use shared_core::Lease;
+use std::alloc::AllocGlobal;
+use std::sync::Wait;
+use std::sync::ledger::Ledger;
+use tenant_slot::{Command, Reply, StateName};
+use transcripts::{End, Place, Transcript};
+use worker_pool::Shared;
+
+/// Runs a session: reads its input, asks the core what each item asks, and writes what it is told. What each item was told is
+/// in the transcript, in order; it was written, or a beginning of it where the writer failed; and it answers what the input
+/// asks. A command whose reply couldn't be written keeps its receipt.
+pub fn run_session<C: Ledger, P: Ledger, S: Source, W: Sink, R: Wait + AllocGlobal>(
+    rt: &R,
+    shared: &Shared<C, P>,
+    ready: &Ready,
+    pass: Pass,
+    lease: Lease<C>,
+    reader: &mut S,
+    writer: &mut W,
+) -> Transcript<C>
+    requires of { pass.of ≡ ready.now }
+    requires new { lease.made ≡ 0 }
+    ensures session { IsSession lease.id (S.remaining reader.old) (λ text end. Wrote W.contents W.has_failed writer.old writer.new text end) result }
+    ensures reader { IfSome result.end (λ end. EndsReading (S.remaining reader.new) (S.has_failed reader.new) end) }
+{
+    let mut session = Session {
+        pass,
+        kept: None,
+        transcript: Transcript::new(rt.alloc(), lease),
+    };
+    let end = session.read_all(rt, shared, ready, reader, writer);
+    session.push_kept(rt, ready);
+    let Session {
+        pass: _,
+        kept: _,
+        mut transcript,
+    } = session;
+    transcript.finish(end);
+    transcript
+}
+
+/// What a session holds.
+#[derive(Drop)]
+struct Session<C: Ledger> {
+    pass: Pass,
+    /// A slot number that came back from the queue.
+    kept: Option<u32>,
+    transcript: Transcript<C>,
+}
+
+impl<C: Ledger> Session<C> {
+    /// Serves the items of an input.
+    fn read_all<P: Ledger, S: Source, W: Sink, R: Wait + AllocGlobal>(
+        &mut self,
+        rt: &R,
+        shared: &Shared<C, P>,
+        ready: &Ready,
+        reader: &mut S,
+        writer: &mut W,
+    ) -> End
+        requires { self.old.pass.of ≡ ready.now }
+        ensures of { self.new.pass.of ≡ self.old.pass.of }
+        ensures session { WholeSession self.old.transcript.id (S.remaining reader.old) (λ text end. Wrote W.contents W.has_failed writer.old writer.new text end) self.old.transcript result self.new.transcript }
+        ensures reader { EndsReading (S.remaining reader.new) (S.has_failed reader.new) result }
+    {
+        let mut lines = LineReader::new(rt.alloc());
+        let mut items = ItemReader::new(rt.alloc());
+        for _ in rt.forever() {
+            let turn = self.turn(rt, shared, ready, &mut lines, &mut items, reader, writer);
+            if let Some(end) = turn {
+                return end;
+            }
+        }
+        unreachable!()
+    }
+
+    /// Reads a line and serves it. Tells how the session ended, if it did.
+    fn turn<P: Ledger, S: Source, W: Sink, R: Wait>(
+        &mut self,
+        rt: &R,
+        shared: &Shared<C, P>,
+        ready: &Ready,
+        lines: &mut LineReader,
+        items: &mut ItemReader,
+        reader: &mut S,
+        writer: &mut W,
+    ) -> Option<End>
+        requires { self.old.pass.of ≡ ready.now }
+        ensures of { self.new.pass.of ≡ self.old.pass.of }
+        ensures turn { Turns self.old.transcript.id (prepend_known lines.old.input (S.remaining reader.old)) (prepend_known lines.new.input (S.remaining reader.new)) items.old.within items.new.within (λ text end. Wrote W.contents W.has_failed writer.old writer.new text end) self.old.transcript result self.new.transcript }
+        ensures reader { IfSome result (λ end. EndsReading (S.remaining reader.new) (S.has_failed reader.new) end) }
+    {
+        let Ok(end) = lines.read_line(rt, reader) else {
+            return Some(End::ReaderFailed);
+        };
+        match end {
+            LineEnd::Input => Some(self.end_input(rt, shared, ready, lines, items, writer)),
+            LineEnd::LineFeed => match self.serve_line(rt, shared, ready, lines, items, writer) {
+                Ok(()) => None,
+                Err(_) => Some(End::WriterFailed),
+            },
+        }
+    }
+
+    /// Serves a line.
+    fn serve_line<P: Ledger, W: Sink, R: Wait>(
+        &mut self,
+        rt: &R,
+        shared: &Shared<C, P>,
+        ready: &Ready,
+        lines: &LineReader,
+        items: &mut ItemReader,
+        writer: &mut W,
+    ) -> Result<(), Failed>
+        requires { self.old.pass.of ≡ ready.now }
+        ensures of { self.new.pass.of ≡ self.old.pass.of }
+        ensures told { ServesLine self.old.transcript.id items.old.within items.new.within lines.now.is_lost lines.now.line.items (λ text. Writes W.contents W.has_failed writer.old writer.new text result) self.old.transcript self.new.transcript }
+    {
+        let outcome = next_outcome(items, lines);
+        self.serve(rt, shared, ready, outcome, writer)
+    }
+
+    /// Serves the last line, if it has bytes, and the item at the input's end.
+    fn end_input<P: Ledger, W: Sink, R: Wait>(
+        &mut self,
+        rt: &R,
+        shared: &Shared<C, P>,
+        ready: &Ready,
+        lines: &LineReader,
+        items: &mut ItemReader,
+        writer: &mut W,
+    ) -> End
+        requires { self.old.pass.of ≡ ready.now }
+        ensures of { self.new.pass.of ≡ self.old.pass.of }
+        ensures told { EndsInput self.old.transcript.id items.old.within lines.now.is_lost lines.now.line.items (λ text end. Wrote W.contents W.has_failed writer.old writer.new text end) self.old.transcript result self.new.transcript }
+    {
+        if lines.is_empty() {
+            return self.finish(rt, shared, ready, items, writer);
+        }
+        match self.serve_line(rt, shared, ready, lines, items, writer) {
+            Ok(()) => self.finish(rt, shared, ready, items, writer),
+            Err(_) => End::WriterFailed,
+        }
+    }
+
+    /// Serves the item at the input's end, if there is one.
+    fn finish<P: Ledger, W: Sink, R: Wait>(
+        &mut self,
+        rt: &R,
+        shared: &Shared<C, P>,
+        ready: &Ready,
+        items: &ItemReader,
+        writer: &mut W,
+    ) -> End
+        requires { self.old.pass.of ≡ ready.now }
+        ensures of { self.new.pass.of ≡ self.old.pass.of }
+        ensures told { Finishes self.old.transcript.id items.now.within (λ text end. Wrote W.contents W.has_failed writer.old writer.new text end) self.old.transcript result self.new.transcript }
+    {
+        match items.finish() {
+            Some(item) => match self.answer(rt, shared, ready, item, writer) {
+                Ok(()) => End::Ended,
+                Err(_) => End::WriterFailed,
+            },
+            None => End::Ended,
+        }
+    }
+
+    /// Serves what a line came to.
+    fn serve<P: Ledger, W: Sink, R: Wait>(
+        &mut self,
+        rt: &R,
+        shared: &Shared<C, P>,
+        ready: &Ready,
+        outcome: Outcome,
+        writer: &mut W,
+    ) -> Result<(), Failed>
+        requires of { self.old.pass.of ≡ ready.now }
+        requires item { IsItem outcome }
+        ensures of { self.new.pass.of ≡ self.old.pass.of }
+        ensures told { Serves self.old.transcript.id outcome (λ text. Writes W.contents W.has_failed writer.old writer.new text result) self.old.transcript self.new.transcript }
+    {
+        match outcome {
+            Outcome::Nothing => Ok(()),
+            Outcome::Item(item) => self.answer(rt, shared, ready, item, writer),
+            Outcome::NoMemory => {
+                self.transcript.count_no_memory();
+                write_told(writer, None)
+            }
+        }
+    }
+
+    /// Answers an item, and writes what it is told.
+    fn answer<P: Ledger, W: Sink, R: Wait>(
+        &mut self,
+        rt: &R,
+        shared: &Shared<C, P>,
+        ready: &Ready,
+        item: SessionLine,
+        writer: &mut W,
+    ) -> Result<(), Failed>
+        requires of { self.old.pass.of ≡ ready.now }
+        requires item { is_item item ≡ true }
+        ensures of { self.new.pass.of ≡ self.old.pass.of }
+        ensures told { TellsItem self.old.transcript.id item (λ text. Writes W.contents W.has_failed writer.old writer.new text result) self.old.transcript self.new.transcript }
+    {
+        self.push_kept(rt, ready);
+        if self.note(rt, shared, ready, item) {
+            write_told(writer, last_place(self.transcript.items()))
+        } else {
+            write_told(writer, None)
+        }
+    }
+
+    /// Answers an item, and notes it. Tells whether it has a place; without one it found no memory.
+    fn note<P: Ledger, R: Wait>(
+        &mut self,
+        rt: &R,
+        shared: &Shared<C, P>,
+        ready: &Ready,
+        item: SessionLine,
+    ) -> bool
+        requires of { self.old.pass.of ≡ ready.now }
+        requires item { is_item item ≡ true }
+        ensures of { self.new.pass.of ≡ self.old.pass.of }
+        ensures noted { NotesBy (AnswersItem self.old.transcript.id item) self.old.transcript result self.new.transcript }
+    {
+        match item {
+            SessionLine::Blank => unreachable!(),
+            SessionLine::Refused(refusal) => self.transcript.refuse(refusal),
+            SessionLine::Command(command) => self.ask(rt, shared, ready, command),
+            SessionLine::Wait => {
+                self.wait(rt, shared, ready);
+                self.ask(rt, shared, ready, Command::Status)
+            }
+        }
+    }
+
+    /// Asks the core a command. Where it began a job, the slot's number is marked and pushed.
+    fn ask<P: Ledger, R: Wait>(
+        &mut self,
+        rt: &R,
+        shared: &Shared<C, P>,
+        ready: &Ready,
+        command: Command,
+    ) -> bool
+        requires { self.old.pass.of ≡ ready.now }
+        ensures of { self.new.pass.of ≡ self.old.pass.of }
+        ensures noted { NotesBy (AnswersCommand self.old.transcript.id command) self.old.transcript result self.new.transcript }
+    {
+        let has_place = self.transcript.enter(&mut *shared.core.lock(rt), command);
+        if has_place && self.began_job() {
+            self.push_ready(rt, shared, ready);
+        }
+        has_place
+    }
+
+    /// Whether the last item's command began a job.
+    fn began_job(&self) -> bool {
+        match last_place(self.transcript.items()) {
+            Some(Place::Receipt(receipt)) => begins_job(receipt.reply()),
+            _ => false,
+        }
+    }
+
+    /// Marks the slot's number, where there is a step to take, and pushes it.
+    fn push_ready<P: Ledger, R: Wait>(&mut self, rt: &R, shared: &Shared<C, P>, ready: &Ready)
+        requires { self.old.pass.of ≡ ready.now }
+        ensures of { self.new.pass.of ≡ self.old.pass.of }
+        ensures transcript { self.new.transcript ≡ self.old.transcript }
+    {
+        let marked = shared.core.lock(rt).mark_ready(self.transcript.id());
+        if let Some(slot) = marked {
+            self.kept = Some(slot);
+            self.push_kept(rt, ready);
+        }
+    }
+
+    /// Pushes the number that came back, if there is one.
+    fn push_kept<R: Wait>(&mut self, rt: &R, ready: &Ready)
+        requires { self.old.pass.of ≡ ready.now }
+        ensures of { self.new.pass.of ≡ self.old.pass.of }
+        ensures transcript { self.new.transcript ≡ self.old.transcript }
+    {
+        if let Some(slot) = self.kept.take() {
+            if let Err(back) = ready.push(rt, &mut self.pass, slot) {
+                self.kept = Some(back.slot);
+            }
+        }
+    }
+
+    /// Waits until no job of the tenancy runs, its journal is full, or it isn't live.
+    fn wait<P: Ledger, R: Wait>(&mut self, rt: &R, shared: &Shared<C, P>, ready: &Ready)
+        requires { self.old.pass.of ≡ ready.now }
+        ensures of { self.new.pass.of ≡ self.old.pass.of }
+        ensures transcript { self.new.transcript ≡ self.old.transcript }
+    {
+        for _ in rt.forever() {
+            self.push_kept(rt, ready);
+            let core = shared.core.lock(rt);
+            if core.idle(self.transcript.id()) {
+                return;
+            }
+            drop(shared.changed.wait(rt, core));
+        }
+    }
+}
+
+/// What the line that was read comes to.
+fn next_outcome(items: &mut ItemReader, lines: &LineReader) -> Outcome
+    ensures line { (line : List ℕ) → (lines.now.is_lost ≡ false → line ≡ lines.now.line.items) → ComesTo items.old.within line result items.new.within }
+    ensures item { IsItem result }
+{
+    match lines.line() {
+        Some(line) => items.take_line(line),
+        None => items.lose_line(),
+    }
+}
+
+/// Whether a reply tells that a job began.
+fn begins_job(reply: &Reply) -> bool {
+    matches!(
+        reply,
+        Reply::Accepted(StateName::Packing | StateName::Placing | StateName::Routing)
+    )
+}

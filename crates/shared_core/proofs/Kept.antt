@@ -1,0 +1,250 @@
+-- The account stays right.
+use Rattle.std.proofs.Common.{◌≡◌, ◌≢◌, ℕ, ◌+◌, ◌-◌, ◌<◌, ◌≤◌, List, [], ◌∷◌, ◌++◌, length, get_or, Bool, true, false, not, eqb, Option, Some, None, Ok, Err, refl, sym, ap, ◌∙◌, arith, length-append}
+use Rattle.std.specs.Prelude.{if◌then◌else◌, IsSome, is_some, nat_lt, option_map, ◌&&◌, Result}
+use Rattle.std.proofs.lemmas.Bool.Decides.{nat_tests, Decides-eqb}
+use Rattle.strips.specs.Plan.{strip_of}
+use Rattle.tenant_slot.specs.declared.command.Command.{Command}
+use Rattle.tenant_slot.specs.declared.event.Event.TheVariants.{Command as Asked}
+use Rattle.tenant_slot.proofs.Runs.{step-served}
+use Rattle.service_core.specs.History.{History, closed, state_of}
+use Rattle.service_core.specs.declared.not_served.NotServed.{NotServed}
+use Rattle.service_core.specs.declared.not_served.NotServed.TheVariants.{NoMemory, JournalFull, NoSuchTenancy}
+use Rattle.service_core.specs.Receipt.{Receipted}
+use Rattle.service_core.specs.Service.{AreAlone, IsAloneOn, ServiceState, admitted, entries_in, history_of, if_live, live_of, modified, placed_width, live_width}
+use Rattle.service_core.specs.Calls.{IsAdmitted, IsEvicted, IsReceipt, IsServed}
+use Rattle.service_core.specs.Headline.{AreParted}
+use Rattle.service_core.proofs.Lists.{All-history_of, history_of-modified, history_of-past, history_of-push, history_of-zero, length-modified}
+use Rattle.shared_core.specs.CoreState.{AreSlotted, CoreState, LeaseState, Marked, SlotTable, can_lease, given, handed, has_room_in, is_leased, is_live, marked_of, number_of, places_of, remarked, unmarked, with_place}
+use Rattle.shared_core.specs.Accounts.{AreMarks, IsAccount, IsRising, entries_of}
+use Rattle.shared_core.proofs.Holders.{AreSlotted-freed, AreSlotted-given, AreSlotted-same}
+use Rattle.shared_core.proofs.Journals.{Grows, puts_in-kept, puts_in-push, received_at, served}
+use Rattle.shared_core.proofs.Marks.{length-remarked, marked_of-at}
+use Rattle.shared_core.proofs.Sums.{leases_in-few, leases_in-given, leases_in-place, leases_in-push, places_of-given, places_of-other, places_of-place, places_of-push, places_sum-given, places_sum-place, places_sum-push, rising-longer, rising-push}
+
+AreMarks-grown : (old new : List History) (marks : List Marked) (puts : ℕ) → Grows old new puts → AreMarks old marks → AreMarks new marks
+AreMarks-grown old new marks puts grows was = record {
+  count = was.count ∙ sym grows.count;
+  few = was.few;
+  rising = λ id. rising-longer 0 (places_of marks id) _ _ (grows.longer id) (was.rising id);
+}
+
+-- a call that leaves the marks and the numbers
+pub IsAccount-grown : (old new : List History) (marks : List Marked) (holders : List ℕ) (commands : ℕ × ℕ × ℕ × ℕ) (puts : ℕ × ℕ × ℕ) (shares more total' : ℕ) → Grows old new more → total' ≡ puts.0 + more → IsAccount old marks holders commands puts shares → IsAccount new marks holders commands (total', puts.1, puts.2) shares
+IsAccount-grown old new marks holders commands puts shares more total' grows is was = record {
+  placed = AreMarks-grown old new marks more grows was.placed;
+  slotted = AreSlotted-same (is_live old) (is_live new) holders grows.live was.slotted;
+  commanded = was.commanded;
+  put = record { all = omega (arith, is, was.put.all, grows.put); cut = was.put.cut; own = was.put.own; few = was.put.few };
+}
+
+-- who is live
+in_closed : (o : Option History) → is_some (if_live (option_map closed o)) ≡ false
+in_closed None = refl
+in_closed (Some h) = refl
+
+live-closed : (hs : List History) (id other : ℕ) → is_live (modified hs id closed) other ≡ (if eqb other id then false else is_live hs other)
+live-closed hs id other = grind (arith, nat_tests, history_of-modified hs id other closed, in_closed (history_of hs other))
+
+live-push : (hs : List History) (h : History) (other : ℕ) → h.live ≡ true → is_live (hs ++ h ∷ []) other ≡ (if eqb other (length hs + 1) then true else is_live hs other)
+live-push hs h other live = grind (arith, nat_tests, history_of-push hs h other)
+
+pub nobody : (hs : List History) → is_live hs 0 ≡ false
+nobody hs = ap (λ o. is_some (if_live o)) (history_of-zero hs)
+
+no_next : (hs : List History) → is_live hs (length hs + 1) ≡ false
+no_next hs = ap (λ o. is_some (if_live o)) (history_of-past hs (length hs + 1) (omega arith))
+
+-- a tenancy that ends keeps its journal
+in_entries : (o : Option History) → length (entries_in (option_map closed o)) ≡ length (entries_in o)
+in_entries None = refl
+in_entries (Some h) = refl
+
+entries-closed : (hs : List History) (id other : ℕ) → entries_of (modified hs id closed) other ≡ entries_of hs other
+entries-closed hs id other = grind (arith, nat_tests, history_of-modified hs id other closed, in_entries (history_of hs other))
+
+entries-push : (hs : List History) (h : History) (other : ℕ) → h.entries ≡ [] → entries_of (hs ++ h ∷ []) other ≡ entries_of hs other
+entries-push hs h other none =
+    elim (eqb other (length hs + 1)) as (λ b. eqb other (length hs + 1) ≡ b → entries_of (hs ++ h ∷ []) other ≡ entries_of hs other) [
+      | true ↦ λ e. let is : other ≡ length hs + 1 = (Decides-eqb other (length hs + 1)).0 e in let past : history_of hs other ≡ None = history_of-past hs other (omega arith) in rw (history_of-push hs h other, e, past) (ap length none)
+      | false ↦ λ e. rw (history_of-push hs h other, e) refl
+    ] refl
+
+some_live : (hs : List History) (id : ℕ) → IsSome (live_of hs id) → is_live hs id ≡ true
+some_live hs id some = grind (arith, nat_tests)
+
+pub IsAccount-evicted : (old new : ServiceState) (id : ℕ) (marks : List Marked) (holders : List ℕ) (commands : ℕ × ℕ × ℕ × ℕ) (puts : ℕ × ℕ × ℕ) (shares : ℕ) → IsEvicted old id (Ok tt) new → IsAccount old.histories marks holders commands puts shares → IsAccount new.histories marks (handed holders (number_of holders id) 0) commands puts shares
+IsAccount-evicted old new id marks holders commands puts shares is was =
+    let hs : List History = old.histories in
+    let to : new.histories ≡ modified hs id closed = ap (λ (s : ServiceState). s.histories) is.1 in
+    let live : is_live hs id ≡ true = some_live hs id is.0 in
+    let some : id ≢ 0 = λ zero_is. (let never : is_live hs 0 ≡ true = rw zero_is at live in let no = nobody hs in cc) in
+    rw to (record {
+      placed = record { count = was.placed.count ∙ sym (length-modified hs id closed); few = was.placed.few; rising = λ other. rw (entries-closed hs id other) (was.placed.rising other) };
+      slotted = AreSlotted-same (λ other. if eqb other id then false else is_live hs other) (is_live (modified hs id closed)) (handed holders (number_of holders id) 0) (live-closed hs id) (AreSlotted-freed (is_live hs) holders id was.slotted live some);
+      commanded = was.commanded;
+      put = record { all = was.put.all ∙ sym (puts_in-kept hs id closed (λ h. refl)); cut = was.put.cut; own = was.put.own; few = was.put.few };
+    })
+
+-- just live tenancies have strips
+pub is_some-map : {A B : Type 0} (f : A → B) (o : Option A) → is_some (option_map f o) ≡ is_some o
+is_some-map f None = refl
+is_some-map f (Some x) = refl
+
+pub has_strip : (s : ServiceState) (id : ℕ) → placed_width s.plan.strips id ≡ live_width s.histories id → is_live s.histories id ≡ true → is_some (strip_of s.plan.strips id) ≡ true
+has_strip s id same live = sym (is_some-map (λ p. p.width) (strip_of s.plan.strips id)) ∙ (ap is_some same ∙ (is_some-map (λ h. h.strip.width) (live_of s.histories id) ∙ live))
+
+pub IsAccount-admitted : (old new : ServiceState) (width : ℕ) (told : ℕ × ℕ) (marks : List Marked) (holders : List ℕ) (commands : ℕ × ℕ × ℕ × ℕ) (puts : ℕ × ℕ × ℕ) (shares : ℕ) → IsAdmitted old width (Ok told) new → AreParted old.device old → IsAccount old.histories marks holders commands puts shares → IsAccount new.histories (marks ++ unmarked ∷ []) (handed holders (number_of holders 0) told.0) commands puts shares
+IsAccount-admitted old new width told marks holders commands puts shares is parted was =
+    let hs : List History = old.histories in
+    let h : History = admitted old.device (length hs + 1) width in
+    let to : new.histories ≡ hs ++ h ∷ [] = ap (λ (s : ServiceState). s.histories) is.3 in
+    let ids : length hs < 65535 = is.0.ids_left in
+    let given_it : AreSlotted (λ other. if eqb other (length hs + 1) then true else is_live hs other) (handed holders (number_of holders 0) (length hs + 1)) = AreSlotted-given (is_live hs) holders old.plan.strips (length hs + 1) was.slotted (nobody hs) (no_next hs) (λ never. omega arith) (λ other live. has_strip old other (parted.of_live other) live) is.0.few_strips in
+    rw (to, is.1) (record {
+      placed = record {
+        count = length-append marks (unmarked ∷ []) ∙ (ap (λ n. n + 1) was.placed.count ∙ sym (length-append hs (h ∷ [])));
+        few = omega (arith, length-append marks (unmarked ∷ []), was.placed.count);
+        rising = λ other. rw (entries-push hs h other refl, places_of-push marks other) (was.placed.rising other);
+      };
+      slotted = AreSlotted-same (λ other. if eqb other (length hs + 1) then true else is_live hs other) (is_live (hs ++ h ∷ [])) (handed holders (number_of holders 0) (length hs + 1)) (λ other. live-push hs h other refl) given_it;
+      commanded = record { all = was.commanded.all ∙ sym (places_sum-push marks); cut = was.commanded.cut; spare = ap (λ n. commands.1 + n) (leases_in-push marks) ∙ was.commanded.spare; none_spare = was.commanded.none_spare };
+      put = record { all = omega (arith, was.put.all, puts_in-push hs h); cut = was.put.cut; own = was.put.own; few = was.put.few };
+    })
+
+-- the marks of a tenancy that there is
+within : (hs : List History) (id : ℕ) (h : History) → history_of hs id ≡ Some h → (0 < id) × (id ≤ length hs)
+within hs id h at = (by_zero, by_past)
+  where
+    by_zero : 0 < id
+    by_zero = elim (eqb id 0) as (λ b. eqb id 0 ≡ b → 0 < id) [
+      | true ↦ λ e. let z : id ≡ 0 = (Decides-eqb id 0).0 e in let none : history_of hs id ≡ None = rw z (history_of-zero hs) in absurd (cc)
+      | false ↦ λ e. grind (arith, nat_tests)
+    ] refl
+
+    by_past : id ≤ length hs
+    by_past = elim (nat_lt (length hs) id) as (λ b. nat_lt (length hs) id ≡ b → id ≤ length hs) [
+      | true ↦ λ e. let past : length hs < id = grind (arith, nat_tests) in let none : history_of hs id ≡ None = history_of-past hs id past in absurd (cc)
+      | false ↦ λ e. grind (arith, nat_tests)
+    ] refl
+
+live_is_there : (hs : List History) (id : ℕ) → is_live hs id ≡ true → (h : History) × (history_of hs id ≡ Some h)
+live_is_there hs id live = at_option (history_of hs id) refl live
+  where
+    at_option : (o : Option History) → history_of hs id ≡ o → is_some (if_live o) ≡ true → (h : History) × (history_of hs id ≡ Some h)
+    at_option None e never = cc
+    at_option (Some h) e is = (h, e)
+
+pub live_within : (hs : List History) (id : ℕ) → is_live hs id ≡ true → (0 < id) × (id ≤ length hs)
+live_within hs id live = let got = live_is_there hs id live in within hs id got.0 got.1
+
+has_marks : (ms : List Marked) (id : ℕ) → 0 < id → id ≤ length ms → (m : Marked) × (marked_of ms id ≡ Some m)
+has_marks ms id pos le = (get_or ms (id - 1) unmarked, marked_of-at ms id unmarked pos le)
+
+pub room_live : (hs : List History) (id : ℕ) → has_room_in (live_of hs id) ≡ true → is_live hs id ≡ true
+room_live hs id room = at_option (live_of hs id) room
+  where
+    at_option : (o : Option History) → has_room_in o ≡ true → is_some o ≡ true
+    at_option None never = cc
+    at_option (Some h) is = refl
+
+-- a lease is given
+pub IsAccount-leased : (hs : List History) (ms : List Marked) (holders : List ℕ) (total parts amount whole : ℕ) (puts : ℕ × ℕ × ℕ) (shares id parts' amount' : ℕ) → is_live hs id ≡ true → is_leased ms id ≡ false → parts' + 1 ≡ parts → amount' + 0 ≡ amount → IsAccount hs ms holders (total, parts, amount, whole) puts shares → IsAccount hs (remarked ms id given) holders (total, parts', amount', whole) puts shares
+IsAccount-leased hs ms holders total parts amount whole puts shares id parts' amount' live free ps as' was =
+    let there = live_within hs id live in
+    let count = was.placed.count in
+    let got = has_marks ms id there.0 (omega arith) in
+    let none : got.0.given ≡ false = rw got.1 at free in
+    record {
+      placed = record { count = length-remarked ms id given ∙ was.placed.count; few = omega (arith, length-remarked ms id given, was.placed.few); rising = λ other. rw (places_of-given ms id other) (was.placed.rising other) };
+      slotted = was.slotted;
+      commanded = record { all = was.commanded.all ∙ sym (places_sum-given ms id); cut = was.commanded.cut; spare = omega (arith, was.commanded.spare, leases_in-given ms id got.0 got.1 none); none_spare = omega (arith, was.commanded.none_spare) };
+      put = was.put;
+    }
+
+-- a part is left for it
+pub part_left : (hs : List History) (ms : List Marked) (holders : List ℕ) (commands : ℕ × ℕ × ℕ × ℕ) (puts : ℕ × ℕ × ℕ) (shares : ℕ) → IsAccount hs ms holders commands puts shares → 1 ≤ commands.1
+part_left hs ms holders commands puts shares was = omega (arith, was.commanded.spare, leases_in-few ms, was.placed.few)
+
+-- an entry of a lease
+pub IsAccount-marked : (old new : ServiceState) (id : ℕ) (command : Command) (r : Receipted) (ms : List Marked) (holders : List ℕ) (commands : ℕ × ℕ × ℕ × ℕ) (puts : ℕ × ℕ × ℕ) (shares total' : ℕ) → IsServed old id command (Ok r) new → is_live old.histories id ≡ true → total' ≡ commands.0 + 1 → IsAccount old.histories ms holders commands puts shares → IsAccount new.histories (remarked ms id (with_place r.place)) holders (total', commands.1, commands.2, commands.3) puts shares
+IsAccount-marked old new id command r ms holders commands puts shares total' is live ts was =
+    let there = live_within old.histories id live in
+    let count = was.placed.count in
+    let got = has_marks ms id there.0 (omega arith) in
+    let grows : Grows old.histories new.histories 0 = served old new id command (Ok r) is in
+    let at = received_at old new id command r is in
+    record {
+      placed = record {
+        count = length-remarked ms id (with_place r.place) ∙ (was.placed.count ∙ sym grows.count);
+        few = omega (arith, length-remarked ms id (with_place r.place), was.placed.few);
+        rising = λ other. by_id at got.0 got.1 grows other (eqb other id) refl;
+      };
+      slotted = AreSlotted-same (is_live old.histories) (is_live new.histories) holders grows.live was.slotted;
+      commanded = record { all = omega (arith, ts, was.commanded.all, places_sum-place ms id r.place got.0 got.1); cut = was.commanded.cut; spare = ap (λ n. commands.1 + n) (leases_in-place ms id r.place) ∙ was.commanded.spare; none_spare = was.commanded.none_spare };
+      put = record { all = omega (arith, was.put.all, grows.put); cut = was.put.cut; own = was.put.own; few = was.put.few };
+    }
+  where
+    by_id : (r.place ≡ entries_of old.histories id) × (entries_of new.histories id ≡ entries_of old.histories id + 1) → (m : Marked) → marked_of ms id ≡ Some m → Grows old.histories new.histories 0 → (other : ℕ) (b : Bool) → eqb other id ≡ b → IsRising 0 (places_of (remarked ms id (with_place r.place)) other) (entries_of new.histories other)
+    by_id at m here grows other true e =
+        let same : other ≡ id = (Decides-eqb other id).0 e in
+        rw (same, places_of-place ms id r.place m here, at.0, at.1) (rising-push 0 (places_of ms id) (entries_of old.histories id) (was.placed.rising id))
+    by_id at m here grows other false e = rw (places_of-other ms id other r.place e) (rising-longer 0 (places_of ms other) _ _ (grows.longer other) (was.placed.rising other))
+
+-- a share is given
+pub IsAccount-shared : (hs : List History) (ms : List Marked) (holders : List ℕ) (commands : ℕ × ℕ × ℕ × ℕ) (puts : ℕ × ℕ × ℕ) (shares parts' : ℕ) → shares < 16 → parts' + 1 ≡ puts.1 → IsAccount hs ms holders commands puts shares → IsAccount hs ms holders commands (puts.0, parts', puts.2) (shares + 1)
+IsAccount-shared hs ms holders commands puts shares parts' few is was = record {
+  placed = was.placed;
+  slotted = was.slotted;
+  commanded = was.commanded;
+  put = record { all = was.put.all; cut = was.put.cut; own = omega (arith, is, was.put.own); few = omega arith };
+}
+
+-- a command without room isn't served
+pub served_room : (old new : ServiceState) (id : ℕ) (command : Command) (r : Receipted) → AreAlone old → IsServed old id command (Ok r) new → has_room_in (live_of old.histories id) ≡ true
+served_room old new id command r alone is = at_option (history_of old.histories id) refl is.0
+  where
+    at_option : (o : Option History) → history_of old.histories id ≡ o → IsReceipt (if_live o) id command r → has_room_in (if_live o) ≡ true
+    at_option None e none = absurd none
+    at_option (Some h) e said = by_live h.live said
+      where
+        by_live : (b : Bool) → IsReceipt (if b then Some h else None) id command r → has_room_in (if b then Some h else None) ≡ true
+        by_live false none = absurd none
+        by_live true told =
+            let lone : IsAloneOn old.device h = All-history_of (IsAloneOn old.device) old.histories id h e alone in
+            let room = (step-served (state_of h) (Asked command) r.reply told.3).1 in
+            let count = lone.replayed.count in
+            let few = lone.replayed.few in
+            grind (arith, nat_tests)
+
+pub record Unserved (old new : ServiceState) (r : Result Receipted NotServed) : Type 0 where
+  pub refusal : NotServed
+  pub is : r ≡ Err refusal
+  pub same : new ≡ old
+
+pub unserved : (old new : ServiceState) (id : ℕ) (command : Command) (r : Result Receipted NotServed) → AreAlone old → has_room_in (live_of old.histories id) ≡ false → IsServed old id command r new → Unserved old new r
+unserved old new id command (Ok r) alone full is = let room = served_room old new id command r alone is in cc
+unserved old new id command (Err (JournalFull note)) alone full is = record { refusal = JournalFull note; is = refl; same = is.2 }
+unserved old new id command (Err (NoSuchTenancy note)) alone full is = record { refusal = NoSuchTenancy note; is = refl; same = is.2 }
+unserved old new id command (Err NoMemory) alone full is = record { refusal = NoMemory; is = refl; same = is.1 }
+
+-- who can be leased
+and_both : (a b : Bool) → (a && not b) ≡ true → (a ≡ true) × (b ≡ false)
+and_both true true never = cc
+and_both true false is = (refl, refl)
+and_both false b never = cc
+
+pub leasable : (core : CoreState) (id : ℕ) → can_lease core id ≡ true → (is_live core.service.histories id ≡ true) × (is_leased core.marks id ≡ false)
+leasable core id can = and_both (is_live core.service.histories id) (is_leased core.marks id) can
+
+-- values by their parts
+abbrev lease_of : ℕ → ℕ → LeaseState
+lease_of id made = record { id = id; made = made }
+
+pub lease_is : (id a b : ℕ) → a ≡ b → lease_of id a ≡ lease_of id b
+lease_is id a b same = ap (lease_of id) same
+
+abbrev core_of : ServiceState → List Marked → SlotTable → ℕ → ℕ → CoreState
+core_of service marks slots shares own = record { service = service; marks = marks; slots = slots; shares = shares; own_puts = own }
+
+pub core_is : (service service' : ServiceState) (a b : List Marked) (slots : SlotTable) (shares own : ℕ) → service ≡ service' → a ≡ b → core_of service a slots shares own ≡ core_of service' b slots shares own
+core_is service service' a b slots shares own to same = rw (to, same) refl

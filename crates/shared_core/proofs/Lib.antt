@@ -1,0 +1,7 @@
+pub mod Marks
+pub mod Journals
+pub mod Sums
+pub mod Holders
+pub mod Searching
+pub mod Kept
+pub mod Wrapped

@@ -1,0 +1,7 @@
+use Rattle.std.proofs.Common.{◌≡◌, false, replicate}
+use Rattle.shared_core.specs.CoreState.{AreSlotted}
+use Rattle.shared_core.proofs.Wrapped.{live_upto}
+use Rattle.shared_core.proofs.wrapping.slots_of.Given as goal
+
+abbrev pub invariant-loop-index : goal.invariant-loop-index
+invariant-loop-index l = AreSlotted (live_upto l.service.histories l.index) l.slots.holders × (l.slots.queued ≡ replicate 64 false)

@@ -1,0 +1,52 @@
+-- Private: what the core keeps of its account.
+use Rattle.std.specs.Prelude.{ℕ, ◌≡◌, ◌+◌, ◌≤◌, List, [], ◌∷◌, length, if◌then◌else◌}
+use Rattle.service_core.specs.History.{History}
+use Rattle.service_core.specs.Service.{history_of, entries_in}
+use Rattle.shared_core.specs.CoreState.{AreSlotted, Marked, is_live, places_of, puts_in}
+
+-- the places rise, the first is at least that one, and the last is below n
+abbrev pub IsRising : ℕ → List ℕ → ℕ → Type 0
+IsRising least [] n = least ≤ n
+IsRising least (p ∷ ps) n = (least ≤ p) × IsRising (p + 1) ps n
+
+abbrev pub AreRising : List ℕ → Type 0
+AreRising places = (n : ℕ) × IsRising 0 places n
+
+-- how many marked entries there are
+abbrev pub places_sum : List Marked → ℕ
+places_sum [] = 0
+places_sum (m ∷ ms) = length m.places + places_sum ms
+
+-- how many leases were given
+abbrev pub leases_in : List Marked → ℕ
+leases_in [] = 0
+leases_in (m ∷ ms) = (if m.given then 1 else 0) + leases_in ms
+
+abbrev pub entries_of : List History → ℕ → ℕ
+entries_of histories id = length (entries_in (history_of histories id))
+
+-- the marks are of the ids that there are, and each is the place of an entry, in rising order
+pub record AreMarks (histories : List History) (marks : List Marked) : Type 0 where
+  pub count : length marks ≡ length histories
+  pub few : length marks ≤ 65535
+  pub rising : (id : ℕ) → IsRising 0 (places_of marks id) (entries_of histories id)
+
+-- the ledger of commands counts the marked entries, and each lease that was given has one of its parts
+pub record CountsCommands (marks : List Marked) (total parts amount whole : ℕ) : Type 0 where
+  pub all : total ≡ places_sum marks
+  pub cut : whole ≡ 65536
+  pub spare : parts + leases_in marks ≡ 65536
+  pub none_spare : amount ≡ 0
+
+-- the ledger of puts counts the put entries, and each share that was given has one of its parts
+pub record CountsPuts (histories : List History) (total parts whole shares : ℕ) : Type 0 where
+  pub all : total ≡ puts_in histories
+  pub cut : whole ≡ 17
+  pub own : parts + shares ≡ 17
+  pub few : shares ≤ 16
+
+pub record IsAccount (histories : List History) (marks : List Marked) (holders : List ℕ) (commands : ℕ × ℕ × ℕ × ℕ) (puts : ℕ × ℕ × ℕ) (shares : ℕ) : Type 0 where
+  pub placed : AreMarks histories marks
+  pub slotted : AreSlotted (is_live histories) holders
+  pub commanded : CountsCommands marks commands.0 commands.1 commands.2 commands.3
+  pub put : CountsPuts histories puts.0 puts.1 puts.2 shares

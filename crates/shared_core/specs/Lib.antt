@@ -1,0 +1,3 @@
+pub mod CoreState
+pub mod CoreCalls
+pub mod Accounts

@@ -1,0 +1,20 @@
+//! The core that threads share: all tenancies, with an account of what sessions and workers entered.
+//!
+//! - [`Core`] wraps a `Service`. Its calls are the service's, and those below; each stands for one turn under a lock.
+//! - A live tenancy's session has the tenancy's [`Lease`], given once. What it enters by `lease_command` is marked: the core
+//!   keeps the places of these entries, and the lease counts them. A worker has a [`Share`], which counts the steps that it puts
+//!   by `share_put` and that are recorded. Both are parts of ledgers, so that no one else can count for them, and once all
+//!   parts are back ([`Core::close`]) the counts are those of the journals.
+//! - A live tenancy has one of 64 slot numbers, used again after its eviction. `mark_ready` and `popped` keep whether the number
+//!   stands in a queue, so that it stands there at most once.
+#![tactic(auto)]
+
+mod lease_marks;
+mod shared;
+mod slots;
+mod tokens;
+mod wrapping;
+
+pub use lease_marks::LeaseMarks;
+pub use shared::{Core, MAX_SHARES};
+pub use tokens::{Lease, Share};

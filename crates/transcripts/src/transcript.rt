@@ -1,0 +1,158 @@
+//! What a session was told.
+ghost use Rattle.std.specs.Prelude.{◌≡◌, ◌<◌, ◌++◌, ◌∷◌, [], None, Some, MatchBool, length, vec_len, vec_capacity};
+ghost use Rattle.transcripts.specs.declared.item.Place.TheVariants.{Refused};
+ghost use Rattle.transcripts.specs.Transcripts.{IsPlaceOf, Enters, receipts_of, with_no_memory, with_place};
+
+use crate::item::{End, Item, Place};
+use service_core::NotServed;
+use sessions::SessionRefusal;
+use shared_core::{Core, Lease};
+use std::alloc::Global;
+use std::marker::Model;
+use std::sync::ledger::Ledger;
+use tenant_slot::Command;
+
+/// A lease, and what the items of its session were told, in order: for each entry that the lease made there is a receipt.
+#[derive(Drop)]
+pub struct Transcript<C: Ledger> {
+    lease: Lease<C>,
+    items: Vec<Item>,
+    no_memory: u64,
+    end: Option<End>,
+}
+
+impl<C: Ledger> Model for Transcript<C> {
+    ghost use Rattle.std.specs.Prelude.{◌≡◌, length};
+    ghost use Rattle.transcripts.specs.Transcripts.{TranscriptState, receipts_of};
+
+    ghost Value = { TranscriptState };
+
+    ghost view = { λ t. record { id = t.lease.id; items = t.items.items; no_memory = t.no_memory; end = t.end } };
+
+    ghost invariant = { λ t. t.lease.made ≡ length (receipts_of t.items.items) };
+}
+
+impl<C: Ledger> Transcript<C> {
+    /// The transcript of a lease that has made no entry yet.
+    pub fn new(alloc: Global, lease: Lease<C>) -> Self
+        requires { lease.made ≡ 0 }
+        ensures { result ≡ record { id = lease.id; items = []; no_memory = 0; end = None } }
+    {
+        Transcript {
+            lease,
+            items: Vec::new(alloc),
+            no_memory: 0,
+            end: None,
+        }
+    }
+
+    /// The tenancy whose session it is.
+    pub fn id(&self) -> u32
+        ensures { result ≡ self.now.id }
+    {
+        self.lease.id()
+    }
+
+    /// What the items were told.
+    pub fn items(&self) -> &[Item]
+        ensures { result.now ≡ self.now.items }
+    {
+        self.items.as_slice()
+    }
+
+    /// So many items after the last of these found no memory.
+    pub fn no_memory(&self) -> u64
+        ensures { result ≡ self.now.no_memory }
+    {
+        self.no_memory
+    }
+
+    /// How the session ended.
+    pub fn end(&self) -> Option<End>
+        ensures { result ≡ self.now.end }
+    {
+        self.end
+    }
+
+    /// Enters a command by the lease, and notes what it is told. Without memory it is counted, and the core is as it was.
+    pub fn enter<P: Ledger>(&mut self, core: &mut Core<C, P>, command: Command) -> bool
+        ensures { Enters self.old core.old.service command result core.new.service self.new }
+    {
+        if self.items.reserve(1).is_err() {
+            drop(command);
+            self.count_no_memory();
+            return false;
+        }
+        let place = match core.lease_command(&mut self.lease, command) {
+            Ok(receipt) => Place::Receipt(receipt),
+            Err(NotServed::JournalFull(note)) => Place::Note(note),
+            Err(NotServed::NoSuchTenancy(note)) => Place::Note(note),
+            Err(NotServed::NoMemory) => {
+                self.count_no_memory();
+                return false;
+            }
+        };
+        append(&mut self.items, &mut self.no_memory, place);
+        true
+    }
+
+    /// Notes that an item is refused by itself. Without memory it is counted.
+    pub fn refuse(&mut self, refusal: SessionRefusal) -> bool
+        ensures { MatchBool result (self.new ≡ with_place self.old (Refused refusal)) (self.new ≡ with_no_memory self.old) }
+    {
+        if self.items.reserve(1).is_err() {
+            self.count_no_memory();
+            return false;
+        }
+        append(
+            &mut self.items,
+            &mut self.no_memory,
+            Place::Refused(refusal),
+        );
+        true
+    }
+
+    /// Counts an item that found no memory.
+    pub fn count_no_memory(&mut self)
+        ensures { self.new ≡ with_no_memory self.old }
+    {
+        self.no_memory = self.no_memory.saturating_add(1);
+    }
+
+    /// Notes how the session ended.
+    pub fn finish(&mut self, end: End)
+        ensures { self.new ≡ record self.old { end = Some end } }
+    {
+        self.end = Some(end);
+    }
+
+    /// Its lease.
+    pub fn into_lease(self) -> Lease<C>
+        ensures id { result.id ≡ self.id }
+        ensures made { result.made ≡ length (receipts_of self.items) }
+    {
+        let Transcript {
+            lease,
+            items: _,
+            no_memory: _,
+            end: _,
+        } = self;
+        lease
+    }
+}
+
+/// Appends an item told so, behind so many that found no memory.
+fn append(items: &mut Vec<Item>, no_memory: &mut u64, place: Place)
+    requires { vec_len items.old < vec_capacity items.old }
+    ensures items { items.new.items ≡ items.old.items ++ record { place = place; no_memory_before = no_memory.old } ∷ [] }
+    ensures none { no_memory.new ≡ 0 }
+{
+    let no_memory_before = *no_memory;
+    *no_memory = 0;
+    items
+        .push(Item {
+            place,
+            no_memory_before,
+        })
+        .unwrap();
+}

@@ -1,0 +1,20 @@
+use job_state::{AnyJob, Back, Done};
+
+/// What is told of each step that a worker makes, while the core isn't locked.
+pub trait Gate {
+    /// The step is about to be made.
+    fn before(&self, job: &AnyJob);
+
+    /// The step was made, or found no memory.
+    fn after(&self, stepped: &Result<Done, Back>);
+}
+
+/// A gate that lets each step through.
+#[derive(Clone, Copy, Debug, PartialEq, Eq)]
+pub struct Open;
+
+impl Gate for Open {
+    fn before(&self, _job: &AnyJob) {}
+
+    fn after(&self, _stepped: &Result<Done, Back>) {}
+}
