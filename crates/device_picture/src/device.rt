@@ -1,5 +1,5 @@
 //! What is drawn.
-ghost use Rattle.std.specs.Prelude.{◌≤◌};
+ghost use Rattle.std.specs.Prelude.{◌≡◌, ◌≤◌, Contains, IfSome};
 
 use crate::size::DeviceSize;
 use crate::tenancy::Tenancy;
@@ -33,7 +33,9 @@ impl<'t> Device<'t> {
     }
 
     /// The tenancy of that id.
-    pub(crate) fn tenancy(&self, id: u32) -> Option<&Tenancy<'t>> {
+    pub(crate) fn tenancy(&self, id: u32) -> Option<&Tenancy<'t>>
+        ensures { IfSome result (λ tenancy. Contains self.now.tenancies.items tenancy.now × (tenancy.now.id ≡ id)) }
+    {
         self.tenancies.iter().find(|tenancy| tenancy.id == id)
     }
 

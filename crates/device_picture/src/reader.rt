@@ -1,5 +1,6 @@
 //! Reads what the service's program printed.
-ghost use Rattle.std.specs.Prelude.{◌≤◌};
+ghost use Rattle.std.specs.Prelude.{◌≡◌, IfNone, IfOk, true};
+ghost use Rattle.device_picture.specs.Owning.{AreOwners, IsOwners};
 
 use crate::device::{Device, Owned};
 use crate::fault::{Fault, InputFault, ReadError};
@@ -138,7 +139,9 @@ impl<'t> Reader<'t> {
     }
 
     /// What was read, at the end of so many lines.
-    fn end(self, lines: usize) -> Result<Device<'t>, InputFault> {
+    fn end(self, lines: usize) -> Result<Device<'t>, InputFault>
+        ensures { IfOk result (λ device. AreOwners device) }
+    {
         let Reader {
             device,
             place,
@@ -158,9 +161,9 @@ impl<'t> Reader<'t> {
                 line: lines,
             });
         }
-        match foreign(&device) {
-            Some((fault, number)) => Err(InputFault {
-                fault,
+        match first_foreign(&device) {
+            Some(number) => Err(InputFault {
+                fault: foreign_fault(&device, number),
                 line: heading.saturating_add(number).saturating_add(1),
             }),
             None => Ok(device),
@@ -168,25 +171,33 @@ impl<'t> Reader<'t> {
     }
 }
 
-/// The first of the owned nodes that is not its owner's, by its place in the list.
-fn foreign(device: &Device<'_>) -> Option<(Fault, usize)> {
+/// The first of the owned nodes that does not stand in its owner's strip, by its place in the list.
+fn first_foreign(device: &Device<'_>) -> Option<usize>
+    ensures { IfNone result (AreOwners device.now) }
+{
     for (number, owned) in device.owned.iter().enumerate() {
-        if let Some(fault) = fault_of(device, *owned) {
-            return Some((fault, number));
+        if !is_owners(device, *owned) {
+            return Some(number);
         }
     }
     None
 }
 
-/// What is wrong with a node and its owner.
-fn fault_of(device: &Device<'_>, owned: Owned) -> Option<Fault> {
-    let Some(tenancy) = device.tenancy(owned.owner) else {
-        return Some(Fault::NotListed);
-    };
-    if tenancy.has_node(owned.node.kind, owned.node.x) {
-        None
-    } else {
-        Some(Fault::OutsideStrip)
+/// Whether a node stands in its owner's strip.
+fn is_owners(device: &Device<'_>, owned: Owned) -> bool
+    ensures { result ≡ true → IsOwners device.now.tenancies.items owned }
+{
+    match device.tenancy(owned.owner) {
+        Some(tenancy) => tenancy.has_node(owned.node),
+        None => false,
+    }
+}
+
+/// What is wrong with a node that does not stand in its owner's strip.
+fn foreign_fault(device: &Device<'_>, number: usize) -> Fault {
+    match device.owned.get(number) {
+        Some(owned) if device.tenancy(owned.owner).is_some() => Fault::OutsideStrip,
+        _ => Fault::NotListed,
     }
 }
 
@@ -213,7 +224,9 @@ fn is_other_reply(line: &[u8]) -> bool {
 ///
 /// At the end each owned wire, pin and pad has to stand in the strip of a listed tenancy. Of all faults that of the least line
 /// is told, but those of the end only where there is no other.
-pub fn read_device(alloc: Global, size: DeviceSize, text: &[u8]) -> Result<Device<'_>, ReadError> {
+pub fn read_device(alloc: Global, size: DeviceSize, text: &[u8]) -> Result<Device<'_>, ReadError>
+    ensures { IfOk result (λ device. AreOwners device) }
+{
     let mut reader = Reader {
         device: Device::new(alloc, size),
         place: Place::Before,
@@ -228,5 +241,8 @@ pub fn read_device(alloc: Global, size: DeviceSize, text: &[u8]) -> Result<Devic
             .line(line, lines)
             .map_err(|refusal| refusal.at(lines))?;
     }
-    reader.end(lines).map_err(ReadError::Fault)
+    match reader.end(lines) {
+        Ok(device) => Ok(device),
+        Err(fault) => Err(ReadError::Fault(fault)),
+    }
 }

@@ -1,9 +1,9 @@
 //! The lines of `op list`.
-ghost use Rattle.std.specs.Prelude.{◌≡◌, ◌+◌, ◌≤◌, length, true};
+ghost use Rattle.std.specs.Prelude.{◌≡◌, ◌+◌, ◌≤◌, ◌<◌, length, true};
 
 use crate::scanner::Scanner;
 use crate::size::DeviceSize;
-use rr_graph::ResourceKind;
+use rr_graph::{Resource, ResourceKind};
 
 /// How long a name may be.
 const LONGEST_NAME: usize = 32;
@@ -25,6 +25,8 @@ pub struct Tenancy<'t> {
 }
 
 impl<'t> Tenancy<'t> {
+    ghost use Rattle.device_picture.specs.Owning.{IsInStrip};
+
     /// The tenancy that a line of `op list` tells: `ID NAME OFFSET WIDTH STATE`. None where it tells none on this device.
     pub(crate) fn read(size: DeviceSize, line: &'t [u8]) -> Option<Self> {
         let mut scanner = Scanner::new(line);
@@ -58,7 +60,9 @@ impl<'t> Tenancy<'t> {
     }
 
     /// Whether a column is one of its strip's.
-    pub(crate) fn has_column(&self, column: u32) -> bool {
+    pub(crate) fn has_column(&self, column: u32) -> bool
+        ensures { result ≡ true → (self.now.offset < column) × (column ≤ self.now.offset + self.now.width) }
+    {
         self.offset < column && column <= self.offset + self.width
     }
 
@@ -67,9 +71,11 @@ impl<'t> Tenancy<'t> {
         column == self.offset || column == self.offset + self.width + 1
     }
 
-    /// Whether a node of that kind in that column is one of its strip's. The vertical channel before the strip's first column is.
-    pub(crate) fn has_node(&self, kind: ResourceKind, column: u32) -> bool {
-        self.has_column(column) || (kind == ResourceKind::ChanY && column == self.offset)
+    /// Whether a node is one of its strip's. The vertical channel before the strip's first column is.
+    pub(crate) fn has_node(&self, node: Resource) -> bool
+        ensures { result ≡ true → IsInStrip self.now node }
+    {
+        self.has_column(node.x) || (node.kind == ResourceKind::ChanY && node.x == self.offset)
     }
 
     /// Whether an unused column stands between the two strips.
