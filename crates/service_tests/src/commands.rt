@@ -1,13 +1,13 @@
 //! What a tenant asks, and what its journal keeps.
 use crate::cores::{is_served, new_core, text};
 use fixtures::AND;
-use service_core::{Core, NotServed, Note, NoteCause};
+use service_core::{NotServed, Note, NoteCause, Service};
 use std::alloc::Global;
 use std::test::Fail;
 use tenant_slot::{Command, Event, Reply, StateName};
 
 /// A core with two tenancies.
-fn shared_core(alloc: Global) -> Option<Core> {
+fn shared_core(alloc: Global) -> Option<Service> {
     let mut core = new_core(alloc, 3)?;
     core.admit(1).ok()?;
     core.admit(1).ok()?;
@@ -31,7 +31,7 @@ fn a_netlist_is_uploaded(rt: HostRuntime) -> Result<(), Fail> {
 }
 
 /// The note that a tenancy isn't live, with the refusal's number and name.
-fn gone(core: &mut Core, id: u32) -> Option<(Note, u32, &'static str)> {
+fn gone(core: &mut Service, id: u32) -> Option<(Note, u32, &'static str)> {
     let Err(refusal) = core.tenant(id, Command::Status) else {
         return None;
     };

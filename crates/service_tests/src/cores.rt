@@ -5,7 +5,7 @@ use arch_file::read_arch;
 use fixtures::ARCHITECTURE;
 use job_state::AnyJob;
 use line_text::Text;
-use service_core::{Core, Device, PutReply};
+use service_core::{Device, PutReply, Service};
 use std::alloc::Global;
 use tenant_slot::{Command, SharedText};
 
@@ -19,7 +19,7 @@ pub(crate) const TWO_TABLES: &str = "\
 ";
 
 /// The core of a device of so many columns, one row and two tracks.
-pub(crate) fn new_core(alloc: Global, columns: u32) -> Option<Core>
+pub(crate) fn new_core(alloc: Global, columns: u32) -> Option<Service>
     requires some { 1 ≤ columns }
     requires few { columns ≤ 256 }
 {
@@ -30,7 +30,7 @@ pub(crate) fn new_core(alloc: Global, columns: u32) -> Option<Core>
                 columns,
                 rows: 1,
             };
-            Core::new(alloc, device).ok()
+            Service::new(alloc, device).ok()
         }
         Err(_) => None,
     }
@@ -44,12 +44,12 @@ pub(crate) fn text(alloc: Global, netlist: &str) -> Option<SharedText> {
 }
 
 /// Whether a command is served.
-pub(crate) fn is_served(core: &mut Core, id: u32, command: Command) -> bool {
+pub(crate) fn is_served(core: &mut Service, id: u32, command: Command) -> bool {
     core.tenant(id, command).is_ok()
 }
 
 /// Whether the netlist is uploaded, and its packing begins.
-pub(crate) fn begins_packing(alloc: Global, core: &mut Core, id: u32, netlist: &str) -> bool {
+pub(crate) fn begins_packing(alloc: Global, core: &mut Service, id: u32, netlist: &str) -> bool {
     match text(alloc, netlist) {
         Some(text) => {
             is_served(core, id, Command::Upload(text)) && is_served(core, id, Command::Pack)
@@ -59,14 +59,14 @@ pub(crate) fn begins_packing(alloc: Global, core: &mut Core, id: u32, netlist: &
 }
 
 /// A core of one column, whose only tenancy packs two tables.
-pub(crate) fn packing_core(alloc: Global) -> Option<Core> {
+pub(crate) fn packing_core(alloc: Global) -> Option<Service> {
     let mut core = new_core(alloc, 1)?;
     let begins = core.admit(1).is_ok() && begins_packing(alloc, &mut core, 1, TWO_TABLES);
     begins.then_some(core)
 }
 
 /// Makes a job's step, and puts it. Without memory the job is given back, and there is no answer.
-pub(crate) fn step_and_put(core: &mut Core, job: AnyJob) -> Option<PutReply> {
+pub(crate) fn step_and_put(core: &mut Service, job: AnyJob) -> Option<PutReply> {
     match job.step() {
         Ok(done) => match core.put(done) {
             Ok(reply) => Some(reply),
@@ -83,7 +83,7 @@ pub(crate) fn step_and_put(core: &mut Core, job: AnyJob) -> Option<PutReply> {
 }
 
 /// Takes the running job's next step, makes it and puts it.
-pub(crate) fn step(core: &mut Core, id: u32) -> Option<PutReply> {
+pub(crate) fn step(core: &mut Service, id: u32) -> Option<PutReply> {
     match core.take(id) {
         Some(job) => step_and_put(core, job),
         None => None,
@@ -91,7 +91,7 @@ pub(crate) fn step(core: &mut Core, id: u32) -> Option<PutReply> {
 }
 
 /// Whether there is a step to take. One that is taken is given back.
-pub(crate) fn has_step(core: &mut Core, id: u32) -> bool {
+pub(crate) fn has_step(core: &mut Service, id: u32) -> bool {
     match core.take(id) {
         Some(job) => {
             core.give_back(job.into_back());

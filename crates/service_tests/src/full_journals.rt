@@ -1,11 +1,11 @@
 //! A journal that fills while a step is out.
 use crate::cores::{has_step, is_served, packing_core, step_and_put};
-use service_core::{Core, PutReply};
+use service_core::{PutReply, Service};
 use std::test::Fail;
 use tenant_slot::{Command, MAX_ENTRIES};
 
 /// Whether its commands fill the journal of the first tenancy, which has two entries.
-fn fills(core: &mut Core) -> bool {
+fn fills(core: &mut Service) -> bool {
     let mut all_served = true;
     for _ in 2..MAX_ENTRIES {
         all_served = is_served(core, 1, Command::Status) && all_served;
@@ -14,7 +14,7 @@ fn fills(core: &mut Core) -> bool {
 }
 
 /// Fills the journal while a step is out, and puts the step: the answer, and whether there is a step to take.
-fn put_late(core: &mut Core) -> Option<(PutReply, bool)> {
+fn put_late(core: &mut Service) -> Option<(PutReply, bool)> {
     let Some(job) = core.take(1) else {
         return None;
     };
@@ -38,7 +38,7 @@ fn a_step_finds_the_journal_full(rt: HostRuntime) -> Result<(), Fail> {
 }
 
 /// Fills the journal while a step is out, and gives the job back: whether there is a step to take.
-fn give_back_late(core: &mut Core) -> Option<bool> {
+fn give_back_late(core: &mut Service) -> Option<bool> {
     let Some(job) = core.take(1) else {
         return None;
     };

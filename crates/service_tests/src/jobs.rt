@@ -1,6 +1,6 @@
 //! Jobs that leave the core and come back.
 use crate::cores::{has_step, packing_core, step, step_and_put};
-use service_core::{Core, PutReply};
+use service_core::{PutReply, Service};
 use std::test::Fail;
 use tenant_slot::{Advance, Event, Reply, StateName, StepReply};
 
@@ -20,7 +20,7 @@ fn two_steps_pack_it(rt: HostRuntime) -> Result<(), Fail> {
 }
 
 /// The step that an entry of the first tenancy keeps, with its reply.
-pub(crate) fn kept_step(core: &Core, place: u32) -> Option<(Advance, StepReply)> {
+pub(crate) fn kept_step(core: &Service, place: u32) -> Option<(Advance, StepReply)> {
     let entry = core.entry(1, place)?;
     match (&entry.event, &entry.reply) {
         (Event::Advance(made), Reply::Step(reply)) => Some((*made, *reply)),
@@ -45,7 +45,7 @@ fn a_step_that_is_put_is_kept(rt: HostRuntime) -> Result<(), Fail> {
 }
 
 /// Whether a step can be taken while it is out, and once it is given back.
-fn taken_twice(core: &mut Core) -> Option<(bool, bool)> {
+fn taken_twice(core: &mut Service) -> Option<(bool, bool)> {
     let Some(job) = core.take(1) else {
         return None;
     };
@@ -64,7 +64,7 @@ fn a_step_is_taken_once(rt: HostRuntime) -> Result<(), Fail> {
 }
 
 /// Takes a job from one core, and puts its step in the other.
-fn put_elsewhere(core: &mut Core, other: &mut Core) -> Option<PutReply> {
+fn put_elsewhere(core: &mut Service, other: &mut Service) -> Option<PutReply> {
     match core.take(1) {
         Some(job) => step_and_put(other, job),
         None => None,

@@ -6,7 +6,7 @@ use crate::cores::{
 };
 use crate::jobs::kept_step;
 use job_state::AnyJob;
-use service_core::{Core, PutReply};
+use service_core::{PutReply, Service};
 use std::alloc::Global;
 use std::test::Fail;
 use tenant_slot::{Command, StateName, StepReply};
@@ -22,7 +22,7 @@ pub(crate) enum Act {
 }
 
 /// Does it, and tells whether it is done.
-pub(crate) fn do_act(alloc: Global, core: &mut Core, act: Act) -> bool {
+pub(crate) fn do_act(alloc: Global, core: &mut Service, act: Act) -> bool {
     match act {
         Act::Cancel => is_served(core, 1, Command::Cancel),
         Act::Change => match text(alloc, TWO_TABLES) {
@@ -39,7 +39,7 @@ pub(crate) fn do_act(alloc: Global, core: &mut Core, act: Act) -> bool {
 }
 
 /// Whether a newcomer gets the columns, and packs its netlist.
-fn newcomer_packs(alloc: Global, core: &mut Core) -> bool {
+fn newcomer_packs(alloc: Global, core: &mut Service) -> bool {
     core.admit(1) == Ok((2, 0))
         && begins_packing(alloc, core, 2, TWO_TABLES)
         && step(core, 2) == Some(PutReply::Recorded(StepReply::Advanced))
@@ -48,7 +48,7 @@ fn newcomer_packs(alloc: Global, core: &mut Core) -> bool {
 }
 
 /// Does it while a step is out, and puts the step.
-fn put_late(alloc: Global, core: &mut Core, act: Act) -> Option<PutReply> {
+fn put_late(alloc: Global, core: &mut Service, act: Act) -> Option<PutReply> {
     let Some(job) = core.take(1) else {
         return None;
     };
@@ -58,7 +58,7 @@ fn put_late(alloc: Global, core: &mut Core, act: Act) -> Option<PutReply> {
 }
 
 /// Does it once a step is made, and puts the step.
-fn put_later(alloc: Global, core: &mut Core, act: Act) -> Option<PutReply> {
+fn put_later(alloc: Global, core: &mut Service, act: Act) -> Option<PutReply> {
     let Some(job) = core.take(1) else {
         return None;
     };
@@ -81,7 +81,7 @@ fn put_later(alloc: Global, core: &mut Core, act: Act) -> Option<PutReply> {
 }
 
 /// Does it while a step is out, and gives the job back: whether there is a step to take then.
-fn given_back_late(alloc: Global, core: &mut Core, act: Act) -> Option<bool> {
+fn given_back_late(alloc: Global, core: &mut Service, act: Act) -> Option<bool> {
     let Some(job) = core.take(1) else {
         return None;
     };
@@ -165,7 +165,7 @@ fn a_late_job_is_dropped(rt: HostRuntime) -> Result<(), Fail> {
 }
 
 /// Begins the same job again while a step is out, puts that step, and then the new job's first.
-fn begun_again(core: &mut Core, job: AnyJob) -> Option<(PutReply, PutReply)> {
+fn begun_again(core: &mut Service, job: AnyJob) -> Option<(PutReply, PutReply)> {
     let begins = is_served(core, 1, Command::Cancel) && is_served(core, 1, Command::Pack);
     let late = step_and_put(core, job);
     let own = step(core, 1);

@@ -7,6 +7,7 @@
 //! - `jobs`: jobs that leave the core and come back.
 //! - `late_jobs`: what happens to a tenancy while a step of it is out.
 //! - `pairs_of_acts`: two of these things, at any two points of a step.
+//! - `owners`: what routed netlists own of the device.
 //! - `full_journals`: a journal that fills while a step is out.
 #![tactic(auto)]
 
@@ -24,5 +25,7 @@ mod jobs;
 mod late_jobs;
 #[cfg(test)]
 mod layouts;
+#[cfg(test)]
+mod owners;
 #[cfg(test)]
 mod pairs_of_acts;

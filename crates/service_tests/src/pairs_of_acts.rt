@@ -3,7 +3,7 @@
 use crate::cores::{has_step, packing_core};
 use crate::late_jobs::{Act, do_act};
 use job_state::AnyJob;
-use service_core::{Core, PutReply};
+use service_core::{PutReply, Service};
 use std::alloc::Global;
 use std::test::Fail;
 use tenant_slot::{StateName, StepReply};
@@ -110,7 +110,7 @@ fn expected(turns: &[Turn]) -> Outcome {
 }
 
 /// Does the acts of that point.
-fn act_at(alloc: Global, core: &mut Core, turns: &[Turn], point: Point) {
+fn act_at(alloc: Global, core: &mut Service, turns: &[Turn], point: Point) {
     for turn in turns {
         if turn.point == point {
             do_act(alloc, core, turn.act);
@@ -119,7 +119,12 @@ fn act_at(alloc: Global, core: &mut Core, turns: &[Turn], point: Point) {
 }
 
 /// Makes the step of a job and puts it, with the acts between.
-fn step_between(alloc: Global, core: &mut Core, turns: &[Turn], job: AnyJob) -> Option<PutReply> {
+fn step_between(
+    alloc: Global,
+    core: &mut Service,
+    turns: &[Turn],
+    job: AnyJob,
+) -> Option<PutReply> {
     act_at(alloc, core, turns, Point::AfterTake);
     match job.step() {
         Ok(done) => {
@@ -140,7 +145,7 @@ fn step_between(alloc: Global, core: &mut Core, turns: &[Turn], job: AnyJob) -> 
 }
 
 /// How many entries the journal of the first tenancy has, of the first ten.
-fn entries(core: &Core) -> u32 {
+fn entries(core: &Service) -> u32 {
     let mut count = 0;
     for place in 0..10 {
         if core.entry(1, place).is_some() {

@@ -1,0 +1,4 @@
+pub mod Claims
+pub mod Matching
+pub mod Totals
+pub mod Agreeing

@@ -1,0 +1,7 @@
+use Rattle.std.proofs.Common.{◌≡◌, ◌≤◌, ℕ, true}
+use Rattle.shared_core.specs.CoreState.{is_leased}
+use Rattle.settling.specs.Settling.{has_id}
+use Rattle.settling.proofs.comparing.has_each_lease.Given as goal
+
+abbrev pub invariant-loop-index : goal.invariant-loop-index
+invariant-loop-index g l = (id : ℕ) → id ≤ l.index → is_leased l.core.marks id ≡ true → has_id l.transcripts id ≡ true

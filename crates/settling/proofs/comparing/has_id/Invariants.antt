@@ -1,0 +1,6 @@
+use Rattle.std.proofs.Common.{◌≡◌, false, take}
+use Rattle.settling.specs.Settling.{has_id}
+use Rattle.settling.proofs.comparing.has_id.Given as goal
+
+abbrev pub invariant-loop-i : goal.invariant-loop-i
+invariant-loop-i g l = has_id (take l.i l.transcripts) l.id ≡ false

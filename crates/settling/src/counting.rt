@@ -1,0 +1,42 @@
+//! The parts of the ledgers, all in one.
+ghost use Rattle.std.specs.Prelude.{◌≡◌, length};
+ghost use Rattle.settling.specs.Settling.{puts_counted, receipts_in};
+
+use shared_core::Share;
+use std::sync::ledger;
+use std::sync::ledger::Ledger;
+use transcripts::Transcript;
+
+/// The leases' parts.
+pub(crate) fn merge_leases<C: Ledger>(
+    transcripts: Vec<Transcript<C>>,
+    nothing: ledger::Share<C>,
+) -> ledger::Share<C>
+    requires { (nothing.parts ≡ 0) × (nothing.amount ≡ 0) }
+    ensures parts { result.parts ≡ length transcripts.items }
+    ensures amount { result.amount ≡ receipts_in transcripts.items }
+{
+    let mut all = nothing;
+    let mut left = transcripts;
+    while let Some(transcript) = left.pop() {
+        all.merge(transcript.into_lease().into_part());
+    }
+    all
+}
+
+/// The shares' parts.
+pub(crate) fn merge_shares<P: Ledger>(
+    shares: Vec<Share<P>>,
+    nothing: ledger::Share<P>,
+) -> ledger::Share<P>
+    requires { (nothing.parts ≡ 0) × (nothing.amount ≡ 0) }
+    ensures parts { result.parts ≡ length shares.items }
+    ensures amount { result.amount ≡ puts_counted shares.items }
+{
+    let mut all = nothing;
+    let mut left = shares;
+    while let Some(share) = left.pop() {
+        all.merge(share.into_part());
+    }
+    all
+}

@@ -1,0 +1,15 @@
+//! What sessions and workers say is compared with the journals, once their threads have ended.
+//!
+//! [`settle`] has the core, the transcript of each lease that was given and each share that was given. Where it answers a [`Settled`], the
+//! receipts of a transcript are the marked entries of its tenancy's journal, with place, command and reply, all of them, each once,
+//! and the put entries of all journals are as many as the sum of the shares and the core's own count. Otherwise it hands all
+//! back, with the first cause. It takes no memory.
+#![tactic(auto)]
+
+mod comparing;
+mod counting;
+mod not_settled;
+mod settled;
+
+pub use not_settled::{Cause, NotSettled};
+pub use settled::{Settled, settle};
