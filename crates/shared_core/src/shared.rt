@@ -5,7 +5,6 @@ ghost use Rattle.strips.specs.Plan.{offset_of};
 ghost use Rattle.service_core.specs.Calls.{IsAdmitted, IsEvicted, IsGivenBack, IsServed, IsTaken, Puts};
 ghost use Rattle.service_core.specs.Headline.{AreParted};
 ghost use Rattle.service_core.specs.History.{state_of};
-ghost use Rattle.service_core.specs.Owners.{IsExactBook, ListsOwnersOf};
 ghost use Rattle.service_core.specs.Service.{AreAlone, empty, journal_of, live_of};
 ghost use Rattle.shared_core.specs.Accounts.{AreMarks, leases_in, places_sum};
 ghost use Rattle.shared_core.specs.CoreCalls.{Admits, ChangesService, CountsCommand, CountsOwnPut, CountsPut, Evicts, GivesLease, GivesShare, IsWrapped, MarksEntry};
@@ -16,7 +15,7 @@ use crate::slots::Slots;
 use crate::tokens::{Lease, Share};
 use crate::wrapping::{count_puts, no_marks, slots_of};
 use job_state::{AnyJob, Back, Done};
-use service_core::{Device, Entry, NotServed, OpRefusal, Owned, PutReply, Receipt, Service};
+use service_core::{Device, Entry, NotServed, OpRefusal, PutReply, Receipt, Service};
 use std::alloc::{AllocError, Global};
 use std::marker::Model;
 use std::sync::ledger;
@@ -95,7 +94,6 @@ impl<C: Ledger, P: Ledger> Core<C, P> {
             Ok(marks) => marks,
             Err(error) => return Err((service, error)),
         };
-        // It tells that the strips are parted, and at most 64.
         let _room = service.room_for(1);
         let slots = slots_of(&service);
         let (commands, spare) = commands.open::<C>();
@@ -147,15 +145,6 @@ impl<C: Ledger, P: Ledger> Core<C, P> {
         ensures alone { AreAlone self.now.service }
     {
         self.service.entry(id, place)
-    }
-
-    /// Each pin, wire and pad of the device that is owned, with its owner, in node order. Nothing has two owners.
-    pub fn owners(&self) -> Result<Vec<Owned>, AllocError>
-        ensures value { IfOk result (λ list. ListsOwnersOf self.now.service list.items) }
-        ensures exact { IsExactBook self.now.service }
-        ensures alone { AreAlone self.now.service }
-    {
-        self.service.owners()
     }
 
     /// Whether an entry of a journal is one that the tenancy's lease made, of closed tenancies too.
