@@ -13,7 +13,7 @@ const EFFORT: u32 = 20;
 /// Writes the script of a plan. Where the sink fails, it has taken a beginning of it.
 ///
 /// - The first line is a comment with the service's options for the plan's device: `# fpgad --tracks W --columns NX --rows NY`.
-/// - The architecture follows, the admissions of tenancies T1, T2 and so on, and for each its session: `upload` with its netlist, then `pack`, `wait`
+/// - The architecture follows, the admissions of tenancies by number, and for each its session: `upload` with its netlist, then `pack`, `wait`
 ///   and `net`, `place`, `wait` and `placefile`, `route`, `wait` and `routefile`, and `status`, as far as the plan goes.
 /// - The last lines are `op list` and `op owners`.
 pub fn write_script<K: Sink>(sink: &mut K, plan: Plan) -> Result<(), Failed> {
