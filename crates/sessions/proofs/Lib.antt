@@ -7,3 +7,4 @@ pub mod ReadingLemmas
 pub mod StepLemmas
 mod WaitLemmas
 mod WholeSessionLemmas
+mod WordLemmas

@@ -1,6 +1,6 @@
 //! A tenant's line protocol.
 //!
-//! - `read_line` tells what a session's line asks: a command, nothing, or a text that follows.
+//! - `line_form` tells what a session's line asks: a command, nothing, or a text that follows. It takes no memory.
 //! - `SessionReader` reads an input line by line to its items, each a line with its text; `read_items` reads one that is at hand
 //!   whole. `PendingText` is a text that is being read.
 //! - `answer` asks the core, and writes what the session is told to any [`line_text::Sink`]: exactly the text, or a
@@ -24,7 +24,7 @@ mod told;
 
 pub use asking::answer;
 pub use law::{end_to_end, wait_ends, whole_session};
-pub use line::{LineForm, SessionLine, TextKind, read_line};
+pub use line::{LineForm, SessionLine, TextKind, line_form};
 pub use pending_text::{PendingText, is_point, without_cr};
 pub use reading::{SessionReader, read_items};
 pub use refusal::SessionRefusal;

@@ -1,12 +1,12 @@
-ghost use Rattle.std.specs.Prelude.{◌≡◌, map, IfOk};
+ghost use Rattle.std.specs.Prelude.{◌≡◌, ◌≢◌, ◌∷◌, [], length, MatchOption};
+ghost use Rattle.line_text.specs.Words.{words_of};
 ghost use Rattle.sessions.specs.declared.line.LineForm.TheVariants.{Asks};
 ghost use Rattle.sessions.specs.declared.line.SessionLine.TheVariants.{Refused};
 ghost use Rattle.sessions.specs.declared.refusal.SessionRefusal.TheVariants.{UnknownCommand};
-ghost use Rattle.sessions.specs.SessionLines.{filled_form, line_form, place_line, placing, text_command, verb_form, words_form};
+ghost use Rattle.sessions.specs.SessionLines.{filled_form, line_form, place_line, placing, text_command, verb_form};
 
 use crate::refusal::SessionRefusal;
-use line_text::{append_words, decimal_u32, decimal_u64};
-use std::alloc::AllocError;
+use line_text::{decimal_u32, decimal_u64, skip_blanks, split_word};
 use tenant_slot::{Command, SharedText};
 
 /// So many bytes a session's line may have.
@@ -50,27 +50,29 @@ pub enum LineForm {
     Begins(TextKind),
 }
 
-/// What a session's line asks, without its end. The room for its words is lent.
-pub fn read_line<'t>(words: &mut Vec<&'t [u8]>, line: &'t [u8]) -> Result<LineForm, AllocError>
-    ensures { IfOk result (λ form. form ≡ line_form line.now) }
+/// What a session's line asks, without its end. Takes no memory.
+pub fn line_form(line: &[u8]) -> LineForm
+    ensures { result ≡ line_form line.now }
 {
-    words.clear();
-    append_words(words, line)?;
-    Ok(words_form(line.len(), words))
-}
-
-/// What the words of a line of that length ask.
-fn words_form(length: usize, words: &[&[u8]]) -> LineForm
-    ensures { result ≡ words_form length (map (λ w. w.now) words.now) }
-{
-    match words {
-        [] => LineForm::Asks(SessionLine::Blank),
-        [verb, others @ ..] => if length > MAX_LINE {
+    match next_word(line) {
+        None => LineForm::Asks(SessionLine::Blank),
+        Some((verb, others)) => if line.len() > MAX_LINE {
             unknown()
         } else {
-            filled_form(*verb, others)
+            filled_form(verb, others)
         },
     }
+}
+
+/// The first word of a line, and what stands behind it. None where there is no word.
+fn next_word(line: &[u8]) -> Option<(&[u8], &[u8])>
+    ensures { MatchOption result (words_of line.now ≡ []) (λ parts. words_of line.now ≡ parts.0.now ∷ words_of parts.1.now) }
+{
+    let line = skip_blanks(line);
+    if line.is_empty() {
+        return None;
+    }
+    Some(split_word(line))
 }
 
 fn unknown() -> LineForm
@@ -79,27 +81,38 @@ fn unknown() -> LineForm
     LineForm::Asks(SessionLine::Refused(SessionRefusal::UnknownCommand))
 }
 
-/// What a line's first word and the others ask.
-fn filled_form(verb: &[u8], others: &[&[u8]]) -> LineForm
-    ensures { result ≡ filled_form verb.now (map (λ w. w.now) others.now) }
+/// What a line's first word and those behind it ask.
+fn filled_form(verb: &[u8], others: &[u8]) -> LineForm
+    ensures { result ≡ filled_form verb.now (words_of others.now) }
 {
     if verb == b"place".as_slice() {
         return LineForm::Asks(place_line(others));
     }
-    if others.is_empty() {
-        verb_form(verb)
-    } else {
-        unknown()
+    match next_word(others) {
+        None => verb_form(verb),
+        Some(_) => unknown(),
     }
 }
 
-/// What the words after `place` ask.
-fn place_line(words: &[&[u8]]) -> SessionLine
-    ensures { result ≡ place_line (map (λ w. w.now) words.now) }
+/// What the words behind `place` ask.
+fn place_line(words: &[u8]) -> SessionLine
+    ensures { result ≡ place_line (words_of words.now) }
 {
-    match words {
-        [seed, effort] => placing(decimal_u64(*seed), decimal_u32(*effort)),
-        _ => SessionLine::Refused(SessionRefusal::BadNumber),
+    match two_words(words) {
+        Some((seed, effort)) => placing(decimal_u64(seed), decimal_u32(effort)),
+        None => SessionLine::Refused(SessionRefusal::BadNumber),
+    }
+}
+
+/// The words, where they are two.
+fn two_words(words: &[u8]) -> Option<(&[u8], &[u8])>
+    ensures { MatchOption result (length (words_of words.now) ≢ 2) (λ two. words_of words.now ≡ two.0.now ∷ two.1.now ∷ []) }
+{
+    let (first, others) = next_word(words)?;
+    let (second, others) = next_word(others)?;
+    match next_word(others) {
+        None => Some((first, second)),
+        Some(_) => None,
     }
 }
 

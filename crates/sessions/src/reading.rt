@@ -5,7 +5,7 @@ ghost use Rattle.sessions.specs.Items.{items_of, with_item};
 ghost use Rattle.sessions.specs.Reading.{FormGives, GivesItem, item_and, items_to_come};
 ghost use Rattle.sessions.specs.SessionLines.{line_form};
 
-use crate::line::{LineForm, SessionLine, read_line};
+use crate::line::{LineForm, SessionLine, line_form};
 use crate::pending_text::{PendingText, is_point, without_cr};
 use crate::refusal::SessionRefusal;
 use line_text::split_line;
@@ -15,13 +15,12 @@ use std::marker::Model;
 /// Reads a session's input line by line, each to the item that it gives, if one. Its value is the text that is being read, if
 /// one is.
 #[derive(Drop)]
-pub struct SessionReader<'t> {
+pub struct SessionReader {
     alloc: Global,
     text: Option<PendingText>,
-    words: Vec<&'t [u8]>,
 }
 
-impl<'t> Model for SessionReader<'t> {
+impl Model for SessionReader {
     ghost use Rattle.std.specs.Prelude.{Option};
     ghost use Rattle.sessions.specs.Reading.{TextSoFar};
 
@@ -30,20 +29,16 @@ impl<'t> Model for SessionReader<'t> {
     ghost view = { λ r. r.text };
 }
 
-impl<'t> SessionReader<'t> {
+impl SessionReader {
     /// At the input's begin.
     pub fn new(alloc: Global) -> Self
         ensures { result ≡ None }
     {
-        SessionReader {
-            alloc,
-            text: None,
-            words: Vec::new(alloc),
-        }
+        SessionReader { alloc, text: None }
     }
 
     /// Takes the next line, without its LF. Without memory the item is lost.
-    pub fn take_line(&mut self, line: &'t [u8]) -> Result<Option<SessionLine>, AllocError>
+    pub fn take_line(&mut self, line: &[u8]) -> Result<Option<SessionLine>, AllocError>
         ensures { IfOk result (λ item. GivesItem self.old line.now item self.new) }
     {
         let line = without_cr(line);
@@ -56,34 +51,29 @@ impl<'t> SessionReader<'t> {
                     Ok(None)
                 }
             }
-            None => self.begin(line),
+            None => Ok(self.begin(line)),
         }
     }
 
     /// Takes a line outside of texts, without its end.
-    fn begin(&mut self, line: &'t [u8]) -> Result<Option<SessionLine>, AllocError>
+    fn begin(&mut self, line: &[u8]) -> Option<SessionLine>
         requires { self.old ≡ None }
-        ensures { IfOk result (λ item. FormGives (line_form line.now) item self.new) }
+        ensures { FormGives (line_form line.now) result self.new }
     {
-        match read_line(&mut self.words, line)? {
-            LineForm::Asks(line) => Ok(filled(line)),
+        match line_form(line) {
+            LineForm::Asks(line) => filled(line),
             LineForm::Begins(kind) => {
                 self.text = Some(PendingText::new(self.alloc, kind));
-                Ok(None)
+                None
             }
         }
     }
 
     /// The item at the input's end, if there is one: the refusal of a text that doesn't end.
     pub fn finish(self) -> Option<SessionLine>
-        ensures { item_and result [] ≡ items_to_come self.entry [] }
+        ensures { item_and result [] ≡ items_to_come self [] }
     {
-        let SessionReader {
-            alloc: _,
-            text,
-            words,
-        } = self;
-        drop(words);
+        let SessionReader { alloc: _, text } = self;
         match text {
             Some(text) => {
                 drop(text);
