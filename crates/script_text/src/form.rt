@@ -6,7 +6,7 @@ use crate::act::Act;
 use crate::name::is_name;
 use crate::operator_line::{OperatorLine, operator_line};
 use line_text::{append_words, is_word, skip_blanks, split_word};
-use sessions::{LineForm, TextKind, read_line};
+use sessions::{LineForm, TextKind, line_form};
 use std::alloc::AllocError;
 
 /// What a line of a script is by itself.
@@ -57,7 +57,7 @@ fn form_by<'t>(
         if !is_name(name) {
             return Ok(Form::Faulty);
         }
-        return Ok(session_form(name, read_line(words, rest)?));
+        return Ok(session_form(name, line_form(rest)));
     }
     if !is_word(first, "op") {
         return Ok(Form::Faulty);
