@@ -13,7 +13,7 @@ use std::marker::Model;
 /// couldn't be put.
 pub struct AnyJob {
     pub(crate) step: JobStep,
-    pub(crate) work: Work,
+    pub(crate) work: Box<Work>,
     pub(crate) made: bool,
 }
 
@@ -25,13 +25,13 @@ impl Model for AnyJob {
 
     ghost view = { λ j. record { step = j.step; made = j.made } };
 
-    ghost invariant = { λ j. IsJob j.step j.work j.made };
+    ghost invariant = { λ j. IsJob j.step j.work.value j.made };
 }
 
 /// A step that was made. It must be spent. Its value is the step.
 pub struct Done {
     step: JobStep,
-    work: Work,
+    work: Box<Work>,
 }
 
 impl Model for Done {
@@ -42,7 +42,7 @@ impl Model for Done {
 
     ghost view = { λ d. d.step };
 
-    ghost invariant = { λ d. IsDone d.step d.work };
+    ghost invariant = { λ d. IsDone d.step d.work.value };
 }
 
 /// A job whose step wasn't made, or couldn't be put. It must be spent. Its value is the job's.
@@ -92,13 +92,22 @@ impl AnyJob {
     pub fn step(self) -> Result<Done, Back>
         ensures { Steps self result }
     {
-        let AnyJob { step, work, made } = self;
+        let AnyJob {
+            step,
+            mut work,
+            made,
+        } = self;
         if made {
             return Ok(Done { step, work });
         }
-        match work.next() {
-            Ok(work) => Ok(Done { step, work }),
-            Err(work) => {
+        let before = Box::replace(&mut work, Work::GaveUp);
+        match before.next() {
+            Ok(after) => {
+                drop(Box::replace(&mut work, after));
+                Ok(Done { step, work })
+            }
+            Err(left) => {
+                drop(Box::replace(&mut work, left));
                 let job = AnyJob { step, work, made };
                 Err(Back { job })
             }

@@ -36,7 +36,7 @@ use strip_place::{Placing, laws_of_passes};
 #[derive(Drop)]
 pub struct Parked {
     pub(crate) step: JobStep,
-    pub(crate) work: Work,
+    pub(crate) work: Box<Work>,
     pub(crate) made: bool,
 }
 
@@ -48,7 +48,7 @@ impl Model for Parked {
 
     ghost view = { λ p. record { step = p.step; made = p.made } };
 
-    ghost invariant = { λ p. HasMade p.step p.work (steps_made p.step p.made) };
+    ghost invariant = { λ p. HasMade p.step p.work.value (steps_made p.step p.made) };
 }
 
 impl Parked {
@@ -69,7 +69,7 @@ impl Parked {
         packs_in_few_steps(circuit, &sources.arch);
         let packing = Packing::start(alloc, circuit, &sources.arch)?;
         let work = Work::Packing(PackingJob::new(alloc, packing));
-        Ok(Parked::begin(id, generation, sources, work))
+        Parked::begin(alloc, id, generation, sources, work)
     }
 
     /// A placing of what a finished packing of the same netlist has made, before its first pass.
@@ -98,7 +98,7 @@ impl Parked {
             sources.seed,
             sources.effort,
         )?;
-        Ok(Parked::begin(id, generation, sources, Work::Placing(placing)))
+        Parked::begin(alloc, id, generation, sources, Work::Placing(placing))
     }
 
     /// A routing of what a finished placing of the same seed and effort has made, on its strip's own graph, before its first
@@ -123,28 +123,35 @@ impl Parked {
         let graph = Fabric::new(alloc, sources.arch.arch(), placing.strip())?;
         let routing = Routing::start(alloc, &graph, placing)?;
         let work = Work::Routing(RoutingJob::new(alloc, shared, graph, pads, routing));
-        Ok(Parked::begin(id, generation, sources, work))
+        Parked::begin(alloc, id, generation, sources, work)
     }
 
     /// A job before its first step.
-    fn begin(id: u32, generation: u32, sources: Sources, work: Work) -> Self
+    fn begin(
+        alloc: Global,
+        id: u32,
+        generation: u32,
+        sources: Sources,
+        work: Work,
+    ) -> Result<Self, AllocError>
         requires value { job_value sources 0 ≡ Ok work }
         requires more { is_whole work ≡ false }
         requires few { HasFewSteps sources }
-        ensures job { result ≡ first_step id generation sources }
-        ensures going { is_over result ≡ false }
+        ensures job { IfOk result (λ job. job ≡ first_step id generation sources) }
+        ensures going { IfOk result (λ job. is_over job ≡ false) }
     {
+        let work = Box::new(alloc, work)?;
         let step = JobStep {
             id,
             generation,
             number: 1,
             sources,
         };
-        Parked {
+        Ok(Parked {
             step,
             work,
             made: false,
-        }
+        })
     }
 
     /// The job, to be stepped. Takes no memory.
@@ -175,7 +182,7 @@ impl Parked {
         ensures value { end_value self.now.step.sources ≡ Ok (Work.Packed result.now) }
         ensures exact { IfOk (circuit_in self.now.step.sources) (λ circuit. result.now ≡ packed_of circuit self.now.step.sources.arch) }
     {
-        match &self.work {
+        match &*self.work {
             Work::Packed(packed) => packed,
             _ => unreachable!(),
         }
@@ -189,7 +196,7 @@ impl Parked {
         ensures value { end_value self.now.step.sources ≡ Ok (Work.Placed result.now) }
         ensures exact { IfOk (circuit_in self.now.step.sources) (λ circuit. result.now ≡ placing_at self.now.step.sources circuit (pass_count self.now.step.sources.strip)) }
     {
-        match &self.work {
+        match &*self.work {
             Work::Placed(placing) => placing,
             _ => unreachable!(),
         }
@@ -203,7 +210,7 @@ impl Parked {
         ensures value { IsEndOf self.now.step.sources result }
         ensures nets { IfOk (circuit_in self.now.step.sources) (λ circuit. IsOfNets (packed_of circuit self.now.step.sources.arch) result) }
     {
-        match &self.work {
+        match &*self.work {
             Work::Routed(listed) => RoutingEnd::Routed(listed.routes()),
             Work::GaveUp => RoutingEnd::GaveUp,
             Work::NoPath(net) => RoutingEnd::NoPath(*net),
@@ -221,7 +228,7 @@ impl Parked {
         ensures exact { (r : Resource) → has result.now r ≡ has (resources_of self.now.step.sources) r }
         ensures there { All (λ r. is_there self.now.step.sources.arch self.now.step.sources.strip r ≡ true) result.now }
     {
-        match &self.work {
+        match &*self.work {
             Work::Routed(listed) => listed.resources(),
             _ => &[],
         }

@@ -27,6 +27,23 @@ written_of state step id generation number sources made pg pn ps said = record {
   foreign = subst (λ (s : Sources). (made.foreign ≡ false) ↔ (running_sources state ≡ Some s)) ps said.foreign;
 }
 
+same_step : (a b : JobStep) → Some a ≡ Some b → a ≡ b
+same_step a b is = cc
+
+-- the running job's next step is of its sources
+next_sources : (id generation number : ℕ) (running : Option Sources) (step : JobStep) → option_map (step_of id generation number) running ≡ Some step → running ≡ Some step.sources
+next_sources id generation number None step is = absurd (cc)
+next_sources id generation number (Some sources) step is = ap (λ (s : JobStep). Some s.sources) (same_step (step_of id generation number sources) step is)
+
+-- and is written down as such
+pub written_next : (slot : SlotState) (step : JobStep) (generation number : ℕ) → next_job slot ≡ Some step → generation ≡ step.generation → number ≡ step.number →
+    IsAdvanceOf slot.state step (record { generation = generation; number = number; foreign = false })
+written_next slot step generation number is pg pn = record {
+  generation = pg;
+  number = pn;
+  foreign = (λ own. next_sources slot.id slot.state.generation (slot.state.steps + 1) (running_sources slot.state) step is, λ own. refl);
+}
+
 -- a step is taken of a slot of these parts
 pub record IsTaken (id : ℕ) (arch : Arch) (strip : Strip) (standing : Standing) (entries : ℕ) (ready : JobState) : Type 0 where
   pub going : is_over ready ≡ false
@@ -34,9 +51,6 @@ pub record IsTaken (id : ℕ) (arch : Arch) (strip : Strip) (standing : Standing
   pub takeable : nat_lt entries 65536 ≡ true → is_takeable (seen id arch strip standing entries) ≡ true
   pub next : next_job (seen id arch strip standing entries) ≡ Some ready.step
   pub out : seen id arch strip (record standing { running = option_map without_ready standing.running }) entries ≡ record (seen id arch strip standing entries) { out = true }
-
-same_step : (a b : JobStep) → Some a ≡ Some b → a ≡ b
-same_step a b is = cc
 
 all_three : (a b c : Bool) → a ≡ true → b ≡ true → c ≡ false → (a && (b && not c)) ≡ true
 all_three a b c first second third = rw (first, second, third) refl

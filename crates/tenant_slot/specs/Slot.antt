@@ -1,5 +1,5 @@
 -- A slot: one tenancy by its id, and its running job, which may be out.
-use Rattle.std.specs.Prelude.{ℕ, ◌≡◌, ◌+◌, ◌<◌, ◌↔◌, Result, Ok, Err, Option, Some, None, option_map, is_some, Bool, true, false, not, ◌&&◌, nat_lt}
+use Rattle.std.specs.Prelude.{ℕ, ◌≡◌, ◌+◌, ◌<◌, ◌↔◌, Result, Ok, Err, Option, Some, None, option_map, is_some, Bool, true, false, not, ◌&&◌, nat_lt, ⊤}
 use Rattle.job_state.specs.declared.step.JobStep.{JobStep}
 use Rattle.job_state.specs.declared.sources.Sources.{Sources}
 use Rattle.job_state.specs.Job.{JobState}
@@ -7,6 +7,8 @@ use Rattle.tenant_slot.specs.declared.command.Command.{Command}
 use Rattle.tenant_slot.specs.declared.event.Advance.{Advance}
 use Rattle.tenant_slot.specs.declared.event.Event.{Event}
 use Rattle.tenant_slot.specs.declared.event.Event.TheVariants.{Command as Asked, Advance as Stepped}
+use Rattle.tenant_slot.specs.declared.origin.Origin.{Origin}
+use Rattle.tenant_slot.specs.declared.origin.Origin.TheVariants.{Running, Unknown}
 use Rattle.tenant_slot.specs.declared.reply.Reply.{Reply}
 use Rattle.tenant_slot.specs.declared.reply.Reply.TheVariants.{Step}
 use Rattle.tenant_slot.specs.declared.reply.StepReply.{StepReply}
@@ -57,6 +59,11 @@ pub record IsAdvanceOf (state : State) (done : JobStep) (made : Advance) : Type 
   pub generation : made.generation ≡ done.generation
   pub number : made.number ≡ done.number
   pub foreign : (made.foreign ≡ false) ↔ (running_sources state ≡ Some done.sources)
+
+-- what is known of a step that is put is so
+abbrev pub IsOrigin : SlotState → JobStep → Origin → Type 0
+IsOrigin slot done Running = next_job slot ≡ Some done
+IsOrigin slot done Unknown = ⊤
 
 -- what a put may be answered
 pub record Puts (old : SlotState) (done : JobStep) (made : Advance) (reply : StepReply) (new : SlotState) : Type 0 where

@@ -4,7 +4,7 @@
 //! - `Slot` is the machine, `Command` what it is asked, `Reply` what it answers, `Refusal` why not. A netlist is loaded,
 //!   packed, placed and routed, each by a command of its own, and each result is told as a file.
 //! - A job is long work that a command begins. Its next step leaves the slot by `Slot::take`, and comes back by `Slot::put`
-//!   once it is made, or by `Slot::give_back`.
+//!   once it is made, or by `Slot::give_back`. `Slot::put_from` compares nothing where the step is known to be the next one.
 //! - `SingleUser` in `specs/` is the definition: `State`, `step` and its fold `run`. `Slot` there says what each call does.
 //! - An `Answer` is computed first and accepted later, so that all that takes memory comes before any change.
 #![tactic(auto)]
@@ -18,6 +18,7 @@ mod event;
 mod failure;
 mod faults;
 mod not_served;
+mod origin;
 mod reply;
 mod slot;
 mod standing;
@@ -28,5 +29,6 @@ pub use event::{Advance, Event};
 pub use failure::RoutingFailure;
 pub use job_state::SharedText;
 pub use not_served::NotServed;
+pub use origin::Origin;
 pub use reply::{Ending, FileKind, Misfit, Refusal, Reply, StateName, Status, StepReply};
 pub use slot::{MAX_ENTRIES, Slot};

@@ -7,7 +7,7 @@ ghost use Rattle.tenant_slot.specs.Results.{ending_told};
 ghost use Rattle.tenant_slot.specs.RoutedSet.{routed_set};
 ghost use Rattle.tenant_slot.specs.SingleUser.{circuit_in, is_lawful, is_next, start};
 ghost use Rattle.tenant_slot.specs.Answer.{Answers, IsAnswerTo, accepted};
-ghost use Rattle.tenant_slot.specs.Slot.{GivesBack, IsAdvanceOf, Puts, Serves, Takes, is_takeable};
+ghost use Rattle.tenant_slot.specs.Slot.{GivesBack, IsAdvanceOf, IsOrigin, Puts, Serves, Takes, is_takeable};
 
 use crate::answer::Answer;
 use crate::beginning::Beginning;
@@ -16,6 +16,7 @@ use crate::content::Content;
 use crate::ending::told_ending;
 use crate::event::Advance;
 use crate::not_served::NotServed;
+use crate::origin::Origin;
 use crate::reply::{Ending, Refusal, Reply, StateName, Status, StepReply};
 use crate::standing::{Change, Standing};
 use arch_file::SharedArch;
@@ -312,12 +313,38 @@ impl Slot {
         requires room { self.old.state.entries < 65536 }
         ensures { Puts self.old done result.0 result.1 self.new }
     {
-        let made = self.advance_of(done.generation(), done.number(), done.sources());
+        self.put_from(done, Origin::Unknown)
+    }
+
+    /// Puts a step of which that is known, as `put` does. Where it is known to be the running job's next one, its sources are
+    /// compared with nothing, so its cost doesn't grow with the netlist. Takes no memory.
+    pub fn put_from(&mut self, done: Done, origin: Origin) -> (Advance, StepReply)
+        requires id { done.id ≡ self.old.id }
+        requires room { self.old.state.entries < 65536 }
+        requires origin { IsOrigin self.old done origin }
+        ensures { Puts self.old done result.0 result.1 self.new }
+    {
+        let made = self.written(&done, origin);
         let counts = self.is_next(made);
         let last = done.is_last();
         self.entries += 1;
         let reply = self.standing.put(done.park(), counts, last);
         (made, reply)
+    }
+
+    /// How a step that was made is written down.
+    fn written(&self, done: &Done, origin: Origin) -> Advance
+        requires { IsOrigin self.now done.now origin }
+        ensures { IsAdvanceOf self.now.state done.now result }
+    {
+        match origin {
+            Origin::Running => Advance {
+                generation: done.generation(),
+                number: done.number(),
+                foreign: false,
+            },
+            Origin::Unknown => { self.advance_of(done.generation(), done.number(), done.sources()) }
+        }
     }
 
     /// Takes a job back whose step wasn't made or couldn't be put: it can be taken again where its step is the running job's

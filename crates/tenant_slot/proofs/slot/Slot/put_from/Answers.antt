@@ -1,0 +1,32 @@
+use Rattle.std.proofs.Common.{◌≡◌, ◌+◌, Some, subst}
+use Rattle.job_state.specs.Job.{next_step}
+use Rattle.tenant_slot.specs.declared.event.Event.TheVariants.{Advance as Stepped}
+use Rattle.tenant_slot.specs.declared.reply.Reply.TheVariants.{Step}
+use Rattle.tenant_slot.specs.SingleUser.{step}
+use Rattle.tenant_slot.specs.Slot.{SlotState, after_event}
+use Rattle.tenant_slot.specs.Standing.{put_in, put_reply, seen}
+use Rattle.tenant_slot.proofs.Putting.{IsPut, put_of}
+use Rattle.tenant_slot.proofs.slot.Slot.put_from.Goals as goal
+
+-- what the put leaves
+left : (c : goal.After-put-reply) → IsPut c.self.inside.id c.self.inside.arch c.self.inside.strip c.self.inside.standing c.self.inside.entries c.args.done c.written-made.result c.is_next-counts.result c.is_last-last.result
+left c =
+    put_of c.self.inside.id c.self.inside.arch c.self.inside.strip c.self.inside.standing c.self.inside.entries c.args.self.now c.args.done c.written-made.result c.is_next-counts.result c.is_last-last.result
+    c.self.view_is c.self.invariant c.requires.room c.requires.id c.written-made.ensures c.is_next-counts.ensures c.is_last-last.ensures
+
+-- a last step is of the job that began there
+pub put-reply-requires-clause-begun : goal.put-reply-requires-clause-begun
+put-reply-requires-clause-begun c =
+    rw c.park.ensures (put_of c.self.inside.id c.self.inside.arch c.self.inside.strip c.self.inside.standing c.self.inside.entries c.args.self.now c.args.done c.written-made.result c.is_next-counts.result c.is_last-last.result
+    c.self.view_is c.self.invariant c.requires.room c.requires.id c.written-made.ensures c.is_next-counts.ensures c.is_last-last.ensures).begun
+
+pub invariant_of-self : goal.invariant_of-self
+invariant_of-self c = rw (c.put-reply.ensures.standing, c.park.ensures) (left c).lawful
+
+pub returns : goal.returns
+returns c =
+    rw (c.put-reply.ensures.reply, c.put-reply.ensures.standing, c.park.ensures) (record {
+      advance = c.written-made.ensures;
+      told = subst (λ (s : SlotState). (step s.state (Stepped c.written-made.result)).1 ≡ Some (Step (put_reply c.is_next-counts.result c.is_last-last.result))) c.self.view_is (left c).told;
+      after = subst (λ (s : SlotState). seen c.self.inside.id c.self.inside.arch c.self.inside.strip (put_in c.self.inside.standing (next_step c.args.done) c.is_next-counts.result c.is_last-last.result) (c.self.inside.entries + 1) ≡ after_event s (Stepped c.written-made.result)) c.self.view_is (left c).after_it;
+    })
