@@ -19,9 +19,9 @@ use Rattle.service_core.specs.declared.device.Device.{Device}
 use Rattle.service_core.specs.declared.put_reply.PutReply.TheVariants.{Recorded}
 use Rattle.service_core.specs.History.{History, slot_of, state_of}
 use Rattle.service_core.specs.Service.{ServiceState, empty, history_of, live_of}
-use Rattle.service_core.specs.Calls.{IsPut, IsStepOf, step_event}
+use Rattle.service_core.specs.Calls.{IsNextStep, IsPut, IsStepOf, step_event}
 use Rattle.service_core.specs.Run.{Call, Run}
-use Rattle.service_core.specs.Headline.{Counts, IsNextStep}
+use Rattle.service_core.specs.Headline.{Counts}
 use Rattle.service_core.proofs.Keeps.{IsService-empty, if_live_some}
 use Rattle.service_core.proofs.Effects.{Kept, run_keeps}
 

@@ -1,5 +1,6 @@
 -- What a call of a live tenancy makes of the core.
-use Rattle.std.proofs.Common.{◌≡◌, ℕ, ◌-◌, ◌<◌, List, length, get_or, true, false, Result, Ok, Err, Option, Some, None, refl, ap}
+use Rattle.std.proofs.Common.{◌≡◌, ℕ, ◌-◌, ◌<◌, List, length, get_or, true, false, Result, Ok, Err, Option, Some, None, refl, ap, subst}
+use Rattle.std.specs.Prelude.{IsSomeAnd}
 use Rattle.std.specs.declared.alloc.AllocError.{AllocError}
 use Rattle.std.proofs.Math.ListN.{set}
 use Rattle.strips.specs.declared.placed_strip.PlacedStrip.{PlacedStrip}
@@ -7,18 +8,21 @@ use Rattle.job_state.specs.declared.step.JobStep.{JobStep}
 use Rattle.job_state.specs.Job.{JobState}
 use Rattle.tenant_slot.specs.declared.command.Command.{Command}
 use Rattle.tenant_slot.specs.declared.event.Event.TheVariants.{Command as Asked}
+use Rattle.tenant_slot.specs.declared.origin.Origin.{Origin}
+use Rattle.tenant_slot.specs.declared.origin.Origin.TheVariants.{Running, Unknown}
 use Rattle.tenant_slot.specs.declared.reply.Reply.{Reply}
 use Rattle.tenant_slot.specs.declared.reply.StepReply.{StepReply}
 use Rattle.tenant_slot.specs.declared.not_served.NotServed.{NotServed}
 use Rattle.tenant_slot.specs.declared.not_served.NotServed.TheVariants.{NoMemory, JournalFull}
+use Rattle.tenant_slot.specs.Slot.{IsOrigin, next_job}
 use Rattle.service_core.specs.declared.device.Device.{Device}
 use Rattle.service_core.specs.declared.entry.Entry.{Entry}
 use Rattle.service_core.specs.declared.not_served.NoteCause.TheVariants.{JournalFull as CauseJournalFull}
 use Rattle.service_core.specs.declared.not_served.NotServed.TheVariants.{NoMemory as NoMemoryToServe, JournalFull as JournalFullNote}
 use Rattle.service_core.specs.declared.put_reply.PutReply.TheVariants.{Recorded}
-use Rattle.service_core.specs.History.{History, with_entry, with_out}
+use Rattle.service_core.specs.History.{History, slot_of, with_entry, with_out}
 use Rattle.service_core.specs.Service.{ServiceState, modified}
-use Rattle.service_core.specs.Calls.{IsGivenBack, IsServed, IsTaken, Puts, step_entry}
+use Rattle.service_core.specs.Calls.{IsGivenBack, IsOriginIn, IsServed, IsTaken, Puts, step_entry}
 use Rattle.service_core.specs.Tenancy.{GivesHistoryBack, PutsHistory, ServesHistory, TakesHistory}
 use Rattle.service_core.specs.Kept.{IsLiveIn, IsService}
 use Rattle.service_core.proofs.Keeps.{IsService-entry, IsService-out, history-live, live_is, set-kept, set-live}
@@ -61,6 +65,11 @@ pub IsTaken-live : (old : ServiceState) (id : ℕ) (here : History) (answer : Op
 IsTaken-live old id here (Some job) new live is its taken =
     (rw (live_is old.histories id here live is) (its, taken.0, taken.1), changed_to old id here (with_out true) new live is taken.2)
 IsTaken-live old id here None new live is its taken = (rw (live_is old.histories id here live is) taken.0, kept_as_it_was old id here new is taken.1)
+
+-- what is known of a step is known of it where its tenancy stands
+pub origin_at : (state : ServiceState) (here : History) (done : JobStep) (origin : Origin) → IsLiveIn state.histories done.id → here ≡ get_or state.histories (done.id - 1) here → IsOriginIn state done origin → IsOrigin (slot_of here) done origin
+origin_at state here done Running live is next = subst (λ o. IsSomeAnd o (λ h. next_job (slot_of h) ≡ Some done)) (live_is state.histories done.id here live is) next
+origin_at state here done Unknown live is none = none
 
 -- a put
 pub IsService-put : (device : Device) (strips : List PlacedStrip) (hs : List History) (id : ℕ) (old : History) (done : JobStep) (answer : Result StepReply (JobStep × AllocError)) (new : History) → IsService device strips hs → IsLiveIn hs id → old ≡ get_or hs (id - 1) old → PutsHistory old done answer new → IsService device strips (set hs (id - 1) new)

@@ -1,5 +1,5 @@
 -- What each call may answer, with the states before and after it. A refused call changes nothing.
-use Rattle.std.specs.Prelude.{ℕ, ◌≡◌, ◌+◌, ◌<◌, length, Bool, true, false, Option, Some, None, IsSome, IsSomeAnd, Result, Ok, Err}
+use Rattle.std.specs.Prelude.{ℕ, ◌≡◌, ◌+◌, ◌<◌, length, Bool, true, false, Option, Some, None, IsSome, IsSomeAnd, Result, Ok, Err, ⊤}
 use Rattle.std.specs.declared.alloc.AllocError.{AllocError}
 use Rattle.strips.specs.Plan.{IsFirstFit, is_bad_width}
 use Rattle.job_state.specs.declared.step.JobStep.{JobStep}
@@ -7,6 +7,8 @@ use Rattle.job_state.specs.Job.{JobState}
 use Rattle.tenant_slot.specs.declared.command.Command.{Command}
 use Rattle.tenant_slot.specs.declared.event.Event.{Event}
 use Rattle.tenant_slot.specs.declared.event.Event.TheVariants.{Command as Asked, Advance as Stepped}
+use Rattle.tenant_slot.specs.declared.origin.Origin.{Origin}
+use Rattle.tenant_slot.specs.declared.origin.Origin.TheVariants.{Running, Unknown}
 use Rattle.tenant_slot.specs.declared.reply.Reply.TheVariants.{Step}
 use Rattle.tenant_slot.specs.declared.reply.StepReply.{StepReply}
 use Rattle.tenant_slot.specs.SingleUser.{step}
@@ -70,6 +72,15 @@ takeable_in (Some h) = is_takeable (slot_of h)
 abbrev pub IsTaken : ServiceState → ℕ → Option JobState → ServiceState → Type 0
 IsTaken old id (Some job) new = IsSomeAnd (live_of old.histories id) (λ h. (h.id ≡ id) × (is_takeable (slot_of h) ≡ true) × (next_job (slot_of h) ≡ Some job.step)) × (new ≡ with_out_of old id true)
 IsTaken old id None new = (takeable_in (live_of old.histories id) ≡ false) × (new ≡ old)
+
+-- the step is the next one of a live tenancy's running job: the tenancy, the generation, the number and all sources are its own
+abbrev pub IsNextStep : ServiceState → JobStep → Type 0
+IsNextStep state done = IsSomeAnd (live_of state.histories done.id) (λ h. next_job (slot_of h) ≡ Some done)
+
+-- what is known of a step that is put is so
+abbrev pub IsOriginIn : ServiceState → JobStep → Origin → Type 0
+IsOriginIn state done Running = IsNextStep state done
+IsOriginIn state done Unknown = ⊤
 
 -- a step that was made, as an event, and as an entry with its reply
 abbrev pub step_event : JobStep → Bool → Event

@@ -1,14 +1,12 @@
 -- What the main theorem says of a list of calls and the state after it.
-use Rattle.std.specs.Prelude.{ℕ, ◌≡◌, List, Option, Some, IfSome, IsSomeAnd}
+use Rattle.std.specs.Prelude.{ℕ, ◌≡◌, List, Option, Some, IfSome}
 use Rattle.strips.specs.Plan.{IsParted}
-use Rattle.job_state.specs.declared.step.JobStep.{JobStep}
 use Rattle.tenant_slot.specs.declared.reply.StepReply.{StepReply}
 use Rattle.tenant_slot.specs.declared.reply.StepReply.TheVariants.{Advanced, Finished, Stale}
 use Rattle.tenant_slot.specs.SingleUser.{run}
-use Rattle.tenant_slot.specs.Slot.{next_job}
 use Rattle.service_core.specs.declared.device.Device.{Device}
-use Rattle.service_core.specs.History.{History, slot_of, state_of}
-use Rattle.service_core.specs.Service.{ServiceState, history_of, live_of, live_width, placed_width, strip_on}
+use Rattle.service_core.specs.History.{History, state_of}
+use Rattle.service_core.specs.Service.{ServiceState, history_of, live_width, placed_width, strip_on}
 use Rattle.service_core.specs.Run.{Call}
 use Rattle.service_core.specs.OwnEvents.{own_events, own_replies}
 
@@ -21,10 +19,6 @@ pub record AreParted (device : Device) (state : ServiceState) : Type 0 where
   pub columns : state.plan.columns ≡ device.columns
   pub parted : IsParted state.plan
   pub of_live : (id : ℕ) → placed_width state.plan.strips id ≡ live_width state.histories id
-
--- the step is the next one of a live tenancy's running job: the tenancy, the generation, the number and all sources are its own
-abbrev pub IsNextStep : ServiceState → JobStep → Type 0
-IsNextStep state done = IsSomeAnd (live_of state.histories done.id) (λ h. next_job (slot_of h) ≡ Some done)
 
 -- that reply says that the step counts, just where it is to count
 abbrev pub Counts : StepReply → Type 0 → Type 0

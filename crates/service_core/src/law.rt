@@ -4,9 +4,9 @@ ghost use Rattle.tenant_slot.specs.declared.reply.StepReply.{StepReply};
 ghost use Rattle.service_core.specs.declared.device.Device.{Device};
 ghost use Rattle.service_core.specs.declared.put_reply.PutReply.TheVariants.{Recorded};
 ghost use Rattle.service_core.specs.Service.{ServiceState, empty};
-ghost use Rattle.service_core.specs.Calls.{IsPut};
+ghost use Rattle.service_core.specs.Calls.{IsNextStep, IsPut};
 ghost use Rattle.service_core.specs.Run.{Call, Run};
-ghost use Rattle.service_core.specs.Headline.{AreParted, AreToldTheSame, Counts, EachIsAlone, HaveSameStrip, IsNextStep};
+ghost use Rattle.service_core.specs.Headline.{AreParted, AreToldTheSame, Counts, EachIsAlone, HaveSameStrip};
 ghost use Rattle.service_core.specs.OwnEvents.{own_events};
 ghost use Rattle.service_core.specs.Owners.{IsExactBook};
 

@@ -3,7 +3,7 @@ ghost use Rattle.arch_file.specs.Arch.{IsArch};
 ghost use Rattle.strips.specs.Plan.{IsLaidOut, offset_of};
 ghost use Rattle.service_core.specs.History.{state_of};
 ghost use Rattle.service_core.specs.Service.{AreAlone, empty, journal_of, live_of};
-ghost use Rattle.service_core.specs.Calls.{IsAdmitted, IsEvicted, IsGivenBack, IsServed, IsTaken, Puts, takeable_in};
+ghost use Rattle.service_core.specs.Calls.{IsAdmitted, IsEvicted, IsGivenBack, IsOriginIn, IsServed, IsTaken, Puts, takeable_in};
 ghost use Rattle.service_core.specs.Kept.{AreFree, ChecksAdmission, IsLiveIn, IsPlaceOf, TakesUp};
 ghost use Rattle.service_core.specs.Owners.{IsExactBook, ListsOwnersOf};
 ghost use Rattle.service_core.specs.Tenancy.{StandsIn};
@@ -24,7 +24,7 @@ use job_state::{AnyJob, Back, Done};
 use std::alloc::{AllocError, Global};
 use std::marker::Model;
 use strips::{Layout, PlacedStrip};
-use tenant_slot::{Command, MAX_ENTRIES, StateName, StepReply};
+use tenant_slot::{Command, MAX_ENTRIES, Origin, StateName, StepReply};
 
 /// The most admissions: ids are 1 to 65,535, and no id is given twice.
 pub const MAX_ADMISSIONS: usize = 65_535;
@@ -269,6 +269,15 @@ impl Service {
     pub fn put(&mut self, done: Done) -> Result<PutReply, (Done, AllocError)>
         ensures { Puts self.old done result self.new }
     {
+        self.put_from(done, Origin::Unknown)
+    }
+
+    /// Puts a step of which that is known, as `put` does. Where it is known to be its tenancy's next one, its sources are compared
+    /// with nothing. Without memory it comes back.
+    pub fn put_from(&mut self, done: Done, origin: Origin) -> Result<PutReply, (Done, AllocError)>
+        requires { IsOriginIn self.old done origin }
+        ensures { Puts self.old done result self.new }
+    {
         let id = done.id();
         if !is_live(&self.tenancies, id) {
             drop(done.park());
@@ -280,7 +289,7 @@ impl Service {
             drop(done.park());
             return Ok(PutReply::Full);
         }
-        match tenancy.put(done) {
+        match tenancy.put(done, origin) {
             Ok(reply) => {
                 claim(&mut self.book, id, offset, tenancy, reply);
                 Ok(PutReply::Recorded(reply))

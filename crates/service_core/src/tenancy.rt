@@ -3,7 +3,7 @@ ghost use Rattle.rr_graph.specs.declared.resource.Resource.{Resource};
 ghost use Rattle.rr_graph.specs.Resources.{has, is_there, moved_resource};
 ghost use Rattle.grid.specs.Sizes.{IsStripSize};
 ghost use Rattle.tenant_slot.specs.Answer.{Answers};
-ghost use Rattle.tenant_slot.specs.Slot.{is_takeable};
+ghost use Rattle.tenant_slot.specs.Slot.{IsOrigin, is_takeable};
 ghost use Rattle.service_core.specs.History.{closed, slot_of, state_of};
 ghost use Rattle.tenant_slot.specs.RoutedSet.{routed_set};
 ghost use Rattle.service_core.specs.Tenancy.{GivesHistoryBack, GivesUp, GivesUpOrKeeps, PutsHistory, ServesHistory, StandsIn, TakesHistory};
@@ -17,7 +17,7 @@ use rr_graph::Resource;
 use std::alloc::{AllocError, Global};
 use std::marker::Model;
 use tenant_slot::{
-    Answer, Command, Event, MAX_ENTRIES, NotServed, Reply, Slot, StateName, StepReply,
+    Answer, Command, Event, MAX_ENTRIES, NotServed, Origin, Reply, Slot, StateName, StepReply,
 };
 
 /// One tenancy with its journal, which is kept when the tenancy ends.
@@ -159,11 +159,16 @@ impl Tenancy {
         slot.take()
     }
 
-    /// Puts a step that was made, and keeps it with its reply. Without memory it is handed back.
-    pub(crate) fn put(&mut self, done: Done) -> Result<StepReply, (Done, AllocError)>
+    /// Puts a step that was made, of which that is known, and keeps it with its reply. Without memory it is handed back.
+    pub(crate) fn put(
+        &mut self,
+        done: Done,
+        origin: Origin,
+    ) -> Result<StepReply, (Done, AllocError)>
         requires live { self.old.live ≡ true }
         requires id { done.id ≡ self.old.id }
         requires room { length self.old.entries < 65536 }
+        requires origin { IsOrigin (slot_of self.old) done origin }
         ensures { PutsHistory self.old done result self.new }
     {
         let Some(slot) = &mut self.slot else {
@@ -172,7 +177,7 @@ impl Tenancy {
         if let Err(error) = self.journal.reserve(1) {
             return Err((done, error));
         }
-        let (advance, reply) = slot.put(done);
+        let (advance, reply) = slot.put_from(done, origin);
         let entry = Entry {
             event: Event::Advance(advance),
             reply: Reply::Step(reply),

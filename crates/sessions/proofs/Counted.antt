@@ -12,7 +12,7 @@ use Rattle.job_state.specs.declared.sources.Sources.{Sources}
 use Rattle.tenant_slot.proofs.Runs.{step-served}
 use Rattle.service_core.specs.declared.entry.Entry.{Entry}
 use Rattle.service_core.specs.declared.put_reply.PutReply.TheVariants.{Recorded as PutRecorded}
-use Rattle.service_core.specs.Calls.{IsPut, IsStepOf, IsTaken, step_entry, step_event}
+use Rattle.service_core.specs.Calls.{IsNextStep, IsPut, IsStepOf, IsTaken, step_entry, step_event}
 use Rattle.service_core.specs.History.{History, slot_of, state_of, with_entry, with_out}
 use Rattle.service_core.specs.Run.{Call, Run}
 use Rattle.service_core.specs.Run.Call.{Take, Put}
@@ -60,6 +60,19 @@ next_own slot (Some sources) s is =
 takeable_room : (slot : SlotState) → is_takeable slot ≡ true → slot.state.entries < 65536
 takeable_room slot is = grind (arith, nat_tests)
 
+-- a job that was taken makes its tenancy's next step
+abbrev pub IsTakenOf : ℕ → JobState → History → Type 0
+IsTakenOf id job h = (h.id ≡ id) × (is_takeable (slot_of h) ≡ true) × (next_job (slot_of h) ≡ Some job.step)
+
+pub taken_next : (old mid : ServiceState) (id : ℕ) (job : JobState) → IsTaken old id (Some job) mid → IsNextStep mid job.step
+taken_next old mid id job takes =
+    let was = some_and (IsTakenOf id job) (live_of old.histories id) takes.0 in
+    let h : History = was.0 in
+    let own : job.step.id ≡ id = next_own (slot_of h) _ job.step was.2.2 ∙ was.2.0 in
+    let out : live_of mid.histories id ≡ Some (with_out true h) = ap (λ (s : ServiceState). live_of s.histories id) takes.1 ∙ (live_of-changed old.histories id (with_out true) h (λ g. refl) was.1) in
+    let here : live_of mid.histories job.step.id ≡ Some (with_out true h) = ap (live_of mid.histories) own ∙ out in
+    subst (λ o. IsSomeAnd o (λ g. next_job (slot_of g) ≡ Some job.step)) (sym here) was.2.2
+
 -- an entry more
 entry_more : (h : History) (done : JobStep) (foreign : Bool) (reply : StepReply) → IsStepOf h done foreign reply →
     ((state_of (with_entry (step_entry done foreign reply) h)).entries ≡ (state_of h).entries + 1)
@@ -69,7 +82,7 @@ entry_more h done foreign reply is =
 
 recorded : (old mid new : ServiceState) (id : ℕ) (job : JobState) (foreign : Bool) (reply : StepReply) → IsTaken old id (Some job) mid → IsPut mid job.step foreign (Ok (PutRecorded reply)) new → left new id < left old id
 recorded old mid new id job foreign reply takes puts =
-    let was = some_and (λ h. (h.id ≡ id) × (is_takeable (slot_of h) ≡ true) × (next_job (slot_of h) ≡ Some job.step)) (live_of old.histories id) takes.0 in
+    let was = some_and (IsTakenOf id job) (live_of old.histories id) takes.0 in
     let h : History = was.0 in
     let own : job.step.id ≡ id = next_own (slot_of h) _ job.step was.2.2 ∙ was.2.0 in
     let room : (state_of h).entries < 65536 = takeable_room (slot_of h) was.2.1 in

@@ -1,10 +1,11 @@
 ghost use Rattle.std.specs.Prelude.{List};
+ghost use Rattle.service_core.specs.Calls.{IsOriginIn};
 ghost use Rattle.service_core.specs.Run.{Call, Run};
 ghost use Rattle.sessions.specs.Steps.{MakesStep, StepsAndPuts, Waits};
 
 use job_state::AnyJob;
 use service_core::{PutReply, Service};
-use tenant_slot::StepReply;
+use tenant_slot::{Origin, StepReply};
 
 /// What the making of a step of a tenancy's job came to.
 #[derive(Clone, Copy, Debug, PartialEq, Eq)]
@@ -26,7 +27,7 @@ pub fn make_step(core: &mut Service, id: u32) -> StepOutcome
     ensures { (calls : List Call) × MakesStep id calls result × Run core.old calls core.new }
 {
     match core.take(id) {
-        Some(job) => step_and_put(core, job),
+        Some(job) => step_and_put_from(core, job, Origin::Running),
         None => StepOutcome::Nothing,
     }
 }
@@ -35,8 +36,16 @@ pub fn make_step(core: &mut Service, id: u32) -> StepOutcome
 pub fn step_and_put(core: &mut Service, job: AnyJob) -> StepOutcome
     ensures { (calls : List Call) × StepsAndPuts job calls result × Run core.old calls core.new }
 {
+    step_and_put_from(core, job, Origin::Unknown)
+}
+
+/// The same of a job of whose step that is known.
+fn step_and_put_from(core: &mut Service, job: AnyJob, origin: Origin) -> StepOutcome
+    requires { IsOriginIn core.old job.step origin }
+    ensures { (calls : List Call) × StepsAndPuts job calls result × Run core.old calls core.new }
+{
     match job.step() {
-        Ok(done) => match core.put(done) {
+        Ok(done) => match core.put_from(done, origin) {
             Ok(PutReply::Recorded(reply)) => StepOutcome::Recorded(reply),
             Ok(PutReply::Full) => StepOutcome::Full,
             Ok(PutReply::Gone) => StepOutcome::Gone,

@@ -5,8 +5,8 @@ use Rattle.service_core.specs.Tenancy.{PutsHistory, StandsIn}
 use Rattle.device_book.specs.Owners.{extent_of}
 use Rattle.service_core.proofs.Booking.{in_book_there, put_free, put_live, sound_back, sound_put}
 use Rattle.service_core.proofs.Keeps.{history-live, live_is}
-use Rattle.service_core.proofs.Serving.{Puts-recorded, Puts-no_memory}
-use Rattle.service_core.proofs.service.Service.put.Goals as goal
+use Rattle.service_core.proofs.Serving.{Puts-recorded, Puts-no_memory, origin_at}
+use Rattle.service_core.proofs.service.Service.put_from.Goals as goal
 
 pub put-requires-clause-id : goal.put-requires-clause-id
 put-requires-clause-id c =
@@ -15,6 +15,15 @@ put-requires-clause-id c =
     let is : old ≡ get_or c.self.inside.tenancies.items (c.id-id.result - 1) old = search rules in
     let its : old.id ≡ c.id-id.result = c.self.invariant.kept.ids c.id-id.result old (history-live _ _ _ live is) in
     sym (its ∙ c.id-id.ensures)
+
+pub put-requires-clause-origin : goal.put-requires-clause-origin
+put-requires-clause-origin c =
+    let old : History = c.index_mut-tenancy.result.now in
+    let live : IsLiveIn c.self.inside.tenancies.items c.id-id.result = search rules in
+    let is : old ≡ get_or c.self.inside.tenancies.items (c.id-id.result - 1) old = search rules in
+    let live_there : IsLiveIn c.self.inside.tenancies.items c.args.done.id = rw c.id-id.ensures at live in
+    let is_there : old ≡ get_or c.self.inside.tenancies.items (c.args.done.id - 1) old = rw c.id-id.ensures at is in
+    origin_at c.args.self.now old c.args.done c.args.origin (rw (← c.self.view_is) live_there) (rw (← c.self.view_is) is_there) c.requires
 
 pub claim-requires : goal.claim-requires
 claim-requires c =
