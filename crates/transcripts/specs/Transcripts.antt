@@ -4,11 +4,12 @@ use Rattle.std.specs.List.{filter_map}
 use Rattle.tenant_slot.specs.declared.command.Command.{Command}
 use Rattle.service_core.specs.Calls.{IsServed}
 use Rattle.service_core.specs.Receipt.{Noted, Receipted}
-use Rattle.service_core.specs.Service.{ServiceState}
 use Rattle.service_core.specs.declared.not_served.NoteCause.{NoteCause}
 use Rattle.service_core.specs.declared.not_served.NotServed.{NotServed}
 use Rattle.service_core.specs.declared.not_served.NoteCause.TheVariants.{JournalFull as CauseJournalFull, NoSuchTenancy as CauseNoSuchTenancy}
 use Rattle.service_core.specs.declared.not_served.NotServed.TheVariants.{JournalFull, NoSuchTenancy}
+use Rattle.shared_core.specs.CoreCalls.{MarksEntry}
+use Rattle.shared_core.specs.CoreState.{CoreState}
 use Rattle.transcripts.specs.declared.item.Item.{Item}
 use Rattle.transcripts.specs.declared.item.Place.{Place}
 use Rattle.transcripts.specs.declared.item.Place.TheVariants.{Receipt, Note, Refused}
@@ -48,13 +49,13 @@ abbrev pub answer_of_note : NoteCause → Noted → NotServed
 answer_of_note CauseJournalFull note = JournalFull note
 answer_of_note CauseNoSuchTenancy note = NoSuchTenancy note
 
--- what the core answers a command
-abbrev pub IsPlaceOf : ServiceState → ℕ → Command → Place → ServiceState → Type 0
-IsPlaceOf before id command (Receipt r) after = IsServed before id command (Ok r) after
-IsPlaceOf before id command (Note n) after = IsServed before id command (Err (answer_of_note n.cause n)) after
+-- what the core answers a command of the tenancy's lease: a receipt is of an entry that is marked at its place
+abbrev pub IsPlaceOf : CoreState → ℕ → Command → Place → CoreState → Type 0
+IsPlaceOf before id command (Receipt r) after = IsServed before.service id command (Ok r) after.service × MarksEntry before id (Ok r) after
+IsPlaceOf before id command (Note n) after = IsServed before.service id command (Err (answer_of_note n.cause n)) after.service × (after ≡ before)
 IsPlaceOf before id command (Refused r) after = ⊥
 
 -- a command was entered: the transcript has the core's answer, or memory lacked, and nothing else changed
-abbrev pub Enters : TranscriptState → ServiceState → Command → Bool → ServiceState → TranscriptState → Type 0
+abbrev pub Enters : TranscriptState → CoreState → Command → Bool → CoreState → TranscriptState → Type 0
 Enters old before command true after new = (place : Place) × IsPlaceOf before old.id command place after × (new ≡ with_place old place)
 Enters old before command false after new = (after ≡ before) × (new ≡ with_no_memory old)

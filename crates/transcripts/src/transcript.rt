@@ -74,9 +74,10 @@ impl<C: Ledger> Transcript<C> {
         self.end
     }
 
-    /// Enters a command by the lease, and notes what it is told. Without memory it is counted, and the core is as it was.
+    /// Enters a command by the lease, and notes what it is told. Its entry is marked as the lease's, at the receipt's place.
+    /// Without memory it is counted, and the core is as it was.
     pub fn enter<P: Ledger>(&mut self, core: &mut Core<C, P>, command: Command) -> bool
-        ensures { Enters self.old core.old.service command result core.new.service self.new }
+        ensures { Enters self.old core.old command result core.new self.new }
     {
         if self.items.reserve(1).is_err() {
             drop(command);
