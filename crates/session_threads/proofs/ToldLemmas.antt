@@ -1,5 +1,5 @@
 -- What is told, one thing after another.
-use Rattle.std.proofs.Common.{◌≡◌, ◌≢◌, ℕ, ◌+◌, ◌-◌, List, [], ◌∷◌, ◌++◌, length, Bool, true, false, Option, Some, None, Ok, Err, refl, ap, sym, subst, ◌∙◌, arith, length-append, append-nil, append_assoc}
+use Rattle.std.proofs.Common.{◌≡◌, ◌≢◌, ℕ, ◌-◌, List, [], ◌∷◌, ◌++◌, length, Bool, true, false, Option, Some, None, Err, refl, ap, sym, subst, ◌∙◌, arith, length-append, append-nil}
 use Rattle.std.specs.Prelude.{MatchBool, option_map, slice_get}
 use Rattle.std.proofs.lemmas.Grind.{flat_map-append}
 use Rattle.tenant_slot.specs.declared.command.Command.{Command as TenantCommand}
@@ -11,16 +11,17 @@ use Rattle.service_core.specs.Receipt.{Noted, Receipted}
 use Rattle.service_core.specs.Service.{ServiceState, live_of}
 use Rattle.sessions.specs.declared.line.SessionLine.{SessionLine}
 use Rattle.sessions.specs.declared.refusal.SessionRefusal.{SessionRefusal}
+use Rattle.shared_core.specs.CoreState.{CoreState}
 use Rattle.transcripts.specs.declared.item.Item.{Item}
 use Rattle.transcripts.specs.declared.item.Place.{Place}
 use Rattle.transcripts.specs.declared.item.Place.TheVariants.{Receipt, Note, Refused}
-use Rattle.transcripts.specs.Transcripts.{Enters, IsPlaceOf, TranscriptState, noted, with_no_memory, with_place}
+use Rattle.transcripts.specs.Transcripts.{Enters, IsPlaceOf, TranscriptState, answer_of_note, noted, with_no_memory, with_place}
 use Rattle.transcripts.specs.declared.item.End.{End}
 use Rattle.transcripts.specs.declared.item.End.TheVariants.{ReaderFailed}
 use Rattle.session_threads.specs.declared.items.Outcome.TheVariants.{Item as ItemOutcome, NoMemory}
 use Rattle.session_threads.specs.declared.items.Within.{Within}
-use Rattle.session_threads.specs.Told.{AnswersCommand, AnswersItem, AreTold, IsTold, NotesBy, last_place, noted_all, told_text, told_texts}
-use Rattle.session_threads.specs.Outcomes.{EndsItems, found_memory, is_kept, to_come}
+use Rattle.session_threads.specs.Told.{AnswersCommand, AnswersItem, AreTold, NotesBy, last_place, noted_all, told_text, told_texts}
+use Rattle.session_threads.specs.Outcomes.{EndsItems}
 use Rattle.session_threads.specs.WholeSession.{Finishes, Serves, TellsItem}
 
 pub noted_all-append : (t : TranscriptState) (xs ys : List (Option Place)) → noted_all t (xs ++ ys) ≡ noted_all (noted_all t xs) ys
@@ -47,11 +48,6 @@ told-append id [] js (x ∷ xs) ys a b = absurd a
 told-append id (i ∷ is) js [] ys a b = absurd a
 told-append id (i ∷ is) js (x ∷ xs) ys a b = (a.0, told-append id is js xs ys a.1 b)
 
-pub found-append : (xs ys : List (Option Place)) → found_memory (xs ++ ys) ≡ true → (found_memory xs ≡ true) × (found_memory ys ≡ true)
-found-append [] ys h = (refl, h)
-found-append (None ∷ xs) ys h = cc
-found-append (Some x ∷ xs) ys h = found-append xs ys h
-
 -- the last place
 length-snoc : (xs : List Item) (x : Item) → length (xs ++ x ∷ []) - 1 ≡ length xs
 length-snoc xs x = omega (arith, length-append xs (x ∷ []))
@@ -68,18 +64,18 @@ receipt_answers : (o : Option History) (id : ℕ) (command : TenantCommand) (r :
 receipt_answers None id command r is = absurd is
 receipt_answers (Some h) id command r is = (is.0, is.2)
 
-note_answers : (before after : ServiceState) (id : ℕ) (command : TenantCommand) (n : Noted) (cause : NoteCause) → n.cause ≡ cause → IsPlaceOf before id command (Note n) after → n.id ≡ id
+note_answers : (before after : ServiceState) (id : ℕ) (command : TenantCommand) (n : Noted) (cause : NoteCause) → n.cause ≡ cause → IsServed before id command (Err (answer_of_note n.cause n)) after → n.id ≡ id
 note_answers before after id command n JournalFull e is =
     let its = rw e at is in ap (λ (m : Noted). m.id) its.0
 note_answers before after id command n NoSuchTenancy e is =
     let its = rw e at is in ap (λ (m : Noted). m.id) its.0
 
-place_answers : (before after : ServiceState) (id : ℕ) (command : TenantCommand) (place : Place) → IsPlaceOf before id command place after → AnswersCommand id command place
-place_answers before after id command (Receipt r) is = receipt_answers (live_of before.histories id) id command r is.0
-place_answers before after id command (Note n) is = note_answers before after id command n n.cause refl is
+place_answers : (before after : CoreState) (id : ℕ) (command : TenantCommand) (place : Place) → IsPlaceOf before id command place after → AnswersCommand id command place
+place_answers before after id command (Receipt r) is = receipt_answers (live_of before.service.histories id) id command r is.0.0
+place_answers before after id command (Note n) is = note_answers before.service after.service id command n n.cause refl is.0
 place_answers before after id command (Refused refusal) is = absurd is
 
-pub enters_notes : (old new : TranscriptState) (before after : ServiceState) (command : TenantCommand) (kept : Bool) → Enters old before command kept after new → NotesBy (AnswersCommand old.id command) old kept new
+pub enters_notes : (old new : TranscriptState) (before after : CoreState) (command : TenantCommand) (kept : Bool) → Enters old before command kept after new → NotesBy (AnswersCommand old.id command) old kept new
 enters_notes old new before after command true is = (is.0, place_answers before after old.id command is.0 is.1, is.2)
 enters_notes old new before after command false is = is.1
 
@@ -102,13 +98,13 @@ tells_placed id item wrote old mid new true last own same has notes last_is writ
 tells_placed id item wrote old mid new false last own same has notes last_is written = cc
 
 -- the item at the input's end
-pub finishes : (id : ℕ) (within : Within) (item : SessionLine) (wrote : List ℕ → End → Type 0) (old new : TranscriptState) (end : End) → end ≢ ReaderFailed → (is_kept within ≡ true → EndsItems within (Some item)) → TellsItem id item (λ text. wrote text end) old new → Finishes id within wrote old end new
+pub finishes : (id : ℕ) (within : Within) (item : SessionLine) (wrote : List ℕ → End → Type 0) (old new : TranscriptState) (end : End) → end ≢ ReaderFailed → EndsItems within (Some item) → TellsItem id item (λ text. wrote text end) old new → Finishes id within wrote old end new
 finishes id within item wrote old new end not ends tells = record {
   told = tells.told ∷ [];
   noted_is = tells.noted_is;
   written = (let P : List ℕ → Type 0 = λ text. wrote text end in subst P (texts-one tells.told) tells.written);
   at_end = not;
-  answers = λ kept. (let P : List SessionLine → Type 0 = λ items. AreTold id items (tells.told ∷ []) in subst P (sym (ends kept).1) (tells.answers, tt));
+  answers = λ text is. (let P : List SessionLine → Type 0 = λ items. AreTold id items (tells.told ∷ []) in subst P (sym (ends text is)) (tells.answers, tt));
 }
 
 -- what a line came to

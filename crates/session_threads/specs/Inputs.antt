@@ -1,9 +1,10 @@
 -- Private: an input that is read byte by byte and line by line.
-use Rattle.std.specs.Prelude.{ℕ, ◌≡◌, ◌<◌, length, List, [], ◌∷◌, ◌++◌, Bool, true, false, not, ◌&&◌, ◌==◌, Option, Some, None, Result, Ok, Err}
+use Rattle.std.specs.Prelude.{ℕ, ◌≡◌, List, [], ◌∷◌, ◌++◌, Bool, true, not, ◌&&◌, ◌==◌, Option, Some, None, Result, Ok, Err}
 use Rattle.std.specs.Io.KnownBytes.{Consumes, IsAtEnd, Keeps}
 use Rattle.line_text.specs.declared.source.Failed.{Failed}
 use Rattle.session_threads.specs.declared.lines.LineEnd.{LineEnd}
 use Rattle.session_threads.specs.declared.lines.LineEnd.TheVariants.{LineFeed, Input}
+use Rattle.session_threads.specs.Lines.{IsLine, LineSoFar}
 
 -- the next of the bytes that are known, if one
 abbrev pub GivesByte : Option (List ℕ) → Option (List ℕ) → Result (Option ℕ) Failed → Type 0
@@ -22,10 +23,6 @@ EndsLine old new bytes (Ok LineFeed) = Consumes old new (bytes ++ 10 ∷ [])
 EndsLine old new bytes (Ok Input) = Consumes old new bytes × IsAtEnd new
 EndsLine old new bytes (Err failed) = Consumes old new bytes
 
--- a line was read; unless it was lost, it is kept
-abbrev pub ReadsLine : Option (List ℕ) → Option (List ℕ) → List ℕ → Bool → Result LineEnd Failed → Type 0
-ReadsLine old new line lost end = (bytes : List ℕ) × (is_one_line bytes ≡ true) × (lost ≡ false → bytes ≡ line) × (lost ≡ true → 0 < length bytes) × EndsLine old new bytes end
-
--- a byte more is kept, or the line is lost
-abbrev pub KeepsByte : Bool → List ℕ → ℕ → Bool → List ℕ → Type 0
-KeepsByte was line byte is more = (is ≡ false → (was ≡ false) × (more ≡ line ++ byte ∷ []))
+-- a line was read, of which so much is kept
+abbrev pub ReadsLine : Option (List ℕ) → Option (List ℕ) → LineSoFar → Result LineEnd Failed → Type 0
+ReadsLine old new kept end = (line : List ℕ) × (is_one_line line ≡ true) × IsLine kept line × EndsLine old new line end

@@ -1,4 +1,5 @@
 pub mod Inputs
+pub mod Lines
 pub mod Outcomes
 pub mod Told
 pub mod WholeSession

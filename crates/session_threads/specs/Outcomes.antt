@@ -1,14 +1,14 @@
 -- Private: what the lines of an input come to, one by one.
-use Rattle.std.specs.Prelude.{ℕ, ◌≡◌, ⊤, List, [], ◌∷◌, ◌++◌, Bool, true, false, Option, Some, None}
+use Rattle.std.specs.Prelude.{ℕ, ◌≡◌, ⊤, List, [], ◌∷◌, Bool, true, false, Option, Some, None, is_some}
 use Rattle.sessions.specs.declared.line.SessionLine.{SessionLine}
 use Rattle.sessions.specs.declared.line.SessionLine.TheVariants.{Blank, Command, Wait, Refused}
-use Rattle.sessions.specs.Reading.{items_to_come}
+use Rattle.sessions.specs.Reading.{GivesItem, TextSoFar, item_and, items_to_come}
 use Rattle.session_threads.specs.declared.items.Outcome.{Outcome}
 use Rattle.session_threads.specs.declared.items.Outcome.TheVariants.{Nothing, Item, NoMemory}
 use Rattle.session_threads.specs.declared.items.Within.{Within}
 use Rattle.session_threads.specs.declared.items.Within.TheVariants.{Session, Text, LostText}
 use Rattle.transcripts.specs.declared.item.Place.{Place}
-use Rattle.session_threads.specs.Told.{IsTold}
+use Rattle.session_threads.specs.Told.{AreTold, IsTold}
 
 abbrev pub is_item : SessionLine → Bool
 is_item Blank = false
@@ -22,23 +22,29 @@ IsItem Nothing = ⊤
 IsItem (Item item) = is_item item ≡ true
 IsItem NoMemory = ⊤
 
--- whether no text is lost
-abbrev pub is_kept : Within → Bool
-is_kept Session = true
-is_kept (Text text) = true
-is_kept LostText = false
+-- the text that is being read, if one is; of one that memory lacked for it isn't known what was read
+abbrev pub IsWithin : Within → Option TextSoFar → Type 0
+IsWithin Session text = text ≡ None
+IsWithin (Text so_far) text = text ≡ Some so_far
+IsWithin LostText text = is_some text ≡ true
 
--- the items that are to come of the lines that aren't read yet, where no text is lost
-abbrev pub to_come : Within → List (List ℕ) → List SessionLine
-to_come Session lines = items_to_come None lines
-to_come (Text text) lines = items_to_come (Some text) lines
-to_come LostText lines = []
+-- the item that ended with a line, if one did, or that memory lacked for it
+abbrev pub IsOutcome : Option SessionLine → Outcome → Type 0
+IsOutcome None outcome = outcome ≡ Nothing
+IsOutcome (Some item) Nothing = ⊥
+IsOutcome (Some item) (Item it) = it ≡ item
+IsOutcome (Some item) NoMemory = ⊤
 
--- a line that is no text's that was lost comes to that. Of what memory lacked for nothing is said
+-- a line of an input comes to that, with that text being read before
+pub record LineComesTo (text : Option TextSoFar) (line : List ℕ) (outcome : Outcome) (new : Within) : Type 0 where
+  pub next : Option TextSoFar
+  pub item : Option SessionLine
+  pub within : IsWithin new next
+  pub gives : GivesItem text line item next
+  pub comes : IsOutcome item outcome
+
 abbrev pub ComesTo : Within → List ℕ → Outcome → Within → Type 0
-ComesTo old line Nothing new = is_kept old ≡ true → (is_kept new ≡ true) × ((lines : List (List ℕ)) → to_come old (line ∷ lines) ≡ to_come new lines)
-ComesTo old line (Item item) new = is_kept old ≡ true → (is_kept new ≡ true) × ((lines : List (List ℕ)) → to_come old (line ∷ lines) ≡ item ∷ to_come new lines)
-ComesTo old line NoMemory new = ⊤
+ComesTo old line outcome new = (text : Option TextSoFar) → IsWithin old text → LineComesTo text line outcome new
 
 -- what a line that came to that is told
 abbrev pub TellsOutcome : ℕ → Outcome → List (Option Place) → Type 0
@@ -46,13 +52,18 @@ TellsOutcome id Nothing told = told ≡ []
 TellsOutcome id (Item item) told = (t : Option Place) × IsTold id item t × (told ≡ t ∷ [])
 TellsOutcome id NoMemory told = told ≡ None ∷ []
 
--- no item found no memory
-abbrev pub found_memory : List (Option Place) → Bool
-found_memory [] = true
-found_memory (None ∷ told) = false
-found_memory (Some place ∷ told) = found_memory told
-
 -- the item at the input's end, if there is one
 abbrev pub EndsItems : Within → Option SessionLine → Type 0
-EndsItems within None = to_come within [] ≡ []
-EndsItems within (Some item) = (is_item item ≡ true) × (to_come within [] ≡ item ∷ [])
+EndsItems within item = (text : Option TextSoFar) → IsWithin within text → items_to_come text [] ≡ item_and item []
+
+-- a line's items are told, and leave the text that is being read then
+pub record LineIsTold (id : ℕ) (text : Option TextSoFar) (line : List ℕ) (after : Within) (told : List (Option Place)) : Type 0 where
+  pub next : Option TextSoFar
+  pub item : Option SessionLine
+  pub within : IsWithin after next
+  pub gives : GivesItem text line item next
+  pub are : AreTold id (item_and item []) told
+
+-- whatever text was being read
+abbrev pub TellsLine : ℕ → Within → List ℕ → Within → List (Option Place) → Type 0
+TellsLine id within line after told = (text : Option TextSoFar) → IsWithin within text → LineIsTold id text line after told

@@ -1,5 +1,5 @@
 -- What a session is told, and how it is spelled.
-use Rattle.std.specs.Prelude.{ℕ, ◌≡◌, ◌-◌, length, option_map, slice_get, ⊤, List, [], ◌∷◌, ◌++◌, Option, Some, None, Bool, true, false}
+use Rattle.std.specs.Prelude.{ℕ, ◌≡◌, ◌-◌, length, option_map, slice_get, ⊤, List, [], ◌∷◌, Option, Some, None, Bool, true, false}
 use Rattle.std.specs.List.{flat_map}
 use Rattle.tenant_slot.specs.declared.command.Command.{Command as TenantCommand}
 use Rattle.tenant_slot.specs.declared.command.Command.TheVariants.{Status}

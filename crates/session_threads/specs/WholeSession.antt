@@ -1,19 +1,21 @@
 -- What a session comes to.
-use Rattle.std.specs.Prelude.{ℕ, ◌≡◌, ◌≢◌, ◌<◌, length, ⊤, List, [], ◌∷◌, ◌++◌, Bool, true, false, Option, Some, None, IfSome}
+use Rattle.std.specs.Prelude.{ℕ, ◌≡◌, ◌≢◌, List, [], ◌∷◌, ◌++◌, Bool, true, Option, Some, None, IfSome, ⊤}
 use Rattle.std.specs.Io.KnownBytes.{Consumes, IsAtEnd}
 use Rattle.line_text.specs.Lines.{physical_lines}
 use Rattle.vpr_files.specs.Writing.{TakesAll, TakesPart}
 use Rattle.sessions.specs.declared.line.SessionLine.{SessionLine}
 use Rattle.sessions.specs.Items.{items_of}
+use Rattle.sessions.specs.Reading.{TextSoFar, items_to_come}
 use Rattle.transcripts.specs.declared.item.End.{End}
 use Rattle.transcripts.specs.declared.item.End.TheVariants.{Ended, ReaderFailed, WriterFailed}
 use Rattle.transcripts.specs.declared.item.Place.{Place}
 use Rattle.transcripts.specs.Transcripts.{TranscriptState, noted}
 use Rattle.session_threads.specs.declared.items.Within.{Within}
-use Rattle.session_threads.specs.Inputs.{is_one_line}
 use Rattle.session_threads.specs.declared.items.Outcome.{Outcome}
+use Rattle.session_threads.specs.Inputs.{is_one_line}
+use Rattle.session_threads.specs.Lines.{IsLine, LineSoFar}
 use Rattle.session_threads.specs.Told.{AreTold, IsTold, noted_all, told_text, told_texts}
-use Rattle.session_threads.specs.Outcomes.{TellsOutcome, found_memory, is_kept, to_come}
+use Rattle.session_threads.specs.Outcomes.{IsWithin, TellsLine, TellsOutcome}
 
 -- the text is written; or a beginning of it, where the writer failed
 abbrev pub Wrote : {W : Type 0} → (W → Option (List ℕ)) → (W → Bool) → W → W → List ℕ → End → Type 0
@@ -25,18 +27,17 @@ Wrote contents has_failed old new text WriterFailed = TakesPart contents has_fai
 abbrev pub FirstAreTold : ℕ → List SessionLine → List (Option Place) → Type 0
 FirstAreTold id all told = (items : List SessionLine) × (others : List SessionLine) × (all ≡ items ++ others) × AreTold id items told
 
--- private: after these bytes, which end with a line, the items that they have were told so, and the others are to come
-abbrev pub Stands : ℕ → Within → List ℕ → List (Option Place) → Type 0
-Stands id within read told =
-    (is_kept within ≡ true) × ((more : List ℕ) → (items : List SessionLine) × (items_of (read ++ more) ≡ items ++ to_come within (physical_lines more)) × AreTold id items told)
+-- after these bytes those items have ended, and that text is being read, if one is
+abbrev pub HaveEnded : List ℕ → List SessionLine → Option TextSoFar → Type 0
+HaveEnded read items text = (more : List ℕ) → items_of (read ++ more) ≡ items ++ items_to_come text (physical_lines more)
 
 -- each item of the input is told, in order, if the session came to its end; where the reader failed, each item that ended before
 -- the line that it failed in; and where the writer failed, the first of them
 abbrev pub ToldOf : ℕ → List ℕ → End → List (Option Place) → Type 0
 ToldOf id input Ended told = AreTold id (items_of input) told
 ToldOf id input ReaderFailed told =
-    (read : List ℕ) × (line : List ℕ) × (rest : List ℕ) × (within : Within)
-    × (input ≡ read ++ line ++ rest) × (is_one_line line ≡ true) × Stands id within read told
+    (read : List ℕ) × (line : List ℕ) × (rest : List ℕ) × (items : List SessionLine) × (text : Option TextSoFar)
+    × (input ≡ read ++ line ++ rest) × (is_one_line line ≡ true) × HaveEnded read items text × AreTold id items told
 ToldOf id input WriterFailed told = FirstAreTold id (items_of input) told
 
 -- how the devices stand then: the reader is at its end, or has failed
@@ -45,13 +46,23 @@ EndsReading input failed Ended = IsAtEnd input
 EndsReading input failed ReaderFailed = failed ≡ true
 EndsReading input failed WriterFailed = ⊤
 
--- the items were told those things: the transcript has them, they were written, and they are what the input asked, where no
--- item found no memory
+-- the items were told those things: the transcript has them, they were written, and they are what the input asked. An item that
+-- found no memory is told so, and counted
 pub record WholeSession (id : ℕ) (input : Option (List ℕ)) (wrote : List ℕ → End → Type 0) (old : TranscriptState) (end : End) (new : TranscriptState) : Type 0 where
   pub told : List (Option Place)
   pub noted : new ≡ noted_all old told
   pub written : wrote (told_texts told) end
-  pub asked : found_memory told ≡ true → IfSome input (λ bytes. ToldOf id bytes end told)
+  pub asked : IfSome input (λ bytes. ToldOf id bytes end told)
+
+-- a session's transcript, from its begin on
+abbrev pub fresh : ℕ → TranscriptState
+fresh id = record { id = id; items = []; no_memory = 0; end = None }
+
+pub record IsSession (id : ℕ) (input : Option (List ℕ)) (wrote : List ℕ → End → Type 0) (result : TranscriptState) : Type 0 where
+  pub how : End
+  pub before : TranscriptState
+  pub ends : result ≡ record before { end = Some how }
+  pub session : WholeSession id input wrote (fresh id) how before
 
 -- private: a line was served, and the session goes on
 pub record GoesOn (id : ℕ) (input ahead : Option (List ℕ)) (within after : Within) (wrote : List ℕ → Type 0) (old new : TranscriptState) : Type 0 where
@@ -61,13 +72,13 @@ pub record GoesOn (id : ℕ) (input ahead : Option (List ℕ)) (within after : W
   pub line : List ℕ
   pub is_line : is_one_line line ≡ true
   pub read : Consumes input ahead (line ++ 10 ∷ [])
-  pub asked : found_memory told ≡ true → is_kept within ≡ true → (is_kept after ≡ true) × ((lines : List (List ℕ)) → (items : List SessionLine) × (to_come within (line ∷ lines) ≡ items ++ to_come after lines) × AreTold id items told)
+  pub asked : TellsLine id within line after told
 
 -- private: what the items of the last bytes that were read are told
-abbrev pub LastToldOf : ℕ → Within → List ℕ → Option (List ℕ) → End → List (Option Place) → Type 0
-LastToldOf id within bytes ahead Ended told = IsAtEnd ahead × AreTold id (to_come within (physical_lines bytes)) told
-LastToldOf id within bytes ahead ReaderFailed told = (is_one_line bytes ≡ true) × (told ≡ [])
-LastToldOf id within bytes ahead WriterFailed told = IfSome ahead (λ rest. FirstAreTold id (to_come within (physical_lines (bytes ++ rest))) told)
+abbrev pub LastToldOf : ℕ → Option TextSoFar → List ℕ → Option (List ℕ) → End → List (Option Place) → Type 0
+LastToldOf id text bytes ahead Ended told = IsAtEnd ahead × AreTold id (items_to_come text (physical_lines bytes)) told
+LastToldOf id text bytes ahead ReaderFailed told = (is_one_line bytes ≡ true) × (told ≡ [])
+LastToldOf id text bytes ahead WriterFailed told = IfSome ahead (λ rest. FirstAreTold id (items_to_come text (physical_lines (bytes ++ rest))) told)
 
 -- private: the session ends
 pub record Stops (id : ℕ) (input ahead : Option (List ℕ)) (within : Within) (wrote : List ℕ → End → Type 0) (old : TranscriptState) (end : End) (new : TranscriptState) : Type 0 where
@@ -76,7 +87,7 @@ pub record Stops (id : ℕ) (input ahead : Option (List ℕ)) (within : Within) 
   pub written : wrote (told_texts told) end
   pub bytes : List ℕ
   pub read : Consumes input ahead bytes
-  pub asked : found_memory told ≡ true → is_kept within ≡ true → LastToldOf id within bytes ahead end told
+  pub asked : (text : Option TextSoFar) → IsWithin within text → LastToldOf id text bytes ahead end told
 
 -- private: one or the other
 abbrev pub Turns : ℕ → Option (List ℕ) → Option (List ℕ) → Within → Within → (List ℕ → End → Type 0) → TranscriptState → Option End → TranscriptState → Type 0
@@ -103,25 +114,14 @@ pub record Finishes (id : ℕ) (within : Within) (wrote : List ℕ → End → T
   pub noted_is : new ≡ noted_all old told
   pub written : wrote (told_texts told) end
   pub at_end : end ≢ ReaderFailed
-  pub answers : is_kept within ≡ true → AreTold id (to_come within []) told
+  pub answers : (text : Option TextSoFar) → IsWithin within text → AreTold id (items_to_come text []) told
 
--- a session's transcript, from its begin on
-abbrev pub fresh : ℕ → TranscriptState
-fresh id = record { id = id; items = []; no_memory = 0; end = None }
-
-pub record IsSession (id : ℕ) (input : Option (List ℕ)) (wrote : List ℕ → End → Type 0) (result : TranscriptState) : Type 0 where
-  pub how : End
-  pub before : TranscriptState
-  pub ends : result ≡ record before { end = Some how }
-  pub session : WholeSession id input wrote (fresh id) how before
-
--- private: a line was served, of which these bytes are kept unless it was lost
-pub record ServesLine (id : ℕ) (within after : Within) (lost : Bool) (kept : List ℕ) (wrote : List ℕ → Type 0) (old new : TranscriptState) : Type 0 where
+-- private: a line was served, of which so much is kept
+pub record ServesLine (id : ℕ) (within after : Within) (kept : LineSoFar) (wrote : List ℕ → Type 0) (old new : TranscriptState) : Type 0 where
   pub told : List (Option Place)
   pub noted_is : new ≡ noted_all old told
   pub written : wrote (told_texts told)
-  pub asked : (line : List ℕ) → (lost ≡ false → line ≡ kept) → found_memory told ≡ true → is_kept within ≡ true →
-      (is_kept after ≡ true) × ((lines : List (List ℕ)) → (items : List SessionLine) × (to_come within (line ∷ lines) ≡ items ++ to_come after lines) × AreTold id items told)
+  pub asked : (line : List ℕ) → IsLine kept line → TellsLine id within line after told
 
 -- private: all of the items, or the first of them
 abbrev pub ToldAtEnd : End → ℕ → List SessionLine → List (Option Place) → Type 0
@@ -130,10 +130,9 @@ ToldAtEnd ReaderFailed id items told = ⊥
 ToldAtEnd WriterFailed id items told = FirstAreTold id items told
 
 -- private: the last line was served, and the item at the input's end
-pub record EndsInput (id : ℕ) (within : Within) (lost : Bool) (kept : List ℕ) (wrote : List ℕ → End → Type 0) (old : TranscriptState) (end : End) (new : TranscriptState) : Type 0 where
+pub record EndsInput (id : ℕ) (within : Within) (kept : LineSoFar) (wrote : List ℕ → End → Type 0) (old : TranscriptState) (end : End) (new : TranscriptState) : Type 0 where
   pub told : List (Option Place)
   pub noted_is : new ≡ noted_all old told
   pub written : wrote (told_texts told) end
   pub at_end : end ≢ ReaderFailed
-  pub asked : (line : List ℕ) → (lost ≡ false → line ≡ kept) → (lost ≡ true → 0 < length line) → is_one_line line ≡ true → found_memory told ≡ true → is_kept within ≡ true →
-      ToldAtEnd end id (to_come within (physical_lines line)) told
+  pub asked : (line : List ℕ) → IsLine kept line → is_one_line line ≡ true → (text : Option TextSoFar) → IsWithin within text → ToldAtEnd end id (items_to_come text (physical_lines line)) told

@@ -1,11 +1,11 @@
 //! The items of a session's input, line by line.
 ghost use Rattle.std.specs.Prelude.{◌≡◌, List, ℕ, IfSome, true};
 ghost use Rattle.session_threads.specs.declared.items.Within.TheVariants.{LostText, Session, Text};
-ghost use Rattle.session_threads.specs.Outcomes.{ComesTo, EndsItems, IsItem, is_item, is_kept};
+ghost use Rattle.session_threads.specs.Lines.{IsLine};
+ghost use Rattle.session_threads.specs.Outcomes.{ComesTo, EndsItems, IsItem, is_item};
 
-use sessions::{
-    LineForm, PendingText, SessionLine, SessionRefusal, is_point, read_line, without_cr,
-};
+use crate::line::Line;
+use sessions::{LineForm, PendingText, SessionLine, SessionRefusal};
 use std::alloc::Global;
 use std::mem;
 
@@ -15,7 +15,7 @@ pub(crate) enum Outcome {
     /// No item ends with it.
     Nothing,
     Item(SessionLine),
-    /// Memory lacked for an item.
+    /// Memory lacked for the item that ends with it.
     NoMemory,
 }
 
@@ -26,7 +26,7 @@ enum Within {
     Session,
     /// The text of a command, so far.
     Text(PendingText),
-    /// A text that memory lacked for. The rest of it is dropped.
+    /// A text that memory lacked for.
     LostText,
 }
 
@@ -48,9 +48,9 @@ impl ItemReader {
         }
     }
 
-    /// Takes the next line, without its LF.
-    pub(crate) fn take_line(&mut self, line: &[u8]) -> Outcome
-        ensures line { ComesTo self.old.within line.now result self.new.within }
+    /// Takes the next line.
+    pub(crate) fn take_line(&mut self, line: &Line) -> Outcome
+        ensures line { (bytes : List ℕ) → IsLine line.now bytes → ComesTo self.old.within bytes result self.new.within }
         ensures item { IsItem result }
     {
         let (within, outcome) = match mem::replace(&mut self.within, Within::Session) {
@@ -62,78 +62,65 @@ impl ItemReader {
         outcome
     }
 
-    /// Takes a line that memory lacked for.
-    pub(crate) fn lose_line(&mut self) -> Outcome
-        ensures line { (line : List ℕ) → ComesTo self.old.within line result self.new.within }
-        ensures item { IsItem result }
-    {
-        match mem::replace(&mut self.within, Within::LostText) {
-            Within::Session => {
-                self.within = Within::Session;
-                Outcome::NoMemory
-            }
-            Within::Text(text) => {
-                drop(text);
-                Outcome::NoMemory
-            }
-            Within::LostText => Outcome::Nothing,
-        }
-    }
-
     /// The item at the input's end, if there is one: the refusal of a text that doesn't end.
     pub(crate) fn finish(&self) -> Option<SessionLine>
-        ensures ends { is_kept self.now.within ≡ true → EndsItems self.now.within result }
+        ensures ends { EndsItems self.now.within result }
         ensures item { IfSome result (λ item. is_item item ≡ true) }
     {
         match &self.within {
-            Within::Text(_) => Some(SessionLine::Refused(SessionRefusal::UnfinishedUpload)),
-            Within::Session | Within::LostText => None,
+            Within::Session => None,
+            Within::Text(_) | Within::LostText => {
+                Some(SessionLine::Refused(SessionRefusal::UnfinishedUpload))
+            }
         }
     }
 }
 
-/// Takes a line outside of texts.
-fn begin(alloc: Global, line: &[u8]) -> (Within, Outcome)
-    ensures line { ComesTo Session line.now result.1 result.0 }
+/// Takes a line outside of texts. Takes no memory.
+fn begin(alloc: Global, line: &Line) -> (Within, Outcome)
+    ensures line { (bytes : List ℕ) → IsLine line.now bytes → ComesTo Session bytes result.1 result.0 }
     ensures item { IsItem result.1 }
 {
-    let mut words = Vec::new(alloc);
-    match read_line(&mut words, without_cr(line)) {
-        Ok(LineForm::Asks(SessionLine::Blank)) => (Within::Session, Outcome::Nothing),
-        Ok(LineForm::Asks(item)) => (Within::Session, Outcome::Item(item)),
-        Ok(LineForm::Begins(kind)) => {
+    match line.form() {
+        LineForm::Asks(SessionLine::Blank) => (Within::Session, Outcome::Nothing),
+        LineForm::Asks(item) => (Within::Session, Outcome::Item(item)),
+        LineForm::Begins(kind) => {
             let text = PendingText::new(alloc, kind);
             (Within::Text(text), Outcome::Nothing)
         }
-        Err(_) => (Within::Session, Outcome::NoMemory),
     }
 }
 
 /// Takes a line of a text.
-fn go_on(alloc: Global, text: PendingText, line: &[u8]) -> (Within, Outcome)
-    ensures line { ComesTo (Text text) line.now result.1 result.0 }
+fn go_on(alloc: Global, text: PendingText, line: &Line) -> (Within, Outcome)
+    ensures line { (bytes : List ℕ) → IsLine line.now bytes → ComesTo (Text text) bytes result.1 result.0 }
     ensures item { IsItem result.1 }
 {
-    let line = without_cr(line);
-    if is_point(line) {
+    if line.ends_text() {
         return match text.into_line(alloc) {
             Ok(item) => (Within::Session, Outcome::Item(item)),
             Err(_) => (Within::Session, Outcome::NoMemory),
         };
     }
-    match text.with_line(line) {
-        Ok(text) => (Within::Text(text), Outcome::Nothing),
-        Err(_) => (Within::LostText, Outcome::NoMemory),
+    match line.content() {
+        Some(content) => match text.with_line(content) {
+            Ok(text) => (Within::Text(text), Outcome::Nothing),
+            Err(_) => (Within::LostText, Outcome::Nothing),
+        },
+        None => {
+            drop(text);
+            (Within::LostText, Outcome::Nothing)
+        }
     }
 }
 
-/// Takes a line of a text that is lost.
-fn drop_line(line: &[u8]) -> (Within, Outcome)
-    ensures line { ComesTo LostText line.now result.1 result.0 }
+/// Takes a line of a text that is lost. The item that ends with the text found no memory.
+fn drop_line(line: &Line) -> (Within, Outcome)
+    ensures line { (bytes : List ℕ) → IsLine line.now bytes → ComesTo LostText bytes result.1 result.0 }
     ensures item { IsItem result.1 }
 {
-    if is_point(without_cr(line)) {
-        (Within::Session, Outcome::Nothing)
+    if line.ends_text() {
+        (Within::Session, Outcome::NoMemory)
     } else {
         (Within::LostText, Outcome::Nothing)
     }

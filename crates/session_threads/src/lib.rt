@@ -6,6 +6,7 @@
 
 mod input;
 mod items;
+mod line;
 mod lines;
 mod session;
 mod told;

@@ -1,12 +1,13 @@
 //! A session.
-ghost use Rattle.std.specs.Prelude.{◌≡◌, List, ℕ, IfSome, true, false};
+ghost use Rattle.std.specs.Prelude.{◌≡◌, IfSome, true};
 ghost use Rattle.std.specs.Io.KnownBytes.{prepend_known};
 ghost use Rattle.vpr_files.specs.Writing.{Writes};
-ghost use Rattle.session_threads.specs.Outcomes.{ComesTo, IsItem, is_item};
+ghost use Rattle.session_threads.specs.Outcomes.{IsItem, is_item};
 ghost use Rattle.session_threads.specs.Told.{AnswersCommand, AnswersItem, NotesBy};
 ghost use Rattle.session_threads.specs.WholeSession.{EndsInput, EndsReading, Finishes, IsSession, Serves, ServesLine, TellsItem, Turns, WholeSession, Wrote};
 
 use crate::items::{ItemReader, Outcome};
+use crate::line::Line;
 use crate::lines::{LineEnd, LineReader};
 use crate::told::{last_place, write_told};
 use job_queue::{Pass, Ready};
@@ -107,9 +108,10 @@ impl<C: Ledger> Session<C> {
         let Ok(end) = lines.read_line(rt, reader) else {
             return Some(End::ReaderFailed);
         };
+        let line = &lines.line;
         match end {
-            LineEnd::Input => Some(self.end_input(rt, shared, ready, lines, items, writer)),
-            LineEnd::LineFeed => match self.serve_line(rt, shared, ready, lines, items, writer) {
+            LineEnd::Input => Some(self.end_input(rt, shared, ready, line, items, writer)),
+            LineEnd::LineFeed => match self.serve_line(rt, shared, ready, line, items, writer) {
                 Ok(()) => None,
                 Err(_) => Some(End::WriterFailed),
             },
@@ -122,15 +124,15 @@ impl<C: Ledger> Session<C> {
         rt: &R,
         shared: &Shared<C, P>,
         ready: &Ready,
-        lines: &LineReader,
+        line: &Line,
         items: &mut ItemReader,
         writer: &mut W,
     ) -> Result<(), Failed>
         requires { self.old.pass.of ≡ ready.now }
         ensures of { self.new.pass.of ≡ self.old.pass.of }
-        ensures told { ServesLine self.old.transcript.id items.old.within items.new.within lines.now.is_lost lines.now.line.items (λ text. Writes W.contents W.has_failed writer.old writer.new text result) self.old.transcript self.new.transcript }
+        ensures told { ServesLine self.old.transcript.id items.old.within items.new.within line.now (λ text. Writes W.contents W.has_failed writer.old writer.new text result) self.old.transcript self.new.transcript }
     {
-        let outcome = next_outcome(items, lines);
+        let outcome = items.take_line(line);
         self.serve(rt, shared, ready, outcome, writer)
     }
 
@@ -140,18 +142,18 @@ impl<C: Ledger> Session<C> {
         rt: &R,
         shared: &Shared<C, P>,
         ready: &Ready,
-        lines: &LineReader,
+        line: &Line,
         items: &mut ItemReader,
         writer: &mut W,
     ) -> End
         requires { self.old.pass.of ≡ ready.now }
         ensures of { self.new.pass.of ≡ self.old.pass.of }
-        ensures told { EndsInput self.old.transcript.id items.old.within lines.now.is_lost lines.now.line.items (λ text end. Wrote W.contents W.has_failed writer.old writer.new text end) self.old.transcript result self.new.transcript }
+        ensures told { EndsInput self.old.transcript.id items.old.within line.now (λ text end. Wrote W.contents W.has_failed writer.old writer.new text end) self.old.transcript result self.new.transcript }
     {
-        if lines.is_empty() {
+        if line.is_empty() {
             return self.finish(rt, shared, ready, items, writer);
         }
-        match self.serve_line(rt, shared, ready, lines, items, writer) {
+        match self.serve_line(rt, shared, ready, line, items, writer) {
             Ok(()) => self.finish(rt, shared, ready, items, writer),
             Err(_) => End::WriterFailed,
         }
@@ -316,17 +318,6 @@ impl<C: Ledger> Session<C> {
             }
             drop(shared.changed.wait(rt, core));
         }
-    }
-}
-
-/// What the line that was read comes to.
-fn next_outcome(items: &mut ItemReader, lines: &LineReader) -> Outcome
-    ensures line { (line : List ℕ) → (lines.now.is_lost ≡ false → line ≡ lines.now.line.items) → ComesTo items.old.within line result items.new.within }
-    ensures item { IsItem result }
-{
-    match lines.line() {
-        Some(line) => items.take_line(line),
-        None => items.lose_line(),
     }
 }
 

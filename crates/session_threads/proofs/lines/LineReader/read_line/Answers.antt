@@ -1,4 +1,4 @@
-use Rattle.std.proofs.Common.{◌≡◌, ℕ, Option, Some, Ok, subst}
+use Rattle.std.proofs.Common.{ℕ, Option, Ok, subst}
 use Rattle.std.specs.Io.KnownBytes.{prepend_known}
 use Rattle.session_threads.specs.Inputs.{GivesByte}
 use Rattle.session_threads.proofs.LineLemmas.{reads_more}
@@ -8,4 +8,4 @@ pub loop-preserved : goal.loop-preserved
 loop-preserved g c =
     let P : Option ℕ → Type 0 = λ byte. GivesByte (prepend_known c.loop.self.input (g.S.Source.remaining c.loop.source)) (prepend_known c.next_byte.new.self (g.S.Source.remaining c.next_byte.new.source)) (Ok byte) in
     let gives = subst P c.in-Some-2.is c.in_ok-next_byte.ensures.byte in
-    rw c.keep.ensures.input (reads_more _ _ _ _ _ _ _ _ c.loop.invariant c.in-Some-2.byte-test.1 gives c.keep.ensures.line)
+    reads_more _ _ _ _ _ _ c.loop.invariant c.in-Some-2.byte-test.1 gives c.push.ensures

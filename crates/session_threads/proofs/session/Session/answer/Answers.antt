@@ -1,4 +1,4 @@
-use Rattle.std.proofs.Common.{◌≡◌, List, ℕ, refl, rules}
+use Rattle.std.proofs.Common.{◌≡◌, refl, rules}
 use Rattle.std.specs.Prelude.{option_copied}
 use Rattle.vpr_files.specs.Writing.{Writes}
 use Rattle.session_threads.specs.Told.{last_place}

@@ -1,5 +1,3 @@
-use Rattle.std.proofs.Common.{List, ℕ}
-use Rattle.transcripts.specs.declared.item.End.{End}
 use Rattle.transcripts.specs.declared.item.End.TheVariants.{Ended, WriterFailed}
 use Rattle.session_threads.specs.WholeSession.{Wrote}
 use Rattle.session_threads.proofs.ToldLemmas.{finishes}

@@ -1,4 +1,3 @@
-use Rattle.std.proofs.Common.{List, ℕ}
 use Rattle.vpr_files.specs.Writing.{Writes}
 use Rattle.session_threads.proofs.ToldLemmas.{serves_item, serves_none}
 use Rattle.session_threads.proofs.session.Session.serve.Goals as goal
