@@ -22,8 +22,8 @@ use transcripts::{End, Place, Transcript};
 use worker_pool::Shared;
 
 /// Runs a session: reads its input, asks the core what each item asks, and writes what it is told. What each item was told is
-/// in the transcript, in order; it was written, or a beginning of it where the writer failed; and it answers what the input
-/// asks. A command whose reply couldn't be written keeps its receipt.
+/// in the transcript, in order, or counted there where it found no memory; it was written, or a beginning of it where the
+/// writer failed; and it answers what the input asks. A command whose reply couldn't be written keeps its receipt.
 pub fn run_session<C: Ledger, P: Ledger, S: Source, W: Sink, R: Wait + AllocGlobal>(
     rt: &R,
     shared: &Shared<C, P>,
