@@ -61,7 +61,7 @@ impl<'t> Sessions<'t> {
 
     /// All of them.
     pub(crate) fn into_said(self) -> Vec<SessionInput<'t>>
-        ensures { result.items ≡ self.said.items }
+        ensures { result.items ≡ self.entry.said.items }
     {
         let Sessions {
             alloc: _,

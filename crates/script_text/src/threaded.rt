@@ -57,7 +57,7 @@ struct ThreadedReader<'t> {
 }
 
 impl<'t> ThreadedReader<'t> {
-    ghost use Rattle.std.specs.Prelude.{map};
+    ghost use Rattle.std.specs.Prelude.{None};
     ghost use Rattle.script_text.specs.declared.script.ScriptError.TheVariants.{Fault};
     ghost use Rattle.script_text.specs.Names.{AreNamed};
     ghost use Rattle.script_text.specs.Threaded.{heard};
@@ -101,7 +101,7 @@ impl<'t> ThreadedReader<'t> {
         line: &[u8],
     ) -> Result<(), ScriptError>
         requires named { AreNamed self.old.sessions }
-        requires within { self.old.within ≡ Option.None }
+        requires within { self.old.within ≡ None }
         ensures { HearsForm self.old number form.entry line.now result self.new }
     {
         match form {
@@ -136,7 +136,7 @@ impl<'t> ThreadedReader<'t> {
 
     /// What was read.
     fn into_script(self) -> ThreadedScript<'t>
-        ensures { parts_of result ≡ parts_read self }
+        ensures { parts_of result ≡ parts_read self.entry }
     {
         let ThreadedReader {
             words,
