@@ -4,8 +4,8 @@ use Rattle.std.specs.Borrow.{Bor}
 use Rattle.fpgad_run.specs.declared.options.CommandLine.{CommandLine}
 use Rattle.fpgad_run.specs.declared.outcome.Outcome.{Outcome}
 use Rattle.fpgad_run.specs.declared.outcome.Outcome.TheVariants.{NoMemory}
-use Rattle.fpgad_run.specs.declared.program.Architecture.{Architecture}
-use Rattle.fpgad_run.specs.declared.program.Architecture.TheVariants.{InScript}
+use Rattle.fpgad_run.specs.declared.inputs.Architecture.{Architecture}
+use Rattle.fpgad_run.specs.declared.inputs.Architecture.TheVariants.{InScript}
 use Rattle.fpgad_run.specs.Program.{Decides, Writes, start_of}
 
 -- the architecture is at the script's head exactly where the command line names no file

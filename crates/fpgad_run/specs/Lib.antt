@@ -1,5 +1,7 @@
 pub mod Commands
 pub mod EndToEnd
+pub mod Ends
+pub mod Inputs
 pub mod Limits
 pub mod Names
 pub mod Outcomes

@@ -1,8 +1,9 @@
 ghost use Rattle.fpgad_run.specs.Commands.{Runs, RunsWords};
 
+use crate::inputs::Architecture;
 use crate::options::{CommandLine, read_options};
 use crate::outcome::Outcome;
-use crate::program::{Architecture, run};
+use crate::program::run;
 use clap::Error;
 use clap::error::ErrorKind;
 use line_text::{ReadError, Sink, Source, StdSource, read_all};

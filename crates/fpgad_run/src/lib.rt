@@ -7,6 +7,8 @@
 #![tactic(auto)]
 
 mod command;
+mod in_order;
+mod inputs;
 mod names;
 mod options;
 mod outcome;
@@ -14,6 +16,7 @@ mod program;
 mod sections;
 
 pub use command::{run_line, run_words};
+pub use inputs::Architecture;
 pub use options::{CommandLine, Options, read_options};
 pub use outcome::Outcome;
-pub use program::{Architecture, run, run_script};
+pub use program::{run, run_script};
