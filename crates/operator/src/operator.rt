@@ -1,4 +1,4 @@
-ghost use Rattle.std.specs.Prelude.{◌≡◌, ◌+◌, ◌^◌, ◌<◌, ◌∷◌, ◌++◌, [], length, OnOk};
+ghost use Rattle.std.specs.Prelude.{◌≡◌, ◌+◌, ◌^◌, ◌<◌, ◌∷◌, ◌++◌, ◌↔◌, [], length, IsTrue, OnOk};
 ghost use Rattle.operator.specs.OperatorText.{last_id, list_text};
 ghost use Rattle.operator.specs.Held.{held};
 ghost use Rattle.operator.specs.Operators.{Steps};
@@ -55,6 +55,13 @@ impl<'t> Operator<'t> {
             Some(id) => *id,
             None => 0,
         }
+    }
+
+    /// Whether the names are those of all tenancies that the core has admitted.
+    pub fn is_of(&self, core: &Service) -> bool
+        ensures { IsTrue result ↔ (length self.now ≡ length core.now.histories) }
+    {
+        self.admitted.len() == core.admissions() as usize
     }
 
     /// Does what a line of the operator asks, and appends its reply.

@@ -9,6 +9,8 @@ use Rattle.std.proofs.Math.Seq.{take-append_seam}
 use Rattle.line_text.specs.Lines.{physical_lines}
 use Rattle.script_text.specs.Cuts.{HasNoEnd, IsCut, IsEnded}
 use Rattle.script_text.specs.Script.{acts_from}
+use Rattle.script_text.specs.Threaded.{heard, nothing_said, threaded_from, Heard}
+use Rattle.script_text.specs.Threaded.Within.{Head, Script}
 use Rattle.sessions.specs.Items.{ends_text}
 use Rattle.script_text.specs.Texts.{bytes_ahead}
 use Rattle.script_text.proofs.LineLemmas.{is_lf}
@@ -29,6 +31,10 @@ shorter text some = rw (length-drop (position_or_len is_lf text + 1) text) (omeg
 abbrev pub behind : List ℕ → Option (List ℕ) → Option (List ℕ)
 behind front text = option_map (λ bytes. front ++ bytes) text
 
+-- nothing is said yet, and the next line stands in the text at the script's head
+abbrev pub at_head : Heard
+at_head = heard nothing_said Head
+
 -- the front of the text has no line that ends it, and the rest begins with the line of that number
 pub record Walked (first : ℕ) (text rest : List ℕ) (number : ℕ) : Type 0 where
   pub front : List ℕ
@@ -36,6 +42,7 @@ pub record Walked (first : ℕ) (text rest : List ℕ) (number : ℕ) : Type 0 w
   pub ended : (front ≡ []) ⊎ ((before : List ℕ) × (front ≡ before ++ 10 ∷ [])) ⊎ (rest ≡ [])
   pub ahead : bytes_ahead (physical_lines text) ≡ behind front (bytes_ahead (physical_lines rest))
   pub acts : acts_from first true (physical_lines text) ≡ acts_from number true (physical_lines rest)
+  pub threads : threaded_from first at_head (physical_lines text) ≡ threaded_from number at_head (physical_lines rest)
   pub counted : number + length rest ≤ first + length text
   pub later : first ≤ number
 
@@ -48,7 +55,7 @@ behind-behind a b None = refl
 behind-behind a b (Some bytes) = ap Some (sym (append_assoc a b bytes))
 
 pub walked_none : (first : ℕ) (text : List ℕ) → Walked first text text first
-walked_none first text = record { front = []; whole = refl; ended = inl refl; ahead = behind-nothing (bytes_ahead (physical_lines text)); acts = refl; counted = omega arith; later = omega arith }
+walked_none first text = record { front = []; whole = refl; ended = inl refl; ahead = behind-nothing (bytes_ahead (physical_lines text)); acts = refl; threads = refl; counted = omega arith; later = omega arith }
 
 line-behind : (line : List ℕ) (text : Option (List ℕ)) → option_map (λ bytes. line ++ 10 ∷ bytes) text ≡ behind (line ++ 10 ∷ []) text
 line-behind line None = refl
@@ -63,6 +70,12 @@ acts_passed number line lines ends = rw ends refl
 acts_found : (number : ℕ) (line : List ℕ) (lines : List (List ℕ)) → ends_text line ≡ true → acts_from number true (line ∷ lines) ≡ acts_from (number + 1) false lines
 acts_found number line lines ends = rw ends refl
 
+threads_passed : (number : ℕ) (line : List ℕ) (lines : List (List ℕ)) → ends_text line ≡ false → threaded_from number at_head (line ∷ lines) ≡ threaded_from (number + 1) at_head lines
+threads_passed number line lines ends = rw ends refl
+
+threads_found : (number : ℕ) (line : List ℕ) (lines : List (List ℕ)) → ends_text line ≡ true → threaded_from number at_head (line ∷ lines) ≡ threaded_from (number + 1) (heard nothing_said Script) lines
+threads_found number line lines ends = rw ends refl
+
 pub walked_more : (first : ℕ) (text rest line after : List ℕ) (number : ℕ) → Walked first text rest number → physical_lines rest ≡ line ∷ physical_lines after → length after < length rest →
     (rest ≡ line ++ 10 ∷ after) ⊎ (after ≡ []) → ends_text line ≡ false → Walked first text after (number + 1)
 walked_more first text rest line after number w lines less (inl cut) ends = record {
@@ -72,6 +85,7 @@ walked_more first text rest line after number w lines less (inl cut) ends = reco
   ahead = w.ahead ∙ ap (λ ls. behind w.front (bytes_ahead ls)) lines ∙ ap (behind w.front) (passed line (physical_lines after) ends)
       ∙ behind-behind w.front (line ++ 10 ∷ []) (bytes_ahead (physical_lines after));
   acts = w.acts ∙ ap (acts_from number true) lines ∙ acts_passed number line (physical_lines after) ends;
+  threads = w.threads ∙ ap (threaded_from number at_head) lines ∙ threads_passed number line (physical_lines after) ends;
   counted = let was = w.counted in omega arith;
   later = let was = w.later in omega arith;
 }
@@ -84,6 +98,7 @@ walked_more first text rest line after number w lines less (inr over) ends =
       ahead = w.ahead ∙ ap (λ ls. behind w.front (bytes_ahead ls)) lines ∙ ap (behind w.front) (passed line (physical_lines after) ends)
           ∙ ap (λ s. behind w.front (behind (line ++ 10 ∷ []) s)) none ∙ ap (behind text) (sym none);
       acts = w.acts ∙ ap (acts_from number true) lines ∙ acts_passed number line (physical_lines after) ends;
+      threads = w.threads ∙ ap (threaded_from number at_head) lines ∙ threads_passed number line (physical_lines after) ends;
       counted = let was = w.counted in omega arith;
       later = let was = w.later in omega arith;
     }
@@ -107,11 +122,12 @@ walked_found first text rest line after number w lines less ends =
     rw front (record {
       text = w.ahead ∙ ap (λ ls. behind w.front (bytes_ahead ls)) lines ∙ ap (behind w.front) here ∙ ap Some (append-nil w.front);
       goes_on = w.acts ∙ ap (acts_from number true) lines ∙ acts_found number line (physical_lines after) ends;
+      threads = w.threads ∙ ap (threaded_from number at_head) lines ∙ threads_found number line (physical_lines after) ends;
       ended = ended_of w.front line rest after lines w.ended;
       counted = omega arith;
       later = omega arith;
     })
 
 pub walked_all : (first : ℕ) (text rest : List ℕ) (number : ℕ) → Walked first text rest number → length rest ≡ 0 → HasNoEnd first text
-walked_all first text [] number w none = (w.ahead, w.acts)
+walked_all first text [] number w none = (w.ahead, w.acts, w.threads)
 walked_all first text (b ∷ bytes) number w none = absurd (omega arith)

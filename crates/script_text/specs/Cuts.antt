@@ -5,10 +5,11 @@ use Rattle.std.specs.List.{flat_map}
 use Rattle.sessions.specs.Items.{without_cr}
 use Rattle.script_text.specs.Texts.{bytes_ahead}
 use Rattle.script_text.specs.Script.{acts_from}
+use Rattle.script_text.specs.Threaded.{nothing_said, threaded_behind, threaded_of}
 
 -- no line of the bytes ends a text, so that nothing of the script is left
 abbrev pub HasNoEnd : ℕ → List ℕ → Type 0
-HasNoEnd number bytes = (bytes_ahead (physical_lines bytes) ≡ None) × (acts_from number true (physical_lines bytes) ≡ Ok [])
+HasNoEnd number bytes = (bytes_ahead (physical_lines bytes) ≡ None) × (acts_from number true (physical_lines bytes) ≡ Ok []) × (threaded_behind number bytes ≡ Ok nothing_said)
 
 -- whether each line of the bytes is ended by LF
 abbrev pub IsEnded : List ℕ → Type 0
@@ -22,6 +23,7 @@ without_crs bytes = flat_map (λ line. without_cr line ++ 10 ∷ []) (physical_l
 pub record IsCut (number : ℕ) (bytes ahead : List ℕ) (next : ℕ) (rest : List ℕ) : Type 0 where
   pub text : bytes_ahead (physical_lines bytes) ≡ Some ahead
   pub goes_on : acts_from number true (physical_lines bytes) ≡ acts_from next false (physical_lines rest)
+  pub threads : threaded_behind number bytes ≡ threaded_of next rest
   pub ended : IsEnded ahead
   pub counted : next + length rest ≤ number + length bytes
   pub later : number ≤ next

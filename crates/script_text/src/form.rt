@@ -1,6 +1,7 @@
 //! What a line of a script is.
 ghost use Rattle.std.specs.Prelude.{◌≡◌, drop, option_map, IfOk};
 ghost use Rattle.script_text.specs.Script.{form_by, form_in, named_form, named_operator, operator_form, session_form};
+ghost use Rattle.script_text.specs.Threaded.{behind_word};
 
 use crate::act::Act;
 use crate::name::is_name;
@@ -29,6 +30,14 @@ pub(crate) fn form_of<'t>(
 {
     let (first, rest) = split_word(skip_blanks(line));
     form_by(words, first, behind_blank(rest))
+}
+
+/// What stands behind a line's first word and one blank.
+pub(crate) fn behind_word(line: &[u8]) -> &[u8]
+    ensures { result.now ≡ behind_word line.now }
+{
+    let (_, rest) = split_word(skip_blanks(line));
+    behind_blank(rest)
 }
 
 /// The bytes behind the blank that they begin with.

@@ -1,0 +1,17 @@
+use Rattle.std.proofs.Common.{◌≡◌, ◌+◌, ◌≤◌, length}
+use Rattle.line_text.specs.Lines.{physical_lines}
+use Rattle.script_text.specs.Names.{AreNamed}
+use Rattle.script_text.specs.Threaded.{threaded_from, threaded_of}
+use Rattle.script_text.specs.Threads.{heard_by}
+use Rattle.script_text.proofs.threaded.read_threaded.Given as goal
+
+-- what is heard so far and the lines that are left come to what the script does
+abbrev pub invariant-loop-rest : goal.invariant-loop-rest
+invariant-loop-rest l = record {
+  counted : l.number + length l.rest ≤ l.fn.number + length l.text;
+  same : threaded_from l.number (heard_by l.reader) (physical_lines l.rest) ≡ threaded_of l.fn.number l.text;
+  named : AreNamed l.reader.sessions;
+}
+
+abbrev pub decreases-loop-rest : goal.decreases-loop-rest
+decreases-loop-rest l = length l.rest

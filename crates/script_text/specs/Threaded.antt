@@ -1,0 +1,132 @@
+-- What a script says as threads run it: the operator's lines, and what each name's session says.
+use Rattle.std.specs.Prelude.{ℕ, ◌≡◌, ◌+◌, List, [], ◌∷◌, ◌++◌, length, map, Bool, true, false, ◌==◌, Option, Some, None, Result, Ok, Err, ⊤, if◌then◌else◌}
+use Rattle.std.specs.List.{after_first}
+use Rattle.std.specs.Str.{bytes_eq}
+use Rattle.line_text.specs.Lines.{physical_lines}
+use Rattle.line_text.specs.Words.{is_blank}
+use Rattle.sessions.specs.Items.{ends_text}
+use Rattle.script_text.specs.declared.act.Act.{Act}
+use Rattle.script_text.specs.declared.act.Act.TheVariants.{Operator, Session}
+use Rattle.script_text.specs.declared.form.Form.{Form}
+use Rattle.script_text.specs.declared.form.Form.TheVariants.{Skipped, Faulty, Asks, Begins}
+use Rattle.script_text.specs.declared.operator_line.OperatorLine.{OperatorLine}
+use Rattle.script_text.specs.declared.operator_line.OperatorLine.TheVariants.{Admit, Evict, List as ListAll, Owners, Step, Take, Put}
+use Rattle.script_text.specs.declared.script.ScriptError.{ScriptError}
+use Rattle.script_text.specs.declared.script.ScriptError.TheVariants.{NoMemory, Fault}
+use Rattle.script_text.specs.declared.inputs.SessionInput.{SessionInput}
+use Rattle.script_text.specs.declared.threaded.ThreadedScript.{ThreadedScript}
+use Rattle.script_text.specs.Script.{form_of, named_operator, without_blanks}
+
+-- what a name's session says
+pub record Said : Type 0 where
+  pub name : List ℕ
+  pub input : List ℕ
+
+-- the operator's lines before the first session's line, what each name's session says, in the order of their first lines, and the
+-- operator's other lines
+pub record Parts : Type 0 where
+  pub ahead : List (OperatorLine (List ℕ))
+  pub sessions : List Said
+  pub rest : List (OperatorLine (List ℕ))
+
+abbrev pub nothing_said : Parts
+nothing_said = record { ahead = []; sessions = []; rest = [] }
+
+-- a line of the operator more
+abbrev pub with_operator : Parts → OperatorLine (List ℕ) → Parts
+with_operator parts line =
+    if length parts.sessions == 0 then record parts { ahead = parts.ahead ++ line ∷ [] } else record parts { rest = parts.rest ++ line ∷ [] }
+
+-- bytes go to the end of what the name's session says; the first ones of a name open its session, the last
+abbrev pub with_input : List Said → List ℕ → List ℕ → List Said
+with_input [] name bytes = record { name = name; input = bytes } ∷ []
+with_input (s ∷ said) name bytes = if bytes_eq name s.name then record s { input = s.input ++ bytes } ∷ said else s ∷ with_input said name bytes
+
+abbrev pub with_said : Parts → List ℕ → List ℕ → Parts
+with_said parts name bytes = record parts { sessions = with_input parts.sessions name bytes }
+
+abbrev pub ended : List ℕ → List ℕ
+ended line = line ++ 10 ∷ []
+
+-- what stands behind a line's first word and one blank
+abbrev pub behind_word : List ℕ → List ℕ
+behind_word line = after_first is_blank (without_blanks line)
+
+-- a job that is taken, stepped or put by hand
+abbrev pub is_by_hand : OperatorLine (List ℕ) → Bool
+is_by_hand (Admit name width) = false
+is_by_hand (Evict name) = false
+is_by_hand ListAll = false
+is_by_hand Owners = false
+is_by_hand (Step name count) = true
+is_by_hand (Take name) = true
+is_by_hand (Put number) = true
+
+-- where the next line stands: in no text, in the one at the script's head, or in one of that name's session
+pub data Within : Type 0 where
+  Script : Within
+  Head : Within
+  Upload : List ℕ → Within
+
+-- what the lines so far say, and where the next one stands
+pub record Heard : Type 0 where
+  pub parts : Parts
+  pub within : Within
+
+abbrev pub heard : Parts → Within → Heard
+heard parts within = record { parts = parts; within = within }
+
+-- where the line behind one of a text stands
+abbrev pub behind_line : List ℕ → Within → Within
+behind_line line within = if ends_text line then Script else within
+
+-- a line that stands in no text; none where it is faulty
+abbrev pub hears_form : Parts → Form (List ℕ) → List ℕ → Option Heard
+hears_form parts Skipped line = Some (heard parts Script)
+hears_form parts Faulty line = None
+hears_form parts (Asks (Operator asked)) line = if is_by_hand asked then None else Some (heard (with_operator parts asked) Script)
+hears_form parts (Asks (Session name item)) line = Some (heard (with_said parts name (ended (behind_word line))) Script)
+hears_form parts (Begins name kind) line = Some (heard (with_said parts name (ended (behind_word line))) (Upload name))
+
+-- a line more; none where it is faulty
+abbrev pub hears_in : Within → Parts → List ℕ → Option Heard
+hears_in Script parts line = hears_form parts (form_of line) line
+hears_in Head parts line = Some (heard parts (behind_line line Head))
+hears_in (Upload name) parts line = Some (heard (with_said parts name (ended line)) (behind_line line (Upload name)))
+
+abbrev pub hears : Heard → List ℕ → Option Heard
+hears h line = hears_in h.within h.parts line
+
+-- what a script's lines say, or the number of the least faulty line
+abbrev pub Threaded : Type 0
+Threaded = Result Parts ℕ
+
+abbrev pub goes_on : ℕ → Option Heard → (Heard → Threaded) → Threaded
+goes_on number None rest = Err number
+goes_on number (Some h) rest = rest h
+
+-- what these lines say behind those that were heard, the first of them having that number
+abbrev pub threaded_from : ℕ → Heard → List (List ℕ) → Threaded
+threaded_from number h [] = Ok h.parts
+threaded_from number h (line ∷ lines) = goes_on number (hears h line) (λ next. threaded_from (number + 1) next lines)
+
+-- what a script says whose first line has that number
+abbrev pub threaded_of : ℕ → List ℕ → Threaded
+threaded_of number text = threaded_from number (heard nothing_said Script) (physical_lines text)
+
+-- and one that has a text at its head
+abbrev pub threaded_behind : ℕ → List ℕ → Threaded
+threaded_behind number text = threaded_from number (heard nothing_said Head) (physical_lines text)
+
+-- what a session says without where its name lies in memory
+abbrev pub said_by : SessionInput → Said
+said_by s = record { name = s.name.now; input = s.input.items }
+
+abbrev pub parts_of : ThreadedScript → Parts
+parts_of script = record { ahead = map named_operator script.ahead.items; sessions = map said_by script.sessions.items; rest = map named_operator script.rest.items }
+
+-- a reader of that script may answer this
+abbrev pub GivesThreaded : Threaded → Result ThreadedScript ScriptError → Type 0
+GivesThreaded meant (Ok script) = meant ≡ Ok (parts_of script)
+GivesThreaded meant (Err (Fault number)) = meant ≡ Err number
+GivesThreaded meant (Err NoMemory) = ⊤

@@ -1,0 +1,84 @@
+//! What the names' sessions say.
+ghost use Rattle.std.specs.Prelude.{◌≡◌, ◌++◌, ◌==◌, [], length, map, OnOk};
+ghost use Rattle.script_text.specs.Names.{AreNamed};
+ghost use Rattle.script_text.specs.Threaded.{ended, said_by, with_input};
+
+use indexmap::IndexSet;
+use std::alloc::{AllocError, Global};
+
+/// What a name's session says: its lines as they stand behind the name and one blank, and those of its texts, each ended by LF.
+#[derive(Drop)]
+pub struct SessionInput<'t> {
+    pub name: &'t [u8],
+    pub input: Vec<u8>,
+}
+
+/// What each name's session says, in the order of their first lines.
+#[derive(Drop)]
+pub(crate) struct Sessions<'t> {
+    alloc: Global,
+    names: IndexSet<&'t [u8]>,
+    said: Vec<SessionInput<'t>>,
+}
+
+impl<'t> Sessions<'t> {
+    pub(crate) fn new(alloc: Global) -> Self
+        ensures said { result.said.items ≡ [] }
+        ensures named { AreNamed result }
+    {
+        Sessions {
+            alloc,
+            names: IndexSet::new(alloc),
+            said: Vec::new(alloc),
+        }
+    }
+
+    /// Whether no session says anything.
+    pub(crate) fn is_empty(&self) -> bool
+        ensures { result ≡ (length self.now.said.items == 0) }
+    {
+        self.said.is_empty()
+    }
+
+    /// Appends a line, ended by LF, to what the name's session says.
+    pub(crate) fn add(&mut self, name: &'t [u8], line: &[u8]) -> Result<(), AllocError>
+        requires { AreNamed self.old }
+        ensures said { OnOk result (map said_by self.new.said.items ≡ with_input (map said_by self.old.said.items) name.now (ended line.now)) }
+        ensures named { OnOk result (AreNamed self.new) }
+    {
+        let (number, _) = self.names.insert_full(name)?;
+        if number < self.said.len() {
+            return append(&mut self.said[number], line);
+        }
+        let mut first = SessionInput {
+            name,
+            input: Vec::new(self.alloc),
+        };
+        append(&mut first, line)?;
+        self.said.push(first)?;
+        Ok(())
+    }
+
+    /// All of them.
+    pub(crate) fn into_said(self) -> Vec<SessionInput<'t>>
+        ensures { result.items ≡ self.entry.said.items }
+    {
+        let Sessions {
+            alloc: _,
+            names,
+            said,
+        } = self;
+        drop(names);
+        said
+    }
+}
+
+/// Appends a line, ended by LF, to what a session says.
+fn append(said: &mut SessionInput<'_>, line: &[u8]) -> Result<(), AllocError>
+    ensures name { said.new.name ≡ said.old.name }
+    ensures input { OnOk result (said.new.input.items ≡ said.old.input.items ++ ended line.now) }
+{
+    said.input.extend_from_slice(line)?;
+    said.input.push(b'\n')?;
+    Ok(())
+}

@@ -1,0 +1,4 @@
+pub mod Lines
+pub mod Parts
+pub mod Served
+pub mod Sessions

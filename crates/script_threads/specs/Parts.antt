@@ -1,0 +1,48 @@
+-- Private: sessions that are seated, started and have ended.
+use Rattle.std.specs.Prelude.{ℕ, ◌≡◌, List, [], ◌∷◌, ◌++◌, map, All, Option, Some, None, true, ⊤}
+use Rattle.service_core.specs.Headline.{AreParted}
+use Rattle.service_core.specs.Service.{AreAlone, ServiceState}
+use Rattle.shared_core.specs.CoreState.{CoreState, LeaseState, ShareState}
+use Rattle.settling.specs.Settling.{IsSettled}
+use Rattle.transcripts.specs.Transcripts.{TranscriptState}
+use Rattle.script_text.specs.Threaded.{Said}
+use Rattle.script_threads.specs.declared.crowd.Started.{Started}
+use Rattle.script_threads.specs.declared.crowd.Started.TheVariants.{Answered, Runs}
+use Rattle.script_threads.specs.Served.{Told, told_in}
+use Rattle.script_threads.specs.Sessions.{Asked, PartState, IsTold, asked_in, transcripts_of}
+
+-- the lease of a session that is seated is its tenancy's, and has made no entry
+abbrev pub HasLease : ℕ → Option LeaseState → Type 0
+HasLease id None = ⊤
+HasLease id (Some lease) = (lease.id ≡ id) × (lease.made ≡ 0)
+
+-- a session of that id
+abbrev pub asked_by : Said → ℕ → Asked
+asked_by said id = record { name = said.name; input = said.input; id = id; live = true }
+
+-- what a session asked that was answered, or that runs
+abbrev pub started_by : Started → Asked
+started_by (Answered part) = asked_in part
+started_by (Runs thread) = thread.promise.0.value
+
+-- the parts' texts, and the transcripts of those that ran
+pub record AreParts (parts : List PartState) (sections : List Told) (transcripts : List TranscriptState) : Type 0 where
+  pub each : All IsTold parts
+  pub sections_are : sections ≡ map told_in parts
+  pub transcripts_are : transcripts ≡ transcripts_of parts
+
+-- a part more
+pub record Adds (part : PartState) (sections : List Told) (transcripts : List TranscriptState) (new_sections : List Told) (new_transcripts : List TranscriptState) : Type 0 where
+  pub told : IsTold part
+  pub sections_are : new_sections ≡ sections ++ told_in part ∷ []
+  pub transcripts_are : new_transcripts ≡ transcripts ++ transcripts_of (part ∷ [])
+
+-- the parts are told and settled
+pub record Finishes (parts : List PartState) (core : CoreState) (sections : List Told) (service : ServiceState) : Type 0 where
+  pub each : All IsTold parts
+  pub sections_are : sections ≡ map told_in parts
+  pub shares : List ShareState
+  pub settled : IsSettled core (transcripts_of parts) shares
+  pub service_is : core.service ≡ service
+  pub alone : AreAlone service
+  pub parted : AreParted service.device service

@@ -1,0 +1,76 @@
+-- What each name's session is told.
+use Rattle.std.specs.Prelude.{ℕ, ◌≡◌, List, [], map, Bool, true, Option, Some, None, is_some}
+use Rattle.std.specs.List.{filter_map, flat_map}
+use Rattle.service_core.specs.History.{History}
+use Rattle.service_core.specs.Service.{live_of}
+use Rattle.sessions.specs.declared.line.SessionLine.{SessionLine}
+use Rattle.sessions.specs.declared.line.SessionLine.TheVariants.{Blank, Command, Wait, Refused}
+use Rattle.sessions.specs.declared.refusal.SessionRefusal.{SessionRefusal}
+use Rattle.sessions.specs.declared.refusal.SessionRefusal.TheVariants.{Evicted}
+use Rattle.sessions.specs.Items.{items_of}
+use Rattle.sessions.specs.SessionText.{session_refusal_text}
+use Rattle.session_threads.specs.Outcomes.{found_memory}
+use Rattle.session_threads.specs.Told.{AreTold, noted_all, told_texts}
+use Rattle.session_threads.specs.WholeSession.{fresh}
+use Rattle.transcripts.specs.declared.item.End.TheVariants.{Ended}
+use Rattle.transcripts.specs.declared.item.Place.{Place}
+use Rattle.transcripts.specs.Transcripts.{TranscriptState}
+use Rattle.script_text.specs.Threaded.{Said}
+use Rattle.operator.specs.OperatorText.{last_id}
+
+-- what a name's session says, the name's last tenancy, and whether that is live
+pub record Asked : Type 0 where
+  pub name : List ℕ
+  pub input : List ℕ
+  pub id : ℕ
+  pub live : Bool
+
+abbrev pub asked_of : List (List ℕ) → List History → Said → Asked
+asked_of names histories said = record {
+  name = said.name;
+  input = said.input;
+  id = last_id names said.name;
+  live = is_some (live_of histories (last_id names said.name));
+}
+
+-- what a name's session is told, and the transcript of one that ran
+pub record PartState : Type 0 where
+  pub name : List ℕ
+  pub input : List ℕ
+  pub id : ℕ
+  pub text : List ℕ
+  pub transcript : Option TranscriptState
+
+-- just the sessions of live tenancies ran
+abbrev pub asked_in : PartState → Asked
+asked_in part = record { name = part.name; input = part.input; id = part.id; live = is_some part.transcript }
+
+-- the core isn't asked what a name asks that isn't live
+abbrev pub evicted_refusal : SessionLine → SessionRefusal
+evicted_refusal Blank = Evicted
+evicted_refusal (Command command) = Evicted
+evicted_refusal Wait = Evicted
+evicted_refusal (Refused refusal) = refusal
+
+-- each item of such a session is told its own refusal, or that the tenancy is evicted
+abbrev pub evicted_text : List ℕ → List ℕ
+evicted_text input = flat_map (λ item. session_refusal_text (evicted_refusal item)) (items_of input)
+
+-- the session came to its input's end: each item is told what stands in the transcript, in order, and nothing else is written; that these
+-- are the input's items is said where none found no memory
+pub record IsWhole (id : ℕ) (input text : List ℕ) (t : TranscriptState) : Type 0 where
+  pub told : List (Option Place)
+  pub noted : t ≡ record (noted_all (fresh id) told) { end = Some Ended }
+  pub written : text ≡ told_texts told
+  pub asked : found_memory told ≡ true → AreTold id (items_of input) told
+
+abbrev pub IsToldBy : Option TranscriptState → PartState → Type 0
+IsToldBy None part = part.text ≡ evicted_text part.input
+IsToldBy (Some t) part = IsWhole part.id part.input part.text t
+
+abbrev pub IsTold : PartState → Type 0
+IsTold part = IsToldBy part.transcript part
+
+-- the transcripts of those that ran
+abbrev pub transcripts_of : List PartState → List TranscriptState
+transcripts_of parts = filter_map (λ p. p.transcript) parts

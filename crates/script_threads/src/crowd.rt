@@ -1,0 +1,225 @@
+//! Sessions and workers on threads.
+
+ghost use Rattle.std.specs.Prelude.{◌≡◌, ◌++◌, All, IfSome, IsTrue, [], map};
+ghost use Rattle.job_queue.specs.Balance.{log};
+ghost use Rattle.script_text.specs.Threaded.{said_by};
+ghost use Rattle.script_threads.specs.Parts.{asked_by, started_by};
+ghost use Rattle.script_threads.specs.Sessions.{asked_in};
+
+use crate::part::{Part, evicted_part, run_part};
+use crate::seated::Seated;
+use job_queue::{Pass, Ready, Seat};
+use shared_core::Share;
+use std::alloc::AllocGlobal;
+use std::snapshot::Snapshot;
+use std::sync::Wait;
+use std::sync::ledger::Ledger;
+use std::thread;
+use std::thread::{JoinHandle, Promise, PromisedHandle, Scope, Threads};
+use worker_pool::{Open, Shared, run_worker};
+
+/// A worker's thread.
+type Worker<P> = JoinHandle<Share<P>>;
+
+/// A session that was answered at once, or runs on a thread of its own.
+#[derive(Drop)]
+enum Started<'t, C: Ledger> {
+    Answered(Part<'t, C>),
+    Runs(PromisedHandle<Option<Part<'t, C>>, Kept<'t, C>>),
+}
+
+/// A thread's promise: the part that it gives is that session's.
+#[derive(Drop)]
+struct Kept<'t, C: Ledger>(Snapshot<Seated<'t, C>>);
+
+impl<'t, C: Ledger> Promise<Option<Part<'t, C>>> for Kept<'t, C> {
+    ghost use Rattle.std.specs.Prelude.{◌≡◌, IfSome};
+    ghost use Rattle.script_threads.specs.Sessions.{asked_in};
+
+    ghost kept_by = { λ p r. IfSome r (λ part. asked_in part ≡ p.0.value) };
+}
+
+/// Runs the sessions of live tenancies, each on a thread of its own, beside the workers, and answers the others at once. When all
+/// sessions have ended the queue is closed, and the workers end. None where memory lacked, or a thread couldn't be started: the
+/// sessions that were started have run to their end then too.
+pub(crate) fn run_crowd<
+    't,
+    C: Ledger + Send + Sync,
+    P: Ledger + Send + Sync,
+    R: Threads + Wait + AllocGlobal + Sync,
+>(
+    rt: &R,
+    shared: &Shared<C, P>,
+    ready: &Ready,
+    benches: (Vec<Seat>, Vec<Share<P>>),
+    sessions: (Vec<Pass>, Vec<Seated<'t, C>>),
+) -> Option<(Vec<Part<'t, C>>, Vec<Share<P>>)>
+    requires seats { All (λ s. s ≡ record { of = ready.now; log = log [] [] }) benches.0.items }
+    requires passes { All (λ p. p ≡ record { of = ready.now; log = log [] [] }) sessions.0.items }
+    ensures { IfSome result (λ ended. map asked_in ended.0.items ≡ sessions.1.items) }
+{
+    let (seats, shares) = benches;
+    let (passes, seated) = sessions;
+    let mut workers = Vec::with_capacity(rt.alloc(), shares.len()).ok()?;
+    let mut started = Vec::with_capacity(rt.alloc(), seated.len()).ok()?;
+    let mut parts = Vec::with_capacity(rt.alloc(), seated.len()).ok()?;
+    let mut ended = Vec::with_capacity(rt.alloc(), shares.len()).ok()?;
+    thread::scope(
+        thread::scope_env(),
+        rt,
+        move |scope| -> Option<(Vec<Part<C>>, Vec<Share<P>>)>
+            requires seats { All (λ s. s ≡ record { of = ready.now; log = log [] [] }) seats.items }
+            requires passes { All (λ p. p ≡ record { of = ready.now; log = log [] [] }) passes.items }
+            requires started { started.items ≡ [] }
+            requires parts { parts.items ≡ [] }
+            ensures { IfSome result (λ ended. map asked_in ended.0.items ≡ seated.items) }
+        {
+            let are_working = start_workers(rt, scope, shared, ready, seats, shares, &mut workers);
+            let are_seated = are_working
+                && start_sessions(rt, scope, shared, ready, passes, seated, &mut started);
+            let have_ended = join_sessions(rt, started, &mut parts);
+            ready.close();
+            join_workers(rt, workers, &mut ended);
+            (are_seated && have_ended).then_some((parts, ended))
+        },
+    )
+}
+
+/// Starts the workers. Tells whether all were started.
+fn start_workers<
+    's,
+    E,
+    C: Ledger + Send + Sync + 's,
+    P: Ledger + Send + Sync + 's,
+    R: Wait + Sync + 's,
+>(
+    rt: &'s R,
+    scope: &Scope<'s, E>,
+    shared: &'s Shared<C, P>,
+    ready: &'s Ready,
+    seats: Vec<Seat>,
+    shares: Vec<Share<P>>,
+    started: &mut Vec<Worker<P>>,
+) -> bool
+    requires { All (λ s. s ≡ record { of = ready.now; log = log [] [] }) seats.items }
+{
+    let mut seats = seats;
+    for share in shares {
+        let Some(seat) = seats.pop() else {
+            return false;
+        };
+        let Ok(worker) = scope.spawn(move || run_worker(rt, shared, ready, seat, share, &Open))
+        else {
+            return false;
+        };
+        if started.push(worker).is_err() {
+            return false;
+        }
+    }
+    true
+}
+
+/// Starts the sessions, and answers those of names that aren't live. Tells whether all were started or answered.
+fn start_sessions<
+    's,
+    't: 's,
+    E,
+    C: Ledger + Send + Sync + 's,
+    P: Ledger + Send + Sync + 's,
+    R: Wait + AllocGlobal + Sync + 's,
+>(
+    rt: &'s R,
+    scope: &Scope<'s, E>,
+    shared: &'s Shared<C, P>,
+    ready: &'s Ready,
+    passes: Vec<Pass>,
+    seated: Vec<Seated<'t, C>>,
+    started: &mut Vec<Started<'t, C>>,
+) -> bool
+    requires { All (λ p. p ≡ record { of = ready.now; log = log [] [] }) passes.items }
+    ensures { IsTrue result → map started_by started.new.items ≡ map started_by started.old.items ++ seated.items }
+{
+    let mut passes = passes;
+    for seat in seated {
+        let Some(pass) = passes.pop() else {
+            return false;
+        };
+        let Some(session) = start_session(rt, scope, shared, ready, pass, seat) else {
+            return false;
+        };
+        if started.push(session).is_err() {
+            return false;
+        }
+    }
+    true
+}
+
+/// Starts a session, or answers it where its name isn't live.
+fn start_session<
+    's,
+    't: 's,
+    E,
+    C: Ledger + Send + Sync + 's,
+    P: Ledger + Send + Sync + 's,
+    R: Wait + AllocGlobal + Sync + 's,
+>(
+    rt: &'s R,
+    scope: &Scope<'s, E>,
+    shared: &'s Shared<C, P>,
+    ready: &'s Ready,
+    pass: Pass,
+    seat: Seated<'t, C>,
+) -> Option<Started<'t, C>>
+    requires { pass.of ≡ ready.now }
+    ensures { IfSome result (λ started. started_by started ≡ seat) }
+{
+    let kept = Kept(Snapshot::of(&seat));
+    let Seated { said, id, lease } = seat;
+    match lease {
+        Some(lease) => {
+            let run = move || -> Option<Part<C>>
+                requires of { pass.of ≡ ready.now }
+                requires new { lease.made ≡ 0 }
+                ensures { IfSome result (λ part. asked_in part ≡ asked_by (said_by said) lease.id) }
+            { run_part(rt, shared, ready, pass, said, lease) };
+            Some(Started::Runs(scope.spawn_with(kept, run).ok()?))
+        }
+        None => Some(Started::Answered(evicted_part(rt.alloc(), said, id).ok()?)),
+    }
+}
+
+/// Waits for the sessions. Tells whether each gave its part.
+fn join_sessions<'t, C: Ledger, R: Threads>(
+    rt: &R,
+    started: Vec<Started<'t, C>>,
+    parts: &mut Vec<Part<'t, C>>,
+) -> bool
+    ensures { IsTrue result → map asked_in parts.new.items ≡ map asked_in parts.old.items ++ map started_by started.items }
+{
+    let mut are_whole = true;
+    for session in started {
+        let part = match session {
+            Started::Answered(part) => Some(part),
+            Started::Runs(thread) => thread.join(rt),
+        };
+        are_whole = match part {
+            Some(part) => parts.push(part).is_ok() && are_whole,
+            None => false,
+        };
+    }
+    are_whole
+}
+
+/// Waits for the workers.
+fn join_workers<P: Ledger, R: Threads>(
+    rt: &R,
+    workers: Vec<Worker<P>>,
+    shares: &mut Vec<Share<P>>,
+) {
+    for worker in workers {
+        let share = worker.join(rt);
+        if let Err(failed) = shares.push(share) {
+            drop(failed);
+        }
+    }
+}

@@ -1,0 +1,87 @@
+//! What the sessions were told, once they and the workers have ended.
+ghost use Rattle.std.specs.Prelude.{◌≡◌, ◌++◌, ◌∷◌, [], map, All, IfErr, IfOk, OnOk};
+ghost use Rattle.script_threads.specs.Parts.{Adds, AreParts, Finishes};
+ghost use Rattle.script_threads.specs.Served.{IsUnserved, section_told};
+
+use crate::answered::{Section, Unserved};
+use crate::part::Part;
+use script_text::SessionInput;
+use service_core::Service;
+use settling::settle;
+use shared_core::{Core, Share};
+use std::alloc::{AllocError, Global};
+use std::sync::ledger::Ledger;
+use transcripts::Transcript;
+
+/// What each name's session was told, and the transcripts of those that ran.
+#[derive(Drop)]
+struct Parted<'t, C: Ledger> {
+    sections: Vec<Section<'t>>,
+    transcripts: Vec<Transcript<C>>,
+}
+
+/// Settles what the sessions that ran were told. Gives the service, and what each name's session was told.
+pub(crate) fn finish<'t, C: Ledger, P: Ledger>(
+    alloc: Global,
+    core: Core<C, P>,
+    parts: Vec<Part<'t, C>>,
+    shares: Vec<Share<P>>,
+) -> Result<(Service, Vec<Section<'t>>), Unserved>
+    ensures ok { IfOk result (λ r. Finishes parts.items core (map section_told r.1.items) r.0) }
+    ensures unserved { IfErr result IsUnserved }
+{
+    let Parted {
+        sections,
+        transcripts,
+    } = part_all(alloc, parts)?;
+    match settle(core, transcripts, shares) {
+        Ok(settled) => {
+            let service = settled.into_service();
+            let _parted = service.offset(0);
+            Ok((service, sections))
+        }
+        Err(not_settled) => {
+            let cause = not_settled.cause;
+            drop(not_settled);
+            Err(Unserved::NotSettled(cause))
+        }
+    }
+}
+
+/// Parts what was told from the transcripts.
+fn part_all<'t, C: Ledger>(
+    alloc: Global,
+    parts: Vec<Part<'t, C>>,
+) -> Result<Parted<'t, C>, AllocError>
+    ensures { IfOk result (λ parted. AreParts parts.items (map section_told parted.sections.items) parted.transcripts.items) }
+{
+    let mut parted = Parted {
+        sections: Vec::with_capacity(alloc, parts.len())?,
+        transcripts: Vec::with_capacity(alloc, parts.len())?,
+    };
+    for part in parts {
+        parted.add(part)?;
+    }
+    Ok(parted)
+}
+
+impl<'t, C: Ledger> Parted<'t, C> {
+    /// Adds what a session was told, and its transcript, if it ran.
+    fn add(&mut self, part: Part<'t, C>) -> Result<(), AllocError>
+        ensures { OnOk result (Adds part (map section_told self.old.sections.items) self.old.transcripts.items (map section_told self.new.sections.items) self.new.transcripts.items) }
+    {
+        let Part {
+            said,
+            id: _,
+            text,
+            transcript,
+        } = part;
+        let SessionInput { name, input } = said;
+        drop(input);
+        self.sections.push(Section { name, text })?;
+        if let Some(transcript) = transcript {
+            self.transcripts.push(transcript)?;
+        }
+        Ok(())
+    }
+}

@@ -1,0 +1,45 @@
+//! Lines of the operator, one after another.
+ghost use Rattle.std.specs.Prelude.{◌≡◌, length, map, OnOk};
+ghost use Rattle.operator.specs.Held.{held};
+ghost use Rattle.script_text.specs.Script.{named_operator};
+ghost use Rattle.script_threads.specs.Lines.{Replies, RepliesEach, stage};
+
+use line_text::MemorySink;
+use operator::{HeldJobs, Operator};
+use script_text::OperatorLine;
+use service_core::Service;
+use std::alloc::{AllocError, Global};
+
+/// Serves lines of the operator, one after another, and appends what they are told. Jobs that are held at their end are given back.
+pub(crate) fn serve_lines<'t>(
+    alloc: Global,
+    operator: &mut Operator<'t>,
+    core: &mut Service,
+    lines: Vec<OperatorLine<&'t [u8]>>,
+    reply: &mut MemorySink,
+) -> Result<(), AllocError>
+    requires { length operator.old ≡ length core.old.histories }
+    ensures { OnOk result (Replies operator.old core.old (map named_operator lines.items) (held reply.old) (held reply.new) operator.new core.new) }
+{
+    let mut jobs = HeldJobs::new(alloc);
+    let served = serve_each(operator, core, &mut jobs, lines, reply);
+    jobs.give_back(core);
+    served
+}
+
+/// Serves each of the lines.
+fn serve_each<'t>(
+    operator: &mut Operator<'t>,
+    core: &mut Service,
+    jobs: &mut HeldJobs,
+    lines: Vec<OperatorLine<&'t [u8]>>,
+    reply: &mut MemorySink,
+) -> Result<(), AllocError>
+    requires { length operator.old ≡ length core.old.histories }
+    ensures { OnOk result (RepliesEach (stage operator.old jobs.old core.old) (map named_operator lines.items) (held reply.old) (held reply.new) (stage operator.new jobs.new core.new)) }
+{
+    for line in lines {
+        operator.serve(core, jobs, line, reply)?;
+    }
+    Ok(())
+}

@@ -1,0 +1,109 @@
+//! What one name's session is told.
+ghost use Rattle.std.specs.Prelude.{◌≡◌, false, IfOk, IfSome};
+ghost use Rattle.script_text.specs.Threaded.{said_by};
+ghost use Rattle.script_threads.specs.Parts.{asked_by};
+ghost use Rattle.script_threads.specs.Sessions.{asked_in, evicted_refusal, evicted_text};
+
+use job_queue::{Pass, Ready};
+use line_text::{MemorySink, MemorySource};
+use script_text::SessionInput;
+use session_threads::run_session;
+use sessions::{SessionLine, SessionRefusal, read_items, write_session_refusal};
+use shared_core::Lease;
+use std::alloc::{AllocError, AllocGlobal, Global};
+use std::marker::Model;
+use std::sync::Wait;
+use std::sync::ledger::Ledger;
+use transcripts::{End, Transcript};
+use worker_pool::Shared;
+
+/// What a name's session was told, and the transcript of one that ran.
+#[derive(Drop)]
+pub(crate) struct Part<'t, C: Ledger> {
+    pub(crate) said: SessionInput<'t>,
+    pub(crate) id: u32,
+    pub(crate) text: Vec<u8>,
+    pub(crate) transcript: Option<Transcript<C>>,
+}
+
+impl<'t, C: Ledger> Model for Part<'t, C> {
+    ghost use Rattle.script_threads.specs.Sessions.{IsTold, PartState};
+
+    ghost Value = { PartState };
+
+    ghost view = { λ p. record { name = p.said.name.now; input = p.said.input.items; id = p.id; text = p.text.items; transcript = p.transcript } };
+
+    ghost invariant = { λ p. IsTold (record { name = p.said.name.now; input = p.said.input.items; id = p.id; text = p.text.items; transcript = p.transcript }) };
+}
+
+/// The session of a live tenancy, from its begin to its end. None where memory lacked for its text.
+pub(crate) fn run_part<'t, C: Ledger, P: Ledger, R: Wait + AllocGlobal>(
+    rt: &R,
+    shared: &Shared<C, P>,
+    ready: &Ready,
+    pass: Pass,
+    said: SessionInput<'t>,
+    lease: Lease<C>,
+) -> Option<Part<'t, C>>
+    requires of { pass.of ≡ ready.now }
+    requires new { lease.made ≡ 0 }
+    ensures { IfSome result (λ part. asked_in part ≡ asked_by (said_by said) lease.id) }
+{
+    let id = lease.id();
+    let mut reader = MemorySource::new(said.input.as_slice());
+    let mut writer = MemorySink::new(rt.alloc());
+    let transcript = run_session(rt, shared, ready, pass, lease, &mut reader, &mut writer);
+    if transcript.end() != Some(End::Ended) {
+        return None;
+    }
+    let text = writer.into_bytes();
+    Some(Part {
+        said,
+        id,
+        text,
+        transcript: Some(transcript),
+    })
+}
+
+/// The session of a name that isn't live: each item is told its own refusal, or that the tenancy is evicted.
+pub(crate) fn evicted_part<'t, C: Ledger>(
+    alloc: Global,
+    said: SessionInput<'t>,
+    id: u32,
+) -> Result<Part<'t, C>, AllocError>
+    ensures { IfOk result (λ part. asked_in part ≡ record (asked_by (said_by said) id) { live = false }) }
+{
+    let text = evicted_text(alloc, said.input.as_slice())?;
+    Ok(Part {
+        said,
+        id,
+        text,
+        transcript: None,
+    })
+}
+
+/// What the items of an input are told where the tenancy isn't live.
+fn evicted_text(alloc: Global, input: &[u8]) -> Result<Vec<u8>, AllocError>
+    ensures { IfOk result (λ text. text.items ≡ evicted_text input.now) }
+{
+    let mut text = MemorySink::new(alloc);
+    for item in read_items(alloc, input)? {
+        if write_session_refusal(&mut text, refusal_of(item)).is_err() {
+            return Err(AllocError);
+        }
+    }
+    Ok(text.into_bytes())
+}
+
+/// Why an item isn't served where the tenancy isn't live.
+fn refusal_of(item: SessionLine) -> SessionRefusal
+    ensures { result ≡ evicted_refusal item }
+{
+    match item {
+        SessionLine::Refused(refusal) => refusal,
+        item => {
+            drop(item);
+            SessionRefusal::Evicted
+        }
+    }
+}

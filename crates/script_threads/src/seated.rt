@@ -1,0 +1,104 @@
+//! Sessions, each with its tenancy's lease where that is live.
+ghost use Rattle.std.specs.Prelude.{◌≡◌, map, IfErr, IfOk};
+ghost use Rattle.script_text.specs.Threaded.{said_by};
+ghost use Rattle.script_threads.specs.Served.{IsUnserved};
+ghost use Rattle.script_threads.specs.Sessions.{asked_of};
+
+use crate::answered::Unserved;
+use operator::Operator;
+use script_text::SessionInput;
+use settling::Cause;
+use shared_core::{Core, Lease, Share};
+use std::alloc::Global;
+use std::marker::Model;
+use std::sync::ledger::Ledger;
+
+/// What a name's session says, the last tenancy of the name, and its lease, if it is live.
+#[derive(Drop)]
+pub(crate) struct Seated<'t, C: Ledger> {
+    pub(crate) said: SessionInput<'t>,
+    pub(crate) id: u32,
+    pub(crate) lease: Option<Lease<C>>,
+}
+
+impl<'t, C: Ledger> Model for Seated<'t, C> {
+    ghost use Rattle.std.specs.Prelude.{is_some};
+    ghost use Rattle.script_threads.specs.Parts.{HasLease};
+    ghost use Rattle.script_threads.specs.Sessions.{Asked};
+
+    ghost Value = { Asked };
+
+    ghost view = { λ s. record { name = s.said.name.now; input = s.said.input.items; id = s.id; live = is_some s.lease } };
+
+    ghost invariant = { λ s. HasLease s.id s.lease };
+}
+
+/// Seats each name's session.
+pub(crate) fn seat_all<'t, C: Ledger, P: Ledger>(
+    alloc: Global,
+    operator: &Operator<'t>,
+    core: &mut Core<C, P>,
+    sessions: Vec<SessionInput<'t>>,
+) -> Result<Vec<Seated<'t, C>>, Unserved>
+    ensures service { core.new.service ≡ core.old.service }
+    ensures seats { IfOk result (λ seats. seats.items ≡ map (asked_of operator.now core.old.service.histories) (map said_by sessions.items)) }
+    ensures unserved { IfErr result IsUnserved }
+{
+    let mut seats = Vec::new(alloc);
+    for said in sessions {
+        let seated = seat(operator, core, said)?;
+        if seats.push(seated).is_err() {
+            return Err(Unserved::NoMemory);
+        }
+    }
+    Ok(seats)
+}
+
+/// Seats a name's session.
+fn seat<'t, C: Ledger, P: Ledger>(
+    operator: &Operator<'t>,
+    core: &mut Core<C, P>,
+    said: SessionInput<'t>,
+) -> Result<Seated<'t, C>, Unserved>
+    ensures service { core.new.service ≡ core.old.service }
+    ensures seat { IfOk result (λ seat. seat ≡ asked_of operator.now core.old.service.histories (said_by said)) }
+    ensures unserved { IfErr result IsUnserved }
+{
+    let id = operator.last_id(said.name);
+    if core.state(id).is_none() {
+        return Ok(Seated {
+            said,
+            id,
+            lease: None,
+        });
+    }
+    match core.lease(id) {
+        Some(lease) => Ok(Seated {
+            said,
+            id,
+            lease: Some(lease),
+        }),
+        None => Err(Unserved::NotSettled(Cause::Missing)),
+    }
+}
+
+/// A share for each worker.
+pub(crate) fn shares<C: Ledger, P: Ledger>(
+    alloc: Global,
+    core: &mut Core<C, P>,
+    workers: u32,
+) -> Result<Vec<Share<P>>, Unserved>
+    ensures service { core.new.service ≡ core.old.service }
+    ensures unserved { IfErr result IsUnserved }
+{
+    let mut shares = Vec::new(alloc);
+    for _worker in 0..workers {
+        let Some(share) = core.share() else {
+            return Err(Unserved::NotSettled(Cause::Missing));
+        };
+        if shares.push(share).is_err() {
+            return Err(Unserved::NoMemory);
+        }
+    }
+    Ok(shares)
+}
