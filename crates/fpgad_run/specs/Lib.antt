@@ -4,6 +4,7 @@ pub mod Ends
 pub mod Inputs
 pub mod Limits
 pub mod Names
+pub mod OnThreads
 pub mod Outcomes
 pub mod Program
 pub mod Run

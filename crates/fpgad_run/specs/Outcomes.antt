@@ -6,6 +6,8 @@ use Rattle.line_text.specs.declared.text_error.TextError.{TextError}
 use Rattle.line_text.specs.declared.text_error.TextError.TheVariants.{Fault as ArchFaulty, NoMemory as NoArchMemory}
 use Rattle.script_text.specs.declared.script.ScriptError.{ScriptError}
 use Rattle.script_text.specs.declared.script.ScriptError.TheVariants.{Fault as ScriptFaulty, NoMemory as NoScriptMemory}
+use Rattle.script_threads.specs.declared.answered.Unserved.{Unserved}
+use Rattle.script_threads.specs.declared.answered.Unserved.TheVariants.{NoMemory as UnservedMemory, NotSettled as Unsettled}
 use Rattle.fpgad_run.specs.declared.outcome.Outcome.{Outcome}
 use Rattle.fpgad_run.specs.declared.outcome.Outcome.TheVariants.{Done, ArchUnreadable, ArchRefused, InputFailed, OutputFailed, ScriptFault, NoMemory, NotSettled}
 
@@ -29,7 +31,7 @@ message_of (ScriptFault line) = codes "script: line " ++ decimal line
 message_of NoMemory = codes "memory"
 message_of NotSettled = codes "settle"
 
--- how a run ends that has no architecture, or no script
+-- how a run ends that has no architecture, no script, or no answers
 abbrev pub refused_arch : TextError ArchFault → Outcome
 refused_arch (ArchFaulty fault) = ArchRefused fault
 refused_arch NoArchMemory = NoMemory
@@ -37,3 +39,7 @@ refused_arch NoArchMemory = NoMemory
 abbrev pub refused_script : ScriptError → Outcome
 refused_script (ScriptFaulty line) = ScriptFault line
 refused_script NoScriptMemory = NoMemory
+
+abbrev pub unserved : Unserved → Outcome
+unserved UnservedMemory = NoMemory
+unserved (Unsettled cause) = NotSettled

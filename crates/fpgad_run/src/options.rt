@@ -98,7 +98,9 @@ fn command<'a>(alloc: Global) -> Result<Command<'a>, AllocError> {
         "Columns of the device, 1 to 256",
     );
     let rows = number(alloc, "rows", "NY", "1", 1, 64).help("Rows of the device, 1 to 64");
-    let workers = number(alloc, "workers", "K", "0", 0, 0).help("Threads that work, 0");
+    let workers = number(alloc, "workers", "K", "0", 0, 16).help(
+        "Threads that make the jobs' steps, 0 to 16",
+    );
     let command = Command::new(alloc, "fpgad")
         .about(ABOUT)
         .after_help(EXAMPLE);

@@ -3,6 +3,7 @@ ghost use Rattle.fpgad_run.specs.Outcomes.{status_of};
 
 use arch_file::{ArchError, ArchFault};
 use script_text::ScriptError;
+use script_threads::Unserved;
 use std::alloc::AllocError;
 use std::fmt;
 
@@ -100,6 +101,21 @@ impl From<ScriptError> for Outcome {
         match error {
             ScriptError::Fault(line) => Outcome::ScriptFault(line),
             ScriptError::NoMemory => Outcome::NoMemory,
+        }
+    }
+}
+
+/// Why a script isn't served on threads.
+impl From<Unserved> for Outcome {
+    ghost use Rattle.std.specs.Prelude.{◌≡◌};
+    ghost use Rattle.fpgad_run.specs.Outcomes.{unserved};
+
+    ghost from_gives = { λ error outcome. outcome ≡ unserved error };
+
+    fn from(error: Unserved) -> Self {
+        match error {
+            Unserved::NoMemory => Outcome::NoMemory,
+            Unserved::NotSettled(_) => Outcome::NotSettled,
         }
     }
 }

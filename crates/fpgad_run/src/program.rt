@@ -1,14 +1,17 @@
 //! The program over a reader and a writer.
-ghost use Rattle.std.specs.Prelude.{◌≡◌, true, IfSome};
-ghost use Rattle.fpgad_run.specs.Program.{Decides, Writes, start_of};
+ghost use Rattle.std.specs.Prelude.{◌≡◌, ◌≤◌, true, IfSome};
+ghost use Rattle.fpgad_run.specs.Commands.{RunsInOrder, RunsOnThreads};
 ghost use Rattle.fpgad_run.specs.Ends.{EndsWith, IsInput};
+ghost use Rattle.fpgad_run.specs.Program.{Decides, Writes, start_of};
 
-use crate::in_order;
 use crate::inputs::Architecture;
 use crate::options::Options;
 use crate::outcome::Outcome;
+use crate::{in_order, on_threads};
 use line_text::{ReadError, Sink, Source, read_all, write_all};
-use std::alloc::Global;
+use std::alloc::{AllocGlobal, Global};
+use std::sync::Wait;
+use std::thread::Threads;
 
 /// Runs a script: reads it whole, checks it whole, serves it in order, and writes the replies. Without memory for
 /// the program's own tables, and where it or the architecture is refused, nothing is written.
@@ -37,22 +40,30 @@ pub fn run_script<R: Source, W: Sink>(
     }
 }
 
-/// The same with the runtime's memory.
-pub fn run<H: AllocGlobal, R: Source, W: Sink>(
+/// The same without workers; with some, the sessions are served on threads of their own beside them.
+pub fn run<H: Threads + Wait + AllocGlobal + Sync, R: Source, W: Sink>(
     rt: &H,
     options: &Options,
     architecture: Architecture<'_>,
     reader: &mut R,
     writer: &mut W,
 ) -> Outcome
-    ensures decided { IfSome (R.remaining reader.old) (λ input. Decides (start_of options.now.tracks architecture.entry input) result) }
-    ensures written { Writes options.now architecture.entry (R.remaining reader.old) result (W.contents writer.old) (W.contents writer.new) }
+    ensures in_order { options.now.workers ≡ 0 → RunsInOrder options.now architecture.entry (R.remaining reader.old) result (W.contents writer.old) (W.contents writer.new) }
+    ensures on_threads { 1 ≤ options.now.workers → RunsOnThreads options.now architecture.entry (R.remaining reader.old) result (W.contents writer.old) (W.contents writer.new) }
     ensures unreadable { architecture.entry ≡ Architecture.Unreadable → result ≡ Outcome.ArchUnreadable }
     ensures input { result ≡ Outcome.InputFailed → R.has_failed reader.new ≡ true }
     ensures output { result ≡ Outcome.OutputFailed → W.has_failed writer.new ≡ true }
-    ensures settled { result ≡ Outcome.NotSettled → ⊥ }
 {
-    run_script(rt.alloc(), options, architecture, reader, writer)
+    if options.workers == 0 {
+        return run_script(rt.alloc(), options, architecture, reader, writer);
+    }
+    match read_input(rt.alloc(), architecture, reader) {
+        Ok(input) => {
+            let replies = on_threads::replies(rt, options, architecture, input.as_slice());
+            write_replies(writer, replies)
+        }
+        Err(outcome) => outcome,
+    }
 }
 
 /// Reads the whole input, unless the architecture can't be read.
