@@ -80,7 +80,11 @@ fn push_session(script: &mut String, name: &str, session: &str) -> Result<(), Al
         }
         script.push_str(line)?;
         script.push_str("\n")?;
-        within_text = if within_text { line != "." } else { line == "upload" };
+        within_text = if within_text {
+            line != "."
+        } else {
+            line == "upload"
+        };
     }
     Ok(())
 }

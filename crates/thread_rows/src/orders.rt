@@ -86,7 +86,8 @@ fn operator_alone_beside_workers(rt: HostRuntime) -> Result<(), Fail> {
 #[test]
 fn unfinished_upload_beside_workers(rt: HostRuntime) -> Result<(), Fail> {
     let lines = "op admit T 1\nop admit U 1\n@T status\n@U status\n@T upload\n.model t\n@U status";
-    let written = "== op\nok 1 0\nok 2 2\n== T\nstatus Empty 0\nline 3 UnfinishedUpload\n== U\nstatus Empty 0\n";
+    let written =
+        "== op\nok 1 0\nok 2 2\n== T\nstatus Empty 0\nline 3 UnfinishedUpload\n== U\nstatus Empty 0\n";
     for workers in [0, 3] {
         assert_writes(&rt, workers, lines, written)?;
     }

@@ -31,7 +31,11 @@ fn assert_ends<H: Threads + Wait + Abort + AllocGlobal + Sync>(
     let ended = run(rt, &options, Architecture::InScript, &mut source, &mut sink);
     assert_eq!(rt; ended, outcome, "{workers} workers");
     let written = sink.into_bytes();
-    assert_eq!(rt; std::str::from_utf8(written.as_slice())?, expected, "{workers} workers");
+    assert_eq!(rt;
+        std::str::from_utf8(written.as_slice())?,
+        expected,
+        "{workers} workers"
+    );
     Ok(())
 }
 
