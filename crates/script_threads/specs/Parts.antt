@@ -1,27 +1,17 @@
 -- Private: sessions that are seated, started and have ended.
-use Rattle.std.specs.Prelude.{ℕ, ◌≡◌, List, [], ◌∷◌, ◌++◌, map, All, Option, Some, None, true, ⊤}
+use Rattle.std.specs.Prelude.{◌≡◌, List, [], ◌∷◌, ◌++◌, map, All}
 use Rattle.service_core.specs.Headline.{AreParted}
 use Rattle.service_core.specs.Service.{AreAlone, ServiceState}
-use Rattle.shared_core.specs.CoreState.{CoreState, LeaseState, ShareState}
+use Rattle.shared_core.specs.CoreState.{CoreState, ShareState}
 use Rattle.settling.specs.Settling.{IsSettled}
 use Rattle.transcripts.specs.Transcripts.{TranscriptState}
-use Rattle.script_text.specs.Threaded.{Said}
 use Rattle.script_threads.specs.declared.crowd.Started.{Started}
 use Rattle.script_threads.specs.declared.crowd.Started.TheVariants.{Answered, Runs}
 use Rattle.script_threads.specs.Served.{Told, told_in}
 use Rattle.script_threads.specs.Sessions.{Asked, PartState, IsTold, asked_in, transcripts_of}
 
--- the lease of a session that is seated is its tenancy's, and has made no entry
-abbrev pub HasLease : ℕ → Option LeaseState → Type 0
-HasLease id None = ⊤
-HasLease id (Some lease) = (lease.id ≡ id) × (lease.made ≡ 0)
-
--- a session of that id
-abbrev pub asked_by : Said → ℕ → Asked
-asked_by said id = record { name = said.name; input = said.input; id = id; live = true }
-
 -- what a session asked that was answered, or that runs
-abbrev pub started_by : Started → Asked
+abbrev pub started_by : {C : Type 0} → Started C → Asked
 started_by (Answered part) = asked_in part
 started_by (Runs thread) = thread.promise.0.value
 

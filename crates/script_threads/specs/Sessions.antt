@@ -52,9 +52,12 @@ evicted_refusal (Command command) = Evicted
 evicted_refusal Wait = Evicted
 evicted_refusal (Refused refusal) = refusal
 
+abbrev pub evicted_line : SessionLine → List ℕ
+evicted_line item = session_refusal_text (evicted_refusal item)
+
 -- each item of such a session is told its own refusal, or that the tenancy is evicted
 abbrev pub evicted_text : List ℕ → List ℕ
-evicted_text input = flat_map (λ item. session_refusal_text (evicted_refusal item)) (items_of input)
+evicted_text input = flat_map evicted_line (items_of input)
 
 -- the session came to its input's end: each item is told what stands in the transcript, in order, and nothing else is written; that these
 -- are the input's items is said where none found no memory

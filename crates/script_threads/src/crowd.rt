@@ -1,13 +1,15 @@
 //! Sessions and workers on threads.
 
-ghost use Rattle.std.specs.Prelude.{◌≡◌, ◌++◌, All, IfSome, IsTrue, [], map};
+ghost use Rattle.std.specs.Prelude.{◌≡◌, ◌++◌, ◌∷◌, All, IfSome, IsSomeAnd, IsTrue, [], map};
 ghost use Rattle.job_queue.specs.Balance.{log};
 ghost use Rattle.script_text.specs.Threaded.{said_by};
-ghost use Rattle.script_threads.specs.Parts.{asked_by, started_by};
+ghost use Rattle.script_threads.specs.Parts.{started_by};
+ghost use Rattle.script_threads.specs.Seats.{asked_by};
 ghost use Rattle.script_threads.specs.Sessions.{asked_in};
 
 use crate::part::{Part, evicted_part, run_part};
 use crate::seated::Seated;
+use crate::seats::{a_pass, a_seat};
 use job_queue::{Pass, Ready, Seat};
 use shared_core::Share;
 use std::alloc::AllocGlobal;
@@ -56,33 +58,55 @@ pub(crate) fn run_crowd<
 ) -> Option<(Vec<Part<'t, C>>, Vec<Share<P>>)>
     requires seats { All (λ s. s ≡ record { of = ready.now; log = log [] [] }) benches.0.items }
     requires passes { All (λ p. p ≡ record { of = ready.now; log = log [] [] }) sessions.0.items }
-    ensures { IfSome result (λ ended. map asked_in ended.0.items ≡ sessions.1.items) }
+    ensures { IfSome result (λ ended. map asked_in ended.0.items ≡ sessions.entry.1.items) }
+{
+    thread::scope(
+        thread::scope_env(),
+        rt,
+        move |scope| -> Option<(Vec<Part<C>>, Vec<Share<P>>)>
+            requires seats { All (λ s. s ≡ record { of = ready.now; log = log [] [] }) benches.0.items }
+            requires passes { All (λ p. p ≡ record { of = ready.now; log = log [] [] }) sessions.0.items }
+            ensures { IfSome result (λ ended. map asked_in ended.0.items ≡ sessions.entry.1.items) }
+        { run_in(rt, scope, shared, ready, benches, sessions) },
+    )
+}
+
+/// The same within a scope.
+fn run_in<
+    's,
+    't: 's,
+    E,
+    C: Ledger + Send + Sync + 's,
+    P: Ledger + Send + Sync + 's,
+    R: Threads + Wait + AllocGlobal + Sync + 's,
+>(
+    rt: &'s R,
+    scope: &Scope<'s, E>,
+    shared: &'s Shared<C, P>,
+    ready: &'s Ready,
+    benches: (Vec<Seat>, Vec<Share<P>>),
+    sessions: (Vec<Pass>, Vec<Seated<'t, C>>),
+) -> Option<(Vec<Part<'t, C>>, Vec<Share<P>>)>
+    requires seats { All (λ s. s ≡ record { of = ready.now; log = log [] [] }) benches.0.items }
+    requires passes { All (λ p. p ≡ record { of = ready.now; log = log [] [] }) sessions.0.items }
+    ensures { IfSome result (λ ended. map asked_in ended.0.items ≡ sessions.entry.1.items) }
 {
     let (seats, shares) = benches;
     let (passes, seated) = sessions;
     let mut workers = Vec::with_capacity(rt.alloc(), shares.len()).ok()?;
     let mut started = Vec::with_capacity(rt.alloc(), seated.len()).ok()?;
-    let mut parts = Vec::with_capacity(rt.alloc(), seated.len()).ok()?;
+    let parts = Vec::with_capacity(rt.alloc(), seated.len()).ok()?;
     let mut ended = Vec::with_capacity(rt.alloc(), shares.len()).ok()?;
-    thread::scope(
-        thread::scope_env(),
-        rt,
-        move |scope| -> Option<(Vec<Part<C>>, Vec<Share<P>>)>
-            requires seats { All (λ s. s ≡ record { of = ready.now; log = log [] [] }) seats.items }
-            requires passes { All (λ p. p ≡ record { of = ready.now; log = log [] [] }) passes.items }
-            requires started { started.items ≡ [] }
-            requires parts { parts.items ≡ [] }
-            ensures { IfSome result (λ ended. map asked_in ended.0.items ≡ seated.items) }
-        {
-            let are_working = start_workers(rt, scope, shared, ready, seats, shares, &mut workers);
-            let are_seated = are_working
-                && start_sessions(rt, scope, shared, ready, passes, seated, &mut started);
-            let have_ended = join_sessions(rt, started, &mut parts);
-            ready.close();
-            join_workers(rt, workers, &mut ended);
-            (are_seated && have_ended).then_some((parts, ended))
-        },
-    )
+    let are_working = start_workers(rt, scope, shared, ready, seats, shares, &mut workers);
+    let are_seated = are_working
+        && start_sessions(rt, scope, shared, ready, passes, seated, &mut started);
+    let parts = join_sessions(rt, started, parts);
+    ready.close();
+    join_workers(rt, workers, &mut ended);
+    if !are_seated {
+        return None;
+    }
+    Some((parts?, ended))
 }
 
 /// Starts the workers. Tells whether all were started.
@@ -105,7 +129,7 @@ fn start_workers<
 {
     let mut seats = seats;
     for share in shares {
-        let Some(seat) = seats.pop() else {
+        let Some(seat) = a_seat(&mut seats, ready) else {
             return false;
         };
         let Ok(worker) = scope.spawn(move || run_worker(rt, shared, ready, seat, share, &Open))
@@ -137,11 +161,11 @@ fn start_sessions<
     started: &mut Vec<Started<'t, C>>,
 ) -> bool
     requires { All (λ p. p ≡ record { of = ready.now; log = log [] [] }) passes.items }
-    ensures { IsTrue result → map started_by started.new.items ≡ map started_by started.old.items ++ seated.items }
+    ensures { IsTrue result → map started_by started.new.items ≡ map started_by started.old.items ++ seated.entry.items }
 {
     let mut passes = passes;
     for seat in seated {
-        let Some(pass) = passes.pop() else {
+        let Some(pass) = a_pass(&mut passes, ready) else {
             return false;
         };
         let Some(session) = start_session(rt, scope, shared, ready, pass, seat) else {
@@ -171,7 +195,7 @@ fn start_session<
     seat: Seated<'t, C>,
 ) -> Option<Started<'t, C>>
     requires { pass.of ≡ ready.now }
-    ensures { IfSome result (λ started. started_by started ≡ seat) }
+    ensures { IfSome result (λ started. started_by started ≡ seat.entry) }
 {
     let kept = Kept(Snapshot::of(&seat));
     let Seated { said, id, lease } = seat;
@@ -180,7 +204,7 @@ fn start_session<
             let run = move || -> Option<Part<C>>
                 requires of { pass.of ≡ ready.now }
                 requires new { lease.made ≡ 0 }
-                ensures { IfSome result (λ part. asked_in part ≡ asked_by (said_by said) lease.id) }
+                ensures { IfSome result (λ part. asked_in part ≡ asked_by (said_by said.entry) lease.id) }
             { run_part(rt, shared, ready, pass, said, lease) };
             Some(Started::Runs(scope.spawn_with(kept, run).ok()?))
         }
@@ -188,26 +212,43 @@ fn start_session<
     }
 }
 
-/// Waits for the sessions. Tells whether each gave its part.
+/// Waits for the sessions, and keeps their parts in the room for them. None where one gave none.
 fn join_sessions<'t, C: Ledger, R: Threads>(
     rt: &R,
     started: Vec<Started<'t, C>>,
-    parts: &mut Vec<Part<'t, C>>,
-) -> bool
-    ensures { IsTrue result → map asked_in parts.new.items ≡ map asked_in parts.old.items ++ map started_by started.items }
+    room: Vec<Part<'t, C>>,
+) -> Option<Vec<Part<'t, C>>>
+    requires { room.items ≡ [] }
+    ensures { IfSome result (λ parts. map asked_in parts.items ≡ map started_by started.entry.items) }
 {
-    let mut are_whole = true;
+    let mut parts = Some(room);
     for session in started {
-        let part = match session {
-            Started::Answered(part) => Some(part),
-            Started::Runs(thread) => thread.join(rt),
-        };
-        are_whole = match part {
-            Some(part) => parts.push(part).is_ok() && are_whole,
-            None => false,
-        };
+        let part = join_session(rt, session);
+        parts = with_part(parts, part);
     }
-    are_whole
+    parts
+}
+
+/// Waits for a session.
+fn join_session<'t, C: Ledger, R: Threads>(rt: &R, session: Started<'t, C>) -> Option<Part<'t, C>>
+    ensures { IfSome result (λ part. asked_in part ≡ started_by session.entry) }
+{
+    match session {
+        Started::Answered(part) => Some(part),
+        Started::Runs(thread) => thread.join(rt),
+    }
+}
+
+/// The parts with one more.
+fn with_part<'t, C: Ledger>(
+    parts: Option<Vec<Part<'t, C>>>,
+    part: Option<Part<'t, C>>,
+) -> Option<Vec<Part<'t, C>>>
+    ensures { IfSome result (λ all. IsSomeAnd parts.entry (λ old. IsSomeAnd part.entry (λ p. all.items ≡ old.items ++ p ∷ []))) }
+{
+    let mut parts = parts?;
+    parts.push(part?).ok()?;
+    Some(parts)
 }
 
 /// Waits for the workers.

@@ -27,7 +27,7 @@ pub(crate) fn finish<'t, C: Ledger, P: Ledger>(
     parts: Vec<Part<'t, C>>,
     shares: Vec<Share<P>>,
 ) -> Result<(Service, Vec<Section<'t>>), Unserved>
-    ensures ok { IfOk result (λ r. Finishes parts.items core (map section_told r.1.items) r.0) }
+    ensures ok { IfOk result (λ r. Finishes parts.entry.items core (map section_told r.1.items) r.0) }
     ensures unserved { IfErr result IsUnserved }
 {
     let Parted {
@@ -53,7 +53,7 @@ fn part_all<'t, C: Ledger>(
     alloc: Global,
     parts: Vec<Part<'t, C>>,
 ) -> Result<Parted<'t, C>, AllocError>
-    ensures { IfOk result (λ parted. AreParts parts.items (map section_told parted.sections.items) parted.transcripts.items) }
+    ensures { IfOk result (λ parted. AreParts parts.entry.items (map section_told parted.sections.items) parted.transcripts.items) }
 {
     let mut parted = Parted {
         sections: Vec::with_capacity(alloc, parts.len())?,
@@ -68,7 +68,7 @@ fn part_all<'t, C: Ledger>(
 impl<'t, C: Ledger> Parted<'t, C> {
     /// Adds what a session was told, and its transcript, if it ran.
     fn add(&mut self, part: Part<'t, C>) -> Result<(), AllocError>
-        ensures { OnOk result (Adds part (map section_told self.old.sections.items) self.old.transcripts.items (map section_told self.new.sections.items) self.new.transcripts.items) }
+        ensures { OnOk result (Adds part.entry (map section_told self.old.sections.items) self.old.transcripts.items (map section_told self.new.sections.items) self.new.transcripts.items) }
     {
         let Part {
             said,

@@ -11,6 +11,7 @@ mod finish;
 mod operator_lines;
 mod part;
 mod seated;
+mod seats;
 mod serving;
 
 pub use answered::{Answered, Section, Unserved};

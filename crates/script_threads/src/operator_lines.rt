@@ -19,7 +19,7 @@ pub(crate) fn serve_lines<'t>(
     reply: &mut MemorySink,
 ) -> Result<(), AllocError>
     requires { length operator.old ≡ length core.old.histories }
-    ensures { OnOk result (Replies operator.old core.old (map named_operator lines.items) (held reply.old) (held reply.new) operator.new core.new) }
+    ensures { OnOk result (Replies operator.old core.old (map named_operator lines.entry.items) (held reply.old) (held reply.new) operator.new core.new) }
 {
     let mut jobs = HeldJobs::new(alloc);
     let served = serve_each(operator, core, &mut jobs, lines, reply);
@@ -36,7 +36,7 @@ fn serve_each<'t>(
     reply: &mut MemorySink,
 ) -> Result<(), AllocError>
     requires { length operator.old ≡ length core.old.histories }
-    ensures { OnOk result (RepliesEach (stage operator.old jobs.old core.old) (map named_operator lines.items) (held reply.old) (held reply.new) (stage operator.new jobs.new core.new)) }
+    ensures { OnOk result (RepliesEach (stage operator.old jobs.old core.old) (map named_operator lines.entry.items) (held reply.old) (held reply.new) (stage operator.new jobs.new core.new)) }
 {
     for line in lines {
         operator.serve(core, jobs, line, reply)?;

@@ -1,7 +1,9 @@
 //! What one name's session is told.
-ghost use Rattle.std.specs.Prelude.{◌≡◌, false, IfOk, IfSome};
+ghost use Rattle.std.specs.Prelude.{◌≡◌, ◌++◌, false, IfOk, IfSome, OnOk};
 ghost use Rattle.script_text.specs.Threaded.{said_by};
-ghost use Rattle.script_threads.specs.Parts.{asked_by};
+ghost use Rattle.operator.specs.Held.{held};
+ghost use Rattle.sessions.specs.SessionText.{session_refusal_text};
+ghost use Rattle.script_threads.specs.Seats.{asked_by};
 ghost use Rattle.script_threads.specs.Sessions.{asked_in, evicted_refusal, evicted_text};
 
 use job_queue::{Pass, Ready};
@@ -47,7 +49,7 @@ pub(crate) fn run_part<'t, C: Ledger, P: Ledger, R: Wait + AllocGlobal>(
 ) -> Option<Part<'t, C>>
     requires of { pass.of ≡ ready.now }
     requires new { lease.made ≡ 0 }
-    ensures { IfSome result (λ part. asked_in part ≡ asked_by (said_by said) lease.id) }
+    ensures { IfSome result (λ part. asked_in part ≡ asked_by (said_by said.entry) lease.id) }
 {
     let id = lease.id();
     let mut reader = MemorySource::new(said.input.as_slice());
@@ -71,7 +73,7 @@ pub(crate) fn evicted_part<'t, C: Ledger>(
     said: SessionInput<'t>,
     id: u32,
 ) -> Result<Part<'t, C>, AllocError>
-    ensures { IfOk result (λ part. asked_in part ≡ record (asked_by (said_by said) id) { live = false }) }
+    ensures { IfOk result (λ part. asked_in part ≡ record (asked_by (said_by said.entry) id) { live = false }) }
 {
     let text = evicted_text(alloc, said.input.as_slice())?;
     Ok(Part {
@@ -88,11 +90,19 @@ fn evicted_text(alloc: Global, input: &[u8]) -> Result<Vec<u8>, AllocError>
 {
     let mut text = MemorySink::new(alloc);
     for item in read_items(alloc, input)? {
-        if write_session_refusal(&mut text, refusal_of(item)).is_err() {
-            return Err(AllocError);
-        }
+        tell(&mut text, refusal_of(item))?;
     }
     Ok(text.into_bytes())
+}
+
+/// Appends the line of a refusal.
+fn tell(text: &mut MemorySink, refusal: SessionRefusal) -> Result<(), AllocError>
+    ensures { OnOk result (held text.new ≡ held text.old ++ session_refusal_text refusal) }
+{
+    match write_session_refusal(text, refusal) {
+        Ok(()) => Ok(()),
+        Err(_) => Err(AllocError),
+    }
 }
 
 /// Why an item isn't served where the tenancy isn't live.

@@ -23,7 +23,7 @@ pub(crate) struct Seated<'t, C: Ledger> {
 
 impl<'t, C: Ledger> Model for Seated<'t, C> {
     ghost use Rattle.std.specs.Prelude.{is_some};
-    ghost use Rattle.script_threads.specs.Parts.{HasLease};
+    ghost use Rattle.script_threads.specs.Seats.{HasLease};
     ghost use Rattle.script_threads.specs.Sessions.{Asked};
 
     ghost Value = { Asked };
@@ -41,7 +41,7 @@ pub(crate) fn seat_all<'t, C: Ledger, P: Ledger>(
     sessions: Vec<SessionInput<'t>>,
 ) -> Result<Vec<Seated<'t, C>>, Unserved>
     ensures service { core.new.service ≡ core.old.service }
-    ensures seats { IfOk result (λ seats. seats.items ≡ map (asked_of operator.now core.old.service.histories) (map said_by sessions.items)) }
+    ensures seats { IfOk result (λ seats. seats.items ≡ map (asked_of operator.now core.old.service.histories) (map said_by sessions.entry.items)) }
     ensures unserved { IfErr result IsUnserved }
 {
     let mut seats = Vec::new(alloc);
@@ -61,7 +61,7 @@ fn seat<'t, C: Ledger, P: Ledger>(
     said: SessionInput<'t>,
 ) -> Result<Seated<'t, C>, Unserved>
     ensures service { core.new.service ≡ core.old.service }
-    ensures seat { IfOk result (λ seat. seat ≡ asked_of operator.now core.old.service.histories (said_by said)) }
+    ensures seat { IfOk result (λ seat. seat ≡ asked_of operator.now core.old.service.histories (said_by said.entry)) }
     ensures unserved { IfErr result IsUnserved }
 {
     let id = operator.last_id(said.name);

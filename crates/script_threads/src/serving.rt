@@ -35,7 +35,7 @@ pub fn serve_on_threads<'t, R: Threads + Wait + AllocGlobal + Sync>(
     requires columns { device.columns ≤ 256 }
     requires has_rows { 1 ≤ device.rows }
     requires rows { device.rows ≤ 64 }
-    ensures ok { IfOk result (λ answered. IsServedOnThreads device (parts_of script) answered) }
+    ensures ok { IfOk result (λ answered. IsServedOnThreads device (parts_of script.entry) answered) }
     ensures unserved { IfErr result IsUnserved }
 {
     let commands = Blank::new(65_536);
@@ -64,7 +64,7 @@ fn serve<
     requires rows { device.rows ≤ 64 }
     requires commands { (commands.name ≡ C.name) × (commands.parts ≡ C.parts) × (commands.parts ≡ 65536) }
     requires puts { (puts.name ≡ P.name) × (puts.parts ≡ P.parts) × (puts.parts ≡ 17) }
-    ensures ok { IfOk result (λ answered. IsServedOnThreads device (parts_of script) answered) }
+    ensures ok { IfOk result (λ answered. IsServedOnThreads device (parts_of script.entry) answered) }
     ensures unserved { IfErr result IsUnserved }
 {
     let alloc = rt.alloc();
@@ -108,7 +108,7 @@ fn run_sessions<
     operator: &Operator<'t>,
     sessions: Vec<SessionInput<'t>>,
 ) -> Result<(Service, Vec<Section<'t>>), Unserved>
-    ensures ok { IfOk result (λ r. Ran operator.now core.service.histories (map said_by sessions.items) (map section_told r.1.items) r.0) }
+    ensures ok { IfOk result (λ r. Ran operator.now core.service.histories (map said_by sessions.entry.items) (map section_told r.1.items) r.0) }
     ensures unserved { IfErr result IsUnserved }
 {
     let alloc = rt.alloc();

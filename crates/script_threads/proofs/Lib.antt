@@ -1,0 +1,5 @@
+mod CrowdLemmas
+mod FinishLemmas
+mod LineLemmas
+mod OneOfList
+mod PartLemmas

@@ -1,0 +1,21 @@
+use Rattle.std.proofs.Common.{◌≡◌, refl, subst}
+use Rattle.std.specs.Prelude.{map, OnOk}
+use Rattle.operator.specs.Held.{held}
+use Rattle.operator.specs.HeldJobs.{HeldList}
+use Rattle.operator.proofs.OperatorLemmas.{on_ok}
+use Rattle.script_text.specs.Script.{named_operator}
+use Rattle.script_threads.specs.Lines.{RepliesEach, stage}
+use Rattle.script_threads.proofs.operator_lines.serve_lines.Goals as goal
+
+pub returns : goal.returns
+returns c =
+    let each = c.serve_each-served in
+    let last = stage each.new.operator each.new.jobs each.new.core in
+    let P : HeldList → Type 0 = λ jobs. OnOk each.result (RepliesEach (stage c.args.operator.now jobs c.args.core.now) (map named_operator c.args.lines.items) (held c.args.reply.now) (held each.new.reply) last) in
+    on_ok each.result
+    (λ done. record {
+      text = done.text;
+      serves = record { last = last; served = done.served; names_are = refl; given_back = c.give_back.ensures };
+      reply = done.reply;
+    })
+    (subst P c.new-jobs.ensures each.ensures)

@@ -1,0 +1,14 @@
+use Rattle.std.proofs.Common.{◌≡◌, ◌++◌, ◌∙◌, ap, sym, rules}
+use Rattle.std.specs.List.{flat_map}
+use Rattle.std.proofs.lemmas.Iterator.Adapters.{YieldsList-from_vec}
+use Rattle.std.proofs.lemmas.Iterator.Consumers.{YieldsList-end}
+use Rattle.std.proofs.lemmas.List.{map-id}
+use Rattle.operator.specs.Held.{held}
+use Rattle.script_threads.specs.Sessions.{evicted_line}
+use Rattle.script_threads.proofs.PartLemmas.{told_push}
+use Rattle.script_threads.proofs.part.evicted_text.Goals as goal
+
+pub loop-item-preserved : goal.loop-item-preserved
+loop-item-preserved c =
+    let told : held c.tell.new.text ≡ held c.loop-item.text ++ evicted_line c.in-Some.item = search rules in
+    told ∙ ap (λ t. t ++ evicted_line c.in-Some.item) c.loop-item.invariant ∙ sym (told_push c.loop-item.yielded c.in-Some.item)
