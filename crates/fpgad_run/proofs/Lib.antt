@@ -2,3 +2,4 @@ mod Examples
 mod NameLemmas
 mod SectionLemmas
 mod Telling
+mod ThreadLemmas

@@ -9,7 +9,7 @@ use Rattle.service_core.specs.Headline.{AreParted, EachIsAlone}
 use Rattle.service_core.specs.Owners.{IsExactBook}
 use Rattle.service_core.specs.Run.{Call, Run}
 use Rattle.service_core.specs.Service.{ServiceState, empty}
-use Rattle.fpgad_run.specs.declared.program.Running.{Running}
+use Rattle.fpgad_run.specs.declared.in_order.Running.{Running}
 use Rattle.sessions.specs.declared.line.SessionLine.{SessionLine}
 use Rattle.script_text.specs.declared.act.Act.{Act}
 use Rattle.script_text.specs.declared.act.Act.TheVariants.{Operator, Session}

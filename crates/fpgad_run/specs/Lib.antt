@@ -1,7 +1,10 @@
 pub mod Commands
 pub mod EndToEnd
+pub mod Ends
+pub mod Inputs
 pub mod Limits
 pub mod Names
+pub mod OnThreads
 pub mod Outcomes
 pub mod Program
 pub mod Run

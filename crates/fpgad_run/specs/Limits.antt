@@ -1,9 +1,9 @@
--- The limits of a device.
+-- The limits of a device, and of how many threads work.
 use Rattle.std.specs.Prelude.{ℕ, ◌≡◌, ◌≤◌}
 use Rattle.fpgad_run.specs.declared.options.Options.{Options}
 
-abbrev pub AreLawful : ℕ → ℕ → ℕ → Type 0
-AreLawful tracks columns rows = (1 ≤ tracks) × (tracks ≤ 64) × (1 ≤ columns) × (columns ≤ 256) × (1 ≤ rows) × (rows ≤ 64)
+abbrev pub AreLawful : ℕ → ℕ → ℕ → ℕ → Type 0
+AreLawful tracks columns rows workers = (1 ≤ tracks) × (tracks ≤ 64) × (1 ≤ columns) × (columns ≤ 256) × (1 ≤ rows) × (rows ≤ 64) × (workers ≤ 16)
 
-abbrev pub Holds : Options → ℕ → ℕ → ℕ → Type 0
-Holds options tracks columns rows = (options.tracks ≡ tracks) × (options.columns ≡ columns) × (options.rows ≡ rows)
+abbrev pub Holds : Options → ℕ → ℕ → ℕ → ℕ → Type 0
+Holds options tracks columns rows workers = (options.tracks ≡ tracks) × (options.columns ≡ columns) × (options.rows ≡ rows) × (options.workers ≡ workers)

@@ -1,8 +1,15 @@
 -- How a run ends: its status, and its message for standard error, without the line's end.
 use Rattle.std.specs.Prelude.{ℕ, List, [], ◌++◌, codes, decimal}
 use Rattle.arch_file.specs.Faults.{printed_fault}
+use Rattle.arch_file.specs.declared.fault.ArchFault.{ArchFault}
+use Rattle.line_text.specs.declared.text_error.TextError.{TextError}
+use Rattle.line_text.specs.declared.text_error.TextError.TheVariants.{Fault as ArchFaulty, NoMemory as NoArchMemory}
+use Rattle.script_text.specs.declared.script.ScriptError.{ScriptError}
+use Rattle.script_text.specs.declared.script.ScriptError.TheVariants.{Fault as ScriptFaulty, NoMemory as NoScriptMemory}
+use Rattle.script_threads.specs.declared.answered.Unserved.{Unserved}
+use Rattle.script_threads.specs.declared.answered.Unserved.TheVariants.{NoMemory as UnservedMemory, NotSettled as Unsettled}
 use Rattle.fpgad_run.specs.declared.outcome.Outcome.{Outcome}
-use Rattle.fpgad_run.specs.declared.outcome.Outcome.TheVariants.{Done, ArchUnreadable, ArchRefused, InputFailed, OutputFailed, ScriptFault, NoMemory}
+use Rattle.fpgad_run.specs.declared.outcome.Outcome.TheVariants.{Done, ArchUnreadable, ArchRefused, InputFailed, OutputFailed, ScriptFault, NoMemory, NotSettled}
 
 abbrev pub status_of : Outcome → ℕ
 status_of Done = 0
@@ -12,6 +19,7 @@ status_of InputFailed = 1
 status_of OutputFailed = 1
 status_of (ScriptFault line) = 3
 status_of NoMemory = 4
+status_of NotSettled = 5
 
 abbrev pub message_of : Outcome → List ℕ
 message_of Done = []
@@ -21,3 +29,17 @@ message_of InputFailed = codes "input: failed"
 message_of OutputFailed = codes "output: failed"
 message_of (ScriptFault line) = codes "script: line " ++ decimal line
 message_of NoMemory = codes "memory"
+message_of NotSettled = codes "settle"
+
+-- how a run ends that has no architecture, no script, or no answers
+abbrev pub refused_arch : TextError ArchFault → Outcome
+refused_arch (ArchFaulty fault) = ArchRefused fault
+refused_arch NoArchMemory = NoMemory
+
+abbrev pub refused_script : ScriptError → Outcome
+refused_script (ScriptFaulty line) = ScriptFault line
+refused_script NoScriptMemory = NoMemory
+
+abbrev pub unserved : Unserved → Outcome
+unserved UnservedMemory = NoMemory
+unserved (Unsettled cause) = NotSettled

@@ -1,7 +1,5 @@
 -- What a script and an architecture come to before anything runs, and how a run ends.
-use Rattle.std.specs.Prelude.{ℕ, ◌≡◌, List, [], map, take, true, Result, Ok, Err, Option, Some, None, unwrap_or, ⊤, IsOk}
-use Rattle.std.specs.declared.vec.Vec.{Vec}
-use Rattle.std.specs.declared.alloc.Global.{Global}
+use Rattle.std.specs.Prelude.{ℕ, ◌≡◌, Bool, true, false, List, [], map, take, Result, Ok, Err, Option, Some, None, unwrap_or, ⊤, IsOk}
 use Rattle.std.specs.Io.KnownBytes.{Appends}
 use Rattle.arch_file.specs.declared.arch.Arch.{Arch}
 use Rattle.arch_file.specs.declared.fault.ArchFault.{ArchFault}
@@ -13,38 +11,43 @@ use Rattle.service_core.specs.Owners.{IsExactBook}
 use Rattle.service_core.specs.Run.{Run}
 use Rattle.fpgad_run.specs.declared.options.Options.{Options}
 use Rattle.fpgad_run.specs.declared.outcome.Outcome.{Outcome}
-use Rattle.fpgad_run.specs.declared.outcome.Outcome.TheVariants.{Done, ArchUnreadable, ArchRefused, InputFailed, OutputFailed, ScriptFault, NoMemory}
-use Rattle.fpgad_run.specs.declared.program.Architecture.{Architecture}
-use Rattle.fpgad_run.specs.declared.program.Architecture.TheVariants.{InScript, Text, Unreadable}
+use Rattle.fpgad_run.specs.declared.outcome.Outcome.TheVariants.{Done, ArchUnreadable, ArchRefused, InputFailed, OutputFailed, ScriptFault, NoMemory, NotSettled}
+use Rattle.fpgad_run.specs.declared.inputs.Architecture.{Architecture}
+use Rattle.fpgad_run.specs.declared.inputs.Architecture.TheVariants.{InScript, Text, Unreadable}
 use Rattle.script_text.specs.declared.act.Act.{Act}
 use Rattle.line_text.specs.Lines.{physical_lines}
 use Rattle.script_text.specs.Texts.{bytes_ahead}
-use Rattle.script_text.specs.Script.{Acts, acts_from, script_of}
+use Rattle.script_text.specs.Script.{acts_from}
 use Rattle.fpgad_run.specs.EndToEnd.{AreToldAlone}
 use Rattle.operator.specs.Serving.{Stage}
 use Rattle.fpgad_run.specs.Run.{Telling, Tells, calls_of, written}
 
--- the architecture and the script's acts, or the fault of the one before that of the other
-abbrev pub Start : Type 0
-Start = Result (Arch × List (Act (List ℕ))) Outcome
+-- the architecture and what the script says, or the fault of the one before that of the other
+abbrev pub Start : Type 0 → Type 0
+Start A = Result (Arch × A) Outcome
 
-abbrev pub checked : Result Arch ArchFault → Acts → Start
-checked (Err fault) acts = Err (ArchRefused fault)
+abbrev pub checked : {A : Type 0} → Result Arch ArchFault → Result A ℕ → Start A
+checked (Err fault) said = Err (ArchRefused fault)
 checked (Ok arch) (Err line) = Err (ScriptFault line)
-checked (Ok arch) (Ok acts) = Ok (arch, acts)
+checked (Ok arch) (Ok said) = Ok (arch, said)
 
--- an architecture at the script's head is the text ahead; without a line that ends it all of the input is
-abbrev pub start_of : ℕ → Architecture → List ℕ → Start
-start_of tracks InScript input = checked (arch_of (unwrap_or (bytes_ahead (physical_lines input)) input) tracks) (acts_from 1 true (physical_lines input))
-start_of tracks (Text text) input = checked (arch_of text.now tracks) (script_of 1 input)
-start_of tracks Unreadable input = Err ArchUnreadable
+-- an architecture at the script's head is the text ahead; without a line that ends it all of the input is. What the script says is told from
+-- its lines, and whether a text comes first
+abbrev pub start_by : {A : Type 0} → (Bool → List (List ℕ) → Result A ℕ) → ℕ → Architecture → List ℕ → Start A
+start_by says tracks InScript input = checked (arch_of (unwrap_or (bytes_ahead (physical_lines input)) input) tracks) (says true (physical_lines input))
+start_by says tracks (Text text) input = checked (arch_of text.now tracks) (says false (physical_lines input))
+start_by says tracks Unreadable input = Err ArchUnreadable
+
+-- a script that is served in order says what each of its lines asks
+abbrev pub start_of : ℕ → Architecture → List ℕ → Start (List (Act (List ℕ)))
+start_of tracks architecture input = start_by (acts_from 1) tracks architecture input
 
 abbrev pub device_of : Options → Arch → Device
 device_of options arch = record { arch = arch; columns = options.columns; rows = options.rows }
 
 -- the bytes are what a run of the acts from the empty device writes. Each session's line is told what its tenancy is told alone, by
 -- the service for a single user; of the run's calls so is each tenancy, the strips are parted, and nothing has two owners
-pub record IsReplies (options : Options) (start : Start) (output : List ℕ) : Type 0 where
+pub record IsReplies (options : Options) (start : Start (List (Act (List ℕ)))) (output : List ℕ) : Type 0 where
   pub arch : Arch
   pub acts : List (Act (List ℕ))
   pub begins : start ≡ Ok (arch, acts)
@@ -59,24 +62,22 @@ pub record IsReplies (options : Options) (start : Start) (output : List ℕ) : T
   pub exact : IsExactBook last.service
   pub output_is : output ≡ written tellings
 
--- a script may be answered so
-abbrev pub Replies : Options → Start → Result (Vec ℕ Global) Outcome → Type 0
-Replies options start (Ok output) = IsReplies options start output.items
-Replies options start (Err NoMemory) = ⊤
-Replies options start (Err outcome) = start ≡ Err outcome
-
 -- what the texts decide of how a run ends
-abbrev pub Decides : Start → Outcome → Type 0
+abbrev pub Decides : {A : Type 0} → Start A → Outcome → Type 0
 Decides start Done = IsOk start
 Decides start OutputFailed = IsOk start
+Decides start NotSettled = IsOk start
 Decides start InputFailed = ⊤
 Decides start NoMemory = ⊤
 Decides start outcome = start ≡ Err outcome
 
--- what is written: the replies, of which a failing device has taken the first; nothing where the run ends before
+-- what is written: replies, of which a failing device has taken the first; nothing where the run ends before
+abbrev pub WritesSuch : (List ℕ → List ℕ → Type 0) → Option (List ℕ) → Outcome → Option (List ℕ) → Option (List ℕ) → Type 0
+WritesSuch AreReplies (Some input) Done old new = (output : List ℕ) × AreReplies input output × Appends old new output
+WritesSuch AreReplies (Some input) OutputFailed old new = (output : List ℕ) × (n : ℕ) × AreReplies input output × Appends old new (take n output)
+WritesSuch AreReplies None Done old new = ⊤
+WritesSuch AreReplies None OutputFailed old new = ⊤
+WritesSuch AreReplies input outcome old new = new ≡ old
+
 abbrev pub Writes : Options → Architecture → Option (List ℕ) → Outcome → Option (List ℕ) → Option (List ℕ) → Type 0
-Writes options architecture (Some input) Done old new = (output : List ℕ) × IsReplies options (start_of options.tracks architecture input) output × Appends old new output
-Writes options architecture (Some input) OutputFailed old new = (output : List ℕ) × (n : ℕ) × IsReplies options (start_of options.tracks architecture input) output × Appends old new (take n output)
-Writes options architecture None Done old new = ⊤
-Writes options architecture None OutputFailed old new = ⊤
-Writes options architecture input outcome old new = new ≡ old
+Writes options architecture input outcome old new = WritesSuch (λ text output. IsReplies options (start_of options.tracks architecture text) output) input outcome old new

@@ -6,7 +6,7 @@ use Rattle.sessions.specs.declared.line.SessionLine.{SessionLine}
 use Rattle.sessions.specs.declared.told.Answer.{Answer}
 use Rattle.sessions.specs.SessionAnswer.{IsAnswer}
 use Rattle.sessions.specs.SessionText.{answer_text}
-use Rattle.fpgad_run.specs.declared.program.Running.{Running}
+use Rattle.fpgad_run.specs.declared.in_order.Running.{Running}
 use Rattle.fpgad_run.specs.declared.sections.Sections.{Sections}
 use Rattle.operator.specs.Held.{held}
 use Rattle.script_text.specs.declared.act.Act.{Act}

@@ -1,18 +1,21 @@
 ghost use Rattle.fpgad_run.specs.Commands.{Runs, RunsWords};
 
+use crate::inputs::Architecture;
 use crate::options::{CommandLine, read_options};
 use crate::outcome::Outcome;
-use crate::program::{Architecture, run};
+use crate::program::run;
 use clap::Error;
 use clap::error::ErrorKind;
 use line_text::{ReadError, Sink, Source, StdSource, read_all};
 use std::convert::AsStr;
 use std::fs::File;
 use std::rt::Files;
+use std::sync::Wait;
+use std::thread::Threads;
 
 /// What the program does with its words, the first being its name: reads the options, the architecture's file if there
 /// is one, and the script, and serves it. An error is clap's: the option line is refused, or asks for help.
-pub fn run_words<H: Files + AllocGlobal, S: AsStr, R: Source, W: Sink>(
+pub fn run_words<H: Files + Threads + Wait + AllocGlobal + Sync, S: AsStr, R: Source, W: Sink>(
     rt: &H,
     words: &[S],
     reader: &mut R,
@@ -28,7 +31,7 @@ pub fn run_words<H: Files + AllocGlobal, S: AsStr, R: Source, W: Sink>(
 }
 
 /// Runs a script as the command line says.
-pub fn run_line<H: Files + AllocGlobal, R: Source, W: Sink>(
+pub fn run_line<H: Files + Threads + Wait + AllocGlobal + Sync, R: Source, W: Sink>(
     rt: &H,
     line: &CommandLine<'_>,
     reader: &mut R,

@@ -2,18 +2,24 @@
 //!
 //! - `read_options` reads the command line.
 //! - `run_script` reads a script, checks it whole, serves it in order and writes the replies: the operator's, then each
-//!   session's. `Outcome` tells how it ended, by a status and a message.
-//! - In `specs/`, `Run` says what the acts of a script are answered, and `Program` what is written and how a run ends.
+//!   session's. `run` does so too, or serves it on threads beside as many workers as the options say. `Outcome` tells how it ended, by a status
+//!   and a message.
+//! - In `specs/`, `Run` says what the acts of a script are answered, `Program` what is written and how a run ends, and `OnThreads` what
+//!   is written beside workers.
 #![tactic(auto)]
 
 mod command;
+mod in_order;
+mod inputs;
 mod names;
+mod on_threads;
 mod options;
 mod outcome;
 mod program;
 mod sections;
 
 pub use command::{run_line, run_words};
+pub use inputs::Architecture;
 pub use options::{CommandLine, Options, read_options};
 pub use outcome::Outcome;
-pub use program::{Architecture, run, run_script};
+pub use program::{run, run_script};

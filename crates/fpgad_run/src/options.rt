@@ -1,8 +1,10 @@
 ghost use Rattle.std.specs.Prelude.{◌≡◌, ◌≤◌, IfSome, IfNone};
 
+use arch_file::Arch;
 use clap::error::ErrorKind;
 use clap::{Arg, ArgMatches, Command, Error, value_parser};
 use line_text::decimal_u32;
+use service_core::Device;
 use std::alloc::{AllocError, Global};
 use std::convert::AsStr;
 
@@ -13,7 +15,7 @@ const ARCH_HELP: &str =
 
 const EXAMPLE: &str = "Example: fpgad --arch my.arch --tracks 8 --columns 20 --rows 10 < my.script";
 
-/// The size of the device and of its channels, within their limits.
+/// The size of the device and of its channels, and how many threads make the jobs' steps, within their limits.
 #[derive(Clone, Copy, Debug, PartialEq, Eq)]
 pub struct Options {
     /// Tracks of each channel, 1 to 64.
@@ -22,27 +24,46 @@ pub struct Options {
     pub columns: u32,
     /// Rows of the device, 1 to 64.
     pub rows: u32,
+    /// Threads that make the jobs' steps, 0 to 16. With none, a script is served in order.
+    pub workers: u32,
     ghost tracks_lawful: { (1 ≤ tracks) × (tracks ≤ 64) },
     ghost columns_lawful: { (1 ≤ columns) × (columns ≤ 256) },
     ghost rows_lawful: { (1 ≤ rows) × (rows ≤ 64) },
+    ghost workers_lawful: { workers ≤ 16 },
 }
 
 impl Options {
     ghost use Rattle.fpgad_run.specs.Limits.{AreLawful, Holds};
+    ghost use Rattle.fpgad_run.specs.Program.{device_of};
 
-    /// These sizes, if they are within their limits.
-    pub fn new(tracks: u32, columns: u32, rows: u32) -> Option<Self>
-        ensures some { IfSome result (λ options. Holds options tracks columns rows) }
-        ensures none { IfNone result (AreLawful tracks columns rows → ⊥) }
+    /// These numbers, if they are within their limits.
+    pub fn new(tracks: u32, columns: u32, rows: u32, workers: u32) -> Option<Self>
+        ensures some { IfSome result (λ options. Holds options tracks columns rows workers) }
+        ensures none { IfNone result (AreLawful tracks columns rows workers → ⊥) }
     {
         if tracks < 1 || tracks > 64 || columns < 1 || columns > 256 || rows < 1 || rows > 64 {
+            return None;
+        }
+        if workers > 16 {
             return None;
         }
         Some(Options {
             tracks,
             columns,
             rows,
+            workers,
         })
+    }
+
+    /// The device of these sizes, of that architecture.
+    pub(crate) fn device(&self, arch: Arch) -> Device
+        ensures { result ≡ device_of self.now arch }
+    {
+        Device {
+            arch,
+            columns: self.columns,
+            rows: self.rows,
+        }
     }
 }
 
@@ -77,7 +98,9 @@ fn command<'a>(alloc: Global) -> Result<Command<'a>, AllocError> {
         "Columns of the device, 1 to 256",
     );
     let rows = number(alloc, "rows", "NY", "1", 1, 64).help("Rows of the device, 1 to 64");
-    let workers = number(alloc, "workers", "K", "0", 0, 0).help("Threads that work, 0");
+    let workers = number(alloc, "workers", "K", "0", 0, 16).help(
+        "Threads that make the jobs' steps, 0 to 16",
+    );
     let command = Command::new(alloc, "fpgad")
         .about(ABOUT)
         .after_help(EXAMPLE);
@@ -101,11 +124,11 @@ fn number<'a>(
         .default_value(default)
 }
 
-/// The sizes, if no number has a sign.
+/// The numbers, if none has a sign.
 fn options_in(matches: &ArgMatches<'_>) -> Option<Options> {
-    decimal_u32(matches.get_str("workers")?.as_bytes())?;
     let tracks = decimal_u32(matches.get_str("tracks")?.as_bytes())?;
     let columns = decimal_u32(matches.get_str("columns")?.as_bytes())?;
     let rows = decimal_u32(matches.get_str("rows")?.as_bytes())?;
-    Options::new(tracks, columns, rows)
+    let workers = decimal_u32(matches.get_str("workers")?.as_bytes())?;
+    Options::new(tracks, columns, rows, workers)
 }

@@ -1,7 +1,9 @@
 ghost use Rattle.std.specs.Prelude.{◌≡◌};
 ghost use Rattle.fpgad_run.specs.Outcomes.{status_of};
 
-use arch_file::ArchFault;
+use arch_file::{ArchError, ArchFault};
+use script_text::ScriptError;
+use script_threads::Unserved;
 use std::alloc::AllocError;
 use std::fmt;
 
@@ -17,8 +19,10 @@ pub enum Outcome {
     OutputFailed,
     /// The number of the script's least faulty line.
     ScriptFault(usize),
-    /// There was no memory for the program's own tables.
+    /// There was no memory for the program's own tables, or for a thread.
     NoMemory,
+    /// What the sessions were told is not what the journals say.
+    NotSettled,
 }
 
 impl Outcome {
@@ -34,6 +38,7 @@ impl Outcome {
             | Outcome::OutputFailed => 1,
             Outcome::ScriptFault(_) => 3,
             Outcome::NoMemory => 4,
+            Outcome::NotSettled => 5,
         }
     }
 }
@@ -54,6 +59,7 @@ impl fmt::Display for Outcome {
             Outcome::OutputFailed => write!(f, "output: failed"),
             Outcome::ScriptFault(line) => write!(f, "script: line {line}"),
             Outcome::NoMemory => write!(f, "memory"),
+            Outcome::NotSettled => write!(f, "settle"),
         }
     }
 }
@@ -66,5 +72,50 @@ impl From<AllocError> for Outcome {
 
     fn from(_error: AllocError) -> Self {
         Outcome::NoMemory
+    }
+}
+
+/// Why there is no architecture.
+impl From<ArchError> for Outcome {
+    ghost use Rattle.std.specs.Prelude.{◌≡◌};
+    ghost use Rattle.fpgad_run.specs.Outcomes.{refused_arch};
+
+    ghost from_gives = { λ error outcome. outcome ≡ refused_arch error };
+
+    fn from(error: ArchError) -> Self {
+        match error {
+            ArchError::Fault(fault) => Outcome::ArchRefused(fault),
+            ArchError::NoMemory => Outcome::NoMemory,
+        }
+    }
+}
+
+/// Why there is no script.
+impl From<ScriptError> for Outcome {
+    ghost use Rattle.std.specs.Prelude.{◌≡◌};
+    ghost use Rattle.fpgad_run.specs.Outcomes.{refused_script};
+
+    ghost from_gives = { λ error outcome. outcome ≡ refused_script error };
+
+    fn from(error: ScriptError) -> Self {
+        match error {
+            ScriptError::Fault(line) => Outcome::ScriptFault(line),
+            ScriptError::NoMemory => Outcome::NoMemory,
+        }
+    }
+}
+
+/// Why a script isn't served on threads.
+impl From<Unserved> for Outcome {
+    ghost use Rattle.std.specs.Prelude.{◌≡◌};
+    ghost use Rattle.fpgad_run.specs.Outcomes.{unserved};
+
+    ghost from_gives = { λ error outcome. outcome ≡ unserved error };
+
+    fn from(error: Unserved) -> Self {
+        match error {
+            Unserved::NoMemory => Outcome::NoMemory,
+            Unserved::NotSettled(_) => Outcome::NotSettled,
+        }
     }
 }

@@ -13,7 +13,7 @@ Options:
       --tracks <W>    Tracks of each channel, 1 to 64 [default: 2]
       --columns <NX>  Columns of the device, 1 to 256 [default: 9]
       --rows <NY>     Rows of the device, 1 to 64 [default: 1]
-      --workers <K>   Threads that work, 0 [default: 0]
+      --workers <K>   Threads that make the jobs' steps, 0 to 16 [default: 0]
   -h, --help          Print help
 
 Example: fpgad --arch my.arch --tracks 8 --columns 20 --rows 10 < my.script
@@ -26,6 +26,7 @@ fn options_and_their_defaults(rt: HostRuntime) -> Result<(), Fail> {
     assert_eq!(rt; line.options.tracks, 2);
     assert_eq!(rt; line.options.columns, 9);
     assert_eq!(rt; line.options.rows, 1);
+    assert_eq!(rt; line.options.workers, 0);
     assert!(rt; line.arch.is_none());
     let all = [
         "fpgad",
@@ -36,11 +37,14 @@ fn options_and_their_defaults(rt: HostRuntime) -> Result<(), Fail> {
         "--columns=256",
         "--rows",
         "3",
+        "--workers",
+        "16",
     ];
     let line = read_options(rt.alloc(), all.as_slice())?;
     assert_eq!(rt; line.options.tracks, 64);
     assert_eq!(rt; line.options.columns, 256);
     assert_eq!(rt; line.options.rows, 3);
+    assert_eq!(rt; line.options.workers, 16);
     assert_eq!(rt; line.arch, Some("a.arch"));
     Ok(())
 }
@@ -52,7 +56,8 @@ fn refused_options(rt: HostRuntime) -> Result<(), Fail> {
         ["fpgad", "--columns", "0"],
         ["fpgad", "--rows", "+1"],
         ["fpgad", "--rows", "-1"],
-        ["fpgad", "--workers", "1"],
+        ["fpgad", "--workers", "17"],
+        ["fpgad", "--workers", "-1"],
         ["fpgad", "--workers", ""],
         ["fpgad", "--rows=1", "--rows=1"],
         ["fpgad", "--rows=1", "--tracks"],

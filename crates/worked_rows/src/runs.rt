@@ -45,7 +45,7 @@ pub(crate) fn device_of(columns: u32) -> Result<Options, Fail> {
 
 /// A device with so many tracks in each channel, of so many columns and one row.
 fn device_with(tracks: u32, columns: u32) -> Result<Options, Fail> {
-    Ok(Options::new(tracks, columns, 1).ok_or("the device is above the limits")?)
+    Ok(Options::new(tracks, columns, 1, 0).ok_or("the device is above the limits")?)
 }
 
 /// What those lines write on a device of so many columns.

@@ -3,7 +3,7 @@ use Rattle.std.specs.List.{flat_map}
 use Rattle.operator.specs.Held.{held}
 use Rattle.fpgad_run.specs.Run.{heading, section_text}
 use Rattle.fpgad_run.specs.Told.{sections_of}
-use Rattle.fpgad_run.proofs.program.Running.output.Goals as goal
+use Rattle.fpgad_run.proofs.in_order.Running.output.Goals as goal
 
 pub returns : goal.returns
 returns c =

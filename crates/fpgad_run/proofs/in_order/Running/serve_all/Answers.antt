@@ -8,7 +8,7 @@ use Rattle.script_text.specs.declared.act.Act.{Act}
 use Rattle.operator.specs.Serving.{Stage}
 use Rattle.script_text.specs.Script.{named_act}
 use Rattle.fpgad_run.proofs.Telling.{Progress, progress_more, on_ok_value, replies_all}
-use Rattle.fpgad_run.proofs.program.Running.serve_all.Goals as goal
+use Rattle.fpgad_run.proofs.in_order.Running.serve_all.Goals as goal
 
 pub loop-act-preserved : goal.loop-act-preserved
 loop-act-preserved c =

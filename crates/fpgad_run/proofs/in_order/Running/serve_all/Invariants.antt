@@ -2,7 +2,7 @@ use Rattle.std.proofs.Common.{[]}
 use Rattle.std.specs.Prelude.{map}
 use Rattle.script_text.specs.Script.{named_act}
 use Rattle.fpgad_run.proofs.Telling.{Progress}
-use Rattle.fpgad_run.proofs.program.Running.serve_all.Given as goal
+use Rattle.fpgad_run.proofs.in_order.Running.serve_all.Given as goal
 
 -- the acts so far are told
 abbrev pub invariant-loop-act : goal.invariant-loop-act

@@ -3,7 +3,7 @@ use Rattle.sessions.specs.SessionText.{answer_text}
 use Rattle.operator.specs.Held.{held}
 use Rattle.operator.proofs.OperatorLemmas.{on_ok}
 use Rattle.fpgad_run.proofs.Telling.{session_answers, lengths-answered}
-use Rattle.fpgad_run.proofs.program.Running.serve.Goals as goal
+use Rattle.fpgad_run.proofs.in_order.Running.serve.Goals as goal
 
 pub returns-in-Session : goal.returns-in-Session
 returns-in-Session c =

@@ -1,0 +1,19 @@
+use Rattle.std.proofs.Common.{subst}
+use Rattle.service_core.specs.declared.device.Device.{Device}
+use Rattle.script_text.specs.Threaded.{parts_of}
+use Rattle.script_threads.specs.Served.{IsServedOnThreads}
+use Rattle.fpgad_run.proofs.ThreadLemmas.{start_read}
+use Rattle.fpgad_run.proofs.on_threads.replies.Goals as goal
+
+pub returns : goal.returns
+returns g c =
+    let parts = parts_of c.in_ok-script.script in
+    let P : Device → Type 0 = λ device. IsServedOnThreads device parts c.in_ok-answered.answered in
+    record {
+      arch = c.in_ok-arch.arch;
+      parts = parts;
+      begins = start_read _ _ _ c.in_ok-arch.arch parts (c.in-Some.ensures.on_threads c.args.options.now.tracks) c.in_ok-arch.ensures.gives c.in_ok-script.ensures;
+      answered = c.in_ok-answered.answered;
+      served = subst P c.device.ensures c.in_ok-answered.ensures.ok;
+      output_is = c.in_ok-output.ensures;
+    }

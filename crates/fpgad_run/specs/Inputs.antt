@@ -1,0 +1,15 @@
+-- Private: the texts of a run.
+use Rattle.std.specs.Prelude.{ℕ, ◌≡◌, ◌+◌, ◌<◌, ◌^◌, List, length}
+use Rattle.arch_file.specs.Arch.{arch_of}
+use Rattle.script_text.specs.Script.{script_of}
+use Rattle.fpgad_run.specs.declared.inputs.Architecture.{Architecture}
+use Rattle.fpgad_run.specs.declared.inputs.Texts.{Texts}
+use Rattle.script_text.specs.Threaded.{threaded_of}
+use Rattle.fpgad_run.specs.OnThreads.{threaded_start_of}
+use Rattle.fpgad_run.specs.Program.{checked, start_of}
+
+-- what the input comes to stands in the texts
+pub record AreTexts (architecture : Architecture) (input : List ℕ) (texts : Texts) : Type 0 where
+  pub in_order : (tracks : ℕ) → start_of tracks architecture input ≡ checked (arch_of texts.architecture.now tracks) (script_of texts.number texts.script.now)
+  pub on_threads : (tracks : ℕ) → threaded_start_of tracks architecture input ≡ checked (arch_of texts.architecture.now tracks) (threaded_of texts.number texts.script.now)
+  pub counted : texts.number + length texts.script.now < 2 ^ 64

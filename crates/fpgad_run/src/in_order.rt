@@ -1,0 +1,145 @@
+//! A script that is served in order, without workers.
+ghost use Rattle.std.specs.Prelude.{◌≡◌, ◌<◌, ◌^◌, [], Ok, length, IfErr, IfOk, OnOk};
+ghost use Rattle.arch_file.specs.Arch.{IsArch};
+ghost use Rattle.script_text.specs.Script.{named_act};
+ghost use Rattle.fpgad_run.specs.Ends.{Replies};
+ghost use Rattle.fpgad_run.specs.Program.{IsReplies, start_of};
+
+use crate::inputs::{Architecture, Texts};
+use crate::options::Options;
+use crate::outcome::Outcome;
+use crate::sections::{Sections, push_section};
+use arch_file::{Arch, read_arch};
+use line_text::MemorySink;
+use operator::{HeldJobs, Operator};
+use script_text::{Act, Script, read_script};
+use service_core::{Service, headline};
+use sessions::end_to_end;
+use std::alloc::{AllocError, Global};
+
+/// The bytes that the run of a script writes, or why it writes none.
+pub(crate) fn replies(
+    alloc: Global,
+    options: &Options,
+    architecture: Architecture<'_>,
+    input: &[u8],
+) -> Result<Vec<u8>, Outcome>
+    requires { length input.now < 2 ^ 63 }
+    ensures settled { IfErr result (λ outcome. outcome ≡ Outcome.NotSettled → ⊥) }
+    ensures replies { Replies (λ output. IsReplies options.now (start_of options.now.tracks architecture.entry input.now) output) (start_of options.now.tracks architecture.entry input.now) result }
+{
+    let Some(texts) = Texts::new(architecture, input) else {
+        return Err(Outcome::ArchUnreadable);
+    };
+    let arch = read_arch(alloc, texts.architecture, options.tracks)?;
+    let script = read_script(alloc, texts.script, texts.number)?;
+    Ok(serve(alloc, options, arch, script)?)
+}
+
+/// Serves a script in order, from an empty device.
+fn serve(
+    alloc: Global,
+    options: &Options,
+    arch: Arch,
+    script: Script<'_>,
+) -> Result<Vec<u8>, AllocError>
+    requires { IsArch arch }
+    ensures { IfOk result (λ output. IsReplies options.now (Ok (arch, script.entry)) output.items) }
+{
+    let core = Service::new(alloc, options.device(arch))?;
+    let mut running = Running::new(alloc, core);
+    let output = running.serve_all(alloc, script);
+    running.end();
+    output
+}
+
+/// A script that runs: the core, the operator's names and jobs, and what was told so far.
+struct Running<'t> {
+    core: Service,
+    operator: Operator<'t>,
+    jobs: HeldJobs,
+    operator_text: MemorySink,
+    sections: Sections<'t>,
+}
+
+impl<'t> Running<'t> {
+    ghost use Rattle.arch_file.specs.declared.arch.Arch.{Arch};
+    ghost use Rattle.service_core.specs.Service.{empty};
+    ghost use Rattle.fpgad_run.specs.declared.options.Options.{Options};
+    ghost use Rattle.fpgad_run.specs.Program.{device_of};
+    ghost use Rattle.fpgad_run.specs.Told.{Begins, IsEven, Serves, told_so_far};
+
+    fn new(alloc: Global, core: Service) -> Self
+        requires { core.histories ≡ [] }
+        ensures { Begins core result }
+    {
+        Running {
+            core,
+            operator: Operator::new(alloc),
+            jobs: HeldJobs::new(alloc),
+            operator_text: MemorySink::new(alloc),
+            sections: Sections::new(alloc),
+        }
+    }
+
+    /// Serves a script in order, and gives all that was told.
+    fn serve_all(&mut self, alloc: Global, script: Script<'t>) -> Result<Vec<u8>, AllocError>
+        requires { Begins self.old.core self.old }
+        ensures { (options : Options) (arch : Arch) → self.old.core ≡ empty (device_of options arch) → IfOk result (λ output. IsReplies options (Ok (arch, script.entry)) output.items) }
+    {
+        for act in script.into_acts() {
+            self.serve(act)?;
+        }
+        headline();
+        end_to_end();
+        self.output(alloc)
+    }
+
+    /// Ends the service: jobs that are still held are given back.
+    fn end(self) {
+        let Running {
+            mut core,
+            operator,
+            jobs,
+            operator_text,
+            sections,
+        } = self;
+        jobs.give_back(&mut core);
+        drop(core);
+        drop(operator);
+        drop(operator_text);
+        drop(sections);
+    }
+
+    /// Serves one act.
+    fn serve(&mut self, act: Act<&'t [u8]>) -> Result<(), AllocError>
+        requires { IsEven self.old }
+        ensures { OnOk result (Serves self.old (named_act act.entry) self.new) }
+    {
+        match act {
+            Act::Operator(line) => {
+                self.operator.serve(
+                    &mut self.core,
+                    &mut self.jobs,
+                    line,
+                    &mut self.operator_text,
+                )
+            }
+            Act::Session(name, line) => {
+                let id = self.operator.last_id(name);
+                self.sections.answer(&mut self.core, name, id, line)
+            }
+        }
+    }
+
+    /// All that was told: the operator's replies, and each name's.
+    fn output(&self, alloc: Global) -> Result<Vec<u8>, AllocError>
+        requires { IsEven self.now }
+        ensures { IfOk result (λ output. output.items ≡ told_so_far self.now) }
+    {
+        let mut out = Vec::new(alloc);
+        push_section(&mut out, b"op", self.operator_text.as_bytes())?;
+        self.sections.append_to(&mut out)?;
+        Ok(out)
+    }
+}
