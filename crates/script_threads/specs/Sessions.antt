@@ -1,5 +1,5 @@
 -- What each name's session is told.
-use Rattle.std.specs.Prelude.{ℕ, ◌≡◌, List, [], map, Bool, true, Option, Some, None, is_some}
+use Rattle.std.specs.Prelude.{ℕ, ◌≡◌, List, [], map, Bool, Option, Some, None, is_some}
 use Rattle.std.specs.List.{filter_map, flat_map}
 use Rattle.service_core.specs.History.{History}
 use Rattle.service_core.specs.Service.{live_of}
@@ -9,7 +9,6 @@ use Rattle.sessions.specs.declared.refusal.SessionRefusal.{SessionRefusal}
 use Rattle.sessions.specs.declared.refusal.SessionRefusal.TheVariants.{Evicted}
 use Rattle.sessions.specs.Items.{items_of}
 use Rattle.sessions.specs.SessionText.{session_refusal_text}
-use Rattle.session_threads.specs.Outcomes.{found_memory}
 use Rattle.session_threads.specs.Told.{AreTold, noted_all, told_texts}
 use Rattle.session_threads.specs.WholeSession.{fresh}
 use Rattle.transcripts.specs.declared.item.End.TheVariants.{Ended}
@@ -59,13 +58,13 @@ evicted_line item = session_refusal_text (evicted_refusal item)
 abbrev pub evicted_text : List ℕ → List ℕ
 evicted_text input = flat_map evicted_line (items_of input)
 
--- the session came to its input's end: each item is told what stands in the transcript, in order, and nothing else is written; that these
--- are the input's items is said where none found no memory
+-- the session came to its input's end: each item of the input is told, in order, what stands in the transcript, or is counted there as one
+-- that found no memory; and nothing else is written
 pub record IsWhole (id : ℕ) (input text : List ℕ) (t : TranscriptState) : Type 0 where
   pub told : List (Option Place)
   pub noted : t ≡ record (noted_all (fresh id) told) { end = Some Ended }
   pub written : text ≡ told_texts told
-  pub asked : found_memory told ≡ true → AreTold id (items_of input) told
+  pub asked : AreTold id (items_of input) told
 
 abbrev pub IsToldBy : Option TranscriptState → PartState → Type 0
 IsToldBy None part = part.text ≡ evicted_text part.input
