@@ -5,7 +5,6 @@ use Rattle.std.specs.Str.{bytes_eq}
 use Rattle.line_text.specs.Lines.{physical_lines}
 use Rattle.line_text.specs.Words.{is_blank}
 use Rattle.sessions.specs.Items.{ends_text}
-use Rattle.script_text.specs.declared.act.Act.{Act}
 use Rattle.script_text.specs.declared.act.Act.TheVariants.{Operator, Session}
 use Rattle.script_text.specs.declared.form.Form.{Form}
 use Rattle.script_text.specs.declared.form.Form.TheVariants.{Skipped, Faulty, Asks, Begins}

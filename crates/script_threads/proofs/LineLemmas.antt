@@ -1,10 +1,9 @@
 -- Lines of the operator, served one after another.
 use Rattle.std.proofs.Common.{◌≡◌, ℕ, List, [], ◌∷◌, ◌++◌, length, refl, sym, ap, ◌∙◌, subst, append_assoc, append-nil}
 use Rattle.service_core.specs.Run.{Call}
-use Rattle.service_core.specs.Service.{ServiceState}
 use Rattle.script_text.specs.declared.operator_line.OperatorLine.{OperatorLine}
 use Rattle.operator.specs.Serving.{IsServed, Stage}
-use Rattle.script_threads.specs.Lines.{AreServed, RepliesEach, stage}
+use Rattle.script_threads.specs.Lines.{AreServed, RepliesEach}
 
 pub AreServed-push : (a : Stage) (lines : List (OperatorLine (List ℕ))) (text : List ℕ) (b : Stage) (line : OperatorLine (List ℕ)) (calls : List Call) (more : List ℕ) (c : Stage) →
     AreServed a lines text b → IsServed b line calls more c → AreServed a (lines ++ line ∷ []) (text ++ more) c

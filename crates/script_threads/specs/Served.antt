@@ -1,11 +1,10 @@
 -- What a script is answered whose sessions run on threads.
-use Rattle.std.specs.Prelude.{ℕ, ◌≡◌, ◌⊎◌, ⊤, List, [], ◌++◌, map, All, Result, Ok, Err}
+use Rattle.std.specs.Prelude.{ℕ, ◌≡◌, ⊤, List, [], ◌++◌, map, All}
 use Rattle.service_core.specs.declared.device.Device.{Device}
 use Rattle.service_core.specs.Headline.{AreParted}
 use Rattle.service_core.specs.History.{History}
 use Rattle.service_core.specs.Service.{AreAlone, ServiceState, empty}
 use Rattle.shared_core.specs.CoreState.{CoreState, ShareState}
-use Rattle.settling.specs.declared.not_settled.Cause.{Cause}
 use Rattle.settling.specs.declared.not_settled.Cause.TheVariants.{Missing, Mismatch}
 use Rattle.settling.specs.Settling.{IsCause, IsSettled}
 use Rattle.transcripts.specs.Transcripts.{TranscriptState}

@@ -1,5 +1,5 @@
 -- What each name's session is told.
-use Rattle.std.specs.Prelude.{ℕ, ◌≡◌, List, [], map, Bool, Option, Some, None, is_some}
+use Rattle.std.specs.Prelude.{ℕ, ◌≡◌, List, Bool, Option, Some, None, is_some}
 use Rattle.std.specs.List.{filter_map, flat_map}
 use Rattle.service_core.specs.History.{History}
 use Rattle.service_core.specs.Service.{live_of}

@@ -1,4 +1,4 @@
-use Rattle.std.proofs.Common.{◌≡◌, refl, subst}
+use Rattle.std.proofs.Common.{refl, subst}
 use Rattle.std.specs.Prelude.{map, OnOk}
 use Rattle.operator.specs.Held.{held}
 use Rattle.operator.specs.HeldJobs.{HeldList}

@@ -1,8 +1,4 @@
 use Rattle.std.proofs.Common.{◌≡◌, ◌++◌, ◌∙◌, ap, sym, rules}
-use Rattle.std.specs.List.{flat_map}
-use Rattle.std.proofs.lemmas.Iterator.Adapters.{YieldsList-from_vec}
-use Rattle.std.proofs.lemmas.Iterator.Consumers.{YieldsList-end}
-use Rattle.std.proofs.lemmas.List.{map-id}
 use Rattle.operator.specs.Held.{held}
 use Rattle.script_threads.specs.Sessions.{evicted_line}
 use Rattle.script_threads.proofs.PartLemmas.{told_push}
