@@ -4,12 +4,13 @@ use Rattle.std.specs.Prelude.{slice_index}
 use Rattle.std.proofs.lemmas.Bool.{cases_lt}
 use Rattle.std.proofs.lemmas.List.{get_or_append_left, get_or_push}
 use Rattle.pathfinder.specs.declared.rates.Rate.{Rate}
-use Rattle.pathfinder.specs.Wiring.{Wiring}
+use Rattle.rr_graph.specs.Graph.{Basis, graph_of}
+use Rattle.pathfinder.specs.PlacedNets.{wiring_of}
 use Rattle.pathfinder.specs.Rates.{AreRatesBelow}
 
-pub rates_more : (w : Wiring) (history : List ℕ) (count : ℕ) (rates : List Rate) (rate : Rate) → AreRatesBelow w history count rates → rate.factor ≡ 1 + slice_index history count → rate.capacity ≡ w.capacity count
-    → AreRatesBelow w history (count + 1) (rates ++ rate ∷ [])
-rates_more w history count rates rate known f c = record {
+pub rates_more : (basis : Basis) (history : List ℕ) (count : ℕ) (rates : List Rate) (rate : Rate) → AreRatesBelow basis history count rates → rate.factor ≡ 1 + slice_index history count → rate.capacity ≡ (wiring_of basis).capacity count
+    → rate.place ≡ (graph_of basis).node count → AreRatesBelow basis history (count + 1) (rates ++ rate ∷ [])
+rates_more basis history count rates rate known f c p = record {
   long = omega (arith, length-append rates (rate ∷ []), known.long);
   factor = λ node d b. elim (cases_lt node count) [
     | inl l ↦ ap (λ (r : Rate). r.factor) (get_or_append_left rates (rate ∷ []) d node (omega (arith, l, known.long))) ∙ known.factor node d l
@@ -21,6 +22,12 @@ rates_more w history count rates rate known f c = record {
     | inl l ↦ ap (λ (r : Rate). r.capacity) (get_or_append_left rates (rate ∷ []) d node (omega (arith, l, known.long))) ∙ known.capacity node d l
     | inr l ↦
         (let e : count ≡ node = omega arith in
-        ap (λ (r : Rate). r.capacity) (get_or_push rates rate d node (known.long ∙ e)) ∙ c ∙ ap (λ k. w.capacity k) e)
+        ap (λ (r : Rate). r.capacity) (get_or_push rates rate d node (known.long ∙ e)) ∙ c ∙ ap (λ k. (wiring_of basis).capacity k) e)
+  ];
+  place = λ node d b. elim (cases_lt node count) [
+    | inl l ↦ ap (λ (r : Rate). r.place) (get_or_append_left rates (rate ∷ []) d node (omega (arith, l, known.long))) ∙ known.place node d l
+    | inr l ↦
+        (let e : count ≡ node = omega arith in
+        ap (λ (r : Rate). r.place) (get_or_push rates rate d node (known.long ∙ e)) ∙ p ∙ ap (λ k. (graph_of basis).node k) e)
   ];
 }

@@ -1,18 +1,19 @@
-//! What each node costs in an iteration, but for the trees that hold it.
+//! What each node is, and what it costs in an iteration, but for the trees that hold it.
 ghost use Rattle.std.specs.Prelude.{◌≡◌, ◌+◌, ◌-◌, ◌*◌, ◌<◌, ◌≤◌, ◌^◌, All, IfOk, length};
 ghost use Rattle.pathfinder.specs.PlacedNets.{wiring_of};
 ghost use Rattle.pathfinder.specs.Rates.{AreRates};
 
-use rr_graph::StripGraph;
+use rr_graph::{Node, StripGraph};
 use std::alloc::{AllocError, Global};
 
-/// What a node costs, but for how many trees hold it.
+/// What a node is, and what it costs, but for how many trees hold it.
 #[derive(Clone, Copy, Debug)]
 pub(crate) struct Rate {
     /// One more than its overuse so far.
     pub(crate) factor: u32,
     /// How many nets it can carry.
     pub(crate) capacity: u32,
+    pub(crate) place: Node,
 }
 
 /// What a node costs after so many iterations, while so many trees hold it.
@@ -33,7 +34,7 @@ pub(crate) fn rates_of<G: StripGraph>(
 ) -> Result<Vec<Rate>, AllocError>
     requires long { length history.now ≡ (wiring_of (G.basis graph.now)).count }
     requires low { All (λ x. x ≤ 2 ^ 20) history.now }
-    ensures { IfOk result (λ rates. AreRates (wiring_of (G.basis graph.now)) history.now rates.items) }
+    ensures { IfOk result (λ rates. AreRates (G.basis graph.now) history.now rates.items) }
 {
     let mut rates = Vec::new(alloc);
     rates.reserve(history.len())?;
@@ -41,6 +42,7 @@ pub(crate) fn rates_of<G: StripGraph>(
         rates.push(Rate {
             factor: 1 + history[node],
             capacity: graph.capacity(node),
+            place: graph.node(node),
         })?;
     }
     Ok(rates)

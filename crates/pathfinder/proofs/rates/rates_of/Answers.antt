@@ -1,12 +1,11 @@
 use Rattle.std.proofs.Common.{◌+◌, refl, subst, sym}
 use Rattle.std.specs.Prelude.{slice_index}
-use Rattle.pathfinder.specs.PlacedNets.{wiring_of}
 use Rattle.pathfinder.specs.Rates.{AreRatesBelow}
 use Rattle.pathfinder.proofs.NodeRates.{rates_more}
 use Rattle.pathfinder.proofs.rates.rates_of.Goals as goal
 
 pub loop-node-preserved : goal.loop-node-preserved
 loop-node-preserved g c =
-    let w = wiring_of (g.G.StripGraph.basis c.args.graph.now) in
-    subst (λ rates. AreRatesBelow w c.args.history.now (c.loop-node.node + 1) rates) (sym c.in_ok-push.ensures.items)
-    (rates_more w c.args.history.now c.loop-node.node c.loop-node.rates.items (record { factor = 1 + slice_index c.args.history.now c.loop-node.node; capacity = c.capacity.result }) c.loop-node.invariant refl c.capacity.ensures)
+    let basis = g.G.StripGraph.basis c.args.graph.now in
+    subst (λ rates. AreRatesBelow basis c.args.history.now (c.loop-node.node + 1) rates) (sym c.in_ok-push.ensures.items)
+    (rates_more basis c.args.history.now c.loop-node.node c.loop-node.rates.items (record { factor = 1 + slice_index c.args.history.now c.loop-node.node; capacity = c.capacity.result; place = c.node.result }) c.loop-node.invariant refl c.capacity.ensures c.node.ensures)

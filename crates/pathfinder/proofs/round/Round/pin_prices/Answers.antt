@@ -42,9 +42,9 @@ loop-n-preserved g c =
         | inr on ↦
             (let last : ((graph_of basis).node node).n ≡ c.loop-n.n = omega (arith, l, on) in
             let same : (graph_of basis).node node ≡ here = same_node ((graph_of basis).node node) c.args.sink.x Ipin c.args.sink.y c.loop-n.n pin.x pin.kind pin.y last in
-            let low : AreLow (sides_at basis.arch basis.strip here) c.with-pins.result c.price_at.result = subst (λ (s : Sides). AreLow s c.with-pins.result c.price_at.result) sides c.with-pins.ensures.low in
+            let low : AreLow (sides_at basis.arch basis.strip here) c.with-pins.result c.price_of.result = subst (λ (s : Sides). AreLow s c.with-pins.result c.price_of.result) sides c.with-pins.ensures.low in
             subst (λ (place : Node). AreLow (sides_at basis.arch basis.strip place) c.with-pins.result (cost node)) (sym same)
-            (low_dearer (sides_at basis.arch basis.strip here) c.with-pins.result c.price_at.result (cost node) (c.price_at.ensures.value node b same) low))
+            (low_dearer (sides_at basis.arch basis.strip here) c.with-pins.result c.price_of.result (cost node) (c.price_of.ensures.value node b same) low))
       ];
     }
 
