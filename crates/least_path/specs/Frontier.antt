@@ -3,22 +3,13 @@ use Rattle.std.proofs.Common.{◌≡◌, ◌≢◌, ℕ, ◌+◌, ◌*◌, ◌^�
 use Rattle.std.specs.List.{sum_by, All, Contains}
 use Rattle.std.specs.Prelude.{if◌then◌else◌, ◌==◌}
 use Rattle.std.specs.List.Sorted.{IsPermutation}
-use Rattle.std.specs.BinaryHeap.{heap_items, IsHeap, IsUpperBound}
-use Rattle.std.specs.Ordering.{nat_cmp, ordering_then}
-use Rattle.std.specs.declared.cmp.Ordering.{Ordering}
 use Rattle.std.specs.declared.cmp.Reverse.{Reverse}
 use Rattle.least_path.specs.Graph.{Graph}
 use Rattle.least_path.specs.Path.{Leads, IsPath, cost_of}
+use Rattle.least_path.specs.Queue.{TakesNearest}
 use Rattle.least_path.specs.declared.search.Label.{Label}
 use Rattle.least_path.specs.declared.search.Waiting.{Waiting}
 use Rattle.least_path.specs.declared.search.Search.{Search}
-
-abbrev pub waiting_cmp : Waiting → Waiting → Ordering
-waiting_cmp a b = ordering_then (ordering_then (nat_cmp a.at_least b.at_least) (nat_cmp b.cost.0 a.cost.0)) (nat_cmp a.node b.node)
-
--- the greatest comes out of the heap first
-abbrev pub entry_cmp : Reverse Waiting → Reverse Waiting → Ordering
-entry_cmp x y = waiting_cmp y.0 x.0
 
 abbrev pub no_label : Label
 no_label = record { cost = 0; epoch = 0 }
@@ -49,9 +40,9 @@ potential epoch labels = sum_by (λ label. if label.epoch == epoch then label.co
 abbrev pub fresh : ℕ → List Label → ℕ
 fresh epoch labels = sum_by (λ label. if label.epoch == epoch then 0 else 1) labels
 
--- falls with each label and each entry that leaves the heap
+-- falls with each label and each entry that is taken
 abbrev pub left : Search → ℕ
-left s = 2 * potential s.epoch s.labels.items + length (heap_items s.heap)
+left s = 2 * potential s.epoch s.labels.items + length s.queue
 
 -- A path leads there at that cost.
 pub record Reached (g : Graph) (starts : List ℕ) (node cost : ℕ) : Type 0 where
@@ -71,7 +62,7 @@ IsServed g goal epoch labels node cost = HasNoWay g goal node ⊎ (IsLabelledIn 
 abbrev pub IsClosed : Graph → ℕ → ℕ → List Label → ℕ → Type 0
 IsClosed g goal epoch labels node = (node ≢ goal) × All (λ end. IsServed g goal epoch labels end (cost_in labels node + g.cost end)) (g.ends node)
 
--- an entry of the heap: at least what any path over the node costs, from a label that was no cheaper than the present one
+-- an entry of the queue: at least what any path over the node costs, from a label that was no cheaper than the present one
 pub record IsEntry (g : Graph) (goal epoch : ℕ) (labels : List Label) (entry : Reverse Waiting) : Type 0 where
   pub within : entry.0.node < g.count
   pub labelled : IsLabelledIn epoch labels entry.0.node
@@ -79,7 +70,7 @@ pub record IsEntry (g : Graph) (goal epoch : ℕ) (labels : List Label) (entry :
   pub from : entry.0.cost.0 ≤ entry.0.at_least
   pub to : (rest : List ℕ) → Leads g goal entry.0.node rest → entry.0.at_least ≤ entry.0.cost.0 + sum_by g.cost rest
 
--- The node's label is in the heap.
+-- The node's label waits.
 pub record Waits (labels : List Label) (heap : List (Reverse Waiting)) (node : ℕ) : Type 0 where
   pub entry : Reverse Waiting
   pub contained : Contains heap entry
@@ -96,10 +87,9 @@ pub record Frontier (g : Graph) (starts : List ℕ) (goal except epoch : ℕ) (l
   pub reached : (v : ℕ) → v < g.count → IsLabelledIn epoch labels v → Reached g starts v (cost_in labels v)
   pub cared_for : (v : ℕ) → v < g.count → IsLabelledIn epoch labels v → (v ≡ except) ⊎ (IsClosed g goal epoch labels v ⊎ Waits labels heap v)
   pub entries : All (IsEntry g goal epoch labels) heap
-  pub heap_order : IsHeap entry_cmp heap
 
 abbrev pub IsFrontier : Graph → List ℕ → ℕ → ℕ → Search → Type 0
-IsFrontier g starts goal except s = Frontier g starts goal except s.epoch s.labels.items (heap_items s.heap)
+IsFrontier g starts goal except s = Frontier g starts goal except s.epoch s.labels.items s.queue
 
 -- the state before the first label
 pub record IsBegun (s : Search) (count : ℕ) : Type 0 where
@@ -108,13 +98,12 @@ pub record IsBegun (s : Search) (count : ℕ) : Type 0 where
   pub begun : 1 ≤ s.epoch
   pub more : s.epoch + 1 < 2 ^ 32
   pub none_labelled : All (λ label. label.epoch < s.epoch) s.labels.items
-  pub no_heap : heap_items s.heap ≡ []
-  pub heap_order : IsHeap entry_cmp (heap_items s.heap)
+  pub nothing_waits : s.queue ≡ []
 
 pub record IsSame (s t : Search) : Type 0 where
   pub epoch : t.epoch ≡ s.epoch
   pub labels : t.labels.items ≡ s.labels.items
-  pub heap : heap_items t.heap ≡ heap_items s.heap
+  pub queue : t.queue ≡ s.queue
 
 -- A cheaper label, and an entry for it.
 pub record AddsLabel (g : Graph) (goal : ℕ) (s t : Search) (node cost : ℕ) : Type 0 where
@@ -124,19 +113,17 @@ pub record AddsLabel (g : Graph) (goal : ℕ) (s t : Search) (node cost : ℕ) :
   pub cheaper : IsLabelled s node → cost < cost_at s node
   pub from : cost ≤ at_least
   pub to : (rest : List ℕ) → Leads g goal node rest → at_least ≤ cost + sum_by g.cost rest
-  pub pushed : IsPermutation (record { 0 = record { at_least = at_least; cost = record { 0 = cost }; node = node } } ∷ heap_items s.heap) (heap_items t.heap)
-  pub heap_order : IsHeap entry_cmp (heap_items s.heap) → IsHeap entry_cmp (heap_items t.heap)
+  pub pushed : IsPermutation (record { 0 = record { at_least = at_least; cost = record { 0 = cost }; node = node } } ∷ s.queue) t.queue
 
 -- what an offer changes
 abbrev pub Offers : Graph → ℕ → Search → Search → ℕ → ℕ → Type 0
 Offers g goal s t node cost = (IsSame s t × IsServed g goal s.epoch s.labels.items node cost) ⊎ AddsLabel g goal s t node cost
 
--- The first entry leaves the heap.
+-- The nearest waits no longer.
 pub record Pops (s t : Search) (waiting : Waiting) : Type 0 where
   pub epoch : t.epoch ≡ s.epoch
   pub labels : t.labels.items ≡ s.labels.items
-  pub taken : IsPermutation (heap_items s.heap) (record { 0 = waiting } ∷ heap_items t.heap)
-  pub heap_order : IsHeap entry_cmp (heap_items s.heap) → IsHeap entry_cmp (heap_items t.heap) × IsUpperBound entry_cmp (record { 0 = waiting }) (heap_items t.heap)
+  pub takes : TakesNearest s.queue (record { 0 = waiting }) t.queue
 
 -- Labels come and fall.
 pub record Falls (s t : Search) : Type 0 where
@@ -149,9 +136,9 @@ pub record IsGoing (g : Graph) (starts : List ℕ) (goal : ℕ) (s : Search) : T
   pub frontier : IsFrontier g starts goal g.count s
   pub entered : All (λ start. IsServed g goal s.epoch s.labels.items start 0) starts
 
--- the search when the goal has come out of the heap: no entry that is left leads to a path that is less
+-- the search when the goal was taken: no entry that is left leads to a path that is less
 pub record IsSettled (g : Graph) (starts : List ℕ) (goal : ℕ) (s : Search) : Type 0 where
   pub frontier : IsFrontier g starts goal goal s
   pub entered : All (λ start. IsServed g goal s.epoch s.labels.items start 0) starts
   pub goal_labelled : IsLabelled s goal
-  pub no_less : All (λ entry. cost_at s goal ≤ entry.0.at_least) (heap_items s.heap)
+  pub no_less : All (λ entry. cost_at s goal ≤ entry.0.at_least) s.queue

@@ -4,13 +4,14 @@ ghost use Rattle.least_path.specs.Graph.{AreNodes};
 ghost use Rattle.least_path.specs.LeastPath.{least_path, TellsLeastPath, HasNoPath, nodes_of};
 
 mod frontier;
+mod queue;
 mod walk;
 
 use crate::path::Path;
 use crate::roads::Roads;
+use crate::search::queue::Queue;
 use std::alloc::{AllocError, Global};
 use std::cmp::Reverse;
-use std::collections::BinaryHeap;
 
 /// What a search knows of a node: what the cheapest path to it that was found so far costs.
 #[derive(Clone, Copy)]
@@ -20,7 +21,7 @@ struct Label {
     epoch: u32,
 }
 
-/// A node whose edges are to be looked at, in the order in which that is done.
+/// A node whose edges are to be looked at. Of two that lie far off the lesser comes first.
 #[derive(Clone, Copy, PartialEq, Eq, PartialOrd, Ord)]
 struct Waiting {
     /// At least what any path over the node to the goal costs.
@@ -52,7 +53,7 @@ enum Turn {
 pub struct Search {
     epoch: u32,
     labels: Vec<Label>,
-    heap: BinaryHeap<Reverse<Waiting>>,
+    queue: Queue,
     turns: Vec<Turn>,
     /// The nodes that come next to the stack.
     frame: Vec<usize>,
@@ -68,7 +69,7 @@ impl Search {
         Search {
             epoch: 0,
             labels: Vec::new(alloc),
-            heap: BinaryHeap::new(alloc),
+            queue: Queue::new(alloc),
             turns: Vec::new(alloc),
             frame: Vec::new(alloc),
         }
@@ -141,7 +142,6 @@ impl Search {
             self.labels.resize(count, NONE)?;
         }
         self.epoch += 1;
-        self.heap.clear();
-        Ok(())
+        self.queue.clear()
     }
 }

@@ -1,0 +1,44 @@
+-- Private: what waits to be looked at, in buckets and a heap.
+use Rattle.std.proofs.Common.{◌≡◌, ℕ, ◌<◌, ◌≤◌, List, [], ◌∷◌, ◌++◌, length, get_or, map}
+use Rattle.std.specs.List.{All}
+use Rattle.std.specs.List.Sorted.{IsPermutation}
+use Rattle.std.specs.BinaryHeap.{IsHeap}
+use Rattle.std.specs.Global.{Vec}
+use Rattle.std.specs.Ordering.{nat_cmp, ordering_then}
+use Rattle.std.specs.declared.cmp.Ordering.{Ordering}
+use Rattle.std.specs.declared.cmp.Reverse.{Reverse}
+use Rattle.least_path.specs.declared.search.Waiting.{Waiting}
+
+abbrev pub waiting_cmp : Waiting → Waiting → Ordering
+waiting_cmp a b = ordering_then (nat_cmp a.at_least b.at_least) (ordering_then (nat_cmp b.cost.0 a.cost.0) (nat_cmp a.node b.node))
+
+-- the greatest comes out of the heap first
+abbrev pub entry_cmp : Reverse Waiting → Reverse Waiting → Ordering
+entry_cmp x y = waiting_cmp y.0 x.0
+
+-- what is in the buckets
+abbrev pub buckets_of : List (Vec (Reverse Waiting)) → List (List (Reverse Waiting))
+buckets_of near = map (λ bucket. bucket.items) near
+
+-- the bucket at a place; beyond the last it is empty
+abbrev pub bucket_at : List (List (Reverse Waiting)) → ℕ → List (Reverse Waiting)
+bucket_at near place = get_or near place []
+
+-- the contents of all buckets
+abbrev pub all_of : List (List (Reverse Waiting)) → List (Reverse Waiting)
+all_of [] = []
+all_of (bucket ∷ near) = bucket ++ all_of near
+
+-- Each bucket has what is so far, those before the first and from the end on are empty, and the rest is in a heap.
+pub record IsQueue (near : List (List (Reverse Waiting))) (first end : ℕ) (far : List (Reverse Waiting)) : Type 0 where
+  pub level : (place : ℕ) → All (λ entry. entry.0.at_least ≡ place) (bucket_at near place)
+  pub low : (place : ℕ) → place < first → bucket_at near place ≡ []
+  pub high : (place : ℕ) → end ≤ place → bucket_at near place ≡ []
+  pub within : end ≤ length near
+  pub beyond : All (λ entry. length near ≤ entry.0.at_least) far
+  pub order : IsHeap entry_cmp far
+
+-- One leaves, and the others are no nearer.
+pub record TakesNearest (before : List (Reverse Waiting)) (entry : Reverse Waiting) (after : List (Reverse Waiting)) : Type 0 where
+  pub taken : IsPermutation before (entry ∷ after)
+  pub nearest : All (λ other. entry.0.at_least ≤ other.0.at_least) after
