@@ -17,7 +17,7 @@ use Rattle.std.proofs.lemmas.List.Elements.{All-contains, All-head, All-tail, Al
 use Rattle.least_path.specs.Graph.{Graph, IsLawful}
 use Rattle.least_path.specs.Path.{Leads, IsPath, cost_of, path_cmp}
 use Rattle.least_path.specs.LeastPath.{IsLeastPath}
-use Rattle.least_path.specs.Frontier.{no_label, cost_in, epoch_in, cost_at, IsLabelled, Reached, IsSettled}
+use Rattle.least_path.specs.Frontier.{no_label, cost_in, epoch_in, cost_at, AreBounds, IsLabelled, Reached, IsSettled}
 use Rattle.least_path.specs.Walk.{ends_of, after, ahead_of, IsShortWay, MayLead, Needs, Selects, Lists, TakesTurn, Begins, GoesOn, nodes_in}
 use Rattle.least_path.specs.declared.search.Label.{Label}
 use Rattle.least_path.specs.declared.search.Search.{Search}
@@ -26,7 +26,7 @@ use Rattle.least_path.specs.declared.search.Turn.{Turn}
 use Rattle.least_path.specs.declared.search.Turn.TheVariants.{Ahead, Entered}
 use Rattle.least_path.proofs.Edges.{known_end, Contains_cases}
 use Rattle.least_path.proofs.Settles.{no_cheaper}
-use Rattle.least_path.proofs.Labels.{label_cases, Reached-step, Reached-start}
+use Rattle.least_path.proofs.Labels.{label_cases, ahead_other, Reached-step, Reached-start}
 
 -- ---- the order of sequences
 
@@ -225,6 +225,7 @@ pub record Walking (g : Graph) (starts : List ℕ) (goal best epoch : ℕ) (labe
   pub found : IsFound g starts goal best
   pub room : g.count ≤ length labels
   pub begun : 1 ≤ epoch
+  pub bounds : AreBounds g goal epoch labels
   pub stands : Stands g starts goal best ts
   pub covers : Covers g starts goal best (parent_of ts) (frame_of ts)
   pub labelled : (v c : ℕ) (rest : List ℕ) → v < g.count → epoch_in labels v + 1 ≡ epoch → cost_in labels v < c → IsShortWay g goal best v c rest → ⊥
@@ -256,6 +257,7 @@ module _ {g : Graph} {starts : List ℕ} {goal best epoch : ℕ} {labels : List 
         found = w.found;
         room = w.room;
         begun = w.begun;
+        bounds = w.bounds;
         stands = w.stands.1;
         covers = less_covers g starts goal best (parent_of below) stop.node (frame_of below) w.covers (λ rest way.
             let way' : IsShortWay g goal best stop.node stop.cost rest = rw next.cost way in
@@ -285,6 +287,7 @@ module _ {g : Graph} {starts : List ℕ} {goal best epoch : ℕ} {labels : List 
         found = w.found;
         room = w.room;
         begun = w.begun;
+        bounds = w.bounds;
         stands = w.stands.1.1.1;
         covers = less_covers g starts goal best (parent_of below) stop.node (frame_of below) w.stands.1.1.0 (λ rest way. none rest (rw next.cost way));
         labelled = w.labelled;
@@ -350,18 +353,19 @@ module _ (g : Graph) (starts : List ℕ) (goal best : ℕ) (base : List Turn) (n
       )
 
   -- with all that may come next, the pass goes on
-  raised_walks : {epoch : ℕ} {labels : List Label} (frame nodes : List ℕ) → IsFound g starts goal best → g.count ≤ length labels → 1 ≤ epoch → Stands g starts goal best base
+  raised_walks : {epoch : ℕ} {labels : List Label} (frame nodes : List ℕ) → IsFound g starts goal best → g.count ≤ length labels → 1 ≤ epoch → AreBounds g goal epoch labels → Stands g starts goal best base
       → ((v c : ℕ) (rest : List ℕ) → v < g.count → epoch_in labels v + 1 ≡ epoch → cost_in labels v < c → IsShortWay g goal best v c rest → ⊥)
       → ((v c : ℕ) (rest : List ℕ) → v < g.count → epoch_in labels v ≡ epoch → cost_in labels v ≤ c → IsShortWay g goal best v c rest → OnTrail base v c)
       → Selects (λ y. after g (parent_of base) y ≤ best) (λ y. Needs g goal best epoch labels y (after g (parent_of base) y)) (ends_of g starts (parent_of base)) frame
       → IsPermutation frame nodes → IsNonDecreasing nodes
       → Walking g starts goal best epoch labels (raised nodes)
-  raised_walks {epoch} {labels} frame nodes f room begun s labelled entered listed same rises =
+  raised_walks {epoch} {labels} frame nodes f room begun bounds s labelled entered listed same rises =
       let Q : ℕ → Type 0 = λ y. Contains (ends_of g starts (parent_of base)) y × (after g (parent_of base) y ≤ best) in
       record {
         found = f;
         room = room;
         begun = begun;
+        bounds = bounds;
         stands = raised_stands nodes rises (All-permutation Q frame nodes same listed.sound) s;
         covers = rw (raised_parent nodes, raised_frame nodes) (λ y rest i way.
             let at : y < g.count = next_in f base y s i in
@@ -413,7 +417,7 @@ walking_starts {g} {starts} {goal} {s} {v} law bs b z past k =
     let tl = k.renews.labels in
     let empty : reverse u.turns.items ≡ [] = rw (l.turns, k.renews.turns) refl in
     rw (r.turns, empty, r.epoch, r.labels, l.epoch, l.labels)
-    (raised_walks g starts goal (cost_at s goal) [] refl u.frame.items r.nodes f (rw tl z.frontier.room) (omega (arith, te)) tt
+    (raised_walks g starts goal (cost_at s goal) [] refl u.frame.items r.nodes f (rw tl z.frontier.room) (omega (arith, te)) (rw (te, tl) z.frontier.bounds) tt
     (λ v c rest b e lt way.
     let own : IsLabelled s v = omega (arith, te, e, ap (λ y. epoch_in y v) tl) in
     not_dearer f v (cost_at s v) c rest (z.frontier.reached v b own) (rw tl at lt) way)
@@ -421,6 +425,15 @@ walking_starts {g} {starts} {goal} {s} {v} law bs b z past k =
     let old = past v no_label (omega (arith, b, z.frontier.room)) in
     absurd (omega (arith, old, te, e, ap (λ y. epoch_in y v) tl)))
     l.listed r.same r.rising)
+
+-- A label of this pass leaves the bounds of the pass before as they are.
+pub bounds_kept : (g : Graph) (goal epoch : ℕ) (labels : List Label) (node cost : ℕ) → node < length labels → AreBounds g goal epoch labels → AreBounds g goal epoch (set labels node (record { cost = cost; epoch = epoch; ahead = 0 }))
+bounds_kept g goal epoch labels node cost room bounds v b old =
+    let label : Label = record { cost = cost; epoch = epoch; ahead = 0 } in
+    elim (label_cases labels node v label room) [
+      | inl q ↦ absurd (omega (arith, q.2, old))
+      | inr q ↦ rw (ahead_other labels node v label q.0) (bounds v b (omega (arith, q.2, old)))
+    ]
 
 -- A node is entered, and what may come after it is raised.
 pub walking_enters : {g : Graph} {starts : List ℕ} {goal best : ℕ} {s v : Search} (stop : Stop) → Walking g starts goal best s.epoch s.labels.items (Ahead stop ∷ reverse s.turns.items) → stop.node ≢ goal
@@ -435,11 +448,11 @@ walking_enters {g} {starts} {goal} {best} {s} {v} stop w ne k =
     let below : List Turn = reverse s.turns.items in
     let at = ahead_in stop below w in
     let room : stop.node < length s.labels.items = omega (arith, at, w.room) in
-    let label : Label = record { cost = stop.cost; epoch = s.epoch } in
+    let label : Label = record { cost = stop.cost; epoch = s.epoch; ahead = 0 } in
     let reached : Reached g starts stop.node stop.cost = rw w.stands.0.cost (next_reached w.found below stop.node w.stands.1 w.stands.0.end) in
     let stack : reverse u.turns.items ≡ Entered stop ∷ below = rw (l.turns, e.turns) (reverse-push (Entered stop) s.turns.items) in
     rw (r.turns, stack, r.epoch, r.labels, l.epoch, l.labels)
-    (raised_walks g starts goal best (Entered stop ∷ below) refl u.frame.items r.nodes w.found (rw (e.labels, length-set s.labels.items stop.node label) w.room) (rw e.epoch w.begun)
+    (raised_walks g starts goal best (Entered stop ∷ below) refl u.frame.items r.nodes w.found (rw (e.labels, length-set s.labels.items stop.node label) w.room) (rw e.epoch w.begun) (rw (e.epoch, e.labels) (bounds_kept g goal s.epoch s.labels.items stop.node stop.cost room w.bounds))
     (w.stands.0, (ne, (w.covers, w.stands.1)))
     (λ y c rest b own lt way. elim (label_cases s.labels.items stop.node y label room) [
       | inl q ↦ absurd (omega (arith, q.2, own, e.epoch, ap (λ z. epoch_in z y) e.labels))
@@ -465,9 +478,9 @@ abbrev pub work : Search → ℕ
 work s = 2 ^ 33 * sum_by (burden_of s.epoch) s.labels.items + weight (reverse s.turns.items)
 
 lighter : (epoch : ℕ) (labels : List Label) (node cost : ℕ) → node < length labels → MayLead epoch labels node cost → cost < 2 ^ 60
-    → sum_by (burden_of epoch) (set labels node (record { cost = cost; epoch = epoch })) < sum_by (burden_of epoch) labels
+    → sum_by (burden_of epoch) (set labels node (record { cost = cost; epoch = epoch; ahead = 0 })) < sum_by (burden_of epoch) labels
 lighter epoch labels node cost room may small =
-    let s = sum_by-set (burden_of epoch) labels node (record { cost = cost; epoch = epoch }) no_label room in
+    let s = sum_by-set (burden_of epoch) labels node (record { cost = cost; epoch = epoch; ahead = 0 }) no_label room in
     let new : cond (eqb epoch epoch) (2 * cost) (cond (eqb (epoch + 1) epoch) (2 * cost + 1) (2 ^ 62)) ≡ 2 * cost = rw (eq-eqb epoch epoch refl) refl in
     let old : 2 * cost < burden_of epoch (get_or labels node no_label) = elim (cases_eq (epoch_in labels node) epoch) [
       | inl e ↦ rw (eq-eqb _ _ e) (omega (arith, may.entered e))
@@ -500,7 +513,7 @@ less_by_entering {g} {goal} {best} {s} {t} {w} stop law b room small may k go =
     let heavy : weight (reverse w.turns.items) ≡ 2 * length r.nodes + (1 + weight (reverse t.turns.items)) = rw high (raised_weight g [] goal best (Entered stop ∷ reverse t.turns.items) refl r.nodes) in
     let few : length r.nodes < 2 ^ 32 = omega (arith, length_permutation _ _ r.same, l.listed.few, law.ends_few stop.node b) in
     let before = less_by_pop k in
-    let same : sum_by (burden_of w.epoch) w.labels.items ≡ sum_by (burden_of t.epoch) (set t.labels.items stop.node (record { cost = stop.cost; epoch = t.epoch })) = rw (r.epoch, r.labels, l.epoch, l.labels, e.epoch, e.labels) refl in
+    let same : sum_by (burden_of w.epoch) w.labels.items ≡ sum_by (burden_of t.epoch) (set t.labels.items stop.node (record { cost = stop.cost; epoch = t.epoch; ahead = 0 })) = rw (r.epoch, r.labels, l.epoch, l.labels, e.epoch, e.labels) refl in
     omega (arith, fall, heavy, few, before, same)
 
 -- ---- the loop's turns

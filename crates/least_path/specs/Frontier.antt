@@ -1,18 +1,19 @@
 -- Private: what a search keeps true while it labels nodes.
-use Rattle.std.proofs.Common.{◌≡◌, ◌≢◌, ℕ, ◌+◌, ◌*◌, ◌^◌, ◌<◌, ◌≤◌, ◌⊎◌, List, [], ◌∷◌, length, get_or, set}
+use Rattle.std.proofs.Common.{◌≡◌, ◌≢◌, ℕ, ◌+◌, ◌*◌, ◌^◌, ◌<◌, ◌≤◌, ◌⊎◌, Some, List, [], ◌∷◌, length, get_or, set}
 use Rattle.std.specs.List.{sum_by, All, Contains}
 use Rattle.std.specs.Prelude.{if◌then◌else◌, ◌==◌}
 use Rattle.std.specs.List.Sorted.{IsPermutation}
 use Rattle.std.specs.declared.cmp.Reverse.{Reverse}
 use Rattle.least_path.specs.Graph.{Graph}
 use Rattle.least_path.specs.Path.{Leads, IsPath, cost_of}
+use Rattle.least_path.specs.LowerBound.{IsLowerBound}
 use Rattle.least_path.specs.Queue.{TakesNearest}
 use Rattle.least_path.specs.declared.search.Label.{Label}
 use Rattle.least_path.specs.declared.search.Waiting.{Waiting}
 use Rattle.least_path.specs.declared.search.Search.{Search}
 
 abbrev pub no_label : Label
-no_label = record { cost = 0; epoch = 0 }
+no_label = record { cost = 0; epoch = 0; ahead = 0 }
 
 -- what the node's label says
 abbrev pub cost_in : List Label → ℕ → ℕ
@@ -21,6 +22,10 @@ cost_in labels node = (get_or labels node no_label).cost
 -- which search wrote it
 abbrev pub epoch_in : List Label → ℕ → ℕ
 epoch_in labels node = (get_or labels node no_label).epoch
+
+-- and which bound on what is left
+abbrev pub ahead_in : List Label → ℕ → ℕ
+ahead_in labels node = (get_or labels node no_label).ahead
 
 -- The node has a label of this search.
 abbrev pub IsLabelledIn : ℕ → List Label → ℕ → Type 0
@@ -54,6 +59,10 @@ pub record Reached (g : Graph) (starts : List ℕ) (node cost : ℕ) : Type 0 wh
 abbrev pub HasNoWay : Graph → ℕ → ℕ → Type 0
 HasNoWay g goal node = (rest : List ℕ) → Leads g goal node rest → ⊥
 
+-- What the labels of the pass before that number say of the way on is a lower bound.
+abbrev pub AreBounds : Graph → ℕ → ℕ → List Label → Type 0
+AreBounds g goal number labels = (v : ℕ) → v < g.count → epoch_in labels v + 1 ≡ number → IsLowerBound g goal v (Some (ahead_in labels v))
+
 -- Nothing is to be done for a path to the node at that cost.
 abbrev pub IsServed : Graph → ℕ → ℕ → List Label → ℕ → ℕ → Type 0
 IsServed g goal epoch labels node cost = HasNoWay g goal node ⊎ (IsLabelledIn epoch labels node × (cost_in labels node ≤ cost))
@@ -85,6 +94,7 @@ pub record Frontier (g : Graph) (starts : List ℕ) (goal except epoch : ℕ) (l
   pub more : epoch + 1 < 2 ^ 32
   pub cheap : (v : ℕ) → v < g.count → IsLabelledIn epoch labels v → cost_in labels v + fresh epoch labels * 2 ^ 36 ≤ length labels * 2 ^ 36
   pub reached : (v : ℕ) → v < g.count → IsLabelledIn epoch labels v → Reached g starts v (cost_in labels v)
+  pub bounds : AreBounds g goal (epoch + 1) labels
   pub cared_for : (v : ℕ) → v < g.count → IsLabelledIn epoch labels v → (v ≡ except) ⊎ (IsClosed g goal epoch labels v ⊎ Waits labels heap v)
   pub entries : All (IsEntry g goal epoch labels) heap
 
@@ -108,11 +118,13 @@ pub record IsSame (s t : Search) : Type 0 where
 -- A cheaper label, and an entry for it.
 pub record AddsLabel (g : Graph) (goal : ℕ) (s t : Search) (node cost : ℕ) : Type 0 where
   pub at_least : ℕ
+  pub ahead : ℕ
   pub epoch : t.epoch ≡ s.epoch
-  pub labels : t.labels.items ≡ set s.labels.items node (record { cost = cost; epoch = s.epoch })
+  pub labels : t.labels.items ≡ set s.labels.items node (record { cost = cost; epoch = s.epoch; ahead = ahead })
   pub cheaper : IsLabelled s node → cost < cost_at s node
   pub from : cost ≤ at_least
   pub to : (rest : List ℕ) → Leads g goal node rest → at_least ≤ cost + sum_by g.cost rest
+  pub bound : IsLowerBound g goal node (Some ahead)
   pub pushed : IsPermutation (record { 0 = record { at_least = at_least; cost = record { 0 = cost }; node = node } } ∷ s.queue) t.queue
 
 -- what an offer changes

@@ -87,7 +87,7 @@ pub record TakesTurn (s t : Search) (turn : Turn) : Type 0 where
 -- The node stands on the stack, and its label says at which cost.
 pub record Enters (s t : Search) (stop : Stop) : Type 0 where
   pub epoch : t.epoch ≡ s.epoch
-  pub labels : t.labels.items ≡ set s.labels.items stop.node (record { cost = stop.cost; epoch = s.epoch })
+  pub labels : t.labels.items ≡ set s.labels.items stop.node (record { cost = stop.cost; epoch = s.epoch; ahead = 0 })
   pub turns : t.turns.items ≡ s.turns.items ++ Entered stop ∷ []
 
 -- A pass begins: with an empty stack, and labels that are not its own.

@@ -3,6 +3,7 @@ ghost use Rattle.std.specs.Prelude.{◌≡◌, ◌^◌, ◌<◌, ◌≤◌, true
 ghost use Rattle.least_path.specs.Graph.{AreNodes};
 ghost use Rattle.least_path.specs.LeastPath.{least_path, TellsLeastPath, HasNoPath, nodes_of};
 
+mod bounds;
 mod frontier;
 mod queue;
 mod walk;
@@ -19,6 +20,8 @@ struct Label {
     cost: u64,
     /// The search that wrote the label. To every other one the node has none.
     epoch: u32,
+    /// At least what any way from the node to that search's goal costs.
+    ahead: u32,
 }
 
 /// A node whose edges are to be looked at. Of two that lie far off the lesser comes first.
@@ -133,7 +136,11 @@ impl Search {
         requires { count ≤ 2 ^ 23 }
         ensures { OnOk result (IsBegun self.new count) }
     {
-        const NONE: Label = Label { cost: 0, epoch: 0 };
+        const NONE: Label = Label {
+            cost: 0,
+            epoch: 0,
+            ahead: 0,
+        };
         if self.epoch >= u32::MAX - 1 {
             self.labels.clear();
             self.epoch = 0;

@@ -30,6 +30,10 @@ pub offer_end-requires-clause-small : goal.offer_end-requires-clause-small
 offer_end-requires-clause-small g c =
     (meets c.loop-end.invariant c.requires.lawful c.requires.within c.requires.frontier c.ends-ends.result.list.now c.ends-ends.result.base c.ends-ends.ensures c.loop-end-test.true).small
 
+pub offer_end-requires-clause-bound : goal.offer_end-requires-clause-bound
+offer_end-requires-clause-bound g c =
+    (meets c.loop-end.invariant c.requires.lawful c.requires.within c.requires.frontier c.ends-ends.result.list.now c.ends-ends.result.base c.ends-ends.ensures c.loop-end-test.true).bound
+
 pub loop-end-preserved : goal.loop-end-preserved
 loop-end-preserved g c =
     let m = meets c.loop-end.invariant c.requires.lawful c.requires.within c.requires.frontier c.ends-ends.result.list.now c.ends-ends.result.base c.ends-ends.ensures c.loop-end-test.true in
