@@ -8,4 +8,5 @@ mod Labels
 mod Settles
 mod Choices
 mod Stacks
+mod Burdens
 mod Raising

@@ -1,5 +1,5 @@
 -- The second pass: a stack whose entered nodes are the path that is being tried.
-use Rattle.std.proofs.Common.{◌≡◌, ◌≢◌, ℕ, suc, refl, ◌+◌, ◌*◌, ◌^◌, ◌<◌, ◌≤◌, ◌⊎◌, Option, Some, None, Result, Ok, Err, List, [], ◌∷◌, ◌++◌, length, map, reverse, get_or, set, cond, eqb, false, arith, ◌∙◌, inl, inr, sym, ap, subst, length-set}
+use Rattle.std.proofs.Common.{◌≡◌, ◌≢◌, ℕ, suc, refl, ◌+◌, ◌*◌, ◌^◌, ◌<◌, ◌≤◌, ◌⊎◌, Option, Some, None, Result, Ok, Err, List, [], ◌∷◌, ◌++◌, length, map, reverse, set, arith, ◌∙◌, inl, inr, sym, ap, subst, length-set}
 use Rattle.std.specs.Result.{OnOk}
 use Rattle.std.specs.List.{sum_by, All, Contains}
 use Rattle.std.specs.List.Sorted.{IsPermutation, IsNonDecreasing}
@@ -7,12 +7,11 @@ use Rattle.std.specs.Ordering.{nat_cmp, ordering_then, MatchOrdering}
 use Rattle.std.specs.Cmp.Lexicographic.{slice_cmp}
 use Rattle.std.specs.declared.cmp.Ordering.{Ordering}
 use Rattle.std.specs.declared.cmp.Ordering.TheVariants.{Less, Equal, Greater}
-use Rattle.std.proofs.lemmas.Bool.{eq-eqb, cases_eq, cases_lt}
-use Rattle.std.proofs.lemmas.Bool.Decides.{nat_tests}
+use Rattle.std.proofs.lemmas.Bool.{cases_lt}
 use Rattle.std.proofs.lemmas.Cmp.{ranked}
 use Rattle.std.proofs.lemmas.List.{reverse-append}
-use Rattle.std.proofs.lemmas.List.Sums.{sum_by-cons, sum_by-set}
-use Rattle.std.proofs.lemmas.List.Sorted.{All-permutation, Contains-permutation, length_permutation}
+use Rattle.std.proofs.lemmas.List.Sums.{sum_by-cons}
+use Rattle.std.proofs.lemmas.List.Sorted.{All-permutation, Contains-permutation}
 use Rattle.std.proofs.lemmas.List.Elements.{All-contains, All-head, All-tail, All-cons}
 use Rattle.least_path.specs.Graph.{Graph, IsLawful}
 use Rattle.least_path.specs.Path.{Leads, IsPath, cost_of, path_cmp}
@@ -64,7 +63,7 @@ weight [] = 0
 weight (Ahead stop ∷ below) = 2 + weight below
 weight (Entered stop ∷ below) = 1 + weight below
 
-lighter_below : (turn : Turn) (below : List Turn) → weight below < weight (turn ∷ below)
+pub lighter_below : (turn : Turn) (below : List Turn) → weight below < weight (turn ∷ below)
 lighter_below (Ahead stop) below = omega arith
 lighter_below (Entered stop) below = omega arith
 
@@ -333,7 +332,7 @@ module _ (g : Graph) (starts : List ℕ) (goal best : ℕ) (base : List Turn) (n
   raised_trail [] v c t = t
   raised_trail (x ∷ nodes) v c t = raised_trail nodes v c t
 
-  raised_weight : (nodes : List ℕ) → weight (raised nodes) ≡ 2 * length nodes + weight base
+  pub raised_weight : (nodes : List ℕ) → weight (raised nodes) ≡ 2 * length nodes + weight base
   raised_weight [] = omega arith
   raised_weight (x ∷ nodes) = omega (arith, raised_weight nodes)
 
@@ -467,54 +466,6 @@ walking_enters {g} {starts} {goal} {best} {s} {v} stop w ne k =
       | inr q ↦ inr (w.entered y c rest b (omega (arith, q.2, own, e.epoch, ap (λ z. epoch_in z y) e.labels)) (omega (arith, q.1, le, ap (λ z. cost_in z y) e.labels)) way)
     ])
     l.listed r.same r.rising)
-
--- ---- how much is left to do
-
--- what may still be entered
-abbrev pub burden_of : ℕ → Label → ℕ
-burden_of epoch label = cond (eqb label.epoch epoch) (2 * label.cost) (cond (eqb (label.epoch + 1) epoch) (2 * label.cost + 1) (2 ^ 62))
-
-abbrev pub work : Search → ℕ
-work s = 2 ^ 33 * sum_by (burden_of s.epoch) s.labels.items + weight (reverse s.turns.items)
-
-lighter : (epoch : ℕ) (labels : List Label) (node cost : ℕ) → node < length labels → MayLead epoch labels node cost → cost < 2 ^ 60
-    → sum_by (burden_of epoch) (set labels node (record { cost = cost; epoch = epoch; ahead = 0 })) < sum_by (burden_of epoch) labels
-lighter epoch labels node cost room may small =
-    let s = sum_by-set (burden_of epoch) labels node (record { cost = cost; epoch = epoch; ahead = 0 }) no_label room in
-    let new : cond (eqb epoch epoch) (2 * cost) (cond (eqb (epoch + 1) epoch) (2 * cost + 1) (2 ^ 62)) ≡ 2 * cost = rw (eq-eqb epoch epoch refl) refl in
-    let old : 2 * cost < burden_of epoch (get_or labels node no_label) = elim (cases_eq (epoch_in labels node) epoch) [
-      | inl e ↦ rw (eq-eqb _ _ e) (omega (arith, may.entered e))
-      | inr n ↦ (let c : eqb (epoch_in labels node) epoch ≡ false = grind (arith, nat_tests) in
-          elim (cases_eq (epoch_in labels node + 1) epoch) [
-            | inl e ↦ rw (c, eq-eqb _ _ e) (omega (arith, may.labelled e))
-            | inr m ↦ (let d : eqb (epoch_in labels node + 1) epoch ≡ false = grind (arith, nat_tests) in rw (c, d) (omega (arith, small)))
-          ])
-    ] in
-    omega (arith, s, new, old)
-
-pub less_by_pop : {s t : Search} {turn : Turn} → TakesTurn s t turn → work t < work s
-less_by_pop {s} {t} {turn} k =
-    let stack : reverse s.turns.items ≡ turn ∷ reverse t.turns.items = rw k.turns (reverse-push turn t.turns.items) in
-    let heavy : weight (turn ∷ reverse t.turns.items) ≡ weight (reverse s.turns.items) = ap weight (sym stack) in
-    let some : weight (reverse t.turns.items) < weight (turn ∷ reverse t.turns.items) = lighter_below turn (reverse t.turns.items) in
-    rw (k.epoch, k.labels) (omega (arith, heavy, some))
-
-pub less_by_entering : {g : Graph} {goal best : ℕ} {s t w : Search} (stop : Stop) → IsLawful g → stop.node < g.count → stop.node < length t.labels.items → stop.cost < 2 ^ 60 → MayLead t.epoch t.labels.items stop.node stop.cost
-    → TakesTurn s t (Ahead stop) → GoesOn g goal best t w stop → work w < work s
-less_by_entering {g} {goal} {best} {s} {t} {w} stop law b room small may k go =
-    let u : Search = go.t in
-    let v : Search = go.u in
-    let e = go.enters in
-    let l = go.lists in
-    let r = go.raises in
-    let fall = lighter t.epoch t.labels.items stop.node stop.cost room may small in
-    let stack : reverse v.turns.items ≡ Entered stop ∷ reverse t.turns.items = rw (l.turns, e.turns) (reverse-push (Entered stop) t.turns.items) in
-    let high : reverse w.turns.items ≡ map (ahead_of g (Some stop)) r.nodes ++ Entered stop ∷ reverse t.turns.items = rw stack at r.turns in
-    let heavy : weight (reverse w.turns.items) ≡ 2 * length r.nodes + (1 + weight (reverse t.turns.items)) = rw high (raised_weight g [] goal best (Entered stop ∷ reverse t.turns.items) refl r.nodes) in
-    let few : length r.nodes < 2 ^ 32 = omega (arith, length_permutation _ _ r.same, l.listed.few, law.ends_few stop.node b) in
-    let before = less_by_pop k in
-    let same : sum_by (burden_of w.epoch) w.labels.items ≡ sum_by (burden_of t.epoch) (set t.labels.items stop.node (record { cost = stop.cost; epoch = t.epoch; ahead = 0 })) = rw (r.epoch, r.labels, l.epoch, l.labels, e.epoch, e.labels) refl in
-    omega (arith, fall, heavy, few, before, same)
 
 -- ---- the loop's turns
 

@@ -80,14 +80,14 @@ pub record IsEntry (g : Graph) (goal epoch : ℕ) (labels : List Label) (entry :
   pub to : (rest : List ℕ) → Leads g goal entry.0.node rest → entry.0.at_least ≤ entry.0.cost.0 + sum_by g.cost rest
 
 -- The node's label waits.
-pub record Waits (labels : List Label) (heap : List (Reverse Waiting)) (node : ℕ) : Type 0 where
+pub record Waits (labels : List Label) (queue : List (Reverse Waiting)) (node : ℕ) : Type 0 where
   pub entry : Reverse Waiting
-  pub contained : Contains heap entry
+  pub contained : Contains queue entry
   pub its_node : entry.0.node ≡ node
   pub its_cost : entry.0.cost.0 ≡ cost_in labels node
 
 -- Each node that has a label is closed or waits, but for the one that is being looked at.
-pub record Frontier (g : Graph) (starts : List ℕ) (goal except epoch : ℕ) (labels : List Label) (heap : List (Reverse Waiting)) : Type 0 where
+pub record Frontier (g : Graph) (starts : List ℕ) (goal except epoch : ℕ) (labels : List Label) (queue : List (Reverse Waiting)) : Type 0 where
   pub room : g.count ≤ length labels
   pub few : length labels ≤ 2 ^ 23
   pub begun : 1 ≤ epoch
@@ -95,8 +95,8 @@ pub record Frontier (g : Graph) (starts : List ℕ) (goal except epoch : ℕ) (l
   pub cheap : (v : ℕ) → v < g.count → IsLabelledIn epoch labels v → cost_in labels v + fresh epoch labels * 2 ^ 36 ≤ length labels * 2 ^ 36
   pub reached : (v : ℕ) → v < g.count → IsLabelledIn epoch labels v → Reached g starts v (cost_in labels v)
   pub bounds : AreBounds g goal (epoch + 1) labels
-  pub cared_for : (v : ℕ) → v < g.count → IsLabelledIn epoch labels v → (v ≡ except) ⊎ (IsClosed g goal epoch labels v ⊎ Waits labels heap v)
-  pub entries : All (IsEntry g goal epoch labels) heap
+  pub cared_for : (v : ℕ) → v < g.count → IsLabelledIn epoch labels v → (v ≡ except) ⊎ (IsClosed g goal epoch labels v ⊎ Waits labels queue v)
+  pub entries : All (IsEntry g goal epoch labels) queue
 
 abbrev pub IsFrontier : Graph → List ℕ → ℕ → ℕ → Search → Type 0
 IsFrontier g starts goal except s = Frontier g starts goal except s.epoch s.labels.items s.queue
