@@ -21,6 +21,7 @@ impl Search {
 
     /// At least what any way from the node to the goal costs, and `None` only where there is no way. It is not asked
     /// again where the pass with that number left a label.
+    #[inline(always)]
     pub(super) fn ahead_of<R: Roads>(
         &self,
         roads: &R,

@@ -41,6 +41,7 @@ impl Model for Queue {
 }
 
 /// Puts something into a bucket.
+#[inline(always)]
 fn put(
     near: &mut Vec<Vec<Reverse<Waiting>>>,
     place: usize,
@@ -55,6 +56,7 @@ fn put(
 }
 
 /// Takes the last out of a bucket.
+#[inline(always)]
 fn take(near: &mut Vec<Vec<Reverse<Waiting>>>, place: usize) -> Option<Reverse<Waiting>>
     requires { place < length near.old.items }
     ensures some { IfSome result (λ entry. (bucket_at (buckets_of near.old.items) place ≡ bucket_at (buckets_of near.new.items) place ++ entry ∷ [])
@@ -65,6 +67,7 @@ fn take(near: &mut Vec<Vec<Reverse<Waiting>>>, place: usize) -> Option<Reverse<W
 }
 
 /// The first bucket of some that is not empty, and their end where all are.
+#[inline(always)]
 fn first_from(near: &[Vec<Reverse<Waiting>>], from: usize, end: usize) -> usize
     requires { end ≤ length near.now }
     ensures empty { (place : ℕ) → from ≤ place → place < result → bucket_at (buckets_of near.now) place ≡ [] }
@@ -126,6 +129,7 @@ impl Queue {
     }
 
     /// One more waits.
+    #[inline(always)]
     pub(super) fn push(&mut self, entry: Reverse<Waiting>) -> Result<(), AllocError>
         ensures { OnOk result (IsPermutation (entry ∷ self.old) self.new) }
     {
@@ -143,6 +147,7 @@ impl Queue {
     }
 
     /// The nearest waits no longer.
+    #[inline(always)]
     pub(super) fn pop(&mut self) -> Option<Reverse<Waiting>>
         ensures some { IfSome result (λ entry. TakesNearest self.old entry self.new) }
         ensures none { IfNone result (self.old ≡ []) }
