@@ -26,9 +26,9 @@ returns-then-goal-aim g c =
     let at_prices = tabled (wiring_of basis) prices.iterations prices.history.now prices.held.now in
     let lawful = tabled_lawful (wiring_of basis) (strip_wiring basis c.count-count.ensures.lawful few) prices.iterations prices.history.now prices.held.now prices.lawful in
     let place = (graph_of basis).node c.args.node in
-    let at : IsNoMore c.entering.result (raised prices.pins prices.lasts.now prices.sink c.node-place.result (further_to basis.arch basis.strip prices.sink c.node-place.result)) =
-    subst (λ further. IsNoMore c.entering.result (raised prices.pins prices.lasts.now prices.sink c.node-place.result further)) c.further-further.ensures c.entering.ensures in
+    let at : IsNoMore c.entering.result (raised prices.pins prices.lasts.now prices.sink c.place_at-place.result (further_to basis.arch basis.strip prices.sink c.place_at-place.result)) =
+    subst (λ further. IsNoMore c.entering.result (raised prices.pins prices.lasts.now prices.sink c.place_at-place.result further)) c.further-further.ensures c.entering.ensures in
     let here : IsNoMore c.entering.result (raised prices.pins prices.lasts.now prices.sink place (further_to basis.arch basis.strip prices.sink place)) =
-    subst (λ (node : Node). IsNoMore c.entering.result (raised prices.pins prices.lasts.now prices.sink node (further_to basis.arch basis.strip prices.sink node))) c.node-place.ensures at in
+    subst (λ (node : Node). IsNoMore c.entering.result (raised prices.pins prices.lasts.now prices.sink node (further_to basis.arch basis.strip prices.sink node))) c.place_at-place.ensures at in
     let bound = aimed_bound basis c.count-count.ensures.lawful prices.goal prices.sink prices.aim at_prices lawful refl (λ node. refl) prices.pins prices.lasts.now prices.entered c.args.node c.requires.node c.entering.result here in
     subst (λ goal. IsLowerBound (aimed basis prices.sink at_prices) goal c.args.node c.entering.result) (sym c.if-goal-aim.true) bound
