@@ -1,5 +1,5 @@
 -- Rates, node by node.
-use Rattle.std.proofs.Common.{◌≡◌, ℕ, ◌+◌, List, [], ◌∷◌, ◌++◌, length-append, arith, ap, ◌∙◌, inl, inr, true, ◌&&◌, ◌||◌, nat_le}
+use Rattle.std.proofs.Common.{◌≡◌, ℕ, ◌+◌, ◌-◌, ◌*◌, ◌<◌, get_or, List, [], ◌∷◌, ◌++◌, length-append, arith, ap, ◌∙◌, inl, inr, true, ◌&&◌, ◌||◌, nat_le}
 use Rattle.std.specs.Prelude.{slice_index}
 use Rattle.std.proofs.lemmas.Bool.{cases_lt, and_parts, leb-true}
 use Rattle.std.proofs.lemmas.List.{get_or_append_left, get_or_push}
@@ -9,7 +9,7 @@ use Rattle.rr_graph.specs.Geometry.{is_node, is_slot, is_chan_y}
 use Rattle.rr_graph.specs.Graph.{Basis, IsBasis, graph_of}
 use Rattle.rr_graph.proofs.Columns.{member_small, member_of}
 use Rattle.pathfinder.specs.PlacedNets.{wiring_of}
-use Rattle.pathfinder.specs.Rates.{AreRatesBelow, IsNarrow, node_of}
+use Rattle.pathfinder.specs.Rates.{AreRates, AreRatesBelow, IsNarrow, node_of}
 
 pub rates_more : (basis : Basis) (history : List ℕ) (count : ℕ) (rates : List Rate) (rate : Rate) → AreRatesBelow basis history count rates → rate.factor ≡ 1 + slice_index history count → rate.capacity ≡ (wiring_of basis).capacity count
     → node_of rate ≡ (graph_of basis).node count → AreRatesBelow basis history (count + 1) (rates ++ rate ∷ [])
@@ -46,3 +46,10 @@ narrow basis node limits there =
       y = omega (arith, small.0);
       n = omega (arith, small.1);
     }
+
+-- what a node costs by its rate
+pub rate_cost : (basis : Basis) (history : List ℕ) (rates : List Rate) (iterations held node : ℕ) (d : Rate) → AreRates basis history rates → node < (graph_of basis).count
+    → (get_or rates node d).factor * (1 + iterations * (held + 1 - (get_or rates node d).capacity)) ≡ (1 + slice_index history node) * (1 + iterations * (held + 1 - (wiring_of basis).capacity node))
+rate_cost basis history rates iterations held node d known few =
+    ap (λ f. f * (1 + iterations * (held + 1 - (get_or rates node d).capacity))) (known.factor node d few)
+    ∙ ap (λ k. (1 + slice_index history node) * (1 + iterations * (held + 1 - k))) (known.capacity node d few)

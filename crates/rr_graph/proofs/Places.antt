@@ -1,12 +1,12 @@
 -- The numbers of the nodes of a kind in a column and row.
-use Rattle.std.proofs.Common.{ℕ, ◌≡◌, ◌+◌, ◌-◌, ◌*◌, ◌<◌, ◌≤◌, ◌⊎◌, sym, ap, ◌∙◌, subst, inl, inr, arith, true, ◌&&◌, ◌||◌, nat_le}
+use Rattle.std.proofs.Common.{ℕ, ◌≡◌, ◌+◌, ◌-◌, ◌*◌, ◌<◌, ◌≤◌, sym, ap, ◌∙◌, subst, inl, inr, arith, true, ◌&&◌, ◌||◌, nat_le}
 use Rattle.std.proofs.lemmas.Bool.{cases_lt, and_parts, and_from, or_cases, leb-true}
 use Rattle.std.proofs.lemmas.Nat.{mul-le}
 use Rattle.rr_graph.specs.declared.node.NodeKind.{NodeKind}
 use Rattle.rr_graph.specs.declared.node.Node.{Node}
 use Rattle.rr_graph.specs.declared.numbering.Numbering.{Numbering}
 use Rattle.rr_graph.specs.Node.{rank_of}
-use Rattle.rr_graph.specs.Geometry.{is_node, is_slot, is_chan_y}
+use Rattle.rr_graph.specs.Geometry.{is_slot, is_chan_y}
 use Rattle.rr_graph.specs.Graph.{IsAt}
 use Rattle.rr_graph.specs.Column.{Separates, member_key}
 use Rattle.rr_graph.specs.Numbering.{IsNumbering, node_of, member_at, in_column, column_count, no_member}
@@ -80,8 +80,7 @@ has_place nodes kind x y i lawful within at =
     let outer = and_parts (nat_le node.x nodes.strip.width) ((nat_le 1 node.x || is_chan_y node.kind) && is_slot nodes.arch nodes.strip node.kind node.y node.n) there in
     let inner = and_parts (nat_le 1 node.x || is_chan_y node.kind) (is_slot nodes.arch nodes.strip node.kind node.y node.n) outer.1 in
     let both = and_from (nat_le node.x nodes.strip.width) (nat_le 1 node.x || is_chan_y node.kind) outer.0 inner.0 in
-    let by_column = subst (λ z. (nat_le z nodes.strip.width && (nat_le 1 z || is_chan_y node.kind)) ≡ true) at.x both in
-    (
+    let by_column = subst (λ z. (nat_le z nodes.strip.width && (nat_le 1 z || is_chan_y node.kind)) ≡ true) at.x both in (
       omega (arith, (node_small nodes i lawful).0, at.y),
       subst (λ k. (nat_le x nodes.strip.width && (nat_le 1 x || is_chan_y k)) ≡ true) at.kind by_column,
     )

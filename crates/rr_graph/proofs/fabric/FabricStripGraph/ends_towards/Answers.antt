@@ -1,4 +1,4 @@
-use Rattle.std.proofs.Common.{sym, ap, ◌*◌, ◌≡◌, ◌∙◌}
+use Rattle.std.proofs.Common.{sym, ap, ◌*◌, ◌∙◌}
 use Rattle.std.proofs.lemmas.Bool.{cond-true, cond-false}
 use Rattle.rr_graph.specs.declared.node.Node.{Node}
 use Rattle.rr_graph.specs.Fabric.{shift_of}

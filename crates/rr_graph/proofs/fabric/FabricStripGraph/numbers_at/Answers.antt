@@ -1,6 +1,6 @@
-use Rattle.std.proofs.Common.{◌≡◌, ◌≤◌, ◌+◌, ◌-◌, ◌*◌, ◌<◌, sym, subst, arith}
+use Rattle.std.proofs.Common.{◌≡◌, ◌≤◌, ◌+◌, ◌-◌, ◌*◌, sym, subst, arith}
 use Rattle.std.proofs.lemmas.Nat.{mul-le}
-use Rattle.rr_graph.specs.Graph.{IsAt, graph_of}
+use Rattle.rr_graph.specs.Graph.{IsAt}
 use Rattle.rr_graph.specs.Numbering.{column_count}
 use Rattle.rr_graph.proofs.Fabrics.{fabric_within, fabric_numbered, fabric_node, fabric_count}
 use Rattle.rr_graph.proofs.fabric.FabricStripGraph.numbers_at.Goals as goal
