@@ -80,12 +80,12 @@ fn towards_a_sink(rt: HostRuntime) -> Result<(), Fail> {
         .ok_or("no wire")?;
     assert_eq!(rt; fabric.further_to(away, sink), Some(5));
     assert_eq!(rt; fabric.ends(away).list.len(), 7);
-    assert_eq!(rt; fabric.ends_towards(away, sink).list.len(), 4);
+    assert_eq!(rt; fabric.ends_towards(away, fabric.node(away), sink).list.len(), 4);
     let beside = fabric
         .number(node(NodeKind::ChanX, 5, 0, 0))
         .ok_or("no wire")?;
     assert_eq!(rt; fabric.further_to(beside, sink), Some(2));
-    assert_eq!(rt; fabric.ends_towards(beside, sink).list.len(), 6);
+    assert_eq!(rt; fabric.ends_towards(beside, fabric.node(beside), sink).list.len(), 6);
     let pin = fabric
         .number(node(NodeKind::Opin, 2, 0, 0))
         .ok_or("no pin")?;

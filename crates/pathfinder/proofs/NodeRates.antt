@@ -1,15 +1,19 @@
 -- Rates, node by node.
-use Rattle.std.proofs.Common.{◌≡◌, ℕ, ◌+◌, List, [], ◌∷◌, ◌++◌, length-append, arith, ap, ◌∙◌, inl, inr}
+use Rattle.std.proofs.Common.{◌≡◌, ℕ, ◌+◌, ◌-◌, ◌*◌, ◌<◌, get_or, List, [], ◌∷◌, ◌++◌, length-append, arith, ap, ◌∙◌, inl, inr, true, ◌&&◌, ◌||◌, nat_le}
 use Rattle.std.specs.Prelude.{slice_index}
-use Rattle.std.proofs.lemmas.Bool.{cases_lt}
+use Rattle.std.proofs.lemmas.Bool.{cases_lt, and_parts, leb-true}
 use Rattle.std.proofs.lemmas.List.{get_or_append_left, get_or_push}
 use Rattle.pathfinder.specs.declared.rates.Rate.{Rate}
-use Rattle.pathfinder.specs.Wiring.{Wiring}
-use Rattle.pathfinder.specs.Rates.{AreRatesBelow}
+use Rattle.rr_graph.specs.declared.node.Node.{Node}
+use Rattle.rr_graph.specs.Geometry.{is_node, is_slot, is_chan_y}
+use Rattle.rr_graph.specs.Graph.{Basis, IsBasis, graph_of}
+use Rattle.rr_graph.proofs.Columns.{member_small, member_of}
+use Rattle.pathfinder.specs.PlacedNets.{wiring_of}
+use Rattle.pathfinder.specs.Rates.{AreRates, AreRatesBelow, IsNarrow, node_of}
 
-pub rates_more : (w : Wiring) (history : List ℕ) (count : ℕ) (rates : List Rate) (rate : Rate) → AreRatesBelow w history count rates → rate.factor ≡ 1 + slice_index history count → rate.capacity ≡ w.capacity count
-    → AreRatesBelow w history (count + 1) (rates ++ rate ∷ [])
-rates_more w history count rates rate known f c = record {
+pub rates_more : (basis : Basis) (history : List ℕ) (count : ℕ) (rates : List Rate) (rate : Rate) → AreRatesBelow basis history count rates → rate.factor ≡ 1 + slice_index history count → rate.capacity ≡ (wiring_of basis).capacity count
+    → node_of rate ≡ (graph_of basis).node count → AreRatesBelow basis history (count + 1) (rates ++ rate ∷ [])
+rates_more basis history count rates rate known f c p = record {
   long = omega (arith, length-append rates (rate ∷ []), known.long);
   factor = λ node d b. elim (cases_lt node count) [
     | inl l ↦ ap (λ (r : Rate). r.factor) (get_or_append_left rates (rate ∷ []) d node (omega (arith, l, known.long))) ∙ known.factor node d l
@@ -21,6 +25,31 @@ rates_more w history count rates rate known f c = record {
     | inl l ↦ ap (λ (r : Rate). r.capacity) (get_or_append_left rates (rate ∷ []) d node (omega (arith, l, known.long))) ∙ known.capacity node d l
     | inr l ↦
         (let e : count ≡ node = omega arith in
-        ap (λ (r : Rate). r.capacity) (get_or_push rates rate d node (known.long ∙ e)) ∙ c ∙ ap (λ k. w.capacity k) e)
+        ap (λ (r : Rate). r.capacity) (get_or_push rates rate d node (known.long ∙ e)) ∙ c ∙ ap (λ k. (wiring_of basis).capacity k) e)
+  ];
+  node = λ node d b. elim (cases_lt node count) [
+    | inl l ↦ ap node_of (get_or_append_left rates (rate ∷ []) d node (omega (arith, l, known.long))) ∙ known.node node d l
+    | inr l ↦
+        (let e : count ≡ node = omega arith in
+        ap node_of (get_or_push rates rate d node (known.long ∙ e)) ∙ p ∙ ap (λ k. (graph_of basis).node k) e)
   ];
 }
+
+-- the nodes of a graph are narrow
+pub narrow : (basis : Basis) (node : Node) → IsBasis basis → is_node basis.arch basis.strip node ≡ true → IsNarrow node
+narrow basis node limits there =
+    let outer = and_parts (nat_le node.x basis.strip.width) ((nat_le 1 node.x || is_chan_y node.kind) && is_slot basis.arch basis.strip node.kind node.y node.n) there in
+    let slot = (and_parts (nat_le 1 node.x || is_chan_y node.kind) (is_slot basis.arch basis.strip node.kind node.y node.n) outer.1).1 in
+    let small = member_small basis.arch basis.strip limits.arch limits.strip (member_of node.kind node.y node.n) slot in
+    record {
+      x = omega (arith, leb-true node.x basis.strip.width outer.0, limits.strip.width.1);
+      y = omega (arith, small.0);
+      n = omega (arith, small.1);
+    }
+
+-- what a node costs by its rate
+pub rate_cost : (basis : Basis) (history : List ℕ) (rates : List Rate) (iterations held node : ℕ) (d : Rate) → AreRates basis history rates → node < (graph_of basis).count
+    → (get_or rates node d).factor * (1 + iterations * (held + 1 - (get_or rates node d).capacity)) ≡ (1 + slice_index history node) * (1 + iterations * (held + 1 - (wiring_of basis).capacity node))
+rate_cost basis history rates iterations held node d known few =
+    ap (λ f. f * (1 + iterations * (held + 1 - (get_or rates node d).capacity))) (known.factor node d few)
+    ∙ ap (λ k. (1 + slice_index history node) * (1 + iterations * (held + 1 - k))) (known.capacity node d few)

@@ -1,5 +1,5 @@
 -- Private: bounds on ways to a sink, by what the last wires and the pins before it cost.
-use Rattle.std.specs.Prelude.{ℕ, ◌≡◌, ◌+◌, ◌-◌, ◌<◌, ◌≤◌, ◌^◌, ◌==◌, ◌⊎◌, nat_le, true, List, slice_index_or, Option, Some, None, if◌then◌else◌}
+use Rattle.std.specs.Prelude.{ℕ, ◌≡◌, ◌+◌, ◌-◌, ◌<◌, ◌≤◌, ◌^◌, ◌==◌, ◌⊎◌, nat_le, true, List, All, length, slice_index, slice_index_or, Option, Some, None, if◌then◌else◌}
 use Rattle.arch_file.specs.declared.arch.Sides.{Sides}
 use Rattle.rr_graph.specs.declared.node.NodeKind.{NodeKind}
 use Rattle.rr_graph.specs.declared.node.NodeKind.TheVariants.{Source, Sink, Opin, Ipin, ChanX, ChanY}
@@ -67,8 +67,18 @@ pub record AreLasts (basis : Basis) (sink : Node) (g : Graph) (pins : PinPrices)
   pub each : (node : ℕ) → node < g.count → IsBeside sink ((graph_of basis).node node).kind ((graph_of basis).node node) →
       last_at pins lasts ((graph_of basis).node node).n ≤ g.cost node + side_price pins sink ((graph_of basis).node node).kind ((graph_of basis).node node)
 
+-- with the wires of these numbers, of which each costs so much more for a pin on its side, nothing is said to cost more, and
+-- nothing less than a pin and one node
+pub record IsLowered (basis : Basis) (g : Graph) (first end side : ℕ) (old new : List ℕ) : Type 0 where
+  pub long : length new ≡ length old
+  pub falls : (track : ℕ) → slice_index new track ≤ slice_index old track
+  pub most : (low : ℕ) → low ≤ side → All (λ last. low + 1 ≤ last) old → All (λ last. low + 1 ≤ last) new
+  pub each : (node : ℕ) → first ≤ node → node < end → slice_index new ((graph_of basis).node node).n ≤ g.cost node + side
+
 -- what is known of the ways to the sink
 pub record AreEntries (basis : Basis) (sink : Node) (g : Graph) (pins : PinPrices) (lasts : List ℕ) : Type 0 where
+  pub long : length lasts ≡ basis.arch.tracks
+  pub few : All (λ last. last ≤ 2 ^ 37) lasts
   pub ordered : AreOrdered pins
   pub pins_low : ArePinPrices basis sink g pins
   pub lasts_low : AreLasts basis sink g pins lasts

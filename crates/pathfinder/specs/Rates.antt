@@ -1,14 +1,27 @@
--- Private: what each node costs in an iteration, but for the trees that hold it.
-use Rattle.std.specs.Prelude.{ℕ, ◌≡◌, ◌+◌, ◌<◌, List, length, slice_index, slice_index_or}
+-- Private: what each node is, and what it costs in an iteration, but for the trees that hold it.
+use Rattle.std.specs.Prelude.{ℕ, ◌≡◌, ◌+◌, ◌<◌, ◌^◌, List, length, slice_index, slice_index_or}
+use Rattle.rr_graph.specs.declared.node.Node.{Node}
 use Rattle.pathfinder.specs.declared.rates.Rate.{Rate}
-use Rattle.pathfinder.specs.Wiring.{Wiring}
+use Rattle.rr_graph.specs.Graph.{Basis, graph_of}
+use Rattle.pathfinder.specs.PlacedNets.{wiring_of}
+
+-- a node's column, row and number are small
+pub record IsNarrow (node : Node) : Type 0 where
+  pub x : node.x < 2 ^ 16
+  pub y : node.y < 2 ^ 8
+  pub n : node.n < 2 ^ 8
+
+-- the node that a rate is of
+abbrev pub node_of : Rate → Node
+node_of rate = record { x = rate.x; kind = rate.kind; y = rate.y; n = rate.n }
 
 -- the rates of the nodes below a number, by their overuse so far
-pub record AreRatesBelow (w : Wiring) (history : List ℕ) (count : ℕ) (rates : List Rate) : Type 0 where
+pub record AreRatesBelow (basis : Basis) (history : List ℕ) (count : ℕ) (rates : List Rate) : Type 0 where
   pub long : length rates ≡ count
   pub factor : (node : ℕ) (d : Rate) → node < count → (slice_index_or rates node d).factor ≡ 1 + slice_index history node
-  pub capacity : (node : ℕ) (d : Rate) → node < count → (slice_index_or rates node d).capacity ≡ w.capacity node
+  pub capacity : (node : ℕ) (d : Rate) → node < count → (slice_index_or rates node d).capacity ≡ (wiring_of basis).capacity node
+  pub node : (node : ℕ) (d : Rate) → node < count → node_of (slice_index_or rates node d) ≡ (graph_of basis).node node
 
 -- the rates of all nodes
-abbrev pub AreRates : Wiring → List ℕ → List Rate → Type 0
-AreRates w history rates = AreRatesBelow w history w.count rates
+abbrev pub AreRates : Basis → List ℕ → List Rate → Type 0
+AreRates basis history rates = AreRatesBelow basis history (graph_of basis).count rates

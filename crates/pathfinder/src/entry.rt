@@ -4,7 +4,7 @@ ghost use Rattle.std.specs.Prelude.{◌≡◌, ◌+◌, ◌<◌, ◌≤◌, ◌^
 use crate::rates::price;
 use crate::round::Round;
 use arch_file::Sides;
-use rr_graph::{Node, NodeKind, StripGraph, sides_at};
+use rr_graph::{Node, NodeKind, Numbers, StripGraph, sides_at};
 use std::alloc::{AllocError, Global};
 
 /// No node costs more.
@@ -51,7 +51,7 @@ impl PinPrices {
 
 impl<G: StripGraph> Round<'_, G> {
     ghost use Rattle.rr_graph.specs.Graph.{graph_of};
-    ghost use Rattle.pathfinder.specs.Entries.{AreOrdered, ArePinPrices, IsBeside, AreLasts, side_price};
+    ghost use Rattle.pathfinder.specs.Entries.{AreOrdered, ArePinPrices, AreLasts, IsLowered};
     ghost use Rattle.pathfinder.specs.PlacedNets.{wiring_of};
     ghost use Rattle.pathfinder.specs.Tables.{tabled};
 
@@ -60,25 +60,19 @@ impl<G: StripGraph> Round<'_, G> {
         requires within { node < (wiring_of (G.basis self.now.graph.now)).count }
         requires long { length held.now ≡ (wiring_of (G.basis self.now.graph.now)).count }
         requires low { All (λ x. x ≤ 8192) held.now }
-        ensures { result ≡ (tabled (wiring_of (G.basis self.now.graph.now)) self.now.iterations self.now.history.now held.now).cost node }
+        ensures value { result ≡ (tabled (wiring_of (G.basis self.now.graph.now)) self.now.iterations self.now.history.now held.now).cost node }
+        ensures some { 1 ≤ result }
+        ensures few { result ≤ 2 ^ 36 }
     {
         price(self.rates[node], self.iterations, held[node])
     }
 
-    /// At least what a node costs, where a table tells how many trees hold each node. One that is not there costs the most.
-    fn price_at(&self, held: &[u32], place: Node) -> u64
-        requires long { length held.now ≡ (wiring_of (G.basis self.now.graph.now)).count }
-        requires low { All (λ x. x ≤ 8192) held.now }
-        ensures some { 1 ≤ result }
-        ensures few { result ≤ 2 ^ 36 }
-        ensures value { (node : ℕ) → node < (graph_of (G.basis self.now.graph.now)).count → (graph_of (G.basis self.now.graph.now)).node node ≡ place →
-            result ≤ (tabled (wiring_of (G.basis self.now.graph.now)) self.now.iterations self.now.history.now held.now).cost node }
+    /// The node of a number.
+    fn node(&self, number: usize) -> Node
+        requires { number < (graph_of (G.basis self.now.graph.now)).count }
+        ensures { result ≡ (graph_of (G.basis self.now.graph.now)).node number }
     {
-        let _count = self.graph.count();
-        match self.graph.number(place) {
-            Some(number) => self.price(held, number).min(MOST),
-            None => MOST,
-        }
+        self.rates[number].node()
     }
 
     /// At least what the sink's pins cost.
@@ -89,8 +83,6 @@ impl<G: StripGraph> Round<'_, G> {
         ensures low { ArePinPrices (G.basis self.now.graph.now) sink (tabled (wiring_of (G.basis self.now.graph.now)) self.now.iterations self.now.history.now held.now) result }
     {
         let _count = self.graph.count();
-        let kind = NodeKind::Ipin;
-        let (x, y) = (sink.x, sink.y);
         let mut pins = PinPrices {
             least: MOST,
             top: MOST,
@@ -98,36 +90,31 @@ impl<G: StripGraph> Round<'_, G> {
             left: MOST,
             right: MOST,
         };
-        for n in 0..self.graph.arch().pins.as_slice().len() as u32 + self.graph.strip().io_rat {
-            let pin = Node { x, kind, y, n };
+        let numbers = self.graph.numbers_at(NodeKind::Ipin, sink.x, sink.y);
+        for number in numbers.first..numbers.end {
+            let pin = self.node(number);
             let sides = sides_at(self.graph.arch(), self.graph.strip(), pin);
-            pins = pins.with(sides, self.price_at(held, pin));
+            pins = pins.with(sides, self.price(held, number));
         }
         pins
     }
 
-    /// At least what a last wire of the track and a pin of the sink cost.
-    fn last_price(&self, held: &[u32], pins: PinPrices, sink: Node, track: u32) -> u64
+    /// What is known of last wires and pins with some wires more, by what a pin on their side costs.
+    fn lowered(&self, held: &[u32], lasts: Vec<u64>, wires: Numbers, side: u64) -> Vec<u64>
         requires long { length held.now ≡ (wiring_of (G.basis self.now.graph.now)).count }
         requires low { All (λ x. x ≤ 8192) held.now }
-        requires ordered { AreOrdered pins }
-        ensures more { pins.least + 1 ≤ result }
-        ensures each { (node : ℕ) → node < (graph_of (G.basis self.now.graph.now)).count →
-            ((graph_of (G.basis self.now.graph.now)).node node).n ≡ track →
-            IsBeside sink ((graph_of (G.basis self.now.graph.now)).node node).kind ((graph_of (G.basis self.now.graph.now)).node node) →
-            result ≤ (tabled (wiring_of (G.basis self.now.graph.now)) self.now.iterations self.now.history.now held.now).cost node
-            + side_price pins sink ((graph_of (G.basis self.now.graph.now)).node node).kind ((graph_of (G.basis self.now.graph.now)).node node) }
+        requires wires { (node : ℕ) → wires.first ≤ node → node < wires.end →
+            (node < (graph_of (G.basis self.now.graph.now)).count) × (((graph_of (G.basis self.now.graph.now)).node node).n < length lasts.items) }
+        requires side { side ≤ 2 ^ 36 }
+        ensures { IsLowered (G.basis self.now.graph.now) (tabled (wiring_of (G.basis self.now.graph.now)) self.now.iterations self.now.history.now held.now)
+            wires.first wires.end side lasts.items result.items }
     {
-        let n = track;
-        let (x, y, kind) = (sink.x, sink.y, NodeKind::ChanX);
-        let above = self.price_at(held, Node { x, kind, y, n }) + pins.top;
-        let y = y.saturating_sub(1);
-        let under = self.price_at(held, Node { x, kind, y, n }) + pins.bottom;
-        let (y, kind) = (sink.y, NodeKind::ChanY);
-        let after = self.price_at(held, Node { x, kind, y, n }) + pins.right;
-        let x = x.saturating_sub(1);
-        let before = self.price_at(held, Node { x, kind, y, n }) + pins.left;
-        above.min(under).min(after).min(before)
+        let mut lasts = lasts;
+        for number in wires.first..wires.end {
+            let track = self.node(number).n as usize;
+            lasts[track] = lasts[track].min(self.price(held, number) + side);
+        }
+        lasts
     }
 
     /// For each track, at least what a last wire and a pin of the sink cost.
@@ -141,14 +128,24 @@ impl<G: StripGraph> Round<'_, G> {
         requires long { length held.now ≡ (wiring_of (G.basis self.now.graph.now)).count }
         requires low { All (λ x. x ≤ 8192) held.now }
         requires ordered { AreOrdered pins }
-        ensures { IfOk result (λ lasts. AreLasts (G.basis self.now.graph.now) sink (tabled (wiring_of (G.basis self.now.graph.now)) self.now.iterations self.now.history.now held.now) pins lasts.items) }
+        ensures long { IfOk result (λ lasts. length lasts.items ≡ (G.basis self.now.graph.now).arch.tracks) }
+        ensures few { IfOk result (λ lasts. All (λ last. last ≤ 2 ^ 37) lasts.items) }
+        ensures low { IfOk result (λ lasts. AreLasts (G.basis self.now.graph.now) sink (tabled (wiring_of (G.basis self.now.graph.now)) self.now.iterations self.now.history.now held.now) pins lasts.items) }
     {
-        let tracks = self.graph.arch().tracks;
-        let mut lasts = Vec::new(alloc);
-        lasts.reserve(tracks as usize)?;
-        for track in 0..tracks {
-            lasts.push(self.last_price(held, pins, sink, track))?;
-        }
-        Ok(lasts)
+        let _count = self.graph.count();
+        let (x, y) = (sink.x, sink.y);
+        let above = self.graph.numbers_at(NodeKind::ChanX, x, y);
+        let under = self
+            .graph
+            .numbers_at(NodeKind::ChanX, x, y.saturating_sub(1));
+        let after = self.graph.numbers_at(NodeKind::ChanY, x, y);
+        let before = self
+            .graph
+            .numbers_at(NodeKind::ChanY, x.saturating_sub(1), y);
+        let lasts = Vec::from_elem(alloc, 2 * MOST, self.graph.arch().tracks as usize)?;
+        let lasts = self.lowered(held, lasts, above, pins.top);
+        let lasts = self.lowered(held, lasts, under, pins.bottom);
+        let lasts = self.lowered(held, lasts, after, pins.right);
+        Ok(self.lowered(held, lasts, before, pins.left))
     }
 }

@@ -1,12 +1,15 @@
 -- Lemmas on the table of tracks that are met.
-use Rattle.std.proofs.Common.{ℕ, ◌≡◌, ◌+◌, ◌-◌, ◌*◌, ◌/◌, ◌%◌, ◌<◌, List, [], ◌∷◌, ◌++◌, length, get_or, ap, ◌∙◌, inl, inr, arith, Bool, false}
-use Rattle.std.specs.Prelude.{◌==◌}
-use Rattle.std.proofs.lemmas.Bool.{cases_lt, cond-false}
+use Rattle.std.proofs.Common.{ℕ, ◌≡◌, ◌+◌, ◌-◌, ◌*◌, ◌/◌, ◌%◌, ◌<◌, ◌≤◌, List, [], ◌∷◌, ◌++◌, length, get_or, ap, ◌∙◌, subst, inl, inr, arith, Bool, true, false, ◌&&◌, ◌||◌, nat_le}
+use Rattle.std.specs.Prelude.{◌==◌, nat_lt, if◌then◌else◌}
+use Rattle.std.proofs.lemmas.Bool.{cases_lt, cond-false, and_parts, or_cases, ltb-true}
 use Rattle.std.proofs.lemmas.Bool.Decides.{nat_tests}
 use Rattle.std.proofs.lemmas.Nat.{div-mul-add, mod-mul-add}
 use Rattle.std.proofs.lemmas.List.{get_or_append_left, get_or_push, length_push}
 use Rattle.arch_file.specs.declared.arch.Arch.{Arch}
-use Rattle.rr_graph.specs.Geometry.{is_read, meets_track}
+use Rattle.grid.specs.declared.Strip.{Strip}
+use Rattle.rr_graph.specs.declared.node.Node.{Node}
+use Rattle.rr_graph.specs.declared.node.NodeKind.TheVariants.{Sink}
+use Rattle.rr_graph.specs.Geometry.{is_read, meets_track, is_node, is_slot, is_terminal, is_chan_y, is_pad_row, is_block_row, is_block_number}
 use Rattle.rr_graph.specs.Met.{met_by, IsMetTable}
 
 pub met_none : (arch : Arch) → IsMetTable arch []
@@ -33,3 +36,18 @@ met_pad arch pad track =
     let less : pad + 1 - 1 ≡ pad = omega arith in
     cond-false (pad + 1 == 0) (is_read arch track) (meets_track arch.fc_pad arch.tracks (pad + 1 - 1) track) some
     ∙ ap (λ p. meets_track arch.fc_pad arch.tracks p track) less
+
+-- a sink is of a block, or of one of the pads
+pub sink_row : (arch : Arch) (strip : Strip) (sink : Node) → sink.kind ≡ Sink → is_node arch strip sink ≡ true → (if is_block_row strip sink.y then 0 else sink.n + 1) ≤ strip.io_rat
+sink_row arch strip sink kind there =
+    let outer = and_parts (nat_le sink.x strip.width) ((nat_le 1 sink.x || is_chan_y sink.kind) && is_slot arch strip sink.kind sink.y sink.n) there in
+    let slot = (and_parts (nat_le 1 sink.x || is_chan_y sink.kind) (is_slot arch strip sink.kind sink.y sink.n) outer.1).1 in
+    let terminal : is_terminal arch strip Sink sink.y sink.n ≡ true = subst (λ k. is_slot arch strip k sink.y sink.n ≡ true) kind slot in
+    elim (or_cases (is_pad_row strip sink.y && nat_lt sink.n strip.io_rat) (is_block_row strip sink.y && is_block_number arch Sink sink.n) terminal) [
+      | inl pad ↦ (let few = ltb-true sink.n strip.io_rat (and_parts (is_pad_row strip sink.y) (nat_lt sink.n strip.io_rat) pad).1 in either (is_block_row strip sink.y) sink.n strip.io_rat few)
+      | inr block ↦ (let on = (and_parts (is_block_row strip sink.y) (is_block_number arch Sink sink.n) block).0 in rw on (omega arith))
+    ]
+  where
+    either : (on : Bool) (n most : ℕ) → n < most → (if on then 0 else n + 1) ≤ most
+    either true n most few = omega arith
+    either false n most few = omega (arith, few)

@@ -29,7 +29,7 @@ mod ways;
 
 pub use edges::Edges;
 pub use fabric::Fabric;
-pub use graph::{Ends, StripGraph, one_graph};
+pub use graph::{Ends, Numbers, StripGraph, one_graph};
 pub use joins::sides_at;
 pub use laws::{laws_of_geometry, laws_of_ways};
 pub use node::{Node, NodeKind};

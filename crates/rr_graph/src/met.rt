@@ -1,8 +1,8 @@
 //! Which tracks the inputs of a logic block meet, and those of each pad, in a table.
-ghost use Rattle.std.specs.Prelude.{◌≡◌, ◌≤◌, ◌<◌, IfOk};
+ghost use Rattle.std.specs.Prelude.{◌≡◌, ◌+◌, ◌*◌, ◌≤◌, ◌<◌, IfOk, length, if◌then◌else◌};
 ghost use Rattle.arch_file.specs.declared.arch.Arch.{Arch};
 ghost use Rattle.arch_file.specs.Arch.{IsArch};
-ghost use Rattle.rr_graph.specs.Geometry.{is_read};
+ghost use Rattle.rr_graph.specs.Geometry.{is_read, is_block_row};
 ghost use Rattle.rr_graph.specs.Met.{met_by, IsMetTable};
 ghost use Rattle.rr_graph.specs.Ways.{is_met, AreMet};
 
@@ -44,7 +44,8 @@ fn met_by(arch: &Arch, row: u32, track: u32) -> bool
 pub(crate) fn met_table(alloc: Global, arch: &Arch, pads: u32) -> Result<Vec<bool>, AllocError>
     requires arch { IsArch arch.now }
     requires pads { pads ≤ 8 }
-    ensures { IfOk result (λ table. IsMetTable arch.now table.items) }
+    ensures long { IfOk result (λ table. length table.items ≡ 64 * (pads + 1)) }
+    ensures met { IfOk result (λ table. IsMetTable arch.now table.items) }
 {
     let mut table = Vec::new(alloc);
     for k in 0..64 * (pads + 1) {
@@ -86,7 +87,8 @@ pub(crate) fn is_met(table: &[bool], arch: &Arch, strip: Strip, sink: Node, trac
 /// Which tracks the inputs of the sink's block meet, or its pad, from the first one on: as many as the table has there.
 pub(crate) fn met_row(table: &[bool], strip: Strip, sink: Node) -> &[bool]
     requires { sink.n < 145 }
-    ensures { (arch : Arch) → IsMetTable arch table.now → AreMet arch strip sink result.now }
+    ensures long { (if is_block_row strip sink.y then 0 else sink.n + 1) * 64 + 64 ≤ length table.now → length result.now ≡ 64 }
+    ensures met { (arch : Arch) → IsMetTable arch table.now → AreMet arch strip sink result.now }
 {
     let row = if is_block_row(strip, sink.y) {
         0

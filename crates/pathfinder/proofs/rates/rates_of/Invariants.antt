@@ -1,6 +1,5 @@
-use Rattle.pathfinder.specs.PlacedNets.{wiring_of}
 use Rattle.pathfinder.specs.Rates.{AreRatesBelow}
 use Rattle.pathfinder.proofs.rates.rates_of.Given as goal
 
 abbrev pub invariant-loop-node : goal.invariant-loop-node
-invariant-loop-node g l = AreRatesBelow (wiring_of (g.G.StripGraph.basis l.graph)) l.history l.node l.rates.items
+invariant-loop-node g l = AreRatesBelow (g.G.StripGraph.basis l.graph) l.history l.node l.rates.items

@@ -13,5 +13,5 @@ loop-k-preserved c =
       met_push c.args.arch.now c.loop-k.table.items c.loop-k.k c.met_by.result c.loop-k.invariant.0 c.loop-k.invariant.1 c.met_by.ensures,
     )
 
-pub returns : goal.returns
-returns c = c.loop-k.invariant.1
+pub returns-clause-met : goal.returns-clause-met
+returns-clause-met c = c.loop-k.invariant.1

@@ -1,4 +1,4 @@
-use Rattle.std.proofs.Common.{◌≡◌, ◌≤◌, ◌^◌, true, arith, refl, subst, sym}
+use Rattle.std.proofs.Common.{◌≡◌, ◌≤◌, ◌^◌, ◌∙◌, true, arith, refl, subst, sym}
 use Rattle.rr_graph.specs.declared.node.Node.{Node}
 use Rattle.rr_graph.specs.Geometry.{is_node}
 use Rattle.rr_graph.specs.Graph.{graph_of}
@@ -12,11 +12,18 @@ use Rattle.pathfinder.proofs.InRange.{tabled_lawful}
 use Rattle.pathfinder.proofs.Strips.{strip_wiring}
 use Rattle.pathfinder.proofs.prices.PricesRoads.at_least.Goals as goal
 
-pub further-further-requires : goal.further-further-requires
-further-further-requires g c =
+pub from_node-requires-clause-sink : goal.from_node-requires-clause-sink
+from_node-requires-clause-sink g c =
     let prices = c.args.self.now in
     let basis = g.G.StripGraph.basis prices.graph.now in
     subst (λ (node : Node). is_node basis.arch basis.strip node ≡ true) prices.aim.is (c.count-count.ensures.lawful.nodes prices.goal prices.aim.within)
+
+pub from_node-requires-clause-there : goal.from_node-requires-clause-there
+from_node-requires-clause-there g c =
+    let prices = c.args.self.now in
+    let basis = g.G.StripGraph.basis prices.graph.now in
+    let node = c.node.ensures ∙ prices.rated.node c.args.node _ c.requires.node in
+    subst (λ (node : Node). is_node basis.arch basis.strip node ≡ true) (sym node) (c.count-count.ensures.lawful.nodes c.args.node c.requires.node)
 
 pub returns-then-goal-aim : goal.returns-then-goal-aim
 returns-then-goal-aim g c =
@@ -26,9 +33,8 @@ returns-then-goal-aim g c =
     let at_prices = tabled (wiring_of basis) prices.iterations prices.history.now prices.held.now in
     let lawful = tabled_lawful (wiring_of basis) (strip_wiring basis c.count-count.ensures.lawful few) prices.iterations prices.history.now prices.held.now prices.lawful in
     let place = (graph_of basis).node c.args.node in
-    let at : IsNoMore c.entering.result (raised prices.pins prices.lasts.now prices.sink c.node-place.result (further_to basis.arch basis.strip prices.sink c.node-place.result)) =
-    subst (λ further. IsNoMore c.entering.result (raised prices.pins prices.lasts.now prices.sink c.node-place.result further)) c.further-further.ensures c.entering.ensures in
-    let here : IsNoMore c.entering.result (raised prices.pins prices.lasts.now prices.sink place (further_to basis.arch basis.strip prices.sink place)) =
-    subst (λ (node : Node). IsNoMore c.entering.result (raised prices.pins prices.lasts.now prices.sink node (further_to basis.arch basis.strip prices.sink node))) c.node-place.ensures at in
-    let bound = aimed_bound basis c.count-count.ensures.lawful prices.goal prices.sink prices.aim at_prices lawful refl (λ node. refl) prices.pins prices.lasts.now prices.entered c.args.node c.requires.node c.entering.result here in
-    subst (λ goal. IsLowerBound (aimed basis prices.sink at_prices) goal c.args.node c.entering.result) (sym c.if-goal-aim.true) bound
+    let node = c.node.ensures ∙ prices.rated.node c.args.node _ c.requires.node in
+    let here : IsNoMore c.from_node.result (raised prices.pins prices.lasts.now prices.sink place (further_to basis.arch basis.strip prices.sink place)) =
+    subst (λ (node : Node). IsNoMore c.from_node.result (raised prices.pins prices.lasts.now prices.sink node (further_to basis.arch basis.strip prices.sink node))) node c.from_node.ensures in
+    let bound = aimed_bound basis c.count-count.ensures.lawful prices.goal prices.sink prices.aim at_prices lawful refl (λ node. refl) prices.pins prices.lasts.now prices.entered c.args.node c.requires.node c.from_node.result here in
+    subst (λ goal. IsLowerBound (aimed basis prices.sink at_prices) goal c.args.node c.from_node.result) (sym c.if-goal-aim.true) bound

@@ -1,0 +1,44 @@
+use Rattle.std.proofs.Common.{◌≡◌, ◌+◌, ◌∙◌, ◌||◌, nat_le, arith, rules, sym}
+use Rattle.std.proofs.lemmas.Bool.{and_parts, false≢true}
+use Rattle.rr_graph.specs.Geometry.{is_chan_y}
+use Rattle.rr_graph.specs.Numbering.{column_count}
+use Rattle.rr_graph.proofs.Places.{indexed, found, room, has_place}
+use Rattle.rr_graph.proofs.numbering.Numbering.numbers_at.Goals as goal
+use Rattle.rr_graph.proofs.numbering.Numbering.numbers_at.Goals.{then-y-gt66-via-then-y-gt66, then-y-gt66-via-else-y-gt66+then-not-has_column}
+
+pub returns-then-y-gt66-clause-all : goal.returns-then-y-gt66-clause-all
+returns-then-y-gt66-clause-all c = λ i within at.
+    let has = has_place c.args.self.now c.args.kind c.args.x c.args.y i c.requires.lawful within at in
+    elim c.then-y-gt66.branch [
+      | then-y-gt66-via-then-y-gt66 w ↦ absurd (omega (arith, has.0, w.if-y-gt66.true))
+      | then-y-gt66-via-else-y-gt66+then-not-has_column w ↦ absurd (false≢true (sym w.if-not-has_column.true ∙ (w.has_column.ensures ∙ has.1)))
+    ]
+
+pub overflow_sub-result : goal.overflow_sub-result
+overflow_sub-result c =
+    let nodes = c.args.self.now in
+    let lens : c.len.result ≡ column_count nodes = search rules in
+    let has = (and_parts (nat_le c.args.x nodes.strip.width) (nat_le 1 c.args.x || is_chan_y c.args.kind) (sym c.has_column.ensures ∙ c.if-not-has_column.false)).1 in
+    rw lens (room nodes c.args.kind c.args.x c.args.y c.first.result c.requires.lawful has c.first.ensures)
+
+pub overflow_sub-result-2 : goal.overflow_sub-result-2
+overflow_sub-result-2 c =
+    let nodes = c.args.self.now in
+    let lens : c.len.result ≡ column_count nodes = search rules in
+    let has = (and_parts (nat_le c.args.x nodes.strip.width) (nat_le 1 c.args.x || is_chan_y c.args.kind) (sym c.has_column.ensures ∙ c.if-not-has_column.false)).1 in
+    rw lens (room nodes c.args.kind c.args.x (c.args.y + 1) c.first-2.result c.requires.lawful has c.first-2.ensures)
+
+pub returns-clause-sound : goal.returns-clause-sound
+returns-clause-sound c = λ i from to.
+    let nodes = c.args.self.now in
+    let lens : c.len.result ≡ column_count nodes = search rules in
+    let from' = rw lens at from in
+    let to' = rw lens at to in
+    indexed nodes c.args.kind c.args.x c.args.y c.first.result c.first-2.result i c.requires.lawful (omega (arith, c.if-y-gt66.false)) c.first.ensures c.first-2.ensures (omega (arith, from')) (omega (arith, to'))
+
+pub returns-clause-all : goal.returns-clause-all
+returns-clause-all c = λ i within at.
+    let nodes = c.args.self.now in
+    let lens : c.len.result ≡ column_count nodes = search rules in
+    let both = found nodes c.args.kind c.args.x c.args.y c.first.result c.first-2.result i c.requires.lawful c.first.ensures c.first-2.ensures at in
+    rw lens (omega (arith, both.0), omega (arith, both.1))
