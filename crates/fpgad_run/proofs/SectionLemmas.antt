@@ -10,7 +10,7 @@ use Rattle.line_text.specs.declared.memory_sink.MemorySink.{MemorySink}
 use Rattle.std.specs.declared.alloc.AllocError.{AllocError}
 use Rattle.std.proofs.lemmas.Bool.{false≢true}
 use Rattle.line_text.specs.declared.source.Failed.{Failed}
-use Rattle.vpr_files.specs.Writing.{Writes}
+use Rattle.line_text.specs.Writing.{Writes}
 use Rattle.operator.specs.Held.{held}
 use Rattle.fpgad_run.specs.Zipped.{zipped}
 

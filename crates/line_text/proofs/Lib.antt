@@ -8,3 +8,4 @@ mod ReaderLemmas
 pub mod RisingLines
 mod TextSteps
 mod WordLemmas
+pub mod WritingLemmas

@@ -9,3 +9,4 @@ pub mod Reading
 pub mod Spans
 pub mod TextErrors
 pub mod Words
+pub mod Writing

@@ -9,7 +9,8 @@
 //! A reader of a text that has no value to give answers a [`TextError`]: no memory, or the least of all faults of the text, by
 //! line, number and word, those of the end last (`specs/LeastFault.antt`).
 //!
-//! A [`Source`] gives bytes and a [`Sink`] takes them. Both answer [`Failed`] from their first failure on.
+//! A [`Source`] gives bytes and a [`Sink`] takes them. Both answer [`Failed`] from their first failure on. [`write_parts`] writes a
+//! text that is given in parts: the sink takes all of it, or a beginning where it fails (`specs/Writing.antt`).
 #![tactic(auto)]
 
 mod decimal;
@@ -26,6 +27,7 @@ mod std_source;
 mod text;
 mod text_error;
 mod words;
+mod writing;
 
 pub use decimal::{decimal_u32, decimal_u64, millionths, whole_number};
 pub use fault::{LineError, LineFault};
@@ -40,3 +42,4 @@ pub use std_source::StdSource;
 pub use text::Text;
 pub use text_error::TextError;
 pub use words::{append_words, is_blank, is_word, skip_blanks, split_word, word_end, word_start};
+pub use writing::write_parts;

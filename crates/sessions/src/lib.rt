@@ -8,7 +8,7 @@
 //! - `end_to_end` is the law of a session: what a line is told is what the service for a single user tells. `whole_session` says it
 //!   of all bytes of a session, and `wait_ends` where the steps of a `wait` end.
 //! - `make_step` takes, steps and puts a tenancy's job; `step_and_put` does the last two of a job that was taken.
-//! - `write_reply`, `write_refused`, `write_session_refusal`, `step_word` and `write_parts` are how answers are spelled.
+//! - `write_reply`, `write_refused`, `write_session_refusal` and `step_word` are how answers are spelled.
 //! - In `specs/`, `SessionLines` says what a line asks, `Items` what an input does, and `SessionText` how answers are spelled.
 #![tactic(auto)]
 
@@ -29,5 +29,5 @@ pub use pending_text::{PendingText, is_point, without_cr};
 pub use reading::{SessionReader, read_items};
 pub use refusal::SessionRefusal;
 pub use steps::{StepOutcome, make_step, step_and_put};
-pub use text::{step_word, write_parts, write_refused, write_reply, write_session_refusal};
+pub use text::{step_word, write_refused, write_reply, write_session_refusal};
 pub use told::Answer;

@@ -1,7 +1,7 @@
 use Rattle.std.proofs.Common.{[], ℕ, List, Bor}
 use Rattle.std.proofs.lemmas.Option.{slice_get-get_or}
-use Rattle.vpr_files.proofs.WritingLemmas.{part_loop, writes_part}
-use Rattle.vpr_files.proofs.writing.write_parts.Goals as goal
+use Rattle.line_text.proofs.WritingLemmas.{part_loop, writes_part}
+use Rattle.line_text.proofs.writing.write_parts.Goals as goal
 
 pub returns-in_err-write_all : goal.returns-in_err-write_all
 returns-in_err-write_all g c =

@@ -10,7 +10,7 @@ use Rattle.std.proofs.Math.Seq.{take-append-add}
 use Rattle.std.proofs.KnownBytes.{Appends-nil, Appends-trans}
 use Rattle.std.specs.Io.KnownBytes.{Appends}
 use Rattle.line_text.specs.declared.source.Failed.{Failed}
-use Rattle.vpr_files.specs.Writing.{TakesAll, TakesPart, Writes}
+use Rattle.line_text.specs.Writing.{TakesAll, TakesPart, Writes}
 
 -- the same text
 pub writes_same : {S : Type 0} (contents : S → Option (List ℕ)) (has_failed : S → Bool) (a b : S) (s t : List ℕ) (r : Result (Unit {0}) Failed) → s ≡ t → Writes contents has_failed a b s r → Writes contents has_failed a b t r

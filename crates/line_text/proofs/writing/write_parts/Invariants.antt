@@ -1,7 +1,7 @@
 use Rattle.std.proofs.Common.{ℕ, List, Bor, take}
 use Rattle.std.specs.List.{flat_map}
-use Rattle.vpr_files.specs.Writing.{TakesAll}
-use Rattle.vpr_files.proofs.writing.write_parts.Given as goal
+use Rattle.line_text.specs.Writing.{TakesAll}
+use Rattle.line_text.proofs.writing.write_parts.Given as goal
 
 -- the parts before this one are written
 abbrev pub invariant-loop-part : goal.invariant-loop-part
