@@ -7,7 +7,7 @@ use Rattle.rr_graph.specs.declared.node.Node.{Node}
 use Rattle.rr_graph.specs.declared.node.NodeKind.TheVariants.{Ipin}
 use Rattle.rr_graph.specs.Geometry.{sides_at}
 use Rattle.rr_graph.specs.Graph.{graph_of, make_node}
-use Rattle.rr_graph.proofs.Columns.{few_pins}
+use Rattle.arch_file.proofs.FewPins.{few_pins}
 use Rattle.pathfinder.specs.PlacedNets.{wiring_of}
 use Rattle.pathfinder.specs.Tables.{tabled}
 use Rattle.pathfinder.specs.Entries.{AreLow}

@@ -16,10 +16,10 @@ one_class Clock = refl
 count_classes : (pins : List Pin) → length pins ≡ input_count pins + (output_count pins + clock_count pins)
 count_classes [] = refl
 count_classes (pin ∷ pins) =
-    let f_in : Pin → ℕ = λ p. cond (is_input_class p.class) 1 0 in
-    let f_out : Pin → ℕ = λ p. cond (is_output_class p.class) 1 0 in
-    let f_clock : Pin → ℕ = λ p. cond (is_clock_class p.class) 1 0 in
-    omega (arith, count_classes pins, sum_by-cons f_in pin pins, sum_by-cons f_out pin pins, sum_by-cons f_clock pin pins, one_class pin.class)
+    let inputs : Pin → ℕ = λ p. cond (is_input_class p.class) 1 0 in
+    let outputs : Pin → ℕ = λ p. cond (is_output_class p.class) 1 0 in
+    let clocks : Pin → ℕ = λ p. cond (is_clock_class p.class) 1 0 in
+    omega (arith, count_classes pins, sum_by-cons inputs pin pins, sum_by-cons outputs pin pins, sum_by-cons clocks pin pins, one_class pin.class)
 
 pub few_pins : (arch : Arch) → IsArch arch → length arch.pins ≤ 145
 few_pins arch lawful = omega (arith, count_classes arch.pins, lawful.inputs.1, lawful.outputs, lawful.cluster_size.1, lawful.clocks)
