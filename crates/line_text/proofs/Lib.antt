@@ -3,6 +3,7 @@ mod Examples
 mod FirstPlaces
 pub mod InOrder
 mod LineLemmas
+pub mod NameLemmas
 mod OnePass
 mod ReaderLemmas
 pub mod RisingLines

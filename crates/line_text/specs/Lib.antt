@@ -3,6 +3,7 @@ pub mod Device
 pub mod LeastFault
 pub mod LineOrder
 pub mod Lines
+pub mod Names
 pub mod Physical
 pub mod Reader
 pub mod Reading

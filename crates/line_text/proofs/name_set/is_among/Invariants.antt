@@ -1,6 +1,7 @@
 use Rattle.std.proofs.Common.{◌≡◌, drop}
-use Rattle.blif.specs.Names.{has_name, texts}
-use Rattle.blif.proofs.names.is_among.Given as goal
+use Rattle.line_text.specs.Names.{has_name}
+use Rattle.line_text.specs.Words.{texts}
+use Rattle.line_text.proofs.name_set.is_among.Given as goal
 
 -- none so far is the name
 abbrev pub invariant-loop-other : goal.invariant-loop-other

@@ -1,6 +1,7 @@
 use Rattle.std.proofs.Common.{◌≡◌, drop}
-use Rattle.blif.specs.Names.{texts, with_names}
-use Rattle.blif.proofs.names.NameSet.add_all.Given as goal
+use Rattle.line_text.specs.Names.{with_names}
+use Rattle.line_text.specs.Words.{texts}
+use Rattle.line_text.proofs.name_set.NameSet.add_all.Given as goal
 
 -- what is left, added to the names so far, gives what all of them give
 abbrev pub invariant-loop-name : goal.invariant-loop-name

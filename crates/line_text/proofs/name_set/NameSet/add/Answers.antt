@@ -1,7 +1,8 @@
 use Rattle.std.proofs.Common.{◌∙◌, ap, not}
-use Rattle.blif.specs.Names.{texts, has_name, with_name}
-use Rattle.blif.proofs.Seen.{has_name-texts, with_name-texts}
-use Rattle.blif.proofs.names.NameSet.add.Goals as goal
+use Rattle.line_text.specs.Names.{has_name, with_name}
+use Rattle.line_text.specs.Words.{texts}
+use Rattle.line_text.proofs.NameLemmas.{has_name-texts, with_name-texts}
+use Rattle.line_text.proofs.name_set.NameSet.add.Goals as goal
 
 pub returns-clause-new : goal.returns-clause-new
 returns-clause-new c =

@@ -1,8 +1,8 @@
 use Rattle.std.proofs.Common.{◌∙◌, ap}
 use Rattle.line_text.specs.Words.{texts}
-use Rattle.fpgad_run.specs.Names.{number_of, with_name}
-use Rattle.fpgad_run.proofs.NameLemmas.{number_of-texts, with_name-texts}
-use Rattle.fpgad_run.proofs.names.Names.number.Goals as goal
+use Rattle.line_text.specs.Names.{number_of, with_name}
+use Rattle.line_text.proofs.NameLemmas.{number_of-texts, with_name-texts}
+use Rattle.line_text.proofs.name_set.NameSet.add_numbered.Goals as goal
 
 pub returns-clause-number : goal.returns-clause-number
 returns-clause-number c =

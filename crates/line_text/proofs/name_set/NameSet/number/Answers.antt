@@ -1,9 +1,8 @@
 use Rattle.std.proofs.Common.{◌∙◌, ap, unwrap_or, position, rules, arith}
 use Rattle.std.specs.Str.{bytes_eq}
-use Rattle.blif.specs.Names.{number_of}
-use Rattle.blif.proofs.Named.{number_of-within}
-use Rattle.blif.proofs.Seen.{number_of-found}
-use Rattle.blif.proofs.names.NameSet.number.Goals as goal
+use Rattle.line_text.specs.Names.{number_of}
+use Rattle.line_text.proofs.NameLemmas.{number_of-found, number_of-within}
+use Rattle.line_text.proofs.name_set.NameSet.number.Goals as goal
 
 is_number : goal.returns-clause-number
 is_number c =

@@ -1,7 +1,7 @@
 use Rattle.std.proofs.Common.{◌∙◌, ap}
-use Rattle.blif.specs.Names.{has_name}
-use Rattle.blif.proofs.Seen.{has_name-texts}
-use Rattle.blif.proofs.names.NameSet.contains.Goals as goal
+use Rattle.line_text.specs.Names.{has_name}
+use Rattle.line_text.proofs.NameLemmas.{has_name-texts}
+use Rattle.line_text.proofs.name_set.NameSet.contains.Goals as goal
 
 pub returns : goal.returns
 returns c =
