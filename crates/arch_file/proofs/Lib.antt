@@ -1,6 +1,7 @@
 mod DraftLemmas
 mod EndLemmas
 mod Examples
+pub mod FewPins
 mod KeywordRanks
 mod LineLemmas
 mod PinLemmas

@@ -7,7 +7,8 @@ use Rattle.blif.specs.Names.{first, texts, has_name, number_of}
 use Rattle.blif.specs.LatchLines.{is_latch, control_of}
 use Rattle.blif.specs.LineNets.{latch_nets, latch_reads}
 use Rattle.blif.specs.Repeats.{undriven}
-use Rattle.blif.proofs.Named.{and_left, and_right, name_at, number_of-within}
+use Rattle.line_text.proofs.NameLemmas.{number_of-within}
+use Rattle.blif.proofs.Named.{and_left, and_right, name_at}
 
 -- the number is that of a net with this name
 pub record IsNumbered (nets : List (List ℕ)) (number : ℕ) (name : List ℕ) : Type 0 where

@@ -13,7 +13,8 @@ use Rattle.blif.specs.LatchLines.{is_latch, control_of}
 use Rattle.blif.specs.LineNets.{clocks_in, front_of, inputs_in, names_in, outputs_in, latch_nets}
 use Rattle.blif.specs.Circuits.{latch_with, latches_in, table_with, tables_in}
 use Rattle.blif.specs.LawfulCircuits.{IsLatchWithin, IsTableWithin}
-use Rattle.blif.proofs.Named.{and_left, and_right, list_all-take, number_of-within}
+use Rattle.line_text.proofs.NameLemmas.{number_of-within}
+use Rattle.blif.proofs.Named.{and_left, and_right, list_all-take}
 
 -- what holds of all that each line brings holds of all that the lines bring
 pub each_line : {X A : Type 0} (p : List ℕ → Bool) (P : A → Type 0) (f : X → List (List ℕ)) (g : X → List A) → ((x : X) → list_all p (f x) ≡ true → All P (g x)) → (xs : List X) → list_all p (flat_map f xs) ≡ true → All P (flat_map g xs)

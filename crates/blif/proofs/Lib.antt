@@ -16,6 +16,5 @@ mod NetNumbers
 mod Numbered
 mod PlacedNames
 mod Places
-mod Seen
 mod Sightings
 mod Words

@@ -1,4 +1,4 @@
--- A name that is there: its number, its mark, and that it stays there.
+-- A name that is there: its mark, and that it stays there.
 use Rattle.std.proofs.Common.{◌≡◌, ℕ, zero, suc, ◌+◌, ◌<◌, Bool, true, false, not, cond, ◌&&◌, ◌||◌, List, [], ◌∷◌, ◌++◌, Some, length, get_or, take, drop, map, slice_get, if◌then◌else◌, refl, sym, ap, ◌∙◌, arith}
 use Rattle.std.specs.Borrow.{Bor}
 use Rattle.std.specs.List.{flat_map, list_all}
@@ -9,6 +9,7 @@ use Rattle.std.proofs.lemmas.List.Folds.{list_all-append, list_any-append}
 use Rattle.std.proofs.lemmas.List.Recursion.{and_at}
 use Rattle.std.proofs.lemmas.Slice.Eq.{bytes_eq-Decides}
 use Rattle.blif.proofs.Places.{take_place}
+use Rattle.line_text.proofs.NameLemmas.{has_name-rest, number_of-first, number_of-later}
 use Rattle.blif.specs.Names.{texts, has_name, number_of, with_name, with_names}
 
 pub and_left : (a b : Bool) → (a && b) ≡ true → a ≡ true
@@ -23,33 +24,17 @@ or_true : (a : Bool) → (a || (true || false)) ≡ true
 or_true true = refl
 or_true false = refl
 
--- the number of a name, by whether it is the first
-number_of-cons : (name first : List ℕ) (names : List (List ℕ)) (b : Bool) → bytes_eq name first ≡ b → number_of (first ∷ names) name ≡ cond (not b) (1 + number_of names name) 0
-number_of-cons name first names b e = ap (λ c. cond (not c) (1 + number_of names name) 0) e
-
-has_name-rest : (name first : List ℕ) (names : List (List ℕ)) → bytes_eq name first ≡ false → has_name (first ∷ names) name ≡ true → has_name names name ≡ true
-has_name-rest name first names e h = sym (ap (λ c. c || has_name names name) e) ∙ h
-
--- a name that is there has a number below the count
-pub number_of-within : (names : List (List ℕ)) (name : List ℕ) → has_name names name ≡ true → number_of names name < length names
-number_of-within [] name h = absurd cc
-number_of-within (first ∷ names) name h = by (bytes_eq name first) refl (λ there. number_of-within names name there)
-  where
-    by : (b : Bool) → bytes_eq name first ≡ b → (has_name names name ≡ true → number_of names name < length names) → number_of (first ∷ names) name < length (first ∷ names)
-    by true e rest = omega (arith, number_of-cons name first names true e)
-    by false e rest = omega (arith, number_of-cons name first names false e, rest (has_name-rest name first names e h))
-
--- and what a function of the names gives there is what it gives of the name
+-- what a function of the names gives at a name's number is what it gives of the name
 pub mark_at : (f : List ℕ → Bool) (names : List (List ℕ)) (name : List ℕ) (d : Bool) → has_name names name ≡ true → get_or (map f names) (number_of names name) d ≡ f name
 mark_at f [] name d h = absurd cc
 mark_at f (first ∷ names) name d h = by (bytes_eq name first) refl (λ there. mark_at f names name d there)
   where
     by : (b : Bool) → bytes_eq name first ≡ b → (has_name names name ≡ true → get_or (map f names) (number_of names name) d ≡ f name) → get_or (map f (first ∷ names)) (number_of (first ∷ names) name) d ≡ f name
     by true e rest =
-        ap (λ k. get_or (map f (first ∷ names)) k d) (number_of-cons name first names true e)
+        ap (λ k. get_or (map f (first ∷ names)) k d) (number_of-first first names name e)
         ∙ ap f (sym ((bytes_eq-Decides name first).0 e))
     by false e rest =
-        ap (λ k. get_or (map f (first ∷ names)) k d) (number_of-cons name first names false e ∙ one-add (number_of names name))
+        ap (λ k. get_or (map f (first ∷ names)) k d) (number_of-later first names name e ∙ one-add (number_of names name))
         ∙ rest (has_name-rest name first names e h)
 
 -- at its number stands the name
@@ -58,9 +43,9 @@ name_at [] name h = absurd cc
 name_at (first ∷ names) name h = by (bytes_eq name first) refl (λ there. name_at names name there)
   where
     by : (b : Bool) → bytes_eq name first ≡ b → (has_name names name ≡ true → get_or names (number_of names name) [] ≡ name) → get_or (first ∷ names) (number_of (first ∷ names) name) [] ≡ name
-    by true e rest = ap (λ k. get_or (first ∷ names) k []) (number_of-cons name first names true e) ∙ sym ((bytes_eq-Decides name first).0 e)
+    by true e rest = ap (λ k. get_or (first ∷ names) k []) (number_of-first first names name e) ∙ sym ((bytes_eq-Decides name first).0 e)
     by false e rest =
-        ap (λ k. get_or (first ∷ names) k []) (number_of-cons name first names false e ∙ one-add (number_of names name))
+        ap (λ k. get_or (first ∷ names) k []) (number_of-later first names name e ∙ one-add (number_of names name))
         ∙ rest (has_name-rest name first names e h)
 
 -- a name that is there stays when another is added

@@ -12,7 +12,8 @@ use Rattle.blif.specs.Numbering.{numbered}
 use Rattle.blif.specs.Repeats.{undriven}
 use Rattle.blif.specs.Names.{first, texts, has_name, number_of, with_name, with_names}
 use Rattle.blif.specs.Sights.{names_of}
-use Rattle.blif.proofs.Named.{has_name-with_name, has_name-added, name_at, named_at, number_of-within}
+use Rattle.line_text.proofs.NameLemmas.{number_of-within}
+use Rattle.blif.proofs.Named.{has_name-with_name, has_name-added, name_at, named_at}
 use Rattle.blif.proofs.Places.{drop_place}
 
 -- a name that is there keeps its number

@@ -1,30 +1,13 @@
 -- Names of nets, as lists of bytes.
 use Rattle.std.specs.Prelude.{ℕ, ◌+◌, Bool, List, [], ◌∷◌, ◌++◌, Option, Some, None, filter, if◌then◌else◌}
-use Rattle.std.specs.List.{enumerate_from, list_any, position_or_len}
-use Rattle.std.specs.Str.{bytes_eq}
+use Rattle.std.specs.List.{enumerate_from}
+pub use Rattle.line_text.specs.Names.{has_name, number_of, with_name, with_names}
 pub use Rattle.line_text.specs.Words.{texts}
 
 -- the first of a list, if it has one
 abbrev pub first : {A : Type 0} → List A → Option A
 first [] = None
 first (x ∷ xs) = Some x
-
--- whether the name is among the names
-abbrev pub has_name : List (List ℕ) → List ℕ → Bool
-has_name names name = list_any (bytes_eq name) names
-
--- the number of the name: the first place at which it stands
-abbrev pub number_of : List (List ℕ) → List ℕ → ℕ
-number_of names name = position_or_len (bytes_eq name) names
-
--- the names, and last the name where it is new
-abbrev pub with_name : List (List ℕ) → List ℕ → List (List ℕ)
-with_name names name = if has_name names name then names else names ++ name ∷ []
-
--- the names, and then each of the others at its first sight
-abbrev pub with_names : List (List ℕ) → List (List ℕ) → List (List ℕ)
-with_names names [] = names
-with_names names (name ∷ others) = with_names (with_name names name) others
 
 -- those of the names that are taken, or that stand earlier among them, each with its place, the first one's being this
 abbrev pub repeats_from : ℕ → List (List ℕ) → List (List ℕ) → List (ℕ × List ℕ)

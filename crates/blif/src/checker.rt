@@ -17,9 +17,9 @@ use crate::driven::Driven;
 use crate::fault::BlifFaultKind;
 use crate::keyword::{Keyword, args_of, keyword_of, last_of};
 use crate::latch_line::{control_of, is_latch};
-use crate::names::NameSet;
+use crate::names::{add_different, number_all};
 use crate::nets::Nets;
-use line_text::Text;
+use line_text::{NameSet, Text};
 use std::alloc::{AllocError, Global};
 use std::marker::Model;
 
@@ -123,19 +123,19 @@ impl<'t> Checker<'t> {
             Keyword::Model if self.begun => Some(BlifFaultKind::Unknown),
             Keyword::Model | Keyword::Skipped => None,
             Keyword::Inputs => {
-                self.nets.number_all(args, numbers)?;
+                number_all(&mut self.nets, args, numbers)?;
                 drive(alloc, &self.clocks, &mut self.drivers, args)?
             }
             Keyword::Outputs => {
-                self.nets.number_all(args, numbers)?;
+                number_all(&mut self.nets, args, numbers)?;
                 show(alloc, &mut self.outputs, args)?
             }
             Keyword::Clock => {
-                self.nets.number_all(args, numbers)?;
+                number_all(&mut self.nets, args, numbers)?;
                 clock(alloc, &self.declared, &self.drivers, &mut self.clocks, args)?
             }
             Keyword::Names => {
-                self.nets.number_all(args, numbers)?;
+                number_all(&mut self.nets, args, numbers)?;
                 table(alloc, lut_size, &self.clocks, &mut self.drivers, args)?
             }
             Keyword::Latch => latch(
@@ -185,7 +185,7 @@ fn show<'t>(
     ensures least { IfOk result (λ fault. fault ≡ first_kind (at_words RepeatedOutput (repeats_from 0 outputs.old (texts names.now)))) }
     ensures outputs { IfOk result (λ fault. IfNone fault (outputs.new ≡ outputs.old ++ texts names.now)) }
 {
-    match outputs.add_different(names)? {
+    match add_different(outputs, names)? {
         Some(name) => Ok(Some(BlifFaultKind::RepeatedOutput(Text::from_slice(alloc, name)?))),
         None => Ok(None),
     }
@@ -264,9 +264,9 @@ fn name_latch<'t>(
     ensures nets { IfOk result (λ _. nets.new ≡ with_names nets.old (latch_nets (texts args.now))) }
     ensures numbers { IfOk result (λ _. numbers.new ≡ numbers.old ++ numbered nets.old (latch_nets (texts args.now))) }
 {
-    nets.number_all(&args[..2], numbers)?;
+    number_all(nets, &args[..2], numbers)?;
     match control_of(args) {
-        Some(control) => nets.number_all(&[control], numbers),
+        Some(control) => number_all(nets, &[control], numbers),
         None => Ok(()),
     }
 }

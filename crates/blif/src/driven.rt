@@ -5,7 +5,7 @@ ghost use Rattle.blif.specs.Names.{first, has_name, number_of, texts};
 ghost use Rattle.blif.specs.Repeats.{undriven};
 
 use crate::circuit::MAX_NETS;
-use crate::names::NameSet;
+use line_text::NameSet;
 use std::alloc::{AllocError, Global};
 use std::marker::Model;
 

@@ -1,140 +1,57 @@
-//! Names of nets, each once, in the order of first sight.
-ghost use Rattle.std.specs.Prelude.{◌≡◌, ◌<◌, ◌≤◌, ◌++◌, [], ◌∷◌, not, length, slice_get, Some, IfOk, IfNone, IsTrue, option_map};
+//! Names of nets, added to those of the lines above.
+ghost use Rattle.std.specs.Prelude.{◌≡◌, ◌++◌, [], ◌∷◌, IfOk, IfNone, option_map};
 ghost use Rattle.blif.specs.Numbering.{numbered};
-ghost use Rattle.blif.specs.Names.{first, has_name, number_of, texts, with_name, with_names};
+ghost use Rattle.blif.specs.Names.{first, number_of, texts, with_name, with_names};
 ghost use Rattle.blif.specs.Repeats.{repeats};
 
 use crate::nets::Nets;
-use indexmap::IndexSet;
-use std::alloc::{AllocError, Global};
-use std::marker::Model;
+use line_text::NameSet;
+use std::alloc::AllocError;
 
-/// So many names are looked through faster than they are hashed.
-const FEW: usize = 4;
-
-/// Different names, numbered from 0 in the order in which they were added. Its value is the list of the names.
-#[derive(Drop)]
-pub struct NameSet<'t> {
-    names: IndexSet<&'t [u8]>,
-}
-
-impl<'t> Model for NameSet<'t> {
-    ghost use Rattle.std.specs.Prelude.{List, ℕ};
-    ghost use Rattle.blif.specs.Names.{texts};
-
-    ghost Value = { List (List ℕ) };
-
-    ghost view = { λ s. texts s.names.keys };
-}
-
-impl<'t> NameSet<'t> {
-    /// No names.
-    pub fn new(alloc: Global) -> Self
-        ensures { result ≡ [] }
-    {
-        NameSet {
-            names: IndexSet::new(alloc),
-        }
-    }
-
-    /// How many names there are.
-    pub fn len(&self) -> usize
-        ensures { result ≡ length self.now }
-    {
-        self.names.len()
-    }
-
-    /// The name of a number.
-    pub fn name(&self, number: usize) -> &'t [u8]
-        requires { number < length self.now }
-        ensures { slice_get self.now number ≡ Some result.now }
-    {
-        self.names.as_slice()[number]
-    }
-
-    /// Whether the name is there.
-    pub fn contains(&self, name: &[u8]) -> bool
-        ensures { result ≡ has_name self.now name.now }
-    {
-        if self.names.len() <= FEW {
-            return is_among(self.names.as_slice(), name);
-        }
-        self.names.contains(&name)
-    }
-
-    /// The number of the name, or of the next name where it is not there.
-    pub fn number(&self, name: &[u8]) -> usize
-        ensures number { result ≡ number_of self.now name.now }
-        ensures within { result ≤ length self.now }
-        ensures named { IsTrue (has_name self.now name.now) → result < length self.now }
-    {
-        self.names.get_index_of(&name).unwrap_or(self.names.len())
-    }
-
-    /// Adds the name, and tells whether it is new.
-    pub fn add(&mut self, name: &'t [u8]) -> Result<bool, AllocError>
-        ensures new { IfOk result (λ new. new ≡ not (has_name self.old name.now)) }
-        ensures names { IfOk result (λ _. self.new ≡ with_name self.old name.now) }
-    {
-        Ok(self.names.insert(name)?)
-    }
-
-    /// Adds the name where it is new, and puts its number at the end. More names than there are numbers find no memory.
-    fn number_new(&mut self, name: &'t [u8], numbers: &mut Nets) -> Result<(), AllocError>
-        ensures names { IfOk result (λ _. self.new ≡ with_name self.old name.now) }
-        ensures numbers { IfOk result (λ _. numbers.new ≡ numbers.old ++ number_of self.old name.now ∷ []) }
-    {
-        let (place, _) = self.names.insert_full(name)?;
-        let Ok(number) = u32::try_from(place) else {
-            return Err(AllocError);
-        };
-        numbers.push(number)?;
-        Ok(())
-    }
-
-    /// Adds each of the names that is new, and puts the numbers of all at the end.
-    pub fn number_all(&mut self, names: &[&'t [u8]], numbers: &mut Nets) -> Result<(), AllocError>
-        ensures names { IfOk result (λ _. self.new ≡ with_names self.old (texts names.now)) }
-        ensures numbers { IfOk result (λ _. numbers.new ≡ numbers.old ++ numbered self.old (texts names.now)) }
-    {
-        for name in names {
-            self.number_new(name, numbers)?;
-        }
-        Ok(())
-    }
-
-    /// Adds each of the names that is new.
-    pub fn add_all(&mut self, names: &[&'t [u8]]) -> Result<(), AllocError>
-        ensures { IfOk result (λ _. self.new ≡ with_names self.old (texts names.now)) }
-    {
-        for name in names {
-            self.add(name)?;
-        }
-        Ok(())
-    }
-
-    /// Adds the names up to the first that is there already, and gives that one.
-    pub fn add_different(&mut self, names: &[&'t [u8]]) -> Result<Option<&'t [u8]>, AllocError>
-        ensures repeated { IfOk result (λ r. option_map (λ name. name.now) r ≡ first (repeats self.old (texts names.now))) }
-        ensures names { IfOk result (λ r. IfNone r (self.new ≡ self.old ++ texts names.now)) }
-    {
-        for name in names {
-            if !self.add(name)? {
-                return Ok(Some(*name));
-            }
-        }
-        Ok(None)
-    }
-}
-
-/// Whether the name is one of these.
-fn is_among(names: &[&[u8]], name: &[u8]) -> bool
-    ensures { result ≡ has_name (texts names.now) name.now }
+/// Adds the name where it is new, and puts its number at the end. More names than there are numbers find no memory.
+fn number_new<'t>(
+    nets: &mut NameSet<'t>,
+    name: &'t [u8],
+    numbers: &mut Nets,
+) -> Result<(), AllocError>
+    ensures nets { IfOk result (λ _. nets.new ≡ with_name nets.old name.now) }
+    ensures numbers { IfOk result (λ _. numbers.new ≡ numbers.old ++ number_of nets.old name.now ∷ []) }
 {
-    for other in names {
-        if name == *other {
-            return true;
+    let place = nets.add_numbered(name)?;
+    let Ok(number) = u32::try_from(place) else {
+        return Err(AllocError);
+    };
+    numbers.push(number)?;
+    Ok(())
+}
+
+/// Adds each of the names that is new, and puts the numbers of all at the end.
+pub fn number_all<'t>(
+    nets: &mut NameSet<'t>,
+    names: &[&'t [u8]],
+    numbers: &mut Nets,
+) -> Result<(), AllocError>
+    ensures nets { IfOk result (λ _. nets.new ≡ with_names nets.old (texts names.now)) }
+    ensures numbers { IfOk result (λ _. numbers.new ≡ numbers.old ++ numbered nets.old (texts names.now)) }
+{
+    for name in names {
+        number_new(nets, name, numbers)?;
+    }
+    Ok(())
+}
+
+/// Adds the names up to the first that is there already, and gives that one.
+pub fn add_different<'t>(
+    set: &mut NameSet<'t>,
+    names: &[&'t [u8]],
+) -> Result<Option<&'t [u8]>, AllocError>
+    ensures repeated { IfOk result (λ r. option_map (λ name. name.now) r ≡ first (repeats set.old (texts names.now))) }
+    ensures names { IfOk result (λ r. IfNone r (set.new ≡ set.old ++ texts names.now)) }
+{
+    for name in names {
+        if !set.add(name)? {
+            return Ok(Some(*name));
         }
     }
-    false
+    Ok(None)
 }

@@ -13,11 +13,10 @@ use crate::driven::Driven;
 use crate::keyword::{Keyword, args_of, front_of};
 use crate::latch_line::{control_of, is_latch};
 use crate::latches::{Latch, Latches};
-use crate::names::NameSet;
 use crate::net_names::NetNames;
 use crate::nets::Nets;
 use crate::tables::{Table, Tables};
-use line_text::Text;
+use line_text::{NameSet, Text};
 use std::alloc::{AllocError, Global};
 use std::marker::Model;
 

@@ -18,11 +18,10 @@ use crate::driven::Driven;
 use crate::fault::{BlifError, BlifFault, BlifFaultKind};
 use crate::keyword::{Keyword, args_of, inputs_in, is_end, keyword_of};
 use crate::latch_line::{control_of, is_latch};
-use crate::names::NameSet;
 use crate::net_names::NetNames;
 use crate::nets::Nets;
 use crate::parts::CircuitParts;
-use line_text::{Lines, MAX_TEXT, Text, logical_lines};
+use line_text::{Lines, MAX_TEXT, NameSet, Text, logical_lines};
 use std::alloc::{AllocError, Global};
 
 /// The circuit of a text whose tables have at most that many inputs, or its least fault.

@@ -1,14 +1,9 @@
 -- The laws of each packing.
-use Rattle.std.proofs.Common.{◌≡◌, ◌≢◌, ℕ, ◌+◌, ◌<◌, ◌≤◌, true, cond, None, List, [], ◌∷◌, ◌++◌, All, length, get_or, map, refl, sym, ap, subst, ◌∙◌, arith, length-append}
+use Rattle.std.proofs.Common.{◌≡◌, ◌≢◌, ℕ, ◌+◌, ◌<◌, ◌≤◌, true, None, List, [], ◌∷◌, ◌++◌, All, length, get_or, map, refl, sym, ap, subst, ◌∙◌, arith, length-append}
 use Rattle.std.specs.Prelude.{AllPairs}
 use Rattle.std.specs.List.{concat}
 use Rattle.std.proofs.lemmas.List.{get_or_append_left}
-use Rattle.std.proofs.lemmas.List.Sums.{sum_by-cons}
-use Rattle.arch_file.specs.declared.arch.Arch.{Arch}
-use Rattle.arch_file.specs.declared.arch.Pin.{Pin}
-use Rattle.arch_file.specs.declared.arch.PinClass.{PinClass}
-use Rattle.arch_file.specs.declared.arch.PinClass.TheVariants.{Input, Output, Clock}
-use Rattle.arch_file.specs.Arch.{IsArch, input_count, output_count, clock_count, is_input_class, is_output_class, is_clock_class}
+use Rattle.arch_file.proofs.FewPins.{few_pins}
 use Rattle.blif.specs.declared.latches.Latch.{Latch}
 use Rattle.blif.specs.LookupTables.{LookupTable}
 use Rattle.blif.specs.LawfulCircuits.{IsCircuit, drivers_of}
@@ -23,23 +18,6 @@ use Rattle.cluster.proofs.Going.{fit_among}
 use Rattle.cluster.proofs.Members.{few_driven}
 use Rattle.cluster.proofs.PackedLaws.{length-blocks_of}
 use Rattle.cluster.proofs.Partition.{ArePacked, all_in, all_packed}
-
-one_class : (class : PinClass) → cond (is_input_class class) 1 0 + (cond (is_output_class class) 1 0 + cond (is_clock_class class) 1 0) ≡ 1
-one_class Input = refl
-one_class Output = refl
-one_class Clock = refl
-
--- each pin has one class
-count_classes : (pins : List Pin) → length pins ≡ input_count pins + (output_count pins + clock_count pins)
-count_classes [] = refl
-count_classes (pin ∷ pins) =
-    let inputs : Pin → ℕ = λ p. cond (is_input_class p.class) 1 0 in
-    let outputs : Pin → ℕ = λ p. cond (is_output_class p.class) 1 0 in
-    let clocks : Pin → ℕ = λ p. cond (is_clock_class p.class) 1 0 in
-    omega (arith, count_classes pins, sum_by-cons inputs pin pins, sum_by-cons outputs pin pins, sum_by-cons clocks pin pins, one_class pin.class)
-
-few_pins : (arch : Arch) → IsArch arch → length arch.pins ≤ 145
-few_pins arch lawful = omega (arith, count_classes arch.pins, lawful.inputs.1, lawful.outputs, lawful.cluster_size.1, lawful.clocks)
 
 -- the front of a list keeps what all its pairs keep
 pairs_front : (R : ℕ → ℕ → Type 0) (xs ys : List ℕ) → AllPairs R (xs ++ ys) → AllPairs R xs

@@ -1,4 +1,3 @@
 pub mod Listing
-pub mod Pins
 pub mod Places
 mod Examples

@@ -102,7 +102,7 @@ pub struct Owned {
 }
 
 /// More than any number of a pin, of a pad or of a track.
-#[tactic(auto, using(crate::proofs::Pins::few_pins))]
+#[tactic(auto, using(arch_file::proofs::FewPins::few_pins))]
 fn numbers(arch: &Arch) -> u32
     requires { IsArch arch.now }
     ensures value { result ≡ max (max (length arch.now.pins) arch.now.tracks) arch.now.io_rat }

@@ -1,5 +1,4 @@
 mod Examples
-mod NameLemmas
 mod SectionLemmas
 mod Telling
 mod ThreadLemmas

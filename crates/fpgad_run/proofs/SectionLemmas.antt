@@ -4,38 +4,26 @@ use Rattle.std.specs.Prelude.{slice_get, is_ok, OnOk}
 use Rattle.std.specs.List.{flat_map}
 use Rattle.std.specs.Str.{bytes_eq}
 use Rattle.std.proofs.Math.ListN.{set}
-use Rattle.fpgad_run.specs.Names.{has_name, number_of, with_name}
+use Rattle.line_text.specs.Names.{has_name, number_of, with_name}
+use Rattle.line_text.proofs.NameLemmas.{number_of-first, number_of-later, with_name-first, with_name-later}
 use Rattle.fpgad_run.specs.Run.{Section, heading, section_text, with_text}
 use Rattle.line_text.specs.declared.memory_sink.MemorySink.{MemorySink}
 use Rattle.std.specs.declared.alloc.AllocError.{AllocError}
 use Rattle.std.proofs.lemmas.Bool.{false≢true}
 use Rattle.line_text.specs.declared.source.Failed.{Failed}
-use Rattle.vpr_files.specs.Writing.{Writes}
+use Rattle.line_text.specs.Writing.{Writes}
 use Rattle.operator.specs.Held.{held}
 use Rattle.fpgad_run.specs.Zipped.{zipped}
 
 abbrev pub Text : Type 0
 Text = MemorySink
 
--- a name that is not the first
-with_name-later : (n : List ℕ) (names : List (List ℕ)) (name : List ℕ) → bytes_eq name n ≡ false → with_name (n ∷ names) name ≡ n ∷ with_name names name
-with_name-later n names name e =
-    rw e (elim (has_name names name) as (λ b. (if b then n ∷ names else (n ∷ names) ++ name ∷ []) ≡ n ∷ (if b then names else names ++ name ∷ [])) [ true ↦ refl | false ↦ refl ])
-
-with_name-first : (n : List ℕ) (names : List (List ℕ)) (name : List ℕ) → bytes_eq name n ≡ true → with_name (n ∷ names) name ≡ n ∷ names
-with_name-first n names name e = rw e refl
-
+-- a section that is not the first
 with_text-later : (s : Section) (sections : List Section) (name text : List ℕ) → bytes_eq name s.name ≡ false → with_text (s ∷ sections) name text ≡ s ∷ with_text sections name text
 with_text-later s sections name text e = rw e refl
 
 with_text-first : (s : Section) (sections : List Section) (name text : List ℕ) → bytes_eq name s.name ≡ true → with_text (s ∷ sections) name text ≡ record s { text = s.text ++ text } ∷ sections
 with_text-first s sections name text e = rw e refl
-
-number_of-first : (n : List ℕ) (names : List (List ℕ)) (name : List ℕ) → bytes_eq name n ≡ true → number_of (n ∷ names) name ≡ 0
-number_of-first n names name e = rw e refl
-
-number_of-later : (n : List ℕ) (names : List (List ℕ)) (name : List ℕ) → bytes_eq name n ≡ false → number_of (n ∷ names) name ≡ 1 + number_of names name
-number_of-later n names name e = rw e refl
 
 abbrev pub section : List ℕ → List ℕ → Section
 section name text = record { name = name; text = text }

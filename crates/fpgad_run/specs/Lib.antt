@@ -3,7 +3,6 @@ pub mod EndToEnd
 pub mod Ends
 pub mod Inputs
 pub mod Limits
-pub mod Names
 pub mod OnThreads
 pub mod Outcomes
 pub mod Program

@@ -11,7 +11,6 @@
 mod command;
 mod in_order;
 mod inputs;
-mod names;
 mod on_threads;
 mod options;
 mod outcome;

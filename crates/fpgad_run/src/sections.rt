@@ -3,8 +3,7 @@ ghost use Rattle.std.specs.List.{flat_map};
 ghost use Rattle.fpgad_run.specs.Run.{heading, section_text};
 ghost use Rattle.fpgad_run.specs.Zipped.{zipped};
 
-use crate::names::Names;
-use line_text::{Failed, MemorySink};
+use line_text::{Failed, MemorySink, NameSet};
 use service_core::Service;
 use sessions::{Answer, SessionLine, answer};
 use std::alloc::{AllocError, Global};
@@ -13,7 +12,7 @@ use std::alloc::{AllocError, Global};
 #[derive(Drop)]
 pub(crate) struct Sections<'t> {
     alloc: Global,
-    names: Names<'t>,
+    names: NameSet<'t>,
     texts: Vec<MemorySink>,
 }
 
@@ -26,7 +25,7 @@ impl<'t> Sections<'t> {
     {
         Sections {
             alloc,
-            names: Names::new(alloc),
+            names: NameSet::new(alloc),
             texts: Vec::new(alloc),
         }
     }
@@ -43,7 +42,7 @@ impl<'t> Sections<'t> {
         requires { length self.old.texts.items ≡ length self.old.names }
         ensures { OnOk result (AnswersSession self.old core.old name.now id line self.new core.new) }
     {
-        let number = self.names.number(name)?;
+        let number = self.names.add_numbered(name)?;
         if number < self.texts.len() {
             return told(answer(core, id, line, &mut self.texts[number]));
         }

@@ -3,9 +3,11 @@ pub mod Device
 pub mod LeastFault
 pub mod LineOrder
 pub mod Lines
+pub mod Names
 pub mod Physical
 pub mod Reader
 pub mod Reading
 pub mod Spans
 pub mod TextErrors
 pub mod Words
+pub mod Writing

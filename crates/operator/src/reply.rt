@@ -5,9 +5,9 @@ ghost use Rattle.operator.specs.Held.{held};
 ghost use Rattle.operator.specs.OperatorText.{admitted_text, evicted_text, listed, outcome_text, outcome_word, refused_text, row_text, taken_text};
 
 use itoa::Buffer;
-use line_text::MemorySink;
+use line_text::{MemorySink, write_parts};
 use service_core::{OpRefusal, Service};
-use sessions::{StepOutcome, step_word, write_parts, write_refused};
+use sessions::{StepOutcome, step_word, write_refused};
 use std::alloc::AllocError;
 
 /// Appends the line of a tenancy, if it is live.

@@ -5,21 +5,10 @@ use Rattle.std.specs.Str.{bytes_eq}
 use Rattle.std.proofs.Math.ListN.{set}
 use Rattle.std.proofs.lemmas.List.{map_push}
 use Rattle.script_text.specs.declared.inputs.SessionInput.{SessionInput}
-use Rattle.script_text.specs.Names.{has_name, names_in, number_of, with_name}
+use Rattle.line_text.specs.Names.{number_of, with_name}
+use Rattle.line_text.proofs.NameLemmas.{number_of-first, number_of-later, with_name-first, with_name-later}
+use Rattle.script_text.specs.Names.{names_in}
 use Rattle.script_text.specs.Threaded.{Said, said_by, with_input}
-
-with_name-later : (n : List ℕ) (names : List (List ℕ)) (name : List ℕ) → bytes_eq name n ≡ false → with_name (n ∷ names) name ≡ n ∷ with_name names name
-with_name-later n names name e =
-    rw e (elim (has_name names name) as (λ b. (if b then n ∷ names else (n ∷ names) ++ name ∷ []) ≡ n ∷ (if b then names else names ++ name ∷ [])) [ true ↦ refl | false ↦ refl ])
-
-with_name-first : (n : List ℕ) (names : List (List ℕ)) (name : List ℕ) → bytes_eq name n ≡ true → with_name (n ∷ names) name ≡ n ∷ names
-with_name-first n names name e = rw e refl
-
-number_of-first : (n : List ℕ) (names : List (List ℕ)) (name : List ℕ) → bytes_eq name n ≡ true → number_of (n ∷ names) name ≡ 0
-number_of-first n names name e = rw e refl
-
-number_of-later : (n : List ℕ) (names : List (List ℕ)) (name : List ℕ) → bytes_eq name n ≡ false → number_of (n ∷ names) name ≡ 1 + number_of names name
-number_of-later n names name e = rw e refl
 
 with_input-first : (s : Said) (said : List Said) (name bytes : List ℕ) → bytes_eq name s.name ≡ true → with_input (s ∷ said) name bytes ≡ record s { input = s.input ++ bytes } ∷ said
 with_input-first s said name bytes e = rw e refl

@@ -2,6 +2,5 @@ mod AheadLemmas
 mod Examples
 mod InputLemmas
 mod LineLemmas
-mod NameLemmas
 mod ReadingLemmas
 mod Walked

@@ -1,12 +1,12 @@
 -- What is kept of a text, and the CRs at the ends of its lines.
-use Rattle.std.proofs.Common.{◌≡◌, ℕ, zero, suc, ◌+◌, ◌-◌, ◌<◌, ◌≤◌, List, [], ◌∷◌, ◌++◌, Bool, true, false, cond, eqb, length, take, min, inl, inr, length-take, length-append, append_assoc, refl, sym, ap, ◌∙◌, arith}
+use Rattle.std.proofs.Common.{◌≡◌, ℕ, zero, suc, ◌+◌, ◌-◌, ◌<◌, ◌≤◌, List, [], ◌∷◌, ◌++◌, Bool, true, false, cond, eqb, length, take, min, inl, inr, length-append, append_assoc, refl, sym, ap, ◌∙◌, arith}
 use Rattle.std.specs.Prelude.{slice_index}
 use Rattle.std.specs.List.{flat_map, onto_first}
 use Rattle.std.proofs.lemmas.Bool.{cases_lt, eqb-true}
-use Rattle.std.proofs.lemmas.List.{take_all, take-take, take-append-le, length-take-le}
-use Rattle.std.proofs.Math.Seq.{take-append-add}
+use Rattle.std.proofs.lemmas.List.{take_all}
 use Rattle.line_text.specs.Lines.{physical_lines}
 use Rattle.sessions.specs.Items.{kept, without_cr}
+use Rattle.sessions.proofs.KeptLemmas.{kept-kept}
 use Rattle.script_text.specs.Cuts.{IsEnded, without_crs}
 
 -- LF, and CR
@@ -16,42 +16,16 @@ is_lf b = eqb b 10
 abbrev pub is_cr : ℕ → Bool
 is_cr b = eqb b 13
 
-take-take-append : (n : ℕ) (xs ys : List ℕ) → take n (take n xs ++ ys) ≡ take n (xs ++ ys)
-take-take-append n xs ys = elim (cases_lt n (length xs)) [
-  | inl h ↦ let le : n ≤ length xs = omega arith in
-      let len : n ≤ length (take n xs) = rw (length-take-le n xs le) (omega arith) in
-      take-append-le n (take n xs) ys len ∙ take-take n n xs (omega arith) ∙ sym (take-append-le n xs ys le)
-  | inr h ↦ rw (take_all n xs h) refl
-]
-
-pub kept-kept : (xs ys : List ℕ) → kept (kept xs ++ ys) ≡ kept (xs ++ ys)
-unfolding kept
-kept-kept xs ys = take-take-append 1048577 xs ys
-
+-- the bytes up to that number, or all of them
 take-min : (n : ℕ) (xs : List ℕ) → take (min (length xs) n) xs ≡ take n xs
 take-min n xs = elim (cases_lt n (length xs)) [
   | inl h ↦ let e : min (length xs) n ≡ n = omega arith in ap (λ k. take k xs) e
   | inr h ↦ let e : min (length xs) n ≡ length xs = omega arith in ap (λ k. take k xs) e ∙ take_all (length xs) xs (omega arith) ∙ sym (take_all n xs h)
 ]
 
--- what is appended as far as there is room
-pub kept-part : (xs ys : List ℕ) → length xs ≤ 1048577 → xs ++ take (min (length ys) (1048577 - length xs)) ys ≡ kept (xs ++ ys)
-unfolding kept
-kept-part xs ys h =
-    let e : 1048577 ≡ length xs + (1048577 - length xs) = omega arith in
-    ap (λ zs. xs ++ zs) (take-min (1048577 - length xs) ys) ∙ sym (ap (λ k. take k (xs ++ ys)) e ∙ take-append-add xs ys (1048577 - length xs))
-
 pub kept-short : (xs : List ℕ) → take (min (length xs) 1048577) xs ≡ kept xs
 unfolding kept
 kept-short xs = take-min 1048577 xs
-
-pub length-kept : (xs : List ℕ) → length (kept xs) ≤ 1048577
-unfolding kept
-length-kept xs = rw (length-take 1048577 xs) (omega arith)
-
-pub kept-all : (xs : List ℕ) → length xs ≤ 1048577 → kept xs ≡ xs
-unfolding kept
-kept-all xs h = take_all 1048577 xs h
 
 pub no_lines : (text : List ℕ) → length text ≡ 0 → physical_lines text ≡ []
 no_lines [] h = refl

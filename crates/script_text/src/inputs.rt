@@ -3,7 +3,7 @@ ghost use Rattle.std.specs.Prelude.{◌≡◌, ◌++◌, ◌==◌, [], length, m
 ghost use Rattle.script_text.specs.Names.{AreNamed};
 ghost use Rattle.script_text.specs.Threaded.{ended, said_by, with_input};
 
-use indexmap::IndexSet;
+use line_text::NameSet;
 use std::alloc::{AllocError, Global};
 
 /// What a name's session says: its lines as they stand behind the name and one blank, and those of its texts, each ended by LF.
@@ -17,7 +17,7 @@ pub struct SessionInput<'t> {
 #[derive(Drop)]
 pub(crate) struct Sessions<'t> {
     alloc: Global,
-    names: IndexSet<&'t [u8]>,
+    names: NameSet<'t>,
     said: Vec<SessionInput<'t>>,
 }
 
@@ -28,7 +28,7 @@ impl<'t> Sessions<'t> {
     {
         Sessions {
             alloc,
-            names: IndexSet::new(alloc),
+            names: NameSet::new(alloc),
             said: Vec::new(alloc),
         }
     }
@@ -46,7 +46,7 @@ impl<'t> Sessions<'t> {
         ensures said { OnOk result (map said_by self.new.said.items ≡ with_input (map said_by self.old.said.items) name.now (ended line.now)) }
         ensures named { OnOk result (AreNamed self.new) }
     {
-        let (number, _) = self.names.insert_full(name)?;
+        let number = self.names.add_numbered(name)?;
         if number < self.said.len() {
             return append(&mut self.said[number], line);
         }

@@ -1,15 +1,12 @@
 //! Texts within a script: the lines up to one that is `.` alone.
-ghost use Rattle.std.specs.Prelude.{◌≡◌, ◌+◌, ◌<◌, ◌≤◌, ◌^◌, ◌++◌, length, vec_len, IfOk, OnOk, MatchOption};
+ghost use Rattle.std.specs.Prelude.{◌≡◌, ◌+◌, ◌<◌, ◌^◌, length, IfOk, MatchOption};
 ghost use Rattle.sessions.specs.Items.{kept};
 ghost use Rattle.script_text.specs.Cuts.{HasNoEnd, IsCut, IsEnded, without_crs};
 
 use line_text::split_line;
 use memchr::memchr;
-use sessions::{is_point, without_cr};
+use sessions::{MAX_KEPT, append_kept, is_point, without_cr};
 use std::alloc::{AllocError, Global};
-
-/// So many bytes of a text are kept, one more than a netlist may have.
-const MAX_KEPT: usize = 1_048_577;
 
 /// A text that is cut off from a script.
 #[derive(Clone, Copy)]
@@ -61,14 +58,4 @@ pub(crate) fn kept_text(alloc: Global, ahead: &[u8]) -> Result<Vec<u8>, AllocErr
         rest = after;
     }
     Ok(text)
-}
-
-/// Appends bytes as far as they are kept.
-fn append_kept(text: &mut Vec<u8>, bytes: &[u8]) -> Result<(), AllocError>
-    requires { vec_len text.old ≤ 1048577 }
-    ensures items { OnOk result (text.new.items ≡ kept (text.old.items ++ bytes.now)) }
-    ensures within { OnOk result (vec_len text.new ≤ 1048577) }
-{
-    let room = MAX_KEPT - text.len();
-    text.extend_from_slice(&bytes[..bytes.len().min(room)])
 }

@@ -3,8 +3,8 @@ use Rattle.std.proofs.Common.{◌≡◌, ℕ, List, [], ◌∷◌, ◌++◌, Boo
 use Rattle.std.specs.Prelude.{IfSome}
 use Rattle.std.specs.Io.KnownBytes.{Consumes, prepend_known}
 use Rattle.line_text.specs.Lines.{physical_lines}
-use Rattle.vpr_files.specs.Writing.{TakesAll}
-use Rattle.vpr_files.proofs.WritingLemmas.{all_none}
+use Rattle.line_text.specs.Writing.{TakesAll}
+use Rattle.line_text.proofs.WritingLemmas.{all_none}
 use Rattle.sessions.specs.declared.line.SessionLine.{SessionLine}
 use Rattle.sessions.specs.Items.{items_of}
 use Rattle.sessions.specs.Reading.{TextSoFar, item_and, items_to_come}

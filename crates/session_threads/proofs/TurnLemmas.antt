@@ -4,8 +4,8 @@ use Rattle.std.specs.Prelude.{IfSome}
 use Rattle.std.specs.Io.KnownBytes.{IsAtEnd}
 use Rattle.line_text.specs.declared.source.Failed.{Failed}
 use Rattle.line_text.specs.Lines.{physical_lines}
-use Rattle.vpr_files.specs.Writing.{TakesAll, Writes}
-use Rattle.vpr_files.proofs.WritingLemmas.{all_none, all_then, part_then}
+use Rattle.line_text.specs.Writing.{TakesAll, Writes}
+use Rattle.line_text.proofs.WritingLemmas.{all_none, all_then, part_then}
 use Rattle.sessions.specs.declared.line.SessionLine.{SessionLine}
 use Rattle.sessions.specs.Reading.{TextSoFar, item_and, items_to_come}
 use Rattle.transcripts.specs.declared.item.End.{End}

@@ -2,7 +2,7 @@
 use Rattle.std.specs.Prelude.{ℕ, ◌≡◌, ◌≢◌, List, [], ◌∷◌, ◌++◌, Bool, true, Option, Some, None, IfSome, ⊤}
 use Rattle.std.specs.Io.KnownBytes.{Consumes, IsAtEnd}
 use Rattle.line_text.specs.Lines.{physical_lines}
-use Rattle.vpr_files.specs.Writing.{TakesAll, TakesPart}
+use Rattle.line_text.specs.Writing.{TakesAll, TakesPart}
 use Rattle.sessions.specs.declared.line.SessionLine.{SessionLine}
 use Rattle.sessions.specs.Items.{items_of}
 use Rattle.sessions.specs.Reading.{TextSoFar, items_to_come}

@@ -1,7 +1,7 @@
 //! A session.
 ghost use Rattle.std.specs.Prelude.{◌≡◌, IfSome, true};
 ghost use Rattle.std.specs.Io.KnownBytes.{prepend_known};
-ghost use Rattle.vpr_files.specs.Writing.{Writes};
+ghost use Rattle.line_text.specs.Writing.{Writes};
 ghost use Rattle.session_threads.specs.Outcomes.{IsItem, is_item};
 ghost use Rattle.session_threads.specs.Told.{AnswersCommand, AnswersItem, NotesBy};
 ghost use Rattle.session_threads.specs.WholeSession.{EndsInput, EndsReading, Finishes, IsSession, Serves, ServesLine, TellsItem, Turns, WholeSession, Wrote};

@@ -1,6 +1,6 @@
 //! How what a session is told is spelled.
 ghost use Rattle.std.specs.Prelude.{◌≡◌, option_copied};
-ghost use Rattle.vpr_files.specs.Writing.{Writes};
+ghost use Rattle.line_text.specs.Writing.{Writes};
 ghost use Rattle.session_threads.specs.Told.{last_place as last_place_of, note_text, place_text, told_text};
 
 use line_text::{Failed, Sink};

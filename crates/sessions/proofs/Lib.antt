@@ -2,7 +2,7 @@ mod CommandLemmas
 mod Counted
 mod EndToEndLemmas
 mod Examples
-mod KeptLemmas
+pub mod KeptLemmas
 pub mod ReadingLemmas
 pub mod StepLemmas
 mod WaitLemmas

@@ -2,13 +2,13 @@
 //!
 //! - `line_form` tells what a session's line asks: a command, nothing, or a text that follows. It takes no memory.
 //! - `SessionReader` reads an input line by line to its items, each a line with its text; `read_items` reads one that is at hand
-//!   whole. `PendingText` is a text that is being read.
+//!   whole. `PendingText` is a text that is being read; `append_kept` keeps the first [`MAX_KEPT`] bytes of one.
 //! - `answer` asks the core, and writes what the session is told to any [`line_text::Sink`]: exactly the text, or a
 //!   beginning of it where the sink fails. The entry stands then.
 //! - `end_to_end` is the law of a session: what a line is told is what the service for a single user tells. `whole_session` says it
 //!   of all bytes of a session, and `wait_ends` where the steps of a `wait` end.
 //! - `make_step` takes, steps and puts a tenancy's job; `step_and_put` does the last two of a job that was taken.
-//! - `write_reply`, `write_refused`, `write_session_refusal`, `step_word` and `write_parts` are how answers are spelled.
+//! - `write_reply`, `write_refused`, `write_session_refusal` and `step_word` are how answers are spelled.
 //! - In `specs/`, `SessionLines` says what a line asks, `Items` what an input does, and `SessionText` how answers are spelled.
 #![tactic(auto)]
 
@@ -25,9 +25,9 @@ mod told;
 pub use asking::answer;
 pub use law::{end_to_end, wait_ends, whole_session};
 pub use line::{LineForm, SessionLine, TextKind, line_form};
-pub use pending_text::{PendingText, is_point, without_cr};
+pub use pending_text::{MAX_KEPT, PendingText, append_kept, is_point, without_cr};
 pub use reading::{SessionReader, read_items};
 pub use refusal::SessionRefusal;
 pub use steps::{StepOutcome, make_step, step_and_put};
-pub use text::{step_word, write_parts, write_refused, write_reply, write_session_refusal};
+pub use text::{step_word, write_refused, write_reply, write_session_refusal};
 pub use told::Answer;

@@ -9,7 +9,7 @@ use std::marker::Model;
 use tenant_slot::SharedText;
 
 /// So many bytes of a text are kept, one more than a netlist may have.
-const MAX_KEPT: usize = 1_048_577;
+pub const MAX_KEPT: usize = 1_048_577;
 
 /// A text whose end isn't read yet. Its value is the command that it is for, and what of it is kept so far.
 #[derive(Drop)]
@@ -63,7 +63,7 @@ impl PendingText {
 }
 
 /// Appends the bytes to a text, as far as they are kept.
-fn append_kept(text: &mut Vec<u8>, bytes: &[u8]) -> Result<(), AllocError>
+pub fn append_kept(text: &mut Vec<u8>, bytes: &[u8]) -> Result<(), AllocError>
     requires { vec_len text.old ≤ 1048577 }
     ensures items { OnOk result (text.new.items ≡ kept (text.old.items ++ bytes.now)) }
     ensures within { OnOk result (vec_len text.new ≤ 1048577) }

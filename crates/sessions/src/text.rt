@@ -1,23 +1,12 @@
 ghost use Rattle.std.specs.Prelude.{◌≡◌, ◌++◌, ◌∷◌, [], codes, decimal, length};
-ghost use Rattle.std.specs.List.{flat_map};
-ghost use Rattle.vpr_files.specs.Writing.{Writes};
+ghost use Rattle.line_text.specs.Writing.{Writes};
 ghost use Rattle.sessions.specs.SessionText.{blank_word, fault_text, file_line, misfit_text, numbered_line, refusal_line, reply_text, session_refusal_text, status_line, step_text, steps_line};
 
 use crate::refusal::SessionRefusal;
 use blif::BlifFault;
 use itoa::Buffer;
-use line_text::{Failed, Sink, write_all};
+use line_text::{Failed, Sink, write_parts};
 use tenant_slot::{Ending, Misfit, Refusal, Reply, Status, StepReply};
-
-/// Writes the parts, one behind the other. Where the sink fails, it has taken a beginning of them.
-pub fn write_parts<W: Sink>(sink: &mut W, parts: &[&[u8]]) -> Result<(), Failed>
-    ensures { Writes W.contents W.has_failed sink.old sink.new (flat_map (λ part. part.now) parts.now) result }
-{
-    for part in parts {
-        write_all(sink, part)?;
-    }
-    Ok(())
-}
 
 /// Writes a line: a word, a number, the name that goes with it, and two more parts.
 fn write_numbered<'t, W: Sink>(

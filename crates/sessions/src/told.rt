@@ -1,4 +1,4 @@
-ghost use Rattle.vpr_files.specs.Writing.{Writes};
+ghost use Rattle.line_text.specs.Writing.{Writes};
 ghost use Rattle.sessions.specs.SessionText.{answer_text, unserved_text};
 
 use crate::refusal::SessionRefusal;

@@ -1,4 +1,3 @@
-pub mod WritingLemmas
 pub mod Searches
 pub mod ClusterLemmas
 pub mod TextLemmas

@@ -1,5 +1,4 @@
 pub mod TextLines
-pub mod Writing
 pub mod NetFile
 pub mod PlaceFile
 pub mod NodeText

@@ -8,13 +8,13 @@ ghost use Rattle.cluster.specs.Packing.{IsPacked};
 ghost use Rattle.vpr_files.specs.BlockClusters.{HasCluster};
 ghost use Rattle.vpr_files.specs.NetFile.{block_lines, element_line, global_lines, net_text_of, net_word};
 ghost use Rattle.vpr_files.specs.TextLines.{line_of, spaced, text_of};
-ghost use Rattle.vpr_files.specs.Writing.{Writes};
+ghost use Rattle.line_text.specs.Writing.{Writes};
 
 use crate::pin_words::write_element;
-use crate::writing::{end_line, write_parts, write_word};
+use crate::writing::{end_line, write_word};
 use blif::Circuit;
 use cluster::{Block, Packed};
-use line_text::{Failed, Sink};
+use line_text::{Failed, Sink, write_parts};
 
 /// Writes the `.net` file of a packed circuit. Where the sink fails, it has taken a beginning of the file.
 ///

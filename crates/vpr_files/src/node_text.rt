@@ -1,11 +1,10 @@
 //! Nodes of the routing graph in words.
 ghost use Rattle.std.specs.Prelude.{◌≡◌, ◌++◌, ◌∷◌, codes};
 ghost use Rattle.vpr_files.specs.NodeText.{is_pad_row, kind_word, node_text_of, number_word};
-ghost use Rattle.vpr_files.specs.Writing.{Writes};
+ghost use Rattle.line_text.specs.Writing.{Writes};
 
-use crate::writing::write_parts;
 use itoa::Buffer;
-use line_text::{Failed, Sink};
+use line_text::{Failed, Sink, write_parts};
 use rr_graph::{Node, NodeKind};
 
 /// Writes a node of a strip or device with so many rows: its kind, its column and row, and what its number counts, with the

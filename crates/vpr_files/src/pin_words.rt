@@ -6,13 +6,13 @@ ghost use Rattle.std.specs.List.{flat_map, range_with_len};
 ghost use Rattle.vpr_files.specs.TextLines.{spaced, line_of};
 ghost use Rattle.cluster.specs.Packing.{IsPacked};
 ghost use Rattle.vpr_files.specs.NetFile.{driver_place, element_line, input_word, pin_with, pin_word};
-ghost use Rattle.vpr_files.specs.Writing.{Writes};
+ghost use Rattle.line_text.specs.Writing.{Writes};
 
 use crate::net_file::net_name;
-use crate::writing::{end_line, write_number, write_parts, write_word};
+use crate::writing::{end_line, write_number, write_word};
 use arch_file::PinClass;
 use cluster::Packed;
-use line_text::{Failed, Sink};
+use line_text::{Failed, Sink, write_parts};
 
 /// The number of the pin of that class that carries the net.
 fn pin_with(packed: &Packed, cluster: usize, class: PinClass, net: u32) -> Option<usize>

@@ -4,14 +4,13 @@ ghost use Rattle.cluster.specs.Blocks.{blocks_of};
 ghost use Rattle.strip_place.specs.Anneal.{places_by_block};
 ghost use Rattle.vpr_files.specs.PlaceFile.{place_headings, place_text_of, placed_line, placed_lines};
 ghost use Rattle.vpr_files.specs.TextLines.{line_of, text_of};
-ghost use Rattle.vpr_files.specs.Writing.{Writes};
+ghost use Rattle.line_text.specs.Writing.{Writes};
 
 use crate::block_names::block_name;
-use crate::writing::write_parts;
 use cluster::Packed;
 use grid::{Place, Strip};
 use itoa::Buffer;
-use line_text::{Failed, Sink};
+use line_text::{Failed, Sink, write_parts};
 use strip_place::Placing;
 
 /// Writes the `.place` file of a placed circuit. Where the sink fails, it has taken a beginning of the file.

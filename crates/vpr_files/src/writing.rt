@@ -1,21 +1,10 @@
 //! Words and numbers, written to a sink.
 ghost use Rattle.std.specs.Prelude.{◌++◌, ◌∷◌, [], decimal};
-ghost use Rattle.std.specs.List.{flat_map};
 ghost use Rattle.vpr_files.specs.TextLines.{spaced};
-ghost use Rattle.vpr_files.specs.Writing.{Writes};
+ghost use Rattle.line_text.specs.Writing.{Writes};
 
 use itoa::Buffer;
-use line_text::{Failed, Sink, write_all};
-
-/// Writes the parts, one behind the other.
-pub(crate) fn write_parts<W: Sink>(sink: &mut W, parts: &[&[u8]]) -> Result<(), Failed>
-    ensures { Writes W.contents W.has_failed sink.old sink.new (flat_map (λ part. part.now) parts.now) result }
-{
-    for part in parts {
-        write_all(sink, part)?;
-    }
-    Ok(())
-}
+use line_text::{Failed, Sink, write_parts};
 
 /// Writes a word behind a space.
 pub(crate) fn write_word<W: Sink>(sink: &mut W, word: &[u8]) -> Result<(), Failed>

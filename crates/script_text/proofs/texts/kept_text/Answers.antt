@@ -2,7 +2,8 @@ use Rattle.std.proofs.Common.{◌≡◌, ◌++◌, ◌∷◌, [], length, sym, a
 use Rattle.line_text.specs.Lines.{physical_lines}
 use Rattle.sessions.specs.Items.{kept, without_cr}
 use Rattle.std.specs.List.{flat_map}
-use Rattle.script_text.proofs.LineLemmas.{ended_line, kept-short, kept-all, kept_line, no_cr, no_lines, without_crs-none}
+use Rattle.sessions.proofs.KeptLemmas.{kept-all}
+use Rattle.script_text.proofs.LineLemmas.{ended_line, kept-short, kept_line, no_cr, no_lines, without_crs-none}
 use Rattle.script_text.proofs.texts.kept_text.Goals as goal
 
 pub returns-then-is_none : goal.returns-then-is_none

@@ -5,7 +5,7 @@ use Rattle.vpr_files.specs.TextLines.{text_of}
 use Rattle.vpr_files.specs.NetFile.{block_lines}
 use Rattle.vpr_files.proofs.ClusterLemmas.{by_circuit}
 use Rattle.vpr_files.proofs.TextLemmas.{input_text, output_text}
-use Rattle.vpr_files.proofs.WritingLemmas.{writes_same}
+use Rattle.line_text.proofs.WritingLemmas.{writes_same}
 use Rattle.vpr_files.proofs.net_file.write_block.Goals as goal
 
 pub returns-in-InputPad : goal.returns-in-InputPad

@@ -1,6 +1,6 @@
 use Rattle.std.proofs.Common.{◌∷◌, ◌++◌, []}
 use Rattle.vpr_files.proofs.TextLemmas.{cluster_text, elements_text, pins_text}
-use Rattle.vpr_files.proofs.WritingLemmas.{part_first, part_same, part_then, writes_part, writes_same, writes_then}
+use Rattle.line_text.proofs.WritingLemmas.{part_first, part_same, part_then, writes_part, writes_same, writes_then}
 use Rattle.vpr_files.proofs.net_file.write_cluster.Goals as goal
 
 pub returns-in_err-write_parts : goal.returns-in_err-write_parts

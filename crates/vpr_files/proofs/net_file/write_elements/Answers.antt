@@ -6,7 +6,7 @@ use Rattle.cluster.specs.Blocks.{elements_in}
 use Rattle.vpr_files.specs.TextLines.{line_of}
 use Rattle.vpr_files.specs.NetFile.{element_line}
 use Rattle.vpr_files.proofs.ClusterLemmas.{element_count, element_in_at}
-use Rattle.vpr_files.proofs.WritingLemmas.{all_loop, all_loop_end, all_same, part_loop, part_same, writes_part}
+use Rattle.line_text.proofs.WritingLemmas.{all_loop, all_loop_end, all_same, part_loop, part_same, writes_part}
 use Rattle.vpr_files.proofs.net_file.write_elements.Goals as goal
 
 pub returns-in_err-write_element : goal.returns-in_err-write_element

@@ -3,7 +3,7 @@ use Rattle.std.specs.List.{flat_map}
 use Rattle.cluster.specs.Blocks.{elements_in}
 use Rattle.vpr_files.specs.TextLines.{line_of}
 use Rattle.vpr_files.specs.NetFile.{element_line}
-use Rattle.vpr_files.specs.Writing.{TakesAll}
+use Rattle.line_text.specs.Writing.{TakesAll}
 use Rattle.vpr_files.proofs.net_file.write_elements.Given as goal
 
 -- the lines of the BLEs before this one are written

@@ -6,7 +6,7 @@ use Rattle.vpr_files.specs.TextLines.{line_of}
 use Rattle.vpr_files.specs.NetFile.{global_line}
 use Rattle.vpr_files.proofs.ClusterLemmas.{by_circuit}
 use Rattle.vpr_files.proofs.Globals.{global_line_text, global_text, globals_text, some_false, some_more, some_true, told}
-use Rattle.vpr_files.proofs.WritingLemmas.{all_found, all_loop, all_loop_end, all_none, all_same, part_first, part_loop, part_same, writes_part, writes_same, writes_then}
+use Rattle.line_text.proofs.WritingLemmas.{all_found, all_loop, all_loop_end, all_none, all_same, part_first, part_loop, part_same, writes_part, writes_same, writes_then}
 use Rattle.vpr_files.proofs.net_file.write_globals.Goals as goal
 use Rattle.vpr_files.proofs.net_file.write_globals.Goals.{then-net+in_ok-write_parts, else-net}
 

@@ -5,7 +5,7 @@ use Rattle.cluster.specs.Blocks.{pins_of}
 use Rattle.vpr_files.specs.TextLines.{spaced}
 use Rattle.vpr_files.specs.NetFile.{net_word}
 use Rattle.vpr_files.proofs.ClusterLemmas.{by_circuit, pin_count}
-use Rattle.vpr_files.proofs.WritingLemmas.{all_loop, all_loop_end, all_same, part_loop, part_same, writes_part}
+use Rattle.line_text.proofs.WritingLemmas.{all_loop, all_loop_end, all_same, part_loop, part_same, writes_part}
 use Rattle.vpr_files.proofs.net_file.write_pins.Goals as goal
 
 pub returns-in_err-write_word : goal.returns-in_err-write_word

@@ -3,7 +3,7 @@ use Rattle.std.specs.List.{flat_map}
 use Rattle.cluster.specs.Blocks.{pins_of}
 use Rattle.vpr_files.specs.TextLines.{spaced}
 use Rattle.vpr_files.specs.NetFile.{net_word}
-use Rattle.vpr_files.specs.Writing.{TakesAll}
+use Rattle.line_text.specs.Writing.{TakesAll}
 use Rattle.vpr_files.proofs.net_file.write_pins.Given as goal
 
 -- the words of the pins before this one are written

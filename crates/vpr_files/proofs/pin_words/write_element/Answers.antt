@@ -6,7 +6,7 @@ use Rattle.vpr_files.specs.TextLines.{spaced}
 use Rattle.vpr_files.specs.NetFile.{pin_word, pin_with}
 use Rattle.vpr_files.proofs.ClusterLemmas.{by_circuit, element, element_is}
 use Rattle.vpr_files.proofs.TextLemmas.{element_text, inputs_text}
-use Rattle.vpr_files.proofs.WritingLemmas.{part_first, part_same, part_then, writes_part, writes_same, writes_then}
+use Rattle.line_text.proofs.WritingLemmas.{part_first, part_same, part_then, writes_part, writes_same, writes_then}
 use Rattle.vpr_files.proofs.pin_words.write_element.Goals as goal
 
 pub returns-in_err-write_parts : goal.returns-in_err-write_parts

@@ -2,7 +2,7 @@ use Rattle.std.proofs.Common.{◌≡◌, ◌<◌, slice_get, ap, arith}
 use Rattle.arch_file.specs.declared.arch.Arch.{Arch}
 use Rattle.vpr_files.specs.TextLines.{spaced}
 use Rattle.vpr_files.specs.NetFile.{input_word}
-use Rattle.vpr_files.proofs.WritingLemmas.{all_loop, all_range_end, all_same, part_loop, part_same, place_at, writes_part}
+use Rattle.line_text.proofs.WritingLemmas.{all_loop, all_range_end, all_same, part_loop, part_same, place_at, writes_part}
 use Rattle.vpr_files.proofs.pin_words.write_inputs.Goals as goal
 use Rattle.std.specs.List.{range_with_len}
 

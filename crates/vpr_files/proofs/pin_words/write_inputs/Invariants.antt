@@ -2,7 +2,7 @@ use Rattle.std.proofs.Common.{take, slice_get}
 use Rattle.std.specs.List.{flat_map, range_with_len}
 use Rattle.vpr_files.specs.TextLines.{spaced}
 use Rattle.vpr_files.specs.NetFile.{input_word}
-use Rattle.vpr_files.specs.Writing.{TakesAll}
+use Rattle.line_text.specs.Writing.{TakesAll}
 use Rattle.vpr_files.proofs.pin_words.write_inputs.Given as goal
 
 -- the words of the places before this one are written

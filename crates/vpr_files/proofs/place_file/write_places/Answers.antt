@@ -9,7 +9,7 @@ use Rattle.strip_place.specs.Placed.{place_of}
 use Rattle.vpr_files.specs.PlaceFile.{placed_line}
 use Rattle.vpr_files.specs.TextLines.{line_of}
 use Rattle.vpr_files.proofs.FileTexts.{at_its_place}
-use Rattle.vpr_files.proofs.WritingLemmas.{all_loop, all_range_end, all_same, part_loop, part_same, place_at, writes_part}
+use Rattle.line_text.proofs.WritingLemmas.{all_loop, all_range_end, all_same, part_loop, part_same, place_at, writes_part}
 use Rattle.vpr_files.proofs.place_file.write_places.Goals as goal
 
 -- the line of a block

@@ -5,7 +5,7 @@ use Rattle.strip_place.specs.Anneal.{places_by_block}
 use Rattle.strip_place.specs.Placed.{place_of}
 use Rattle.vpr_files.specs.PlaceFile.{placed_line}
 use Rattle.vpr_files.specs.TextLines.{line_of}
-use Rattle.vpr_files.specs.Writing.{TakesAll}
+use Rattle.line_text.specs.Writing.{TakesAll}
 use Rattle.vpr_files.proofs.place_file.write_places.Given as goal
 
 -- the lines of the blocks before this one are written

@@ -1,7 +1,7 @@
 use Rattle.std.proofs.Common.{◌∙◌}
 use Rattle.vpr_files.proofs.ClusterLemmas.{block_is_there}
 use Rattle.vpr_files.proofs.FileTexts.{connected_line_text}
-use Rattle.vpr_files.proofs.WritingLemmas.{writes_same}
+use Rattle.line_text.proofs.WritingLemmas.{writes_same}
 use Rattle.vpr_files.proofs.route_file.write_block.Goals as goal
 
 pub block_name-name-requires : goal.block_name-name-requires

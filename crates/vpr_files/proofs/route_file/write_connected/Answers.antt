@@ -5,7 +5,7 @@ use Rattle.strip_place.specs.Anneal.{places_by_block}
 use Rattle.vpr_files.specs.RouteFile.{connected_line, connected_lines}
 use Rattle.vpr_files.specs.TextLines.{line_of, text_of}
 use Rattle.vpr_files.proofs.FileTexts.{at_its_place}
-use Rattle.vpr_files.proofs.WritingLemmas.{all_same, part_first, part_same, writes_part, writes_then}
+use Rattle.line_text.proofs.WritingLemmas.{all_same, part_first, part_same, writes_part, writes_then}
 use Rattle.vpr_files.proofs.route_file.write_connected.Goals as goal
 
 -- the line of a block

@@ -7,7 +7,7 @@ use Rattle.strip_place.specs.Anneal.{places_by_block}
 use Rattle.vpr_files.specs.RouteFile.{node_line}
 use Rattle.vpr_files.specs.TextLines.{text_of}
 use Rattle.vpr_files.proofs.FileTexts.{global_connections, local_connections, net_value}
-use Rattle.vpr_files.proofs.WritingLemmas.{writes_same}
+use Rattle.line_text.proofs.WritingLemmas.{writes_same}
 use Rattle.vpr_files.proofs.route_file.write_connections.Goals as goal
 
 pub returns-then-net : goal.returns-then-net

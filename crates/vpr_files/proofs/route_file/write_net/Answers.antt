@@ -4,7 +4,7 @@ use Rattle.strip_place.specs.Anneal.{places_by_block}
 use Rattle.vpr_files.specs.RouteFile.{connections, net_heading, numbered_net}
 use Rattle.vpr_files.specs.TextLines.{text_of}
 use Rattle.vpr_files.proofs.FileTexts.{heading_found, net_text}
-use Rattle.vpr_files.proofs.WritingLemmas.{all_same, part_first, part_same, part_then, writes_part, writes_same, writes_then}
+use Rattle.line_text.proofs.WritingLemmas.{all_same, part_first, part_same, part_then, writes_part, writes_same, writes_then}
 use Rattle.vpr_files.proofs.route_file.write_net.Goals as goal
 
 pub returns-in_err-write_net_heading : goal.returns-in_err-write_net_heading

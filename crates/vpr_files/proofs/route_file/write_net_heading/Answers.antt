@@ -2,7 +2,7 @@ use Rattle.std.proofs.Common.{◌∙◌}
 use Rattle.cluster.specs.Blocks.{net_name}
 use Rattle.vpr_files.proofs.ClusterLemmas.{by_circuit}
 use Rattle.vpr_files.proofs.FileTexts.{global_heading_text, local_heading_text, net_value}
-use Rattle.vpr_files.proofs.WritingLemmas.{writes_same}
+use Rattle.line_text.proofs.WritingLemmas.{writes_same}
 use Rattle.vpr_files.proofs.route_file.write_net_heading.Goals as goal
 
 pub returns-then-net : goal.returns-then-net

@@ -7,7 +7,7 @@ use Rattle.strip_place.specs.Anneal.{PlacingUnderWay, places_by_block}
 use Rattle.vpr_files.specs.RouteFile.{net_lines, numbered_net}
 use Rattle.vpr_files.specs.TextLines.{line_of, text_of}
 use Rattle.vpr_files.proofs.TextLemmas.{flat_map-flat_map}
-use Rattle.vpr_files.proofs.WritingLemmas.{all_loop, all_range_end, all_same, part_loop, part_same, place_at, writes_part}
+use Rattle.line_text.proofs.WritingLemmas.{all_loop, all_range_end, all_same, part_loop, part_same, place_at, writes_part}
 use Rattle.vpr_files.proofs.route_file.write_nets.Goals as goal
 
 -- the lines of the net of a number

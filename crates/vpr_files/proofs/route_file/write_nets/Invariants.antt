@@ -4,7 +4,7 @@ use Rattle.cluster.specs.Blocks.{block_nets}
 use Rattle.strip_place.specs.Anneal.{places_by_block}
 use Rattle.vpr_files.specs.RouteFile.{net_lines, numbered_net}
 use Rattle.vpr_files.specs.TextLines.{text_of}
-use Rattle.vpr_files.specs.Writing.{TakesAll}
+use Rattle.line_text.specs.Writing.{TakesAll}
 use Rattle.vpr_files.proofs.route_file.write_nets.Given as goal
 
 -- the lines of the nets before this one are written

@@ -8,7 +8,7 @@ use Rattle.strip_place.specs.Placed.{place_of}
 use Rattle.vpr_files.specs.RouteFile.{connected_line}
 use Rattle.vpr_files.specs.TextLines.{line_of}
 use Rattle.vpr_files.proofs.FileTexts.{at_its_place}
-use Rattle.vpr_files.proofs.WritingLemmas.{all_loop, all_loop_end, all_same, part_loop, part_same, writes_part}
+use Rattle.line_text.proofs.WritingLemmas.{all_loop, all_loop_end, all_same, part_loop, part_same, writes_part}
 use Rattle.vpr_files.proofs.route_file.write_readers.Goals as goal
 
 -- the line of a block

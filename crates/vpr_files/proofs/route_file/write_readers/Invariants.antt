@@ -4,7 +4,7 @@ use Rattle.strip_place.specs.Anneal.{places_by_block}
 use Rattle.strip_place.specs.Placed.{place_of}
 use Rattle.vpr_files.specs.RouteFile.{connected_line}
 use Rattle.vpr_files.specs.TextLines.{line_of}
-use Rattle.vpr_files.specs.Writing.{TakesAll}
+use Rattle.line_text.specs.Writing.{TakesAll}
 use Rattle.vpr_files.proofs.route_file.write_readers.Given as goal
 
 -- the lines of the readers before this one are written

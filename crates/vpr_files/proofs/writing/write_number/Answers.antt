@@ -1,5 +1,5 @@
 use Rattle.std.proofs.Common.{◌∙◌, ◌++◌, ap, append-nil}
-use Rattle.vpr_files.proofs.WritingLemmas.{writes_same}
+use Rattle.line_text.proofs.WritingLemmas.{writes_same}
 use Rattle.vpr_files.proofs.writing.write_number.Goals as goal
 
 pub returns : goal.returns

@@ -4,7 +4,7 @@ use Rattle.std.proofs.lemmas.List.{get_or_default, length-set}
 use Rattle.line_text.specs.declared.memory_sink.MemorySink.{MemorySink}
 use Rattle.sessions.specs.SessionText.{answer_text}
 use Rattle.operator.specs.Held.{held}
-use Rattle.fpgad_run.specs.Names.{number_of, with_name}
+use Rattle.line_text.specs.Names.{number_of, with_name}
 use Rattle.fpgad_run.specs.Run.{with_text}
 use Rattle.fpgad_run.specs.Zipped.{zipped}
 use Rattle.fpgad_run.proofs.SectionLemmas.{on_told, is_told, zipped-set, zipped-push, length-found, length-new}
@@ -20,7 +20,7 @@ returns-then-number-len c =
     let text = answer_text c.answer.result.0 in
     let within : k < length texts = search rules in
     let at : k ≡ number_of names name = search rules in
-    let named : c.number.new.self ≡ with_name names name = search rules in
+    let named : c.add_numbered.new.self ≡ with_name names name = search rules in
     let same : c.index_mut.result.now ≡ get_or texts k v = c.index_mut.ensures.value ∙ get_or_default texts k _ v within in
     on_told c.told.result c.answer.result.1 c.index_mut.result.now v text c.told.ensures c.answer.ensures.written
     (λ e. (
@@ -39,9 +39,9 @@ returns c =
     let texts = c.args.self.now.texts.items in
     let text = answer_text c.answer-2.result.0 in
     let at : k ≡ number_of names name = search rules in
-    let named : c.number.new.self ≡ with_name names name = search rules in
+    let named : c.add_numbered.new.self ≡ with_name names name = search rules in
     let past : length texts ≤ k = search rules in
-    let within : k < length c.number.new.self = search rules in
+    let within : k < length c.add_numbered.new.self = search rules in
     let is : is_ok c.answer-2.result.1 ≡ true = search rules in
     let none : held c.new-first.result ≡ [] = search rules in
     let first : held v ≡ text = is_told c.answer-2.result.1 c.new-first.result v text is c.answer-2.ensures.written ∙ ap (λ t. t ++ text) none in

@@ -2,11 +2,10 @@ use Rattle.std.proofs.Common.{◌≡◌, ◌≤◌, ◌<◌, ◌++◌, ◌∷◌
 use Rattle.std.specs.Borrow.{Bor}
 use Rattle.std.proofs.Math.ListN.{set}
 use Rattle.std.proofs.lemmas.List.{get_or_default}
-use Rattle.line_text.specs.Words.{texts}
 use Rattle.script_text.specs.declared.inputs.SessionInput.{SessionInput}
-use Rattle.script_text.specs.Names.{names_in, number_of, with_name}
+use Rattle.line_text.specs.Names.{number_of, with_name}
+use Rattle.script_text.specs.Names.{names_in}
 use Rattle.script_text.specs.Threaded.{ended}
-use Rattle.script_text.proofs.NameLemmas.{number_of-texts, with_name-texts}
 use Rattle.script_text.proofs.InputLemmas.{length-names, names_in-set, on_ok, on_ok_any, with_input-push, with_input-set, with_name-found}
 use Rattle.script_text.proofs.inputs.Sessions.add.Goals as goal
 
@@ -16,8 +15,7 @@ returns-then-number-len-clause-said c =
     let k = c.in_ok-number.number in
     let v = c.append.new.said in
     let name = c.args.name.now in
-    let keys = c.args.self.now.names.keys in
-    let at : k ≡ number_of (names_in xs) name = c.in_ok-number.ensures.index ∙ number_of-texts keys name ∙ ap (λ ns. number_of ns name) c.requires in
+    let at : k ≡ number_of (names_in xs) name = c.in_ok-number.ensures.number ∙ ap (λ ns. number_of ns name) c.requires in
     let within : k < length xs = search rules in
     let same : c.index_mut.result.now ≡ get_or xs k v = c.index_mut.ensures.value ∙ get_or_default xs k _ v within in
     on_ok c.append.result
@@ -32,12 +30,11 @@ returns-then-number-len-clause-named c =
     let k = c.in_ok-number.number in
     let v = c.append.new.said in
     let name = c.args.name.now in
-    let keys = c.args.self.now.names.keys in
-    let at : k ≡ number_of (names_in xs) name = c.in_ok-number.ensures.index ∙ number_of-texts keys name ∙ ap (λ ns. number_of ns name) c.requires in
+    let at : k ≡ number_of (names_in xs) name = c.in_ok-number.ensures.number ∙ ap (λ ns. number_of ns name) c.requires in
     let within : k < length xs = search rules in
     let same : c.index_mut.result.now ≡ get_or xs k v = c.index_mut.ensures.value ∙ get_or_default xs k _ v within in
-    let there : texts c.insert_full.new.self.keys ≡ names_in (set xs k v) =
-    ap texts c.in_ok-number.ensures.keys ∙ with_name-texts keys c.args.name ∙ ap (λ ns. with_name ns name) c.requires
+    let there : c.add_numbered.new.self ≡ names_in (set xs k v) =
+    c.in_ok-number.ensures.names ∙ ap (λ ns. with_name ns name) c.requires
     ∙ with_name-found (names_in xs) name (let l = length-names xs in omega (arith, at, within, l))
     ∙ sym (names_in-set xs k v within (ap (λ (b : Bor (List ℕ)). b.now) c.append.ensures.name ∙ ap (λ (s : SessionInput). s.name.now) same)) in
     on_ok_any c.append.result there
@@ -48,8 +45,7 @@ returns-clause-said c =
     let k = c.in_ok-number.number in
     let v = c.append-2.new.said in
     let name = c.args.name.now in
-    let keys = c.args.self.now.names.keys in
-    let at : k ≡ number_of (names_in xs) name = c.in_ok-number.ensures.index ∙ number_of-texts keys name ∙ ap (λ ns. number_of ns name) c.requires in
+    let at : k ≡ number_of (names_in xs) name = c.in_ok-number.ensures.number ∙ ap (λ ns. number_of ns name) c.requires in
     let past : length xs ≤ k = search rules in
     let pushed : c.push.new.self.items ≡ xs ++ v ∷ [] = search rules in
     rw pushed (with_input-push xs name (ended c.args.line.now) v (omega (arith, at, past)) (ap (λ (b : Bor (List ℕ)). b.now) c.append-2.ensures.name)

@@ -1,6 +1,6 @@
 use Rattle.std.proofs.Common.{◌≡◌, refl, rules}
 use Rattle.std.specs.Prelude.{option_copied}
-use Rattle.vpr_files.specs.Writing.{Writes}
+use Rattle.line_text.specs.Writing.{Writes}
 use Rattle.session_threads.specs.Told.{last_place}
 use Rattle.session_threads.proofs.ToldLemmas.{tells_placed}
 use Rattle.session_threads.proofs.session.Session.answer.Goals as goal

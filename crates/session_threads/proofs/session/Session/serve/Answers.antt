@@ -1,4 +1,4 @@
-use Rattle.vpr_files.specs.Writing.{Writes}
+use Rattle.line_text.specs.Writing.{Writes}
 use Rattle.session_threads.proofs.ToldLemmas.{serves_item, serves_none}
 use Rattle.session_threads.proofs.session.Session.serve.Goals as goal
 

@@ -1,7 +1,0 @@
-use Rattle.std.proofs.Common.{◌≡◌, drop}
-use Rattle.blif.specs.Names.{texts, with_names}
-use Rattle.blif.proofs.names.NameSet.add_all.Given as goal
-
--- what is left, added to the names so far, gives what all of them give
-abbrev pub invariant-loop-name : goal.invariant-loop-name
-invariant-loop-name l = with_names l.self (texts (drop l.name-index l.names)) ≡ with_names l.fn.self (texts l.names)

@@ -1,9 +1,0 @@
-use Rattle.std.proofs.Common.{◌∙◌, ap}
-use Rattle.blif.specs.Names.{has_name}
-use Rattle.blif.proofs.Seen.{has_name-texts}
-use Rattle.blif.proofs.names.NameSet.contains.Goals as goal
-
-pub returns : goal.returns
-returns c =
-    c.contains.ensures ∙ has_name-texts c.self.inside.names.keys c.args.name.now
-    ∙ ap (λ ns. has_name ns c.args.name.now) c.self.view_is
