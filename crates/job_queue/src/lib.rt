@@ -5,6 +5,7 @@
 //! popped and stands in the queue. So a number that is popped was pushed, and no push is popped twice.
 #![tactic(auto)]
 
+mod bell;
 mod passes;
 mod ready;
 mod rule;

@@ -1,7 +1,8 @@
 //! The queue.
-ghost use Rattle.std.specs.Prelude.{◌≡◌, [], All, MatchResult, IfOk, vec_len};
+ghost use Rattle.std.specs.Prelude.{◌≡◌, [], All, MatchOption, MatchResult, IfOk, vec_len};
 ghost use Rattle.job_queue.specs.Balance.{log, with_push, IsPopped, IsPushed};
 
+use crate::bell::Bell;
 use crate::passes::{Pass, Seat};
 use crate::rule::{Line, OneMorePop, OneMorePush, ZeroOrOne};
 use std::alloc::{AllocError, Global};
@@ -13,6 +14,9 @@ use std::thread;
 
 /// The numbers that stand in the queue at most.
 pub const PLACES: usize = 64;
+
+/// The looks that a worker takes, one after another, before it sleeps.
+const LOOKS: u32 = 64;
 
 /// Why a number wasn't pushed.
 #[derive(Clone, Copy, Debug, PartialEq, Eq)]
@@ -43,6 +47,7 @@ pub enum Popped {
 pub struct Ready {
     line: Line,
     closed: AtomicIn<ZeroOrOne>,
+    bell: Bell,
 }
 
 impl Model for Ready {
@@ -76,6 +81,7 @@ impl Ready {
         let ready = Ready {
             line,
             closed: AtomicIn::new(0),
+            bell: Bell::new(),
         };
         Ok((ready, seats, passes))
     }
@@ -87,7 +93,10 @@ impl Ready {
     {
         let Pass { inner } = pass;
         match self.line.push_as::<OneMorePush, R>(rt, inner, slot) {
-            Ok(()) => Ok(()),
+            Ok(()) => {
+                self.bell.ring();
+                Ok(())
+            }
             Err(slot) => Err(NotPushed {
                 slot,
                 cause: Cause::Full,
@@ -102,7 +111,10 @@ impl Ready {
     {
         let Seat { inner } = seat;
         match self.line.push_as::<OneMorePush, R>(rt, inner, slot) {
-            Ok(()) => Ok(()),
+            Ok(()) => {
+                self.bell.ring();
+                Ok(())
+            }
             Err(slot) => Err(NotPushed {
                 slot,
                 cause: Cause::Full,
@@ -110,29 +122,56 @@ impl Ready {
         }
     }
 
-    /// The oldest number. Waits where there is none, until the queue is closed and empty.
+    /// The oldest number. Waits where there is none, until the queue is closed and empty: looks a few times, and then sleeps until
+    /// a number is pushed or the queue is closed.
     pub fn pop<R: Wait>(&self, rt: &R, seat: &mut Seat) -> Popped
         requires { seat.old.of ≡ self.now }
         ensures { IsPopped seat.old result seat.new }
     {
-        let Seat { inner } = seat;
         for _ in rt.forever() {
-            let closed = self.closed.load(SeqCst);
-            match self.line.pop_as::<OneMorePop, R>(rt, inner) {
-                Some(slot) => return Popped::Number(slot),
-                None => {
-                    if closed == 1 {
-                        return Popped::Closed;
-                    }
-                    thread::yield_now();
-                }
+            if let Some(popped) = self.look_often(rt, seat) {
+                return popped;
             }
+            let heard = self.bell.listen();
+            if let Some(popped) = self.look(rt, seat) {
+                self.bell.leave();
+                return popped;
+            }
+            self.bell.sleep(rt, heard);
         }
         unreachable!()
+    }
+
+    /// What a pop is answered, once one of [`LOOKS`] looks finds it.
+    fn look_often<R: Wait>(&self, rt: &R, seat: &mut Seat) -> Option<Popped>
+        requires { seat.old.of ≡ self.now }
+        ensures { MatchOption result (seat.new ≡ seat.old) (λ popped. IsPopped seat.old popped seat.new) }
+    {
+        for _ in 0..LOOKS {
+            if let Some(popped) = self.look(rt, seat) {
+                return Some(popped);
+            }
+            thread::yield_now();
+        }
+        None
+    }
+
+    /// What a pop is answered, without waiting; nothing where the queue is empty and not closed.
+    fn look<R: Wait>(&self, rt: &R, seat: &mut Seat) -> Option<Popped>
+        requires { seat.old.of ≡ self.now }
+        ensures { MatchOption result (seat.new ≡ seat.old) (λ popped. IsPopped seat.old popped seat.new) }
+    {
+        let Seat { inner } = seat;
+        let closed = self.closed.load(SeqCst);
+        match self.line.pop_as::<OneMorePop, R>(rt, inner) {
+            Some(slot) => Some(Popped::Number(slot)),
+            None => (closed == 1).then_some(Popped::Closed),
+        }
     }
 
     /// No waiting from now on. A push is lawful still.
     pub fn close(&self) {
         self.closed.store(1, SeqCst);
+        self.bell.ring_all();
     }
 }
