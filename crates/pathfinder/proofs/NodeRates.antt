@@ -1,11 +1,16 @@
 -- Rates, node by node.
-use Rattle.std.proofs.Common.{◌≡◌, ℕ, ◌+◌, ◌-◌, ◌*◌, ◌<◌, get_or, List, [], ◌∷◌, ◌++◌, length-append, arith, ap, ◌∙◌, inl, inr, true, ◌&&◌, ◌||◌, nat_le}
-use Rattle.std.specs.Prelude.{slice_index}
+use Rattle.std.proofs.Common.{◌≡◌, ℕ, ◌+◌, ◌-◌, ◌*◌, ◌<◌, ◌^◌, Bool, false, refl, get_or, List, [], ◌∷◌, ◌++◌, length-append, arith, ap, ◌∙◌, inl, inr, true, ◌&&◌, ◌||◌, nat_le}
+use Rattle.std.specs.Prelude.{slice_index, if◌then◌else◌}
 use Rattle.std.proofs.lemmas.Bool.{cases_lt, and_parts, leb-true}
 use Rattle.std.proofs.lemmas.List.{get_or_append_left, get_or_push}
 use Rattle.pathfinder.specs.declared.rates.Rate.{Rate}
 use Rattle.rr_graph.specs.declared.node.Node.{Node}
-use Rattle.rr_graph.specs.Geometry.{is_node, is_slot, is_chan_y}
+use Rattle.rr_graph.specs.declared.node.NodeKind.{NodeKind}
+use Rattle.rr_graph.specs.declared.node.NodeKind.TheVariants.{Source, Sink, Opin, Ipin, ChanX, ChanY}
+use Rattle.arch_file.specs.declared.arch.Arch.{Arch}
+use Rattle.arch_file.specs.Arch.{IsArch, input_count, output_count}
+use Rattle.grid.specs.declared.Strip.{Strip}
+use Rattle.rr_graph.specs.Geometry.{is_node, is_slot, is_chan_y, is_block_row, capacity_of}
 use Rattle.rr_graph.specs.Graph.{Basis, IsBasis, graph_of}
 use Rattle.rr_graph.proofs.Columns.{member_small, member_of}
 use Rattle.pathfinder.specs.PlacedNets.{wiring_of}
@@ -53,3 +58,19 @@ pub rate_cost : (basis : Basis) (history : List ℕ) (rates : List Rate) (iterat
 rate_cost basis history rates iterations held node d known few =
     ap (λ f. f * (1 + iterations * (held + 1 - (get_or rates node d).capacity))) (known.factor node d few)
     ∙ ap (λ k. (1 + slice_index history node) * (1 + iterations * (held + 1 - k))) (known.capacity node d few)
+
+-- a node carries few nets
+either_few : (on : Bool) (n : ℕ) → n < 2 ^ 8 → (if on then n else 1) < 2 ^ 8
+either_few true n few = few
+either_few false n few = omega arith
+
+few_by_kind : (arch : Arch) (strip : Strip) (node : Node) → IsArch arch → (kind : NodeKind) → node.kind ≡ kind → capacity_of arch strip node < 2 ^ 8
+few_by_kind arch strip node limits Source e = rw e (either_few (is_block_row strip node.y) (output_count arch.pins) (omega (arith, limits.outputs, limits.cluster_size)))
+few_by_kind arch strip node limits Sink e = rw e (either_few (is_block_row strip node.y) (input_count arch.pins) (omega (arith, limits.inputs)))
+few_by_kind arch strip node limits Opin e = rw e (either_few (is_block_row strip node.y) 1 (omega arith))
+few_by_kind arch strip node limits Ipin e = rw e (either_few (is_block_row strip node.y) 1 (omega arith))
+few_by_kind arch strip node limits ChanX e = rw e (either_few (is_block_row strip node.y) 1 (omega arith))
+few_by_kind arch strip node limits ChanY e = rw e (either_few (is_block_row strip node.y) 1 (omega arith))
+
+pub capacity_few : (arch : Arch) (strip : Strip) (node : Node) → IsArch arch → capacity_of arch strip node < 2 ^ 8
+capacity_few arch strip node limits = few_by_kind arch strip node limits node.kind refl

@@ -11,12 +11,12 @@ use std::alloc::{AllocError, Global};
 pub(crate) struct Rate {
     /// One more than its overuse so far.
     pub(crate) factor: u32,
-    /// How many nets it can carry.
-    pub(crate) capacity: u32,
     x: u16,
-    kind: NodeKind,
     y: u8,
     n: u8,
+    kind: NodeKind,
+    /// How many nets it can carry.
+    pub(crate) capacity: u8,
 }
 
 impl Rate {
@@ -24,14 +24,15 @@ impl Rate {
 
     /// What a node is and costs.
     fn new(place: Node, factor: u32, capacity: u32) -> Rate
-        requires { IsNarrow place }
+        requires place { IsNarrow place }
+        requires capacity { capacity < 2 ^ 8 }
         ensures factor { result.factor ≡ factor }
         ensures capacity { result.capacity ≡ capacity }
         ensures node { node_of result ≡ place }
     {
         Rate {
             factor,
-            capacity,
+            capacity: capacity as u8,
             x: place.x as u16,
             kind: place.kind,
             y: place.y as u8,
@@ -58,7 +59,7 @@ pub(crate) fn price(rate: Rate, iterations: u32, held: u32) -> u64
     requires low { held ≤ 8192 }
     ensures { result ≡ rate.factor * (1 + iterations * (held + 1 - rate.capacity)) }
 {
-    let overused = (held + 1).saturating_sub(rate.capacity);
+    let overused = (held + 1).saturating_sub(rate.capacity as u32);
     rate.factor as u64 * (1 + iterations as u64 * overused as u64)
 }
 

@@ -16,23 +16,20 @@ fn gap(a: u64, b: u64) -> u64
 fn across_of(kind: NodeKind, x: u32) -> u64
     ensures { result ≡ across_of kind x }
 {
-    match kind {
-        NodeKind::ChanY => 2 * x as u64 + 1,
-        _ => 2 * x as u64,
-    }
+    let is_right = matches!(kind, NodeKind::ChanY);
+    2 * x as u64 + is_right as u64
 }
 
 /// Where the middle of a wire is along the columns, in half steps.
 fn up_of(kind: NodeKind, y: u32) -> u64
     ensures { result ≡ up_of kind y }
 {
-    match kind {
-        NodeKind::ChanX => 2 * y as u64 + 1,
-        _ => 2 * y as u64,
-    }
+    let is_above = matches!(kind, NodeKind::ChanX);
+    2 * y as u64 + is_above as u64
 }
 
 /// How far the middle of a wire lies from that of the sink's block or pad, in half steps.
+#[inline(always)]
 pub fn from_sink(sink: Node, wire: Node) -> u64
     ensures { result ≡ from_sink sink wire.kind wire.x wire.y }
 {
@@ -89,6 +86,7 @@ pub(crate) fn further(met: bool, is_block: bool, sink: Node, node: Node) -> Opti
 }
 
 /// Whether the node is a wire that does not lie beside the sink's block or pad.
+#[inline(always)]
 pub(crate) fn is_passing(sink: Node, node: Node) -> bool
     ensures { result ≡ is_passing sink node }
 {
