@@ -80,12 +80,20 @@ fn towards_a_sink(rt: HostRuntime) -> Result<(), Fail> {
         .ok_or("no wire")?;
     assert_eq!(rt; fabric.further_to(away, sink), Some(5));
     assert_eq!(rt; fabric.ends(away).list.len(), 7);
-    assert_eq!(rt; fabric.ends_towards(away, fabric.node(away), sink).list.len(), 4);
+    let ends = fabric.ends_towards(away, fabric.node(away), sink);
+    assert_eq!(rt; ends.list.len(), 4);
     let beside = fabric
         .number(node(NodeKind::ChanX, 5, 0, 0))
         .ok_or("no wire")?;
     assert_eq!(rt; fabric.further_to(beside, sink), Some(2));
-    assert_eq!(rt; fabric.ends_towards(beside, fabric.node(beside), sink).list.len(), 6);
+    let ends = fabric.ends_towards(beside, fabric.node(beside), sink);
+    assert_eq!(rt; ends.list.len(), 6);
+    let wires = fabric.numbers_at(NodeKind::ChanX, 5, 0);
+    assert_eq!(rt; wires.first, beside);
+    assert_eq!(rt;
+        fabric.number(node(NodeKind::ChanX, 5, 0, 1)),
+        wires.end.checked_sub(1)
+    );
     let pin = fabric
         .number(node(NodeKind::Opin, 2, 0, 0))
         .ok_or("no pin")?;
