@@ -1,6 +1,6 @@
 //! The colours of tenancies.
-use crate::svg::{Part, write_parts};
 use line_text::{Failed, Sink};
+use text_parts::{Part, write_parts};
 
 /// Writes the colour of the tenancy at a place of the list, as a value of CSS. Colours of places side by side lie far apart.
 pub(crate) fn write_colour<K: Sink>(sink: &mut K, place: usize) -> Result<(), Failed> {

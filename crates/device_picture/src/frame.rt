@@ -3,8 +3,8 @@ ghost use Rattle.std.specs.Prelude.{◌≡◌, ◌≤◌};
 
 use crate::device::Device;
 use crate::geometry::Geometry;
-use crate::svg::{Part, write_parts};
 use line_text::{Failed, Sink};
+use text_parts::{Part, write_parts};
 
 /// The styles: tracks, blocks and pads, wires, owned pads, output pins, input pins, strips, guard columns.
 const STYLES: &str = "<style>text{font-family:sans-serif;fill:#222}\

@@ -4,10 +4,10 @@ ghost use Rattle.std.specs.Prelude.{◌≡◌, ◌≤◌};
 use crate::colours::write_colour;
 use crate::device::Device;
 use crate::geometry::Geometry;
-use crate::svg::{Part, write_parts};
 use crate::tenancy::Tenancy;
 use crate::wires::write_line;
 use line_text::{Failed, Sink};
+use text_parts::{Part, write_parts};
 
 /// Writes the device under what its tenancies own.
 pub(crate) fn write_ground<K: Sink>(

@@ -4,9 +4,9 @@ ghost use Rattle.std.specs.Prelude.{◌≡◌, ◌≤◌};
 use crate::colours::write_colour;
 use crate::device::Device;
 use crate::frame::Frame;
-use crate::svg::{Part, write_parts};
 use crate::tenancy::Tenancy;
 use line_text::{Failed, Sink};
+use text_parts::{Part, write_parts};
 
 /// What the marks mean: the class of each, and its words.
 const KEYS: [(&str, &str); 4] = [

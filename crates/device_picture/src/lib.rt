@@ -23,7 +23,6 @@ mod reader;
 mod runs;
 mod scanner;
 mod size;
-mod svg;
 mod tenancy;
 mod wires;
 

@@ -3,9 +3,9 @@ ghost use Rattle.std.specs.Prelude.{◌≡◌, ◌≤◌};
 
 use crate::device::Owned;
 use crate::geometry::Geometry;
-use crate::svg::{Part, write_parts};
 use line_text::{Failed, Sink};
 use rr_graph::{Resource, ResourceKind};
+use text_parts::{Part, write_parts};
 
 /// How many nodes one path draws at most.
 pub(crate) const LONGEST_PATH: usize = 4096;

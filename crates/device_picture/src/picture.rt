@@ -7,12 +7,12 @@ use crate::ground::{write_column, write_ground};
 use crate::legend::write_legend;
 use crate::marks::write_marks;
 use crate::runs::Runs;
-use crate::svg::{Part, write_parts};
 use crate::tenancy::Tenancy;
 use crate::wires::{Direction, write_wires};
 use line_text::{Failed, Sink};
 use rr_graph::ResourceKind;
 use std::alloc::{AllocError, Global};
+use text_parts::{Part, write_parts};
 
 /// Why no picture was drawn, or not all of it.
 #[derive(Clone, Copy, Debug, PartialEq, Eq)]

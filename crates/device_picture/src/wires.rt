@@ -5,9 +5,9 @@ use crate::device::Owned;
 use crate::geometry::Geometry;
 use crate::marks::LONGEST_PATH;
 use crate::runs::{Run, Runs};
-use crate::svg::{Part, write_parts};
 use line_text::{Failed, Sink};
 use rr_graph::ResourceKind;
+use text_parts::{Part, write_parts};
 
 /// Which way a channel goes.
 #[derive(Clone, Copy, Debug, PartialEq, Eq)]

@@ -2,11 +2,11 @@
 ghost use Rattle.std.specs.Prelude.{◌≡◌, ◌≤◌, ◌<◌};
 
 use crate::draws::{Source, Square};
-use crate::pieces::{Piece, write_pieces};
 use crate::plan::{Plan, side_of};
 use line_text::{Failed, Sink};
 use rand_core::utils::NextWord;
 use rand_pcg::Pcg32;
+use text_parts::{Part, write_parts};
 
 /// Of so many tables one has a latch behind it.
 const LATCHED: u32 = 16;
@@ -23,21 +23,21 @@ pub(crate) fn write_circuit<K: Sink>(sink: &mut K, plan: Plan, tenancy: u32) -> 
     for table in 0..square.tables {
         write_table(sink, square, &mut words, plan.wishes.inputs, table)?;
     }
-    write_pieces(sink, &[Piece::Text(".end\n")])
+    write_parts(sink, &[Part::Text(".end\n")])
 }
 
 /// Writes what stands before the tables: the inputs, the clock and the outputs.
 fn write_ends<K: Sink>(sink: &mut K, square: Square) -> Result<(), Failed> {
-    write_pieces(sink, &[Piece::Text(".model random\n.inputs")])?;
+    write_parts(sink, &[Part::Text(".model random\n.inputs")])?;
     for input in 0..square.inputs {
         write_source(sink, Source::Input(input))?;
     }
-    write_pieces(sink, &[Piece::Text("\n.clock clk\n.outputs")])?;
+    write_parts(sink, &[Part::Text("\n.clock clk\n.outputs")])?;
     let outputs = square.inputs.min(square.tables);
     for output in 0..outputs {
         write_source(sink, Source::Table(output * square.tables / outputs))?;
     }
-    write_pieces(sink, &[Piece::Text("\n")])
+    write_parts(sink, &[Part::Text("\n")])
 }
 
 /// Writes a table, and the latch behind it.
@@ -53,18 +53,18 @@ fn write_table<K: Sink>(
 {
     let draws = most - words.next_word() % (most / 2 + 1);
     let (sources, count) = drawn(square, words, table, draws);
-    write_pieces(sink, &[Piece::Text(".names")])?;
+    write_parts(sink, &[Part::Text(".names")])?;
     for source in &sources[..count] {
         write_source(sink, *source)?;
     }
-    write_pieces(
+    write_parts(
         sink,
-        &[Piece::Text(" n"), Piece::Number(table), Piece::Text("\n")],
+        &[Part::Text(" n"), Part::Number(table), Part::Text("\n")],
     )?;
     for _source in &sources[..count] {
-        write_pieces(sink, &[Piece::Text("1")])?;
+        write_parts(sink, &[Part::Text("1")])?;
     }
-    write_pieces(sink, &[Piece::Text(" 1\n")])?;
+    write_parts(sink, &[Part::Text(" 1\n")])?;
     write_latch(sink, table)
 }
 
@@ -91,14 +91,14 @@ fn write_latch<K: Sink>(sink: &mut K, table: u32) -> Result<(), Failed> {
     if table % LATCHED != 0 {
         return Ok(());
     }
-    write_pieces(
+    write_parts(
         sink,
         &[
-            Piece::Text(".latch n"),
-            Piece::Number(table),
-            Piece::Text(" q"),
-            Piece::Number(table),
-            Piece::Text(" re clk 2\n"),
+            Part::Text(".latch n"),
+            Part::Number(table),
+            Part::Text(" q"),
+            Part::Number(table),
+            Part::Text(" re clk 2\n"),
         ],
     )
 }
@@ -110,5 +110,5 @@ fn write_source<K: Sink>(sink: &mut K, source: Source) -> Result<(), Failed> {
         Source::Table(table) if table % LATCHED == 0 => (" q", table),
         Source::Table(table) => (" n", table),
     };
-    write_pieces(sink, &[Piece::Text(start), Piece::Number(number)])
+    write_parts(sink, &[Part::Text(start), Part::Number(number)])
 }

@@ -11,7 +11,6 @@
 mod architecture;
 mod circuit;
 mod draws;
-mod pieces;
 mod plan;
 mod script;
 

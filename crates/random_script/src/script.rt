@@ -3,9 +3,9 @@ ghost use Rattle.std.specs.Prelude.{◌≡◌, ◌≤◌};
 
 use crate::architecture::write_architecture;
 use crate::circuit::write_circuit;
-use crate::pieces::{Piece, write_pieces};
 use crate::plan::{Phase, Plan};
 use line_text::{Failed, Sink};
+use text_parts::{Part, write_parts};
 
 /// How hard the placing tries.
 const EFFORT: u32 = 20;
@@ -19,42 +19,42 @@ const EFFORT: u32 = 20;
 pub fn write_script<K: Sink>(sink: &mut K, plan: Plan) -> Result<(), Failed> {
     write_options(sink, plan)?;
     write_architecture(sink, plan)?;
-    write_pieces(sink, &[Piece::Text(".\n")])?;
+    write_parts(sink, &[Part::Text(".\n")])?;
     for tenancy in 1..=plan.wishes.tenancies {
         write_admission(sink, tenancy, plan.width)?;
     }
     for tenancy in 1..=plan.wishes.tenancies {
         write_session(sink, plan, tenancy)?;
     }
-    write_pieces(sink, &[Piece::Text("op list\nop owners\n")])
+    write_parts(sink, &[Part::Text("op list\nop owners\n")])
 }
 
 /// Writes the comment with the service's options.
 fn write_options<K: Sink>(sink: &mut K, plan: Plan) -> Result<(), Failed> {
-    write_pieces(
+    write_parts(
         sink,
         &[
-            Piece::Text("# fpgad --tracks "),
-            Piece::Number(plan.tracks()),
-            Piece::Text(" --columns "),
-            Piece::Number(plan.columns()),
-            Piece::Text(" --rows "),
-            Piece::Number(plan.rows()),
-            Piece::Text("\n"),
+            Part::Text("# fpgad --tracks "),
+            Part::Number(plan.tracks()),
+            Part::Text(" --columns "),
+            Part::Number(plan.columns()),
+            Part::Text(" --rows "),
+            Part::Number(plan.rows()),
+            Part::Text("\n"),
         ],
     )
 }
 
 /// Writes the admission of a tenancy.
 fn write_admission<K: Sink>(sink: &mut K, tenancy: u32, width: u32) -> Result<(), Failed> {
-    write_pieces(
+    write_parts(
         sink,
         &[
-            Piece::Text("op admit T"),
-            Piece::Number(tenancy),
-            Piece::Text(" "),
-            Piece::Number(width),
-            Piece::Text("\n"),
+            Part::Text("op admit T"),
+            Part::Number(tenancy),
+            Part::Text(" "),
+            Part::Number(width),
+            Part::Text("\n"),
         ],
     )
 }
@@ -63,7 +63,7 @@ fn write_admission<K: Sink>(sink: &mut K, tenancy: u32, width: u32) -> Result<()
 fn write_session<K: Sink>(sink: &mut K, plan: Plan, tenancy: u32) -> Result<(), Failed> {
     write_command(sink, tenancy, "upload")?;
     write_circuit(sink, plan, tenancy)?;
-    write_pieces(sink, &[Piece::Text(".\n")])?;
+    write_parts(sink, &[Part::Text(".\n")])?;
     let until = plan.wishes.until;
     if until >= Phase::Packing {
         write_commands(sink, tenancy, &["pack", "wait", "net"])?;
@@ -88,30 +88,30 @@ fn write_commands<K: Sink>(sink: &mut K, tenancy: u32, commands: &[&str]) -> Res
 
 /// Writes a command of a tenancy.
 fn write_command<K: Sink>(sink: &mut K, tenancy: u32, command: &str) -> Result<(), Failed> {
-    write_pieces(
+    write_parts(
         sink,
         &[
-            Piece::Text("@T"),
-            Piece::Number(tenancy),
-            Piece::Text(" "),
-            Piece::Text(command),
-            Piece::Text("\n"),
+            Part::Text("@T"),
+            Part::Number(tenancy),
+            Part::Text(" "),
+            Part::Text(command),
+            Part::Text("\n"),
         ],
     )
 }
 
 /// Writes the command to place.
 fn write_place<K: Sink>(sink: &mut K, tenancy: u32, seed: u64) -> Result<(), Failed> {
-    write_pieces(
+    write_parts(
         sink,
         &[
-            Piece::Text("@T"),
-            Piece::Number(tenancy),
-            Piece::Text(" place "),
-            Piece::Long(seed),
-            Piece::Text(" "),
-            Piece::Number(EFFORT),
-            Piece::Text("\n"),
+            Part::Text("@T"),
+            Part::Number(tenancy),
+            Part::Text(" place "),
+            Part::Long(seed),
+            Part::Text(" "),
+            Part::Number(EFFORT),
+            Part::Text("\n"),
         ],
     )
 }
