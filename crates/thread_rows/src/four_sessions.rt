@@ -1,18 +1,15 @@
 //! Four sessions of their own beside workers: what is printed is what is printed without them, byte for byte.
 use crate::runs::assert_writes;
-use fixtures::{
-    AND_SESSION, AND_TOLD, EMPTY_SESSION, EMPTY_TOLD, LATCH_ALONE_SESSION, LATCH_ALONE_TOLD,
-    LATCH_AND_OUTPUT_SESSION, LATCH_AND_OUTPUT_TOLD,
-};
+use fixtures::{ROUTED_AND, ROUTED_EMPTY, ROUTED_LATCH_ALONE, ROUTED_LATCH_AND_OUTPUT, Routed};
 use std::alloc::{AllocError, Global};
 use std::test::Fail;
 
-/// Each name with what its session says and is told.
-const SESSIONS: [(&str, &str, &str); 4] = [
-    ("T", AND_SESSION, AND_TOLD),
-    ("U", LATCH_AND_OUTPUT_SESSION, LATCH_AND_OUTPUT_TOLD),
-    ("V", LATCH_ALONE_SESSION, LATCH_ALONE_TOLD),
-    ("W", EMPTY_SESSION, EMPTY_TOLD),
+/// Each name with its circuit.
+const SESSIONS: [(&str, Routed); 4] = [
+    ("T", ROUTED_AND),
+    ("U", ROUTED_LATCH_AND_OUTPUT),
+    ("V", ROUTED_LATCH_ALONE),
+    ("W", ROUTED_EMPTY),
 ];
 
 const ADMISSIONS: &str = "\
@@ -92,8 +89,9 @@ fn push_session(script: &mut String, name: &str, session: &str) -> Result<(), Al
 /// The script: the admissions, one session after another, and who owns what.
 fn script(alloc: Global) -> Result<String, AllocError> {
     let mut script = String::from_str(alloc, ADMISSIONS)?;
-    for (name, session, _) in SESSIONS {
-        push_session(&mut script, name, session)?;
+    for (name, circuit) in SESSIONS {
+        let session = circuit.session(alloc)?;
+        push_session(&mut script, name, session.as_str())?;
     }
     script.push_str("op owners\n")?;
     Ok(script)
@@ -103,11 +101,9 @@ fn script(alloc: Global) -> Result<String, AllocError> {
 fn printed(alloc: Global) -> Result<String, AllocError> {
     let mut printed = String::from_str(alloc, "== op\n")?;
     printed.push_str(OPERATOR_TOLD)?;
-    for (name, _, told) in SESSIONS {
-        printed.push_str("== ")?;
-        printed.push_str(name)?;
-        printed.push_str("\n")?;
-        printed.push_str(told)?;
+    for (name, circuit) in SESSIONS {
+        let told = circuit.told(alloc)?;
+        printed.push_str(format!(in alloc; "== {name}\n{told}")?.as_str())?;
     }
     Ok(printed)
 }

@@ -5,10 +5,7 @@ use crate::cores::{device, new_core};
 use crate::crews::{Speaker, Worker, speakers, workers};
 use crate::gates::Holding;
 use crate::running::{AllTold, Shares, Told, run_together};
-use fixtures::{
-    AND_SESSION, AND_TOLD, EMPTY_SESSION, EMPTY_TOLD, LATCH_ALONE_SESSION, LATCH_ALONE_TOLD,
-    LATCH_AND_OUTPUT_SESSION, LATCH_AND_OUTPUT_TOLD,
-};
+use fixtures::{ROUTED_AND, ROUTED_EMPTY, ROUTED_LATCH_ALONE, ROUTED_LATCH_AND_OUTPUT, Routed};
 use job_queue::Ready;
 use line_text::MemorySink;
 use service_core::{Owned, Service};
@@ -31,12 +28,12 @@ struct Outcome {
     owned: Vec<Owned>,
 }
 
-/// Four tenancies of so many columns, and what their sessions say.
-const FOUR: [(u32, &str); 4] = [
-    (1, AND_SESSION),
-    (2, LATCH_AND_OUTPUT_SESSION),
-    (1, LATCH_ALONE_SESSION),
-    (1, EMPTY_SESSION),
+/// Four tenancies of so many columns, and their circuits.
+const FOUR: [(u32, Routed); 4] = [
+    (1, ROUTED_AND),
+    (2, ROUTED_LATCH_AND_OUTPUT),
+    (1, ROUTED_LATCH_ALONE),
+    (1, ROUTED_EMPTY),
 ];
 
 /// What a session is told that alone is served.
@@ -193,24 +190,39 @@ fn on_threads<R: Threads + Wait + AllocGlobal + Sync>(
 }
 
 /// Whether these are what the four sessions are told.
-fn are_told(texts: &[Vec<u8>]) -> bool {
-    match texts {
-        [first, second, third, fourth] => {
-            first.as_slice() == AND_TOLD.as_bytes()
-                && second.as_slice() == LATCH_AND_OUTPUT_TOLD.as_bytes()
-                && third.as_slice() == LATCH_ALONE_TOLD.as_bytes()
-                && fourth.as_slice() == EMPTY_TOLD.as_bytes()
+fn are_told(alloc: Global, texts: &[Vec<u8>]) -> Option<bool> {
+    for ((_, circuit), text) in FOUR.into_iter().zip(texts) {
+        let told = circuit.told(alloc).ok()?;
+        if told.as_str().as_bytes() != text.as_slice() {
+            return Some(false);
         }
-        _ => false,
     }
+    Some(texts.len() == FOUR.len())
+}
+
+/// What the four sessions say.
+fn sessions(alloc: Global) -> Option<Vec<(u32, String)>> {
+    let mut sessions = Vec::new(alloc);
+    for (width, circuit) in FOUR {
+        sessions.push((width, circuit.session(alloc).ok()?)).ok()?;
+    }
+    Some(sessions)
 }
 
 /// Whether four sessions beside so many workers are told what they are told alone, and own what they own then.
 fn is_the_same<R: Threads + Wait + AllocGlobal + Sync>(rt: &R, count: usize) -> Option<bool> {
-    let alone = without_threads(rt.alloc(), &FOUR)?;
-    let beside = on_threads(rt, &FOUR, count)?;
+    let sessions = sessions(rt.alloc())?;
+    let mut tenants = Vec::new(rt.alloc());
+    for (width, session) in &sessions {
+        tenants.push((*width, session.as_str())).ok()?;
+    }
+    let alone = without_threads(rt.alloc(), tenants.as_slice())?;
+    let beside = on_threads(rt, tenants.as_slice(), count)?;
     let owns = alone.owned.len() == 38 && alone.owned.as_slice() == beside.owned.as_slice();
-    Some(owns && are_told(alone.texts.as_slice()) && are_told(beside.texts.as_slice()))
+    Some(
+        owns && are_told(rt.alloc(), alone.texts.as_slice())?
+            && are_told(rt.alloc(), beside.texts.as_slice())?,
+    )
 }
 
 #[test]

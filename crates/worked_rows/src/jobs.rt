@@ -1,7 +1,6 @@
 //! Jobs that are taken and come back: late, twice, after an eviction, or not at all.
-use crate::chain::NET;
 use crate::runs::{assert_writes, written_by};
-use fixtures::AND;
+use fixtures::{AND, ROUTED_AND};
 use std::alloc::{AllocError, Global};
 use std::test::Fail;
 
@@ -17,9 +16,10 @@ fn late_job(rt: HostRuntime) -> Result<(), Fail> {
     let lines = format!(in rt.alloc();
         "op admit T 1\n{packing}op take T\n@T withdraw\n{packing}op put 1\n@T status\nop step T 2\n@T net\n"
     )?;
+    let net = ROUTED_AND.net_told(rt.alloc())?;
     let written = format!(in rt.alloc();
         "== op\nok 1 0\nok job 1\nstale\nfinished\nnone\n\
-         == T\nok Loaded\nok Packing\nok Empty\nok Loaded\nok Packing\nstatus Packing 0\n{NET}"
+         == T\nok Loaded\nok Packing\nok Empty\nok Loaded\nok Packing\nstatus Packing 0\n{net}"
     )?;
     assert_writes(&rt, 1, lines.as_str(), written.as_str())
 }
@@ -31,10 +31,11 @@ fn evicted_with_a_job_out(rt: HostRuntime) -> Result<(), Fail> {
     let lines = format!(in rt.alloc();
         "op admit T 1\n{first}op take T\nop evict T\nop admit U 1\n{second}op step U 1\n@U net\nop put 1\n@U net\n@T status\n"
     )?;
+    let net = ROUTED_AND.net_told(rt.alloc())?;
     let written = format!(in rt.alloc();
         "== op\nok 1 0\nok job 1\nok\nok 2 0\nfinished\ngone\n\
          == T\nok Loaded\nok Packing\nline 4 Evicted\n\
-         == U\nok Loaded\nok Packing\n{NET}{NET}"
+         == U\nok Loaded\nok Packing\n{net}{net}"
     )?;
     assert_writes(&rt, 1, lines.as_str(), written.as_str())
 }
@@ -70,9 +71,10 @@ fn taken_twice(rt: HostRuntime) -> Result<(), Fail> {
         "op admit T 1\n{packing}op take T\nop take T\nop step T 1\n@T wait\n@T cancel\n@T pack\nop take T\n\
          op put 1\nop put 2\nop put 2\nop put 3\nop put 0\nop step T 1\n@T net\n"
     )?;
+    let net = ROUTED_AND.net_told(rt.alloc())?;
     let written = format!(in rt.alloc();
         "== op\nok 1 0\nok job 1\nnone\nnone\nok job 2\nstale\nfinished\nnone\nnone\nnone\nnone\n\
-         == T\nok Loaded\nok Packing\nstatus Packing 0\nok Loaded\nok Packing\n{NET}"
+         == T\nok Loaded\nok Packing\nstatus Packing 0\nok Loaded\nok Packing\n{net}"
     )?;
     assert_writes(&rt, 1, lines.as_str(), written.as_str())
 }
@@ -84,10 +86,11 @@ fn waits(rt: HostRuntime) -> Result<(), Fail> {
     let lines = format!(in rt.alloc();
         "op admit T 1\n@U wait\n@T wait\n{packing}@T wait\n@T wait\n@T net\n@T wait now\nop step T 1\n"
     )?;
+    let net = ROUTED_AND.net_told(rt.alloc())?;
     let written = format!(in rt.alloc();
         "== op\nok 1 0\nnone\n\
          == U\nline 4 Evicted\n\
-         == T\nstatus Empty 0\nok Loaded\nok Packing\nstatus Packed 0\nstatus Packed 0\n{NET}line 1 UnknownCommand\n"
+         == T\nstatus Empty 0\nok Loaded\nok Packing\nstatus Packed 0\nstatus Packed 0\n{net}line 1 UnknownCommand\n"
     )?;
     assert_writes(&rt, 1, lines.as_str(), written.as_str())
 }

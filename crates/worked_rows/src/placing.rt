@@ -1,7 +1,7 @@
 //! Placing: the lines of `place` and `placefile`, and what doesn't fit.
-use crate::chain::{NET, PLACE, ROUTING_STEPS, placing, placing_replies, routing, routing_replies};
+use crate::chain::{ROUTING_STEPS, placing, placing_replies, routing, routing_replies};
 use crate::runs::assert_writes;
-use fixtures::AND;
+use fixtures::{AND, ROUTED_AND};
 use std::test::Fail;
 
 /// Two clusters fit into two columns, and a third does not.
@@ -53,8 +53,9 @@ fn cancelled_while_out(rt: HostRuntime) -> Result<(), Fail> {
         "op admit T 1\n{begun}op take T\n@T cancel\nop put 1\nop step T 1\n@T net\n"
     )?;
     let told = placing_replies(rt.alloc())?;
+    let net = ROUTED_AND.net_told(rt.alloc())?;
     let written = format!(in rt.alloc();
-        "== op\nok 1 0\nfinished\nok job 1\nstale\nnone\n== T\n{told}ok Packed\n{NET}"
+        "== op\nok 1 0\nfinished\nok job 1\nstale\nnone\n== T\n{told}ok Packed\n{net}"
     )?;
     assert_writes(&rt, 1, lines.as_str(), written.as_str())
 }
@@ -67,9 +68,10 @@ fn withdraw_forgets_places(rt: HostRuntime) -> Result<(), Fail> {
         "op admit T 1\n{begun}@T withdraw\n@T upload\n{AND}.\n@T placefile\n@T pack\nop step T 1\n@T place 7 0\nop step T 3\n@T placefile\n@T routefile\n"
     )?;
     let told = routing_replies(rt.alloc())?;
+    let places = ROUTED_AND.places_told(rt.alloc())?;
     let written = format!(in rt.alloc();
         "== op\nok 1 0\n{ROUTING_STEPS}{ROUTING_STEPS}\
-         == T\n{told}ok Empty\nok Loaded\nrefused 3 WrongState Loaded\nok Packing\nok Placing\n{PLACE}refused 3 WrongState Placed\n"
+         == T\n{told}ok Empty\nok Loaded\nrefused 3 WrongState Loaded\nok Packing\nok Placing\n{places}refused 3 WrongState Placed\n"
     )?;
     assert_writes(&rt, 1, lines.as_str(), written.as_str())
 }

@@ -1,170 +1,44 @@
 //! Routing: the lines of `route` and `routefile`, with the `.route` files that come of them, how a routing ends without one, and
 //! who owns what then.
-use crate::chain::{PLACE, ROUTE, ROUTING_STEPS, owned, routing, routing_replies};
+use crate::chain::{ROUTING_STEPS, owned, routing, routing_replies};
 use crate::runs::{assert_writes, assert_writes_by};
-use fixtures::{AND, ARCHITECTURE, ONE_TRACK_A_PIN};
+use fixtures::{
+    AND, ARCHITECTURE, ONE_TRACK_A_PIN, ROUTED_AND, ROUTED_EMPTY, ROUTED_LATCH_ALONE,
+    ROUTES_TO_TWO_SINKS, Routed, TWO_SINKS,
+};
+use std::alloc::{AllocError, Global};
+use std::process::Abort;
 use std::test::Fail;
 
-const EMPTY_CIRCUIT: &str = "\
-op admit T 1
-@T upload
-.model e
-.end
-.
-@T pack
-op step T 1
-@T net
-@T place 1 0
-op step T 3
-@T placefile
-@T route
-op step T 1
-@T routefile
-";
+/// A script that has a netlist packed, placed with seed 1 and routed, and asks for that file.
+fn script_of(alloc: Global, netlist: &str, file: &str) -> Result<String, AllocError> {
+    format!(in alloc;
+        "op admit T 1\n@T upload\n{netlist}.\n@T pack\nop step T 1\n@T place 1 0\nop step T 3\n@T route\nop step T 1\n@T {file}\n"
+    )
+}
 
-const EMPTY_CIRCUIT_REPLIES: &str = "\
-== op
-ok 1 0
-finished
-advanced
-advanced
-finished
-finished
-== T
-ok Loaded
-ok Packing
-text net 0
-ok Placing
-text place 155
-Netlist file: e.net Architecture file: device.arch
-Array size: 1 x 1 logic blocks
+/// What it prints, where the tenancy is told that file.
+fn printed(alloc: Global, told: &str) -> Result<String, AllocError> {
+    format!(in alloc;
+        "== op\nok 1 0\nfinished\nadvanced\nadvanced\nfinished\nfinished\n\
+         == T\nok Loaded\nok Packing\nok Placing\nok Routing\n{told}"
+    )
+}
 
-#block name x y subblk block number
-#---------- - - ------ ------------
-ok Routing
-text route 43
-Array size: 1 x 1 logic blocks.
-
-Routing:
-
-";
-
-const LATCH_ALONE: &str = "\
-op admit T 1
-@T upload
-.model r
-.inputs a c
-.outputs q
-.names a f
-1 1
-.latch f q re c 0
-.
-@T pack
-op step T 1
-@T place 1 0
-op step T 3
-@T route
-op step T 1
-@T routefile
-";
-
-const LATCH_ALONE_REPLIES: &str = "\
-== op
-ok 1 0
-finished
-advanced
-advanced
-finished
-finished
-== T
-ok Loaded
-ok Packing
-ok Placing
-ok Routing
-text route 343
-Array size: 1 x 1 logic blocks.
-
-Routing:
-
-Net 0 (a)
-
-SOURCE (1,0) Pad: 0
-OPIN (1,0) Pad: 0
-CHANX (1,0) Track: 0
-IPIN (1,1) Pin: 0
-SINK (1,1) Class: 0
-
-Net 1 (c): global net connecting:
-
-Block c (#1) at (1,0).
-Block q (#3) at (1,1).
-
-Net 2 (q)
-
-SOURCE (1,1) Class: 1
-OPIN (1,1) Pin: 2
-CHANX (1,1) Track: 0
-IPIN (1,2) Pad: 0
-SINK (1,2) Pad: 0
-
-";
-
-const TWO_SINKS: &str = "\
-op admit T 1
-@T upload
-.model s
-.inputs a
-.outputs a f
-.names a f
-1 1
-.
-@T pack
-op step T 1
-@T place 1 0
-op step T 3
-@T route
-op step T 1
-@T routefile
-";
-
-const TWO_SINKS_REPLIES: &str = "\
-== op
-ok 1 0
-finished
-advanced
-advanced
-finished
-finished
-== T
-ok Loaded
-ok Packing
-ok Placing
-ok Routing
-text route 318
-Array size: 1 x 1 logic blocks.
-
-Routing:
-
-Net 0 (a)
-
-SOURCE (1,0) Pad: 0
-OPIN (1,0) Pad: 0
-CHANX (1,0) Track: 0
-IPIN (1,0) Pad: 1
-SINK (1,0) Pad: 1
-CHANX (1,0) Track: 0
-IPIN (1,1) Pin: 0
-SINK (1,1) Class: 0
-
-Net 1 (f)
-
-SOURCE (1,1) Class: 1
-OPIN (1,1) Pin: 2
-CHANX (1,1) Track: 0
-IPIN (1,2) Pad: 0
-SINK (1,2) Pad: 0
-
-";
+/// Checks the three files of a circuit that is routed in one iteration.
+fn assert_files<H: Abort + AllocGlobal>(rt: &H, circuit: Routed) -> Result<(), Fail> {
+    let alloc = rt.alloc();
+    for (file, told) in [
+        ("net", circuit.net_told(alloc)?),
+        ("placefile", circuit.places_told(alloc)?),
+        ("routefile", circuit.routes_told(alloc)?),
+    ] {
+        let lines = script_of(alloc, circuit.netlist, file)?;
+        let written = printed(alloc, told.as_str())?;
+        assert_writes(rt, 1, lines.as_str(), written.as_str())?;
+    }
+    Ok(())
+}
 
 /// Both nets take one track at first, and part in the second iteration.
 #[test]
@@ -175,25 +49,30 @@ fn whole_chain(rt: HostRuntime) -> Result<(), Fail> {
     )?;
     let told = routing_replies(rt.alloc())?;
     let owned = owned(rt.alloc(), 0, 1)?;
+    let routes = ROUTED_AND.routes_told(rt.alloc())?;
     let written = format!(in rt.alloc();
-        "== op\nok 1 0\n{ROUTING_STEPS}advanced\nfinished\nowners 13\n{owned}== T\n{told}{ROUTE}status Routed 0\n"
+        "== op\nok 1 0\n{ROUTING_STEPS}advanced\nfinished\nowners 13\n{owned}== T\n{told}{routes}status Routed 0\n"
     )?;
     assert_writes(&rt, 1, lines.as_str(), written.as_str())
 }
 
 #[test]
 fn empty_circuit(rt: HostRuntime) -> Result<(), Fail> {
-    assert_writes(&rt, 1, EMPTY_CIRCUIT, EMPTY_CIRCUIT_REPLIES)
+    assert_files(&rt, ROUTED_EMPTY)
 }
 
 #[test]
 fn table_read_by_latch_alone(rt: HostRuntime) -> Result<(), Fail> {
-    assert_writes(&rt, 1, LATCH_ALONE, LATCH_ALONE_REPLIES)
+    assert_files(&rt, ROUTED_LATCH_ALONE)
 }
 
 #[test]
 fn tree_with_two_sinks(rt: HostRuntime) -> Result<(), Fail> {
-    assert_writes(&rt, 1, TWO_SINKS, TWO_SINKS_REPLIES)
+    let lines = script_of(rt.alloc(), TWO_SINKS, "routefile")?;
+    let length = ROUTES_TO_TWO_SINKS.len();
+    let told = format!(in rt.alloc(); "text route {length}\n{ROUTES_TO_TWO_SINKS}")?;
+    let written = printed(rt.alloc(), told.as_str())?;
+    assert_writes(&rt, 1, lines.as_str(), written.as_str())
 }
 
 /// Three tenancies side by side get the same files, and hold the same, each in its columns.
@@ -205,12 +84,13 @@ fn three_offsets(rt: HostRuntime) -> Result<(), Fail> {
     let mut sessions = String::new(alloc);
     let mut owners = String::from_str(alloc, "owners 39\n")?;
     let told = routing_replies(alloc)?;
+    let routes = ROUTED_AND.routes_told(alloc)?;
     for (name, columns, id) in [("T", 0, 1), ("U", 2, 2), ("V", 4, 3)] {
         lines.push_str(routing(alloc, name)?.as_str())?;
         lines.push_str(format!(in alloc; "op step {name} 2\n@{name} routefile\n")?.as_str())?;
         steps.push_str(ROUTING_STEPS)?;
         steps.push_str("advanced\nfinished\n")?;
-        sessions.push_str(format!(in alloc; "== {name}\n{told}{ROUTE}")?.as_str())?;
+        sessions.push_str(format!(in alloc; "== {name}\n{told}{routes}")?.as_str())?;
         owners.push_str(owned(alloc, columns, id)?.as_str())?;
     }
     lines.push_str("op owners\n")?;
@@ -270,9 +150,11 @@ fn taken_twice(rt: HostRuntime) -> Result<(), Fail> {
         "op admit T 1\n{begun}op take T\n@T wait\n@T cancel\n@T placefile\n@T route\nop take T\nop put 1\nop put 2\nop step T 1\n@T routefile\n"
     )?;
     let told = routing_replies(rt.alloc())?;
+    let places = ROUTED_AND.places_told(rt.alloc())?;
+    let routes = ROUTED_AND.routes_told(rt.alloc())?;
     let written = format!(in rt.alloc();
         "== op\nok 1 0\n{ROUTING_STEPS}ok job 1\nok job 2\nstale\nadvanced\nfinished\n\
-         == T\n{told}status Routing 0\nok Placed\n{PLACE}ok Routing\n{ROUTE}"
+         == T\n{told}status Routing 0\nok Placed\n{places}ok Routing\n{routes}"
     )?;
     assert_writes(&rt, 1, lines.as_str(), written.as_str())
 }
@@ -289,10 +171,11 @@ fn evicted_with_a_job_out(rt: HostRuntime) -> Result<(), Fail> {
     )?;
     let told = routing_replies(alloc)?;
     let owned = owned(alloc, 0, 2)?;
+    let routes = ROUTED_AND.routes_told(alloc)?;
     let written = format!(in alloc;
         "== op\nok 1 0\n{ROUTING_STEPS}ok job 1\nok\nok 2 0\n{ROUTING_STEPS}advanced\nfinished\n\
          owners 13\n{owned}gone\nowners 13\n{owned}\
-         == T\n{told}line 4 Evicted\n== U\n{told}{ROUTE}"
+         == T\n{told}line 4 Evicted\n== U\n{told}{routes}"
     )?;
     assert_writes(&rt, 1, lines.as_str(), written.as_str())
 }
