@@ -1,5 +1,5 @@
 -- What is kept of a text.
-use Rattle.std.proofs.Common.{◌≡◌, ℕ, inl, inr, ◌+◌, ◌-◌, ◌≤◌, List, ◌++◌, length, take, length-append, length-take, refl, sym, ap, ◌∙◌, arith}
+use Rattle.std.proofs.Common.{◌≡◌, ℕ, inl, inr, ◌+◌, ◌-◌, ◌≤◌, List, ◌++◌, length, take, length-append, refl, sym, ap, ◌∙◌, arith}
 use Rattle.std.proofs.lemmas.Bool.{cases_lt}
 use Rattle.std.proofs.lemmas.List.{take_all, take-take, take-append-le, length-take-le}
 use Rattle.std.proofs.Math.Seq.{take-append-add}
@@ -28,10 +28,6 @@ kept-whole xs ys h k = take_all 1048577 (xs ++ ys) (rw (length-append xs ys) (om
 pub kept-part : (xs ys : List ℕ) → length xs ≤ 1048577 → kept (xs ++ ys) ≡ xs ++ take (1048577 - length xs) ys
 unfolding kept
 kept-part xs ys h = take-append 1048577 xs ys h
-
-pub length-kept : (xs : List ℕ) → length (kept xs) ≤ 1048577
-unfolding kept
-length-kept xs = rw (length-take 1048577 xs) (omega arith)
 
 pub kept-all : (xs : List ℕ) → length xs ≤ 1048577 → kept xs ≡ xs
 unfolding kept
