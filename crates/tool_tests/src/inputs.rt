@@ -19,83 +19,86 @@ fn fault_in(alloc: Global, text: &str) -> Option<(Fault, usize)> {
     }
 }
 
+/// Inputs, each with its fault and the line that it is told with.
+const REFUSED: [(&str, Fault, usize); 21] = [
+    ("", Fault::NoSection, 1),
+    ("ok 1 0\n", Fault::NoSection, 1),
+    ("== op\nwhat\n", Fault::UnknownLine, 2),
+    ("== op\n1 T 0 4 Empty\n", Fault::BadTenancy, 2),
+    ("== op\n1 T 3 1 Empty\n", Fault::BadTenancy, 2),
+    ("== op\n1 T< 0 1 Empty\n", Fault::BadTenancy, 2),
+    ("== op\n1 T 0 1 Empty more\n", Fault::BadTenancy, 2),
+    ("== op\n1 T 0 1 Empty\n2 U 1 1 Empty\n", Fault::NotParted, 3),
+    (
+        "== op\nowners 1\nCHANX (1,0) Track 0 owner 1\n",
+        Fault::BadOwner,
+        3,
+    ),
+    (
+        "== op\nowners 1\nSINK (1,1) Class: 0 owner 1\n",
+        Fault::BadOwner,
+        3,
+    ),
+    (
+        "== op\nowners 1\nCHANX (0,0) Track: 0 owner 1\n",
+        Fault::NotThere,
+        3,
+    ),
+    (
+        "== op\nowners 1\nCHANX (1,0) Track: 2 owner 1\n",
+        Fault::NotThere,
+        3,
+    ),
+    (
+        "== op\nowners 1\nCHANY (1,0) Track: 0 owner 1\n",
+        Fault::NotThere,
+        3,
+    ),
+    (
+        "== op\nowners 1\nPAD (1,1) Pad: 0 owner 1\n",
+        Fault::NotThere,
+        3,
+    ),
+    (
+        "== op\nowners 1\nPAD (1,2) Pad: 2 owner 1\n",
+        Fault::NotThere,
+        3,
+    ),
+    (
+        "== op\nowners 1\nOPIN (1,2) Pin: 0 owner 1\n",
+        Fault::NotThere,
+        3,
+    ),
+    (
+        "== op\nowners 2\nPAD (1,2) Pad: 0 owner 1\nIPIN (1,2) Pad: 0 owner 1\n",
+        Fault::OutOfOrder,
+        4,
+    ),
+    (
+        "== op\nowners 2\nPAD (1,2) Pad: 0 owner 1\nPAD (1,2) Pad: 0 owner 1\n",
+        Fault::OutOfOrder,
+        4,
+    ),
+    (
+        "== op\nowners 1\nPAD (1,2) Pad: 0 owner 1\n",
+        Fault::NotListed,
+        3,
+    ),
+    (
+        "== op\n1 T 0 1 Routed\nowners 1\nPAD (2,2) Pad: 0 owner 1\n",
+        Fault::OutsideStrip,
+        4,
+    ),
+    (
+        "== op\nowners 2\nPAD (1,2) Pad: 0 owner 1",
+        Fault::Unfinished,
+        3,
+    ),
+];
+
 #[test]
 fn lines_that_are_refused(rt: HostRuntime) -> Result<(), Fail> {
-    for (text, fault, line) in [
-        ("", Fault::NoSection, 1),
-        ("ok 1 0\n", Fault::NoSection, 1),
-        ("== op\nwhat\n", Fault::UnknownLine, 2),
-        ("== op\n1 T 0 4 Empty\n", Fault::BadTenancy, 2),
-        ("== op\n1 T 3 1 Empty\n", Fault::BadTenancy, 2),
-        ("== op\n1 T< 0 1 Empty\n", Fault::BadTenancy, 2),
-        ("== op\n1 T 0 1 Empty more\n", Fault::BadTenancy, 2),
-        ("== op\n1 T 0 1 Empty\n2 U 1 1 Empty\n", Fault::NotParted, 3),
-        (
-            "== op\nowners 1\nCHANX (1,0) Track 0 owner 1\n",
-            Fault::BadOwner,
-            3,
-        ),
-        (
-            "== op\nowners 1\nSINK (1,1) Class: 0 owner 1\n",
-            Fault::BadOwner,
-            3,
-        ),
-        (
-            "== op\nowners 1\nCHANX (0,0) Track: 0 owner 1\n",
-            Fault::NotThere,
-            3,
-        ),
-        (
-            "== op\nowners 1\nCHANX (1,0) Track: 2 owner 1\n",
-            Fault::NotThere,
-            3,
-        ),
-        (
-            "== op\nowners 1\nCHANY (1,0) Track: 0 owner 1\n",
-            Fault::NotThere,
-            3,
-        ),
-        (
-            "== op\nowners 1\nPAD (1,1) Pad: 0 owner 1\n",
-            Fault::NotThere,
-            3,
-        ),
-        (
-            "== op\nowners 1\nPAD (1,2) Pad: 2 owner 1\n",
-            Fault::NotThere,
-            3,
-        ),
-        (
-            "== op\nowners 1\nOPIN (1,2) Pin: 0 owner 1\n",
-            Fault::NotThere,
-            3,
-        ),
-        (
-            "== op\nowners 2\nPAD (1,2) Pad: 0 owner 1\nIPIN (1,2) Pad: 0 owner 1\n",
-            Fault::OutOfOrder,
-            4,
-        ),
-        (
-            "== op\nowners 2\nPAD (1,2) Pad: 0 owner 1\nPAD (1,2) Pad: 0 owner 1\n",
-            Fault::OutOfOrder,
-            4,
-        ),
-        (
-            "== op\nowners 1\nPAD (1,2) Pad: 0 owner 1\n",
-            Fault::NotListed,
-            3,
-        ),
-        (
-            "== op\n1 T 0 1 Routed\nowners 1\nPAD (2,2) Pad: 0 owner 1\n",
-            Fault::OutsideStrip,
-            4,
-        ),
-        (
-            "== op\nowners 2\nPAD (1,2) Pad: 0 owner 1",
-            Fault::Unfinished,
-            3,
-        ),
-    ] {
+    for (text, fault, line) in REFUSED {
         assert_eq!(rt;
             fault_in(rt.alloc(), text),
             Some((fault, line)),
