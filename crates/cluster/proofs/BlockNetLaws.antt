@@ -12,9 +12,10 @@ use Rattle.std.proofs.lemmas.Bool.Decides.{nat_tests}
 use Rattle.blif.specs.declared.circuit.Circuit.{Circuit}
 use Rattle.cluster.specs.declared.block.Block.{Block}
 use Rattle.cluster.specs.declared.block.Block.TheVariants.{InputPad, OutputPad, Cluster}
-use Rattle.cluster.specs.Nets.{IsOnce, has}
-use Rattle.cluster.specs.Bles.{LogicElement, bles_of, element_at}
-use Rattle.cluster.specs.Clusters.{PackedCircuit, elements_at, outputs_of}
+use Rattle.ble_cluster.specs.Nets.{IsOnce, has}
+use Rattle.ble_cluster.specs.Bles.{LogicElement, bles_of, element_at}
+use Rattle.ble_cluster.specs.Clusters.{elements_at, outputs_of}
+use Rattle.cluster.specs.Clusters.{PackedCircuit}
 use Rattle.cluster.specs.Blocks.{BlockNet, block_net, block_nets, blocks_of, elements_in, is_global, leaves_block, nets_from, reads_net}
 use Rattle.cluster.specs.LawfulPackings.{IsPacked}
 use Rattle.cluster.specs.PackingLaws.{ControlsLatch, IsBlockNet}
