@@ -1,12 +1,11 @@
 -- The least BLE that doesn't fit alone.
-use Rattle.std.proofs.Common.{◌≡◌, ℕ, suc, ◌+◌, ◌-◌, ◌<◌, ◌≤◌, Bool, true, false, not, ◌==◌, nat_le, List, [], ◌∷◌, Option, Some, filter, length, slice_get, if◌then◌else◌, sym, ap, ◌∙◌, arith}
+use Rattle.std.proofs.Common.{◌≡◌, ℕ, suc, ◌+◌, ◌-◌, ◌<◌, ◌≤◌, Bool, true, false, not, ◌==◌, nat_le, List, [], ◌∷◌, Some, filter, length, slice_get, if◌then◌else◌, ap, ◌∙◌, arith}
 use Rattle.std.specs.List.{find, range_with_len}
 use Rattle.std.proofs.lemmas.Bool.Decides.{nat_tests}
 use Rattle.arch_file.specs.declared.arch.Arch.{Arch}
 use Rattle.arch_file.specs.Arch.{IsArch, input_count}
-use Rattle.blif.specs.declared.circuit.Circuit.{Circuit}
-use Rattle.ble_cluster.specs.Bles.{LogicElement, bles_of, element_at}
-use Rattle.ble_cluster.specs.Clusters.{fits_in_cluster, unfit_among, unfit_of}
+use Rattle.ble_cluster.specs.Bles.{LogicElement, element_at}
+use Rattle.ble_cluster.specs.Clusters.{fits_in_cluster}
 use Rattle.ble_cluster.specs.FreeBles.{IsElement}
 use Rattle.ble_cluster.proofs.Choosing.{element_is}
 use Rattle.ble_cluster.proofs.Elements.{alone_fits}

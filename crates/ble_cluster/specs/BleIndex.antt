@@ -1,5 +1,5 @@
 -- Private: the BLEs of a circuit, by number and by net.
-use Rattle.std.specs.Prelude.{ℕ, ◌+◌, ◌≡◌, ◌<◌, ◌≤◌, List, [], ◌∷◌, ◌++◌, All, map, length, slice_index_or}
+use Rattle.std.specs.Prelude.{ℕ, ◌+◌, ◌≡◌, ◌<◌, ◌≤◌, List, [], ◌∷◌, ◌++◌, All, length, slice_index_or}
 use Rattle.rows.specs.declared.by_key.Keyed.{Keyed}
 use Rattle.rows.specs.ByKey.{pairs_with}
 use Rattle.ble_cluster.specs.Nets.{IsOnce, has}

@@ -1,8 +1,8 @@
 -- What every packing keeps: clusters have members, and these are elements, of which there are few.
-use Rattle.std.proofs.Common.{◌≡◌, ◌≢◌, ℕ, suc, zero, ◌+◌, ◌<◌, ◌≤◌, Bool, true, false, List, [], ◌∷◌, ◌++◌, All, filter, length, map, drop, if◌then◌else◌, sym, refl, ◌∙◌, arith, None, nat_lt, length-append, ap, eqb, ◌⊎◌, inl, inr}
+use Rattle.std.proofs.Common.{◌≡◌, ℕ, suc, zero, ◌+◌, ◌<◌, ◌≤◌, List, [], ◌∷◌, ◌++◌, All, filter, length, map, drop, sym, refl, ◌∙◌, arith, None, length-append, ap}
 use Rattle.std.proofs.lemmas.List.{length-map, take-append-drop}
-use Rattle.std.specs.List.{list_any, range_with_len, take_while, prefix_len}
-use Rattle.std.proofs.lemmas.Bool.Decides.{Decides-eqb, eqb_tells}
+use Rattle.std.specs.List.{range_with_len, take_while, prefix_len}
+use Rattle.std.proofs.lemmas.Bool.Decides.{Decides-eqb}
 use Rattle.std.proofs.lemmas.List.Sums.{length-filter, count_by-le-length}
 use Rattle.std.proofs.lemmas.Map.Made.{IsDistinct-from_AllPairs}
 use Rattle.std.proofs.lemmas.Map.Steps.{length-le_from_distinct_below}
@@ -14,7 +14,7 @@ use Rattle.blif.specs.declared.latches.Latch.{Latch}
 use Rattle.blif.specs.LookupTables.{LookupTable}
 use Rattle.blif.specs.LawfulCircuits.{IsCircuit, drivers_of}
 use Rattle.ble_cluster.specs.Bles.{LogicElement, bles_of, element_of_latch, element_of_table, in_line_order, is_above, latch_behind, stands_alone}
-use Rattle.ble_cluster.specs.Clusters.{cluster_of, clusters_after, first_most, free_of, grown, input_count_at, leading, may_join, seed_of, shared_nets, unfit_of, with_cluster, with_member}
+use Rattle.ble_cluster.specs.Clusters.{cluster_of, clusters_after, first_most, free_of, grown, input_count_at, may_join, seed_of, shared_nets, unfit_of, with_cluster, with_member}
 use Rattle.cluster.specs.Clusters.{packed_of}
 use Rattle.cluster.specs.Packing.{IsPacked}
 use Rattle.ble_cluster.proofs.Leading.{found, leading_lawful}

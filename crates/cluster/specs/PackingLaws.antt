@@ -1,5 +1,5 @@
 -- What each packing keeps: the laws by which a placer and a router index.
-use Rattle.std.specs.Prelude.{ℕ, ◌≡◌, ◌≢◌, ◌<◌, ◌≤◌, ◌↔◌, true, IsTrue, List, All, AllPairs, Contains, length}
+use Rattle.std.specs.Prelude.{ℕ, ◌≡◌, ◌≢◌, ◌<◌, ◌≤◌, ◌↔◌, true, IsTrue, All, AllPairs, Contains, length}
 use Rattle.std.specs.List.{concat, flat_map}
 use Rattle.std.specs.Option.{option_to_list}
 use Rattle.blif.specs.declared.circuit.Circuit.{Circuit}
