@@ -8,15 +8,16 @@ use Rattle.std.proofs.lemmas.List.FromFn.{fill_by_all, length-enumerate_from, ge
 use Rattle.cluster.specs.declared.block.Block.{Block}
 use Rattle.cluster.specs.declared.block.Block.TheVariants.{InputPad, OutputPad, Cluster}
 use Rattle.cluster.specs.declared.net_uses.NetUses.{NetUses}
-use Rattle.cluster.specs.Nets.{has, distinct}
-use Rattle.cluster.specs.NetSets.{NetsAmong}
-use Rattle.cluster.specs.Bles.{LogicElement, bles_of, element_at}
-use Rattle.cluster.specs.Clusters.{PackedCircuit, elements_at, outputs_of, outside_inputs, clocks_of}
+use Rattle.ble_cluster.specs.Nets.{has, distinct}
+use Rattle.ble_cluster.specs.NetSets.{NetsAmong}
+use Rattle.ble_cluster.specs.Bles.{LogicElement, bles_of, element_at}
+use Rattle.ble_cluster.specs.Clusters.{elements_at, outputs_of, outside_inputs, clocks_of}
+use Rattle.cluster.specs.Clusters.{PackedCircuit}
 use Rattle.cluster.specs.Blocks.{BlockNet, blocks_of, block_net, block_nets, is_empty, is_global, leaves_block, nets_from, readers_of, reads_net}
 use Rattle.cluster.specs.ClusterPins.{IsElementWithin, clusters_with, members_of, nets_read, pads_with, readers_by_net}
 use Rattle.cluster.specs.NetUses.{cluster_nets, controls_of, driven_nets, input_nets, leaves_by, net_by, others}
 use Rattle.cluster.specs.LawfulPackings.{IsPacked}
-use Rattle.cluster.proofs.Outside.{has-distinct, has-with_nets}
+use Rattle.ble_cluster.proofs.Outside.{has-distinct, has-with_nets}
 use Rattle.cluster.proofs.ReaderLists.{flat_map-range_more}
 use Rattle.cluster.proofs.FewBlocks.{elements_within}
 

@@ -1,6 +1,6 @@
 -- The nets between blocks: their drivers and readers, and how many there are.
-use Rattle.std.proofs.Common.{◌≡◌, ◌≢◌, ℕ, suc, zero, ◌+◌, ◌<◌, ◌≤◌, Bool, true, false, not, ◌&&◌, ◌==◌, cond, eqb, IsTrue, List, [], ◌∷◌, ◌++◌, All, filter, length, get_or, map, slice_index, refl, sym, ap, subst, ◌∙◌, arith, length-append}
-use Rattle.std.specs.Prelude.{◌↔◌, AllPairs, Contains}
+use Rattle.std.proofs.Common.{◌≡◌, ◌≢◌, ℕ, suc, zero, ◌+◌, ◌<◌, ◌≤◌, Bool, true, false, not, ◌&&◌, ◌==◌, cond, List, [], ◌∷◌, ◌++◌, All, filter, length, get_or, map, slice_index, refl, ap, arith, length-append}
+use Rattle.std.specs.Prelude.{AllPairs, Contains}
 use Rattle.std.specs.List.{concat, enumerate_from, flat_map, range_with_len}
 use Rattle.std.specs.Option.{option_to_list}
 use Rattle.std.proofs.lemmas.List.{length-map}
@@ -9,15 +9,15 @@ use Rattle.std.proofs.lemmas.List.Kept.{AllPairs-cons}
 use Rattle.std.proofs.lemmas.List.Sums.{length-filter, count_by-le-length}
 use Rattle.std.proofs.lemmas.Bool.{eqb-true}
 use Rattle.std.proofs.lemmas.Bool.Decides.{nat_tests}
-use Rattle.blif.specs.declared.circuit.Circuit.{Circuit}
 use Rattle.cluster.specs.declared.block.Block.{Block}
 use Rattle.cluster.specs.declared.block.Block.TheVariants.{InputPad, OutputPad, Cluster}
-use Rattle.cluster.specs.Nets.{IsOnce, has}
-use Rattle.cluster.specs.Bles.{LogicElement, bles_of, element_at}
-use Rattle.cluster.specs.Clusters.{PackedCircuit, elements_at, outputs_of}
-use Rattle.cluster.specs.Blocks.{BlockNet, block_net, block_nets, blocks_of, elements_in, is_global, leaves_block, nets_from, reads_net}
+use Rattle.ble_cluster.specs.Nets.{IsOnce, has}
+use Rattle.ble_cluster.specs.Bles.{LogicElement, bles_of, element_at}
+use Rattle.ble_cluster.specs.Clusters.{outputs_of}
+use Rattle.cluster.specs.Clusters.{PackedCircuit}
+use Rattle.cluster.specs.Blocks.{BlockNet, block_net, block_nets, blocks_of, elements_in, leaves_block, nets_from, reads_net}
 use Rattle.cluster.specs.LawfulPackings.{IsPacked}
-use Rattle.cluster.specs.PackingLaws.{ControlsLatch, IsBlockNet}
+use Rattle.cluster.specs.PackingLaws.{IsBlockNet}
 use Rattle.cluster.proofs.BlockLists.{by_kind, flat_map_none, outputs_within}
 use Rattle.cluster.proofs.FewBlocks.{elements_within}
 use Rattle.cluster.proofs.Members.{ranged}

@@ -5,9 +5,9 @@ use Rattle.std.proofs.lemmas.List.Elements.{filter-append}
 use Rattle.std.proofs.lemmas.Option.{get_or_from_slice_get}
 use Rattle.blif.specs.declared.circuit.Circuit.{Circuit}
 use Rattle.cluster.specs.declared.net_uses.NetUses.{NetUses}
-use Rattle.cluster.specs.Nets.{has}
-use Rattle.cluster.specs.Bles.{LogicElement, element_at}
-use Rattle.cluster.specs.Clusters.{elements_at, outputs_of}
+use Rattle.ble_cluster.specs.Nets.{has}
+use Rattle.ble_cluster.specs.Bles.{LogicElement, element_at}
+use Rattle.ble_cluster.specs.Clusters.{elements_at, outputs_of}
 use Rattle.cluster.specs.Blocks.{BlockNet}
 use Rattle.cluster.specs.NetUses.{others, leaves_by, net_by, input_nets, driven_nets, cluster_nets}
 use Rattle.cluster.proofs.ReaderLists.{flat_map-range_more}

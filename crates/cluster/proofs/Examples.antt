@@ -3,8 +3,9 @@ use Rattle.std.proofs.Common.{◌≡◌, ℕ, List, [], ◌∷◌, Option, Some,
 use Rattle.arch_file.specs.declared.arch.Arch.{Arch}
 use Rattle.arch_file.specs.declared.arch.PinClass.TheVariants.{Input, Output, Clock}
 use Rattle.blif.specs.declared.circuit.Circuit.{Circuit}
-use Rattle.cluster.specs.Bles.{bles_of}
-use Rattle.cluster.specs.Clusters.{packed_of, clusters_after, cluster_of, packing_steps, unfit_of}
+use Rattle.ble_cluster.specs.Bles.{bles_of}
+use Rattle.ble_cluster.specs.Clusters.{clusters_after, cluster_of, unfit_of}
+use Rattle.cluster.specs.Clusters.{packed_of, packing_steps}
 
 -- clusters of one table with two inputs
 abbrev small : Arch

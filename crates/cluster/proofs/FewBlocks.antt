@@ -11,9 +11,10 @@ use Rattle.blif.specs.declared.latches.Latch.{Latch}
 use Rattle.blif.specs.LookupTables.{LookupTable}
 use Rattle.blif.specs.LawfulCircuits.{IsCircuit, IsLatchWithin, IsTableWithin, drivers_of}
 use Rattle.arch_file.specs.declared.arch.Arch.{Arch}
-use Rattle.cluster.specs.Nets.{has, with_net, with_nets}
-use Rattle.cluster.specs.Bles.{LogicElement, bles_of, element_of_latch, element_of_table, in_line_order, is_above, latch_behind, stands_alone, is_read_once}
-use Rattle.cluster.specs.Clusters.{PackedCircuit, clusters_after, cluster_of, free_of, with_cluster, packed_of}
+use Rattle.ble_cluster.specs.Nets.{has, with_net, with_nets}
+use Rattle.ble_cluster.specs.Bles.{LogicElement, bles_of, element_of_latch, element_of_table, in_line_order, is_above, latch_behind, stands_alone, is_read_once}
+use Rattle.ble_cluster.specs.Clusters.{clusters_after, cluster_of, free_of, with_cluster}
+use Rattle.cluster.specs.Clusters.{PackedCircuit, packed_of}
 use Rattle.cluster.specs.ClusterPins.{IsElementWithin}
 use Rattle.cluster.specs.LawfulPackings.{IsPacked}
 use Rattle.cluster.proofs.Members.{within}

@@ -1,5 +1,5 @@
 -- A packing that goes on by one cluster.
-use Rattle.std.proofs.Common.{◌≡◌, ℕ, suc, ◌+◌, ◌<◌, Bool, true, false, not, ◌||◌, ◌&&◌, List, [], ◌∷◌, ◌++◌, ◌==◌, None, IsTrue, filter, length, max, refl, sym, ap, subst, ◌∙◌, arith}
+use Rattle.std.proofs.Common.{◌≡◌, ℕ, suc, ◌+◌, ◌<◌, Bool, true, false, not, ◌||◌, ◌&&◌, List, Option, [], ◌∷◌, ◌++◌, ◌==◌, None, IsTrue, filter, length, max, refl, sym, ap, subst, ◌∙◌, arith}
 use Rattle.std.specs.List.{list_any, range_with_len}
 use Rattle.std.proofs.lemmas.List.Elements.{filter_agree}
 use Rattle.std.proofs.lemmas.List.Folds.{list_any-append}
@@ -8,15 +8,17 @@ use Rattle.arch_file.specs.declared.arch.Arch.{Arch}
 use Rattle.arch_file.specs.Arch.{IsArch}
 use Rattle.blif.specs.declared.circuit.Circuit.{Circuit}
 use Rattle.blif.specs.LawfulCircuits.{IsCircuit}
-use Rattle.cluster.specs.Nets.{has}
-use Rattle.cluster.specs.Bles.{LogicElement, bles_of}
-use Rattle.cluster.specs.Clusters.{PackedCircuit, cluster_of, clusters_after, free_of, packed_of, packing_steps, unfit_among, unfit_of, with_cluster}
-use Rattle.cluster.specs.FreeBles.{FreeBlesState}
+use Rattle.ble_cluster.specs.Nets.{has}
+use Rattle.ble_cluster.specs.Bles.{LogicElement, bles_of}
+use Rattle.ble_cluster.specs.Clusters.{cluster_of, clusters_after, free_of, unfit_among, unfit_of, with_cluster}
+use Rattle.cluster.specs.Clusters.{PackedCircuit, packed_of, packing_steps}
+use Rattle.ble_cluster.specs.FreeBles.{FreeBlesState}
 use Rattle.cluster.specs.Packing.{IsPacked}
 use Rattle.cluster.specs.UnderWay.{IsUnderWay, steps_reached}
-use Rattle.cluster.proofs.Marking.{filter_filter, free_same}
+use Rattle.ble_cluster.proofs.Marking.{filter_filter, free_same}
 use Rattle.cluster.proofs.Members.{packed_lawful}
-use Rattle.cluster.proofs.Steps.{Going, going_first, last_step, no_cluster, one_of_more}
+use Rattle.cluster.proofs.Steps.{Going, going_first, last_step, one_of_more}
+use Rattle.ble_cluster.proofs.Fitting.{no_cluster}
 
 -- what is free of one cluster more
 free_with : (elements : List LogicElement) (clusters : List (List ℕ)) (cluster : List ℕ) → filter (λ number. not (has cluster number)) (free_of elements clusters) ≡ free_of elements (with_cluster clusters cluster)
@@ -152,6 +154,11 @@ begins circuit arch growth clusters fit same free none =
 pub fit_among : (circuit : Circuit) (arch : Arch) (elements : List LogicElement) → unfit_of circuit arch ≡ None → elements ≡ bles_of circuit → unfit_among arch elements ≡ None
 unfolding unfit_of
 fit_among circuit arch elements fit is = rw is fit
+
+-- the least that is unfit of the BLEs is the circuit's
+pub unfit_is : (circuit : Circuit) (arch : Arch) (elements : List LogicElement) (number : Option ℕ) → elements ≡ bles_of circuit → number ≡ unfit_among arch elements → unfit_of circuit arch ≡ number
+unfolding unfit_of
+unfit_is circuit arch elements number is found = ap (unfit_among arch) (sym is) ∙ sym found
 
 -- nothing is free where the test fails
 pub none_left : (free : List ℕ) (found : Bool) → (0 < length free → IsTrue found) → found ≡ false → free ≡ []

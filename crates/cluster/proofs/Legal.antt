@@ -1,15 +1,15 @@
 -- Each cluster fits, and no element stands in it twice.
-use Rattle.std.proofs.Common.{◌≡◌, ℕ, suc, zero, ◌<◌, Bool, true, false, not, ◌&&◌, List, [], ◌∷◌, ◌++◌, All, Option, None, Some, filter, length, refl, subst, arith}
+use Rattle.std.proofs.Common.{◌≡◌, ℕ, suc, zero, ◌<◌, Bool, true, false, List, [], ◌∷◌, ◌++◌, All, Option, None, Some, filter, length, refl, subst, arith}
 use Rattle.std.specs.Option.{ForSome}
 use Rattle.std.proofs.lemmas.List.Elements.{All-nil, All-cons, All-head, All-tail, All-append, All-filter, filter_passes}
 use Rattle.std.proofs.lemmas.Bool.Decides.{nat_tests}
 use Rattle.arch_file.specs.declared.arch.Arch.{Arch}
-use Rattle.cluster.specs.Nets.{IsOnce, has}
-use Rattle.cluster.specs.Bles.{LogicElement}
-use Rattle.cluster.specs.Clusters.{cluster_of, elements_at, first_most, fits_in_cluster, grown, input_count_at, leading, may_join, next_member, seed_of, shared_nets, unfit_among, with_member}
-use Rattle.cluster.proofs.Fitting.{fits_alone}
-use Rattle.cluster.proofs.Members.{leading_lawful}
-use Rattle.cluster.proofs.Outside.{once-push}
+use Rattle.ble_cluster.specs.Nets.{IsOnce, has}
+use Rattle.ble_cluster.specs.Bles.{LogicElement}
+use Rattle.ble_cluster.specs.Clusters.{cluster_of, elements_at, first_most, fits_in_cluster, grown, input_count_at, leading, may_join, next_member, seed_of, shared_nets, unfit_among, with_member}
+use Rattle.ble_cluster.proofs.Fitting.{fits_alone}
+use Rattle.ble_cluster.proofs.Leading.{leading_lawful}
+use Rattle.ble_cluster.proofs.Outside.{once-push}
 
 -- what holds of all numbers holds of one that is chosen among them
 pub chosen : (P : ℕ → Type 0) (score : ℕ → ℕ) (numbers : List ℕ) → All P numbers → ForSome (first_most score numbers) P

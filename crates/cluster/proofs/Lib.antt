@@ -1,18 +1,6 @@
-mod Counting
-mod FirstSights
-mod FlatElements
-mod LineOrder
 pub mod Members
-pub mod Outside
 pub mod Steps
-mod Within
-mod Marking
-mod Choosing
-mod Fitting
-mod Elements
 mod Going
-mod Unfit
-mod Marks
 mod NetLists
 mod ReaderLists
 mod FlatNets
@@ -24,16 +12,6 @@ mod BlockLists
 mod TableLaws
 mod PackedLaws
 mod Examples
-pub mod Raising
-pub mod Choice
-pub mod ElementLemmas
-pub mod GrowingLemmas
-pub mod ChoosingLemmas
-pub mod FreeNumbers
-pub mod KeyLemmas
-pub mod Untouched
-pub mod SeedLemmas
-mod Filling
 mod Legal
 mod Partition
 mod BlockNetLaws

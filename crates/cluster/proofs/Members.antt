@@ -1,8 +1,8 @@
 -- What every packing keeps: clusters have members, and these are elements, of which there are few.
-use Rattle.std.proofs.Common.{◌≡◌, ◌≢◌, ℕ, suc, zero, ◌+◌, ◌<◌, ◌≤◌, Bool, true, false, List, [], ◌∷◌, ◌++◌, All, filter, length, map, drop, if◌then◌else◌, sym, refl, ◌∙◌, arith, None, nat_lt, length-append, ap, eqb, ◌⊎◌, inl, inr}
+use Rattle.std.proofs.Common.{◌≡◌, ℕ, suc, zero, ◌+◌, ◌<◌, ◌≤◌, List, [], ◌∷◌, ◌++◌, All, filter, length, map, drop, sym, refl, ◌∙◌, arith, None, length-append, ap}
 use Rattle.std.proofs.lemmas.List.{length-map, take-append-drop}
-use Rattle.std.specs.List.{list_any, range_with_len, take_while, prefix_len}
-use Rattle.std.proofs.lemmas.Bool.Decides.{Decides-eqb, eqb_tells}
+use Rattle.std.specs.List.{range_with_len, take_while, prefix_len}
+use Rattle.std.proofs.lemmas.Bool.Decides.{Decides-eqb}
 use Rattle.std.proofs.lemmas.List.Sums.{length-filter, count_by-le-length}
 use Rattle.std.proofs.lemmas.Map.Made.{IsDistinct-from_AllPairs}
 use Rattle.std.proofs.lemmas.Map.Steps.{length-le_from_distinct_below}
@@ -13,18 +13,11 @@ use Rattle.blif.specs.declared.circuit.Circuit.{Circuit}
 use Rattle.blif.specs.declared.latches.Latch.{Latch}
 use Rattle.blif.specs.LookupTables.{LookupTable}
 use Rattle.blif.specs.LawfulCircuits.{IsCircuit, drivers_of}
-use Rattle.cluster.specs.Bles.{LogicElement, bles_of, element_of_latch, element_of_table, in_line_order, is_above, latch_behind, stands_alone}
-use Rattle.cluster.specs.Clusters.{cluster_of, clusters_after, first_most, free_of, grown, input_count_at, leading, may_join, packed_of, seed_of, shared_nets, unfit_of, with_cluster, with_member}
+use Rattle.ble_cluster.specs.Bles.{LogicElement, bles_of, element_of_latch, element_of_table, in_line_order, is_above, latch_behind, stands_alone}
+use Rattle.ble_cluster.specs.Clusters.{cluster_of, clusters_after, first_most, free_of, grown, input_count_at, may_join, seed_of, shared_nets, unfit_of, with_cluster, with_member}
+use Rattle.cluster.specs.Clusters.{packed_of}
 use Rattle.cluster.specs.Packing.{IsPacked}
-
--- what is chosen among lawful numbers is lawful
-pub leading_lawful : (P : ℕ → Type 0) (score : ℕ → ℕ) (best : ℕ) (numbers : List ℕ) → P best → All P numbers → P (leading score best numbers)
-leading_lawful P score best [] b h = b
-leading_lawful P score best (number ∷ numbers) b h = leading_lawful P score (if nat_lt (score best) (score number) then number else best) numbers (by (nat_lt (score best) (score number))) (All-tail P number numbers h)
-  where
-    by : (test : Bool) → P (if test then number else best)
-    by true = h 0 number (omega arith)
-    by false = b
+use Rattle.ble_cluster.proofs.Leading.{found, leading_lawful}
 
 with_lawful : (P : ℕ → Type 0) (score : ℕ → ℕ) (members numbers : List ℕ) → All P members → All P numbers → All P (with_member members (first_most score numbers))
 with_lawful P score members [] h k = h
@@ -76,15 +69,6 @@ module _ (arch : Arch) (elements : List LogicElement) where
   unfolding clusters_after
   all_seeded zero = All-nil _
   all_seeded (suc steps) = seeded_one (clusters_after arch elements steps) (cluster_of arch elements (free_of elements (clusters_after arch elements steps))) (all_seeded steps)
-
--- what holds of all holds of one that is found
-pub found : (P : ℕ → Type 0) (numbers : List ℕ) → All P numbers → (number : ℕ) → list_any (eqb number) numbers ≡ true → P number
-found P [] h number e = absurd cc
-found P (other ∷ numbers) h number e = by (eqb_tells number other) (found P numbers (All-tail P other numbers h) number)
-  where
-    by : ((eqb number other ≡ true) × (number ≡ other)) ⊎ ((eqb number other ≡ false) × (number ≢ other)) → (list_any (eqb number) numbers ≡ true → P number) → P number
-    by (inl same) next = rw same.1 (h 0 number (omega arith))
-    by (inr differs) next = next (rw differs.0 at e)
 
 -- at most as many elements as tables and latches
 module _ (circuit : Circuit) where

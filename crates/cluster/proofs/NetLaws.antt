@@ -5,11 +5,11 @@ use Rattle.std.specs.Option.{option_to_list}
 use Rattle.std.proofs.lemmas.List.{append-nil, take_more}
 use Rattle.std.proofs.lemmas.List.Concat.{flat_map-append}
 use Rattle.blif.specs.declared.latches.Latch.{Latch}
-use Rattle.cluster.specs.Nets.{with_nets, distinct}
-use Rattle.cluster.specs.NetSets.{NetsAmong}
+use Rattle.ble_cluster.specs.Nets.{with_nets, distinct}
+use Rattle.ble_cluster.specs.NetSets.{NetsAmong}
 use Rattle.cluster.specs.Blocks.{is_empty}
 use Rattle.cluster.specs.NetUses.{controls_of}
-use Rattle.cluster.proofs.Outside.{with_nets-append}
+use Rattle.ble_cluster.proofs.Outside.{with_nets-append}
 
 -- what passes somewhere leaves something
 pub some_left : (p : ℕ → Bool) (xs : List ℕ) → list_any p xs ≡ not (is_empty (filter p xs))

@@ -8,12 +8,12 @@ use Rattle.std.proofs.lemmas.List.Concat.{flat_map-append}
 use Rattle.std.proofs.lemmas.List.Elements.{filter-append, filter_agree}
 use Rattle.std.proofs.lemmas.Option.{get_or_from_slice_get}
 use Rattle.std.proofs.lemmas.Bool.{eq-eqb, eqb-true, ne_eqb, false≢true}
-use Rattle.cluster.specs.Nets.{has, with_net, with_nets, distinct}
-use Rattle.cluster.specs.NetSets.{NetsAmong}
-use Rattle.cluster.specs.Bles.{LogicElement, element_at}
-use Rattle.cluster.specs.Clusters.{elements_at, inputs_of, outputs_of, outside_inputs}
+use Rattle.ble_cluster.specs.Nets.{has, with_net, with_nets, distinct}
+use Rattle.ble_cluster.specs.NetSets.{NetsAmong}
+use Rattle.ble_cluster.specs.Bles.{LogicElement, element_at}
+use Rattle.ble_cluster.specs.Clusters.{elements_at, inputs_of, outputs_of, outside_inputs}
 use Rattle.cluster.specs.ClusterPins.{all_clocks_of}
-use Rattle.cluster.proofs.Outside.{has-with_net, has-with_nets, with_nets-append}
+use Rattle.ble_cluster.proofs.Outside.{has-with_net, has-with_nets, with_nets-append}
 
 -- the nets of one element more
 gathered_more : (f : LogicElement → List ℕ) (elements : List LogicElement) (members : List ℕ) (i : ℕ) (start : List ℕ) (element : LogicElement) → i < length members → slice_get elements (get_or members i 0) ≡ Some element → with_nets (with_nets start (flat_map f (elements_at elements (take i members)))) (f element) ≡ with_nets start (flat_map f (elements_at elements (take (i + 1) members)))

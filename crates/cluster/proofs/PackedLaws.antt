@@ -11,8 +11,9 @@ use Rattle.arch_file.specs.declared.arch.PinClass.TheVariants.{Input, Clock}
 use Rattle.cluster.specs.declared.packed_tables.PackedTables.{PackedTables}
 use Rattle.cluster.specs.declared.block.Block.{Block}
 use Rattle.cluster.specs.declared.block.Block.TheVariants.{InputPad, OutputPad, Cluster}
-use Rattle.cluster.specs.Bles.{LogicElement, bles_of, element_at}
-use Rattle.cluster.specs.Clusters.{PackedCircuit, elements_at, outputs_of, outside_inputs, clocks_of}
+use Rattle.ble_cluster.specs.Bles.{LogicElement, bles_of, element_at}
+use Rattle.ble_cluster.specs.Clusters.{elements_at, outputs_of, outside_inputs, clocks_of}
+use Rattle.cluster.specs.Clusters.{PackedCircuit}
 use Rattle.cluster.specs.PackedTables.{AreTablesOf}
 use Rattle.cluster.specs.Blocks.{blocks_of, carried, cluster_block, if_leaving, leaves_block, nets_of_cluster, pins_of, rank_of}
 use Rattle.cluster.specs.ClusterPins.{pin_ranks}

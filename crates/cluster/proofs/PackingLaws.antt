@@ -1,15 +1,14 @@
 -- The laws of each packing.
-use Rattle.std.proofs.Common.{◌≡◌, ◌≢◌, ℕ, ◌+◌, ◌<◌, ◌≤◌, true, None, List, [], ◌∷◌, ◌++◌, All, length, get_or, map, refl, sym, ap, subst, ◌∙◌, arith, length-append}
+use Rattle.std.proofs.Common.{◌≡◌, ◌≢◌, ℕ, ◌<◌, ◌≤◌, List, ◌++◌, length, get_or, map, refl, sym, ap, subst, arith, length-append}
 use Rattle.std.specs.Prelude.{AllPairs}
 use Rattle.std.specs.List.{concat}
 use Rattle.std.proofs.lemmas.List.{get_or_append_left}
 use Rattle.arch_file.proofs.FewPins.{few_pins}
 use Rattle.blif.specs.declared.latches.Latch.{Latch}
 use Rattle.blif.specs.LookupTables.{LookupTable}
-use Rattle.blif.specs.LawfulCircuits.{IsCircuit, drivers_of}
-use Rattle.cluster.specs.Bles.{bles_of}
-use Rattle.cluster.specs.Blocks.{blocks_of}
-use Rattle.cluster.specs.Clusters.{PackedCircuit, clusters_after, packed_of}
+use Rattle.ble_cluster.specs.Bles.{bles_of}
+use Rattle.ble_cluster.specs.Clusters.{clusters_after}
+use Rattle.cluster.specs.Clusters.{PackedCircuit, packed_of}
 use Rattle.cluster.specs.LawfulPackings.{IsPacked}
 use Rattle.cluster.specs.PackingLaws.{IsLawfulPacking}
 use Rattle.cluster.proofs.BlockNetLaws.{apart, contained, few_nets, nets_lawful}

@@ -1,5 +1,5 @@
 -- Each element stands in one cluster.
-use Rattle.std.proofs.Common.{◌≡◌, ℕ, suc, zero, ◌+◌, ◌<◌, ◌≤◌, Bool, true, false, not, ◌||◌, ◌&&◌, ◌==◌, nat_lt, List, [], ◌∷◌, ◌++◌, All, None, filter, length, refl, sym, ap, ◌∙◌, ◌⊎◌, inl, inr, arith}
+use Rattle.std.proofs.Common.{◌≡◌, ℕ, suc, zero, ◌+◌, ◌<◌, ◌≤◌, Bool, true, false, not, ◌||◌, ◌==◌, List, [], ◌∷◌, ◌++◌, All, None, filter, length, refl, sym, ap, ◌∙◌, ◌⊎◌, inl, inr, arith}
 use Rattle.std.specs.List.{concat, list_any, range_with_len}
 use Rattle.std.proofs.lemmas.List.{append-nil}
 use Rattle.std.proofs.lemmas.List.Folds.{concat-append}
@@ -7,12 +7,12 @@ use Rattle.std.proofs.lemmas.List.Elements.{All-nil, All-cons, All-head, All-tai
 use Rattle.std.proofs.lemmas.Bool.{eqb-true}
 use Rattle.std.proofs.lemmas.Bool.Decides.{nat_tests}
 use Rattle.arch_file.specs.declared.arch.Arch.{Arch}
-use Rattle.cluster.specs.Nets.{IsOnce, has}
-use Rattle.cluster.specs.Bles.{LogicElement}
-use Rattle.cluster.specs.Clusters.{cluster_of, clusters_after, elements_at, fits_in_cluster, free_of, unfit_among, with_cluster}
+use Rattle.ble_cluster.specs.Nets.{IsOnce, has}
+use Rattle.ble_cluster.specs.Bles.{LogicElement}
+use Rattle.ble_cluster.specs.Clusters.{cluster_of, clusters_after, elements_at, fits_in_cluster, free_of, unfit_among, with_cluster}
 use Rattle.cluster.proofs.Legal.{IsLegal, cluster_legal}
 use Rattle.cluster.proofs.Members.{free_lawful}
-use Rattle.cluster.proofs.Outside.{has-append}
+use Rattle.ble_cluster.proofs.Outside.{has-append}
 use Rattle.cluster.proofs.Steps.{Going, free_after, going_first, going_on, step_idle}
 
 -- what is in some list is in all of them joined

@@ -6,18 +6,10 @@ use Rattle.std.specs.List.{list_any, range_with_len}
 use Rattle.std.proofs.lemmas.List.Folds.{list_any-append}
 use Rattle.std.proofs.lemmas.List.FromFn.{length-range_with_len}
 use Rattle.arch_file.specs.declared.arch.Arch.{Arch}
-use Rattle.cluster.specs.Nets.{has}
-use Rattle.cluster.specs.Bles.{LogicElement}
-use Rattle.cluster.specs.Clusters.{cluster_of, clusters_after, free_of, grown, input_count_at, leading, next_member, with_cluster, with_member}
-
--- of none there is none to choose
-nothing_grows : (arch : Arch) (elements : List LogicElement) (additions : ℕ) → grown arch elements [] [] additions ≡ []
-nothing_grows arch elements zero = refl
-nothing_grows arch elements (suc additions) = rw (nothing_grows arch elements additions) refl
-
-pub no_cluster : (arch : Arch) (elements : List LogicElement) → cluster_of arch elements [] ≡ []
-unfolding cluster_of
-no_cluster arch elements = nothing_grows arch elements arch.cluster_size
+use Rattle.ble_cluster.specs.Nets.{has}
+use Rattle.ble_cluster.specs.Bles.{LogicElement}
+use Rattle.ble_cluster.specs.Clusters.{cluster_of, clusters_after, free_of, grown, input_count_at, leading, next_member, with_cluster, with_member}
+use Rattle.ble_cluster.proofs.Fitting.{no_cluster}
 
 -- a cluster begins with its seed
 pub record BeginsWith (seed : ℕ) (members : List ℕ) : Type 0 where

@@ -6,9 +6,9 @@ use Rattle.arch_file.specs.declared.arch.Arch.{Arch}
 use Rattle.blif.specs.declared.circuit.Circuit.{Circuit}
 use Rattle.cluster.specs.declared.net_uses.NetUses.{NetUses}
 use Rattle.cluster.specs.declared.packed_tables.PackedTables.{PackedTables}
-use Rattle.cluster.specs.Nets.{distinct}
-use Rattle.cluster.specs.NetSets.{NetsAmong}
-use Rattle.cluster.specs.Bles.{LogicElement, bles_of}
+use Rattle.ble_cluster.specs.Nets.{distinct}
+use Rattle.ble_cluster.specs.NetSets.{NetsAmong}
+use Rattle.ble_cluster.specs.Bles.{LogicElement, bles_of}
 use Rattle.cluster.specs.Clusters.{PackedCircuit}
 use Rattle.cluster.specs.Blocks.{BlockNet, leaves_block}
 use Rattle.cluster.specs.ClusterPins.{IsElementWithin, inputs_of_clusters, clocks_of_clusters, clusters_with, pads_with, readers_by_net, pin_ranks}

@@ -9,9 +9,10 @@ use Rattle.arch_file.specs.Arch.{is_input_class, is_output_class, is_clock_class
 use Rattle.blif.specs.declared.circuit.Circuit.{Circuit}
 use Rattle.cluster.specs.declared.block.Block.{Block}
 use Rattle.cluster.specs.declared.block.Block.TheVariants.{InputPad, OutputPad, Cluster}
-use Rattle.cluster.specs.Nets.{has}
-use Rattle.cluster.specs.Bles.{LogicElement, bles_of}
-use Rattle.cluster.specs.Clusters.{PackedCircuit, elements_at, outputs_of, clocks_of, outside_inputs}
+use Rattle.ble_cluster.specs.Nets.{has}
+use Rattle.ble_cluster.specs.Bles.{LogicElement, bles_of}
+use Rattle.ble_cluster.specs.Clusters.{elements_at, outputs_of, clocks_of, outside_inputs}
+use Rattle.cluster.specs.Clusters.{PackedCircuit}
 
 -- the BLEs of that cluster
 abbrev pub elements_in : PackedCircuit → ℕ → List LogicElement

@@ -5,9 +5,9 @@ use Rattle.std.specs.Option.{ForSome, option_to_list}
 use Rattle.arch_file.specs.declared.arch.Pin.{Pin}
 use Rattle.blif.specs.declared.circuit.Circuit.{Circuit}
 use Rattle.rows.specs.declared.by_key.Keyed.{Keyed}
-use Rattle.cluster.specs.Nets.{has, with_nets}
-use Rattle.cluster.specs.Bles.{LogicElement}
-use Rattle.cluster.specs.Clusters.{elements_at, clocks_of, outside_inputs}
+use Rattle.ble_cluster.specs.Nets.{has, with_nets}
+use Rattle.ble_cluster.specs.Bles.{LogicElement}
+use Rattle.ble_cluster.specs.Clusters.{elements_at, clocks_of, outside_inputs}
 use Rattle.cluster.specs.Blocks.{rank_of}
 use Rattle.rows.specs.ByKey.{items_with}
 

@@ -2,8 +2,9 @@
 use Rattle.std.specs.Prelude.{◌≡◌, ◌<◌, ◌≤◌, None, All, length}
 use Rattle.arch_file.specs.Arch.{IsArch}
 use Rattle.blif.specs.LawfulCircuits.{IsCircuit}
-use Rattle.cluster.specs.Bles.{bles_of}
-use Rattle.cluster.specs.Clusters.{PackedCircuit, packed_of, unfit_of}
+use Rattle.ble_cluster.specs.Bles.{bles_of}
+use Rattle.ble_cluster.specs.Clusters.{unfit_of}
+use Rattle.cluster.specs.Clusters.{PackedCircuit, packed_of}
 
 -- a packed circuit keeps the limits, and each of its BLEs fits alone; its clusters have a seed, and their members are its BLEs
 pub record IsPacked (packed : PackedCircuit) : Type 0 where

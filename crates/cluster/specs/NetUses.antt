@@ -5,9 +5,9 @@ use Rattle.std.specs.Option.{option_to_list}
 use Rattle.blif.specs.declared.circuit.Circuit.{Circuit}
 use Rattle.blif.specs.declared.latches.Latch.{Latch}
 use Rattle.cluster.specs.declared.net_uses.NetUses.{NetUses}
-use Rattle.cluster.specs.Nets.{has}
-use Rattle.cluster.specs.Bles.{LogicElement}
-use Rattle.cluster.specs.Clusters.{outputs_of}
+use Rattle.ble_cluster.specs.Nets.{has}
+use Rattle.ble_cluster.specs.Bles.{LogicElement}
+use Rattle.ble_cluster.specs.Clusters.{outputs_of}
 use Rattle.cluster.specs.Blocks.{BlockNet, is_empty}
 use Rattle.cluster.specs.ClusterPins.{members_of}
 

@@ -1,10 +1,11 @@
 -- What each packing keeps: the laws by which a placer and a router index.
-use Rattle.std.specs.Prelude.{ℕ, ◌≡◌, ◌≢◌, ◌<◌, ◌≤◌, ◌↔◌, true, IsTrue, List, All, AllPairs, Contains, length}
+use Rattle.std.specs.Prelude.{ℕ, ◌≡◌, ◌≢◌, ◌<◌, ◌≤◌, ◌↔◌, true, IsTrue, All, AllPairs, Contains, length}
 use Rattle.std.specs.List.{concat, flat_map}
 use Rattle.std.specs.Option.{option_to_list}
 use Rattle.blif.specs.declared.circuit.Circuit.{Circuit}
-use Rattle.cluster.specs.Bles.{bles_of}
-use Rattle.cluster.specs.Clusters.{PackedCircuit, elements_at, fits_in_cluster}
+use Rattle.ble_cluster.specs.Bles.{bles_of}
+use Rattle.ble_cluster.specs.Clusters.{elements_at, fits_in_cluster}
+use Rattle.cluster.specs.Clusters.{PackedCircuit}
 use Rattle.cluster.specs.Blocks.{BlockNet, block_nets, blocks_of}
 
 -- the net controls a latch

@@ -2,9 +2,9 @@
 use Rattle.std.specs.Prelude.{ℕ, suc, ◌≡◌, ◌+◌, ◌≤◌, List, [], ◌∷◌, None, length}
 use Rattle.arch_file.specs.declared.arch.Arch.{Arch}
 use Rattle.blif.specs.declared.circuit.Circuit.{Circuit}
-use Rattle.cluster.specs.Bles.{bles_of}
-use Rattle.cluster.specs.Clusters.{clusters_after, free_of, unfit_of}
-use Rattle.cluster.specs.FreeBles.{FreeBlesState}
+use Rattle.ble_cluster.specs.Bles.{bles_of}
+use Rattle.ble_cluster.specs.Clusters.{clusters_after, free_of, unfit_of}
+use Rattle.ble_cluster.specs.FreeBles.{FreeBlesState}
 
 -- the steps whose clusters are made: where nothing is free any more, the step under way has made its cluster already
 abbrev pub steps_reached : List ℕ → ℕ → ℕ

@@ -1,11 +1,10 @@
 //! The nets on the pins of one cluster.
 ghost use Rattle.std.specs.Prelude.{◌≡◌, ◌<◌, [], All, IfOk, length, filter, not};
-ghost use Rattle.cluster.specs.Nets.{has, with_nets};
-ghost use Rattle.cluster.specs.Clusters.{elements_at, inputs_of, outputs_of, clocks_of, outside_inputs};
+ghost use Rattle.ble_cluster.specs.Nets.{has, with_nets};
+ghost use Rattle.ble_cluster.specs.Clusters.{elements_at, inputs_of, outputs_of, clocks_of, outside_inputs};
 ghost use Rattle.cluster.specs.ClusterPins.{IsElementWithin, all_clocks_of};
 
-use crate::bles::Bles;
-use crate::net_set::NetSet;
+use ble_cluster::{Bles, NetSet};
 use std::alloc::{AllocError, Global};
 
 /// The nets on the pins of a cluster, by class. Kept from one cluster to the next.

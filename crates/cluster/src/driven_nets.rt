@@ -1,13 +1,13 @@
 //! The nets that blocks drive.
 ghost use Rattle.std.specs.Prelude.{◌≡◌, ◌+◌, ◌^◌, ◌<◌, ◌++◌, All, IfOk, length};
-ghost use Rattle.cluster.specs.Clusters.{elements_at};
+ghost use Rattle.ble_cluster.specs.Clusters.{elements_at};
 ghost use Rattle.cluster.specs.ClusterPins.{IsElementWithin};
 ghost use Rattle.cluster.specs.NetUses.{input_nets, driven_nets, cluster_nets};
 
-use crate::bles::Bles;
 use crate::block::BlockNet;
 use crate::block_nets::BlockNets;
 use crate::net_uses::NetUses;
+use ble_cluster::Bles;
 use blif::Circuit;
 use rows::Rows;
 use std::alloc::AllocError;

@@ -6,33 +6,21 @@
 //! - `laws_of_packing` says what placing and routing may take for granted of each packed circuit.
 #![tactic(auto)]
 
-mod additions;
-mod ble_index;
-mod bles;
 mod block;
 mod block_nets;
-mod candidates;
 mod cluster_sets;
 mod driven_nets;
 mod fault;
-mod first_free;
-mod free_bles;
-mod growing_cluster;
-mod keys;
 mod laws;
-mod net_set;
 mod net_uses;
 mod packed;
 mod packed_tables;
 mod packing;
 mod pin_nets;
 mod pin_ranks;
-mod pins;
-mod readers;
 mod shared;
-mod shared_nets;
 
-pub use bles::{Ble, Bles};
+pub use ble_cluster::{Ble, Bles};
 pub use block::{Block, BlockNet};
 pub use fault::{PackError, PackFault};
 pub use laws::laws_of_packing;

@@ -2,10 +2,10 @@
 ghost use Rattle.std.specs.Prelude.{◌≡◌, ◌<◌, ◌==◌, [], IfOk, length, not};
 ghost use Rattle.std.specs.List.{list_any, slice_index_or};
 ghost use Rattle.blif.specs.LawfulCircuits.{IsCircuit};
-ghost use Rattle.cluster.specs.Nets.{has, distinct};
+ghost use Rattle.ble_cluster.specs.Nets.{has, distinct};
 ghost use Rattle.cluster.specs.NetUses.{controls_of, leaves_by};
 
-use crate::net_set::NetSet;
+use ble_cluster::NetSet;
 use blif::Circuit;
 use rows::Rows;
 use std::alloc::{AllocError, Global};

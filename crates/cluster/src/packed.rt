@@ -1,14 +1,14 @@
 //! A packed circuit.
 ghost use Rattle.std.specs.Prelude.{◌≡◌, ◌+◌, ◌<◌, length, slice_get, Some};
-ghost use Rattle.cluster.specs.Bles.{bles_of};
+ghost use Rattle.ble_cluster.specs.Bles.{bles_of};
 ghost use Rattle.cluster.specs.Blocks.{blocks_of, block_nets, pins_of, carried, nets_of_cluster};
 ghost use Rattle.cluster.specs.LawfulPackings.{IsPacked};
 ghost use Rattle.cluster.specs.PackedTables.{AreTablesOf};
 
-use crate::bles::{Ble, Bles};
 use crate::block::{Block, BlockNet};
 use crate::packed_tables::PackedTables;
 use arch_file::{Arch, PinClass, SharedArch};
+use ble_cluster::{Ble, Bles};
 use blif::{Circuit, SharedCircuit};
 use rows::Rows;
 use std::marker::Model;

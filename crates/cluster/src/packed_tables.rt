@@ -1,16 +1,16 @@
 //! What is kept beside a packed circuit, so that its pins and nets are told at once.
 ghost use Rattle.std.specs.Prelude.{◌≡◌, IfOk};
-ghost use Rattle.cluster.specs.Bles.{bles_of};
+ghost use Rattle.ble_cluster.specs.Bles.{bles_of};
 ghost use Rattle.cluster.specs.LawfulPackings.{IsPacked};
 ghost use Rattle.cluster.specs.PackedTables.{AreTablesOf};
 
-use crate::bles::Bles;
 use crate::block_nets::BlockNets;
 use crate::driven_nets::{add_cluster_nets, add_input_nets};
 use crate::net_uses::NetUses;
 use crate::pin_nets::PinNets;
 use crate::pin_ranks::ranks_of;
 use arch_file::Arch;
+use ble_cluster::Bles;
 use blif::Circuit;
 use rows::Rows;
 use std::alloc::{AllocError, Global};

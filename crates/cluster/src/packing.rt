@@ -1,20 +1,16 @@
 //! Packing, one cluster a step.
-ghost use Rattle.std.specs.Prelude.{◌≡◌, ◌≤◌, ◌==◌, All, filter, not, length, IfOk, None, OnErr};
+ghost use Rattle.std.specs.Prelude.{◌≡◌, filter, not, length, IfOk, None, OnErr};
 ghost use Rattle.arch_file.specs.Arch.{IsArch};
 ghost use Rattle.blif.specs.LawfulCircuits.{IsCircuit};
-ghost use Rattle.cluster.specs.Nets.{has};
-ghost use Rattle.cluster.specs.Clusters.{cluster_of, unfit_among, unfit_of, with_cluster};
-ghost use Rattle.cluster.specs.FreeBles.{IsElement};
+ghost use Rattle.ble_cluster.specs.Nets.{has};
+ghost use Rattle.ble_cluster.specs.Clusters.{cluster_of, unfit_among, unfit_of, with_cluster};
 ghost use Rattle.cluster.specs.Packing.{IsChecked, GoesOn};
 
-use crate::bles::Bles;
 use crate::fault::{PackError, PackFault};
-use crate::free_bles::FreeBles;
-use crate::keys::outside_inputs;
 use crate::packed::Packed;
 use crate::packed_tables::PackedTables;
-use crate::pins::input_count;
 use arch_file::{Arch, SharedArch};
+use ble_cluster::{Bles, FreeBles, unfit};
 use blif::{Circuit, SharedCircuit};
 use rows::Rows;
 use std::alloc::{AllocError, Global};
@@ -31,22 +27,6 @@ pub fn check(alloc: Global, circuit: &Circuit, arch: &Arch) -> Result<(), PackEr
         None => Ok(()),
         Some(number) => Err(PackError::Fault(PackFault::CannotFit(number))),
     }
-}
-
-/// The least BLE that doesn't fit into a cluster alone. Their nets are below the count.
-fn unfit(bles: &Bles, count: usize, arch: &Arch) -> Option<u32>
-    requires elements { All (IsElement count) bles.now }
-    requires few { length bles.now ≤ 8192 }
-    requires arch { IsArch arch.now }
-    ensures { result ≡ unfit_among arch.now bles.now }
-{
-    let pins = input_count(arch);
-    for number in 0..bles.len() {
-        if outside_inputs(bles.ble(number)) > pins {
-            return Some(number as u32);
-        }
-    }
-    None
 }
 
 /// A packing under way. Its value is the circuit, the architecture and how many steps are made.

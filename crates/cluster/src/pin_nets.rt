@@ -1,12 +1,12 @@
 //! The nets on the pins of all clusters, and the blocks that read each net.
 ghost use Rattle.std.specs.Prelude.{◌≡◌, ℕ, ◌+◌, ◌^◌, ◌<◌, List, ◌++◌, All, IfOk, length};
 ghost use Rattle.blif.specs.LawfulCircuits.{IsCircuit};
-ghost use Rattle.cluster.specs.Bles.{LogicElement};
+ghost use Rattle.ble_cluster.specs.Bles.{LogicElement};
 ghost use Rattle.cluster.specs.ClusterPins.{IsElementWithin, inputs_of_clusters, clocks_of_clusters, readers_by_net, TellReaders};
 ghost use Rattle.rows.specs.ByKey.{pairs_with};
 
-use crate::bles::Bles;
 use crate::cluster_sets::ClusterSets;
+use ble_cluster::Bles;
 use blif::Circuit;
 use rows::{Keyed, Rows};
 use std::alloc::{AllocError, Global};

@@ -1,6 +1,6 @@
 use Rattle.std.proofs.Common.{◌≡◌, take}
-use Rattle.cluster.specs.Nets.{with_nets}
-use Rattle.cluster.specs.Clusters.{elements_at}
+use Rattle.ble_cluster.specs.Nets.{with_nets}
+use Rattle.ble_cluster.specs.Clusters.{elements_at}
 use Rattle.cluster.specs.ClusterPins.{all_clocks_of}
 use Rattle.cluster.proofs.cluster_sets.add_clocks.Given as goal
 

@@ -1,7 +1,7 @@
 use Rattle.std.proofs.Common.{◌≡◌, take, not}
 use Rattle.std.specs.List.{filter}
-use Rattle.cluster.specs.Nets.{has, with_nets}
-use Rattle.cluster.specs.Clusters.{elements_at, inputs_of}
+use Rattle.ble_cluster.specs.Nets.{has, with_nets}
+use Rattle.ble_cluster.specs.Clusters.{elements_at, inputs_of}
 use Rattle.cluster.proofs.cluster_sets.add_inputs.Given as goal
 
 abbrev pub invariant-loop-member : goal.invariant-loop-member

@@ -1,6 +1,6 @@
 use Rattle.std.proofs.Common.{◌≡◌, take}
-use Rattle.cluster.specs.Nets.{with_nets}
-use Rattle.cluster.specs.Clusters.{elements_at, outputs_of}
+use Rattle.ble_cluster.specs.Nets.{with_nets}
+use Rattle.ble_cluster.specs.Clusters.{elements_at, outputs_of}
 use Rattle.cluster.proofs.cluster_sets.add_outputs.Given as goal
 
 abbrev pub invariant-loop-member : goal.invariant-loop-member

@@ -1,5 +1,5 @@
 use Rattle.std.proofs.Common.{◌≡◌, ◌++◌, take}
-use Rattle.cluster.specs.Clusters.{elements_at}
+use Rattle.ble_cluster.specs.Clusters.{elements_at}
 use Rattle.cluster.specs.NetUses.{driven_nets}
 use Rattle.cluster.proofs.driven_nets.add_driven.Given as goal
 

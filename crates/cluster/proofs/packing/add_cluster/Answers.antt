@@ -1,5 +1,5 @@
 use Rattle.std.proofs.Common.{◌∙◌, ◌==◌, ap, sym, length}
-use Rattle.cluster.specs.Clusters.{cluster_of}
+use Rattle.ble_cluster.specs.Clusters.{cluster_of}
 use Rattle.cluster.proofs.Going.{none_taken}
 use Rattle.cluster.proofs.packing.add_cluster.Goals as goal
 

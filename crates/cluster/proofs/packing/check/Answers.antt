@@ -1,7 +1,7 @@
 use Rattle.std.proofs.Common.{◌∙◌, sym, Some, None}
-use Rattle.cluster.proofs.Elements.{elements_lawful}
+use Rattle.ble_cluster.proofs.Elements.{elements_lawful}
 use Rattle.cluster.proofs.Members.{few_bles}
-use Rattle.cluster.proofs.Unfit.{unfit_is}
+use Rattle.cluster.proofs.Going.{unfit_is}
 use Rattle.cluster.proofs.packing.check.Goals as goal
 
 pub unfit-requires-clause-elements : goal.unfit-requires-clause-elements

@@ -1,5 +1,5 @@
 use Rattle.std.proofs.Common.{ℕ, List}
-use Rattle.cluster.specs.Bles.{LogicElement}
+use Rattle.ble_cluster.specs.Bles.{LogicElement}
 use Rattle.cluster.specs.ClusterPins.{TellReaders}
 use Rattle.cluster.proofs.pin_nets.pad_pairs.Given as goal
 

@@ -1,6 +1,6 @@
 use Rattle.std.proofs.Common.{ap}
-use Rattle.cluster.specs.NetSets.{NetsAmong}
-use Rattle.cluster.specs.Clusters.{elements_at}
+use Rattle.ble_cluster.specs.NetSets.{NetsAmong}
+use Rattle.ble_cluster.specs.Clusters.{elements_at}
 use Rattle.cluster.proofs.NetLists.{inputs_gathered}
 use Rattle.cluster.proofs.cluster_sets.ClusterSets.gather.Goals as goal
 

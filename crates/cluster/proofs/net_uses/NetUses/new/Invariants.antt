@@ -1,5 +1,5 @@
 use Rattle.std.proofs.Common.{◌≡◌, length, take}
-use Rattle.cluster.specs.Nets.{distinct}
+use Rattle.ble_cluster.specs.Nets.{distinct}
 use Rattle.cluster.specs.NetUses.{controls_of}
 use Rattle.cluster.proofs.net_uses.NetUses.new.Given as goal
 

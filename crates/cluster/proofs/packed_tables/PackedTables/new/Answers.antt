@@ -1,7 +1,7 @@
 use Rattle.std.proofs.Common.{All, List, arith, ap, length, subst, sym, ◌∙◌, ℕ}
 use Rattle.arch_file.specs.declared.arch.Pin.{Pin}
-use Rattle.cluster.specs.NetSets.{NetsAmong}
-use Rattle.cluster.specs.Bles.{LogicElement}
+use Rattle.ble_cluster.specs.NetSets.{NetsAmong}
+use Rattle.ble_cluster.specs.Bles.{LogicElement}
 use Rattle.cluster.specs.ClusterPins.{IsElementWithin, pin_ranks}
 use Rattle.cluster.proofs.FewBlocks.{elements_within, few_blocks}
 use Rattle.cluster.proofs.TableLaws.{tables_made, uses_count}

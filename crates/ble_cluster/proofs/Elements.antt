@@ -1,0 +1,96 @@
+-- The BLEs of a circuit: their nets are the circuit's, and each input stands once.
+use Rattle.std.proofs.Common.{◌≡◌, ℕ, ◌<◌, Bool, true, false, not, ◌&&◌, ◌==◌, nat_le, List, [], ◌∷◌, ◌++◌, Option, Some, None, All, IfSome, filter, length, map, take, drop, refl, ap, ◌∙◌, arith, if◌then◌else◌}
+use Rattle.std.specs.List.{find, flat_map, prefix_len}
+use Rattle.std.specs.Option.{option_to_list}
+use Rattle.std.proofs.lemmas.List.{append-nil}
+use Rattle.std.proofs.lemmas.Bool.Decides.{nat_tests}
+use Rattle.std.proofs.lemmas.List.Elements.{All-nil, All-cons, All-tail, All-append, All-filter, All-map, All-take, All-drop, filter_agree}
+use Rattle.arch_file.specs.declared.arch.Arch.{Arch}
+use Rattle.arch_file.specs.Arch.{IsArch, input_count}
+use Rattle.blif.specs.declared.circuit.Circuit.{Circuit}
+use Rattle.blif.specs.declared.latches.Latch.{Latch}
+use Rattle.blif.specs.LookupTables.{LookupTable}
+use Rattle.blif.specs.LawfulCircuits.{IsCircuit, IsLatchWithin, IsTableWithin}
+use Rattle.ble_cluster.specs.Nets.{has, distinct, with_net, with_nets}
+use Rattle.ble_cluster.specs.Bles.{LogicElement, bles_of, element_of_latch, element_of_table, in_line_order, is_above, is_read_once, latch_behind, stands_alone}
+use Rattle.ble_cluster.specs.Clusters.{clocks_of, fits_in_cluster, outside_inputs}
+use Rattle.ble_cluster.specs.FreeBles.{IsElement}
+use Rattle.ble_cluster.specs.Nets.{IsOnce}
+use Rattle.ble_cluster.proofs.Outside.{once-distinct, with_nets-new}
+
+-- nets that stand once stay as they are
+unseen : (nets : List ℕ) → filter (λ net. not (has [] net)) nets ≡ nets
+unseen [] = refl
+unseen (net ∷ nets) = ap (λ ns. net ∷ ns) (unseen nets)
+
+pub distinct-once : (nets : List ℕ) → IsOnce nets → distinct nets ≡ nets
+distinct-once nets once = with_nets-new [] nets once ∙ unseen nets
+
+-- nets within stay so
+with_nets_within : (P : ℕ → Type 0) (nets others : List ℕ) → All P nets → All P others → All P (with_nets nets others)
+with_nets_within P nets [] h k = h
+with_nets_within P nets (net ∷ others) h k = with_nets_within P (with_net nets net) others (by (has nets net)) (All-tail P net others k)
+  where
+    by : (b : Bool) → All P (if b then nets else nets ++ net ∷ [])
+    by true = h
+    by false = All-append P nets (net ∷ []) h (All-cons P net [] (k 0 net (omega arith)) (All-nil P))
+
+-- what is found is one of the list
+found_lawful : {X : Type 0} (P : X → Type 0) (test : X → Bool) (xs : List X) → All P xs → IfSome (find test xs) P
+found_lawful P test [] all = tt
+found_lawful P test (x ∷ xs) all = by (test x) (found_lawful P test xs (All-tail P x xs all))
+  where
+    by : (b : Bool) → IfSome (find test xs) P → IfSome (if b then Some x else find test xs) P
+    by true rest = all 0 x (omega arith)
+    by false rest = rest
+
+module _ (circuit : Circuit) (lawful : IsCircuit circuit) where
+  abbrev count : ℕ
+  count = length circuit.nets
+
+  latch_lawful : (latch : Latch) → IsLatchWithin count latch → IsElement count (element_of_latch latch)
+  latch_lawful latch is = record { inputs = All-cons (λ net. net < count) latch.input [] is.input (All-nil _); output = is.output; once = refl }
+
+  table_lawful : (table : LookupTable) (latch : Option Latch) → IsTableWithin count table → IfSome latch (IsLatchWithin count) → IsElement count (element_of_table table latch)
+  table_lawful table None is h = record { inputs = with_nets_within (λ net. net < count) [] table.inputs (All-nil _) is.inputs; output = is.output; once = distinct-once (distinct table.inputs) (once-distinct table.inputs) }
+  table_lawful table (Some latch) is h = record { inputs = with_nets_within (λ net. net < count) [] table.inputs (All-nil _) is.inputs; output = h.output; once = distinct-once (distinct table.inputs) (once-distinct table.inputs) }
+
+  behind_lawful : (net : ℕ) → IfSome (latch_behind circuit net) (IsLatchWithin count)
+  behind_lawful net = by (is_read_once circuit net)
+    where
+      by : (b : Bool) → IfSome (if b then find (λ latch. latch.input == net) circuit.latches else None) (IsLatchWithin count)
+      by true = found_lawful (IsLatchWithin count) (λ latch. latch.input == net) circuit.latches lawful.latches
+      by false = tt
+
+  lone_lawful : (latches : List Latch) → All (IsLatchWithin count) latches → All (IsElement count) (map element_of_latch latches)
+  lone_lawful latches all = All-map (IsElement count) element_of_latch latches (λ k d h. latch_lawful _ (all k d h))
+
+  order_lawful : (tables : List LookupTable) (latches : List Latch) → All (IsTableWithin count) tables → All (IsLatchWithin count) latches → All (IsElement count) (in_line_order circuit tables latches)
+  order_lawful [] latches t l = lone_lawful latches l
+  order_lawful (table ∷ tables) latches t l =
+      let above = prefix_len (is_above table.line) latches in
+      All-append (IsElement count) (map element_of_latch (take above latches)) _ (lone_lawful (take above latches) (All-take (IsLatchWithin count) above latches l))
+      (All-cons (IsElement count) _ _ (table_lawful table (latch_behind circuit table.output) (t 0 table (omega arith)) (behind_lawful table.output))
+      (order_lawful tables (drop above latches) (All-tail (IsTableWithin count) table tables t) (All-drop (IsLatchWithin count) above latches l)))
+
+-- each BLE's nets are the circuit's
+pub elements_lawful : (circuit : Circuit) → IsCircuit circuit → All (IsElement (length circuit.nets)) (bles_of circuit)
+unfolding bles_of
+elements_lawful circuit lawful = order_lawful circuit lawful circuit.tables (filter (stands_alone circuit) circuit.latches) lawful.tables (All-filter (stands_alone circuit) (IsLatchWithin (length circuit.nets)) circuit.latches lawful.latches)
+
+-- an element fits alone where its outside inputs are not more than the pins
+pub alone_fits : (arch : Arch) (count : ℕ) (element : LogicElement) → IsArch arch → IsElement count element → fits_in_cluster arch (element ∷ []) ≡ nat_le (length (filter (λ net. not (net == element.output)) element.inputs)) (input_count arch.pins)
+alone_fits arch count element profile is =
+    let room : nat_le 1 arch.cluster_size ≡ true = grind (arith, nat_tests, profile.cluster_size.0) in
+    let inputs : distinct (flat_map (λ (e : LogicElement). e.inputs) (element ∷ [])) ≡ element.inputs = ap distinct (append-nil element.inputs) ∙ is.once in
+    let outside : outside_inputs (element ∷ []) ≡ filter (λ net. not (net == element.output)) element.inputs = ap (filter (λ net. not (has (element.output ∷ []) net))) inputs ∙ filter_agree (λ net. not (has (element.output ∷ []) net)) (λ net. not (net == element.output)) (λ net. grind (arith, nat_tests)) element.inputs in
+    let clocks : nat_le (length (clocks_of (element ∷ []))) 1 ≡ true = ap (λ clocks. nat_le (length (distinct clocks)) 1) (append-nil (option_to_list element.clock)) ∙ one element.clock in
+    rw (room, outside, clocks) (last (nat_le (length (filter (λ net. not (net == element.output)) element.inputs)) (input_count arch.pins)))
+  where
+    one : (clock : Option ℕ) → nat_le (length (distinct (option_to_list clock))) 1 ≡ true
+    one None = refl
+    one (Some clock) = refl
+
+    last : (b : Bool) → (b && true) ≡ b
+    last true = refl
+    last false = refl

@@ -1,0 +1,38 @@
+-- A cluster that its last member makes full.
+use Rattle.std.proofs.Common.{◌≡◌, ℕ, suc, ◌+◌, ◌<◌, ◌≤◌, Bool, true, false, if◌then◌else◌, List, [], ◌∷◌, ◌++◌, All, None, Some, length, refl, sym, ap, ◌∙◌, arith, length-append}
+use Rattle.std.proofs.lemmas.List.Elements.{All-nil, All-cons, All-append}
+use Rattle.arch_file.specs.declared.arch.Arch.{Arch}
+use Rattle.ble_cluster.specs.Bles.{LogicElement}
+use Rattle.ble_cluster.specs.Clusters.{cluster_of, first_most, grown, input_count_at, next_member, with_member}
+use Rattle.ble_cluster.specs.FreeBles.{free_in}
+use Rattle.ble_cluster.proofs.Choosing.{grown_full}
+use Rattle.ble_cluster.proofs.ChoosingLemmas.{next_none}
+use Rattle.ble_cluster.proofs.Fitting.{cluster_is}
+use Rattle.ble_cluster.proofs.Untouched.{full_refuses}
+
+module _ (arch : Arch) (elements : List LogicElement) (taken : List Bool) (marks : length taken ≡ length elements) where
+  none_joins : (members : List ℕ) → arch.cluster_size ≤ length members → next_member arch elements (free_in taken) members ≡ None
+  none_joins members full = next_none arch elements taken members marks (λ other small. full_refuses arch elements taken members other full)
+
+  -- a full cluster stays as it is
+  pub full_stays : (members : List ℕ) (additions : ℕ) → arch.cluster_size ≤ length members → grown arch elements (free_in taken) members additions ≡ members
+  full_stays members additions full = grown_full arch elements (free_in taken) members 0 additions (omega arith) (none_joins members full)
+
+  -- the last member
+  pub filled : (seed members : List ℕ) (number added : ℕ) → members ≡ grown arch elements (free_in taken) seed added → Some number ≡ next_member arch elements (free_in taken) members → length members + 1 ≡ arch.cluster_size → added < arch.cluster_size → members ++ number ∷ [] ≡ grown arch elements (free_in taken) seed arch.cluster_size
+  filled seed members number added is next last within =
+      let free = free_in taken in
+      let one : grown arch elements free seed (suc added) ≡ members ++ number ∷ [] = ap (λ (ms : List ℕ). with_member ms (next_member arch elements free ms)) (sym is) ∙ ap (with_member members) (sym next) in
+      let full : arch.cluster_size ≤ length (grown arch elements free seed (suc added)) = (let count = ap (λ (ms : List ℕ). length ms) one in omega (arith, count, last, length-append members (number ∷ []))) in
+      sym (grown_full arch elements free seed (suc added) arch.cluster_size (omega (arith, within)) (none_joins (grown arch elements free seed (suc added)) full) ∙ one)
+
+  -- a seed that makes the cluster full
+  pub alone : (cleared : List ℕ) (seed : ℕ) → Some seed ≡ first_most (input_count_at elements) (free_in taken) → cleared ≡ [] → arch.cluster_size ≡ 1 → cleared ++ seed ∷ [] ≡ cluster_of arch elements (free_in taken)
+  alone cleared seed first nothing one =
+      let full : arch.cluster_size ≤ length (cleared ++ seed ∷ []) = omega (arith, one, length-append cleared (seed ∷ [])) in
+      sym (full_stays (cleared ++ seed ∷ []) arch.cluster_size full) ∙ cluster_is arch elements (free_in taken) (cleared ++ seed ∷ []) cleared seed first nothing refl
+
+-- what all members keep, where the last one may have been added
+pub all_filled : (P : ℕ → Type 0) (members filled : List ℕ) (number : ℕ) (made : Bool) → filled ≡ (if made then members ++ number ∷ [] else members) → All P members → P number → All P filled
+all_filled P members filled number true is all one = rw is (All-append P members (number ∷ []) all (All-cons P number [] one (All-nil P)))
+all_filled P members filled number false is all one = rw is all

@@ -1,0 +1,321 @@
+-- A cluster under way with one element more.
+use Rattle.std.proofs.Common.{◌≡◌, ◌≢◌, ℕ, ◌+◌, ◌-◌, ◌<◌, ◌≤◌, ◌^◌, ◌⊎◌, inl, inr, Bool, true, false, not, ◌||◌, ◌&&◌, ◌==◌, eqb, List, [], ◌∷◌, ◌++◌, All, Option, Some, None, filter, length, take, nat_le, nat_lt, if◌then◌else◌, sym, refl, ap, ◌∙◌, arith, length-append}
+use Rattle.std.specs.List.{flat_map, slice_index_or}
+use Rattle.std.specs.Option.{option_or, option_to_list}
+use Rattle.std.proofs.lemmas.Bool.Decides.{eqb_tells, nat_tests}
+use Rattle.std.proofs.lemmas.Bool.{eqb-true}
+use Rattle.std.proofs.lemmas.List.{append-nil, length-map, map-append, take_more}
+use Rattle.std.specs.List.{AllByRecursion, IsDistinct}
+use Rattle.std.proofs.lemmas.Map.Steps.{length-le_from_distinct_below}
+use Rattle.ble_cluster.proofs.Leading.{found}
+use Rattle.std.specs.Prelude.{slice_get}
+use Rattle.std.proofs.lemmas.Option.{get_or_from_slice_get}
+use Rattle.std.proofs.lemmas.List.Sums.{length-filter, count_by-le-length}
+use Rattle.std.proofs.lemmas.Grind.{flat_map-append}
+use Rattle.arch_file.specs.declared.arch.Arch.{Arch}
+use Rattle.arch_file.specs.Arch.{input_count}
+use Rattle.ble_cluster.specs.declared.growing_cluster.GrowingCluster.{GrowingCluster}
+use Rattle.ble_cluster.specs.Nets.{IsOnce, distinct, has, with_net, with_nets}
+use Rattle.ble_cluster.specs.Bles.{LogicElement, element_at}
+use Rattle.ble_cluster.specs.Clusters.{clocks_of, elements_at, fits_in_cluster, inputs_of, nets_of, outputs_of, outside_inputs}
+use Rattle.std.proofs.lemmas.List.Elements.{All-append, All-cons, All-from_get_or, All-nil}
+use Rattle.ble_cluster.specs.NetSets.{NetsAmong}
+use Rattle.ble_cluster.specs.OutsideInputs.{gained, loses}
+use Rattle.ble_cluster.specs.SharedNets.{ShareNothing}
+use Rattle.ble_cluster.specs.GrowingCluster.{AreShared, EntersUnless, HaveRoom, IsEntering, IsGrowingCluster, IsTold, MayFit, agree, later_clock, is_new_input, new_inputs_of}
+use Rattle.ble_cluster.specs.BleIndex.{AreLawful, BlesOver}
+use Rattle.ble_cluster.specs.FreeBles.{IsElement}
+use Rattle.ble_cluster.proofs.ElementLemmas.{inputs_once, nets_within}
+use Rattle.ble_cluster.proofs.Outside.{has-append, has-distinct, has-member_nets, has-with_net, once-distinct, outside_more, shared_more, shared_same, with_nets-append}
+
+-- tests that answer the same keep the same
+filter_agrees : (test other : ℕ → Bool) → ((net : ℕ) → test net ≡ other net) → (nets : List ℕ) → filter test nets ≡ filter other nets
+filter_agrees test other same [] = refl
+filter_agrees test other same (net ∷ nets) = let here = same net in let ih = filter_agrees test other same nets in grind (arith, here, ih)
+
+apart : (net : ℕ) (nets : List ℕ) → has nets net ≡ false → AllByRecursion (λ other. eqb net other ≡ false) nets
+apart net [] h = tt
+apart net (other ∷ nets) h = (grind (arith, nat_tests, h), apart net nets (grind (arith, h)))
+
+once_distinct : (nets : List ℕ) → IsOnce nets → IsDistinct eqb nets
+unfolding IsDistinct
+once_distinct [] once = tt
+once_distinct (net ∷ nets) once = (apart net nets once.0, once_distinct nets once.1)
+
+-- nets that stand once, below a count, are no more than that
+pub once_few : (nets : List ℕ) (count : ℕ) → IsOnce nets → All (λ net. net < count) nets → length nets ≤ count
+once_few nets count once within = length-le_from_distinct_below nets count (once_distinct nets once) (found (λ net. net < count) nets within)
+
+module _ (elements : List LogicElement) (nets : ℕ) (growth : GrowingCluster) (g : IsGrowingCluster elements nets growth) where
+  abbrev members : List LogicElement
+  members = elements_at elements growth.members.items
+
+  pub reads_are : (net : ℕ) → has growth.reads.nets net ≡ has (inputs_of members) net
+  reads_are net = rw g.reads (has-distinct (inputs_of members) net)
+
+  pub drives_are : (net : ℕ) → has growth.drives.nets net ≡ has (outputs_of members) net
+  drives_are net = rw g.drives (has-distinct (outputs_of members) net)
+
+  -- the new inputs are those that the members gain
+  pub new_are : (element : LogicElement) → new_inputs_of growth.reads.nets growth.drives.nets element.output element.inputs ≡ gained members element
+  new_are element = filter_agrees (is_new_input growth.reads.nets growth.drives.nets element.output) _ (λ net. let r = reads_are net in let d = drives_are net in grind (arith, r, d)) element.inputs
+
+  pub members_more : (number : ℕ) → elements_at elements (growth.members.items ++ number ∷ []) ≡ members ++ element_at elements number ∷ []
+  members_more number = map-append (element_at elements) growth.members.items (number ∷ [])
+
+  -- how many inputs from outside there are with one element more
+  pub record OutsideWith (number new : ℕ) (lost : Bool) : Type 0 where
+    pub enough : lost ≡ true → 1 ≤ growth.outside + new
+    pub sum : length (outside_inputs (elements_at elements (growth.members.items ++ number ∷ []))) + (if lost then 1 else 0) ≡ growth.outside + new
+
+  pub outside_with : (number new : ℕ) (lost : Bool) → IsOnce (element_at elements number).inputs
+      → new ≡ length (new_inputs_of growth.reads.nets growth.drives.nets (element_at elements number).output (element_at elements number).inputs)
+      → lost ≡ (has growth.reads.nets (element_at elements number).output && not (has growth.drives.nets (element_at elements number).output))
+      → OutsideWith number new lost
+  outside_with number new lost once counted loss =
+      let element = element_at elements number in
+      let more = outside_more members element once in
+      let r = reads_are element.output in
+      let d = drives_are element.output in
+      let same : lost ≡ loses members element = grind (arith, loss, r, d) in
+      let sum : length (outside_inputs (elements_at elements (growth.members.items ++ number ∷ []))) + (if lost then 1 else 0) ≡ growth.outside + new =
+      rw (members_more number, same) (omega (arith, more, g.outside, counted ∙ ap length (new_are element))) in
+      record { enough = λ is. let lost_one : lost ≡ true = is in omega (arith, rw lost_one at sum); sum = sum }
+
+  -- the element that a lookup gave
+  pub element_is : (number : ℕ) (element : LogicElement) → slice_get elements number ≡ Some element → element_at elements number ≡ element
+  element_is number element looked = get_or_from_slice_get elements number element _ looked
+
+  -- the same, for an element that a lookup gave
+  pub outside_of : (number new : ℕ) (lost : Bool) (element : LogicElement) → slice_get elements number ≡ Some element → IsElement nets element
+      → new ≡ length (new_inputs_of growth.reads.nets growth.drives.nets element.output element.inputs)
+      → lost ≡ (has growth.reads.nets element.output && not (has growth.drives.nets element.output))
+      → OutsideWith number new lost
+  outside_of number new lost element looked lawful counted loss =
+      let same = element_is number element looked in
+      outside_with number new lost (rw same (inputs_once element lawful)) (rw same counted) (rw same loss)
+
+  -- new inputs are few
+  pub new_few : nets ≤ 8192 → (output : ℕ) (inputs : List ℕ) → IsOnce inputs → All (λ net. net < nets) inputs → length (new_inputs_of growth.reads.nets growth.drives.nets output inputs) ≤ 8192
+  new_few few output inputs once within = omega (arith, once_few inputs nets once within, few, length-filter (is_new_input growth.reads.nets growth.drives.nets output) inputs, count_by-le-length (is_new_input growth.reads.nets growth.drives.nets output) inputs)
+
+  -- the clocks with one element more
+  pub clocks_more : (number : ℕ) → clocks_of (elements_at elements (growth.members.items ++ number ∷ [])) ≡ with_nets (option_to_list growth.clock) (option_to_list (element_at elements number).clock)
+  clocks_more number =
+      let element = element_at elements number in
+      let all = flat_map-append (λ (e : LogicElement). option_to_list e.clock) members (element ∷ []) ∙ ap (λ last. flat_map (λ (e : LogicElement). option_to_list e.clock) members ++ last) (append-nil (option_to_list element.clock)) in
+      rw (members_more number, all) (with_nets-append [] (flat_map (λ (e : LogicElement). option_to_list e.clock) members) (option_to_list element.clock) ∙ ap (λ front. with_nets front (option_to_list element.clock)) g.clock)
+
+  at_most_one : (clock other : Option ℕ) → nat_le (length (with_nets (option_to_list clock) (option_to_list other))) 1 ≡ agree clock other
+  at_most_one None None = refl
+  at_most_one None (Some other) = refl
+  at_most_one (Some clock) None = refl
+  at_most_one (Some clock) (Some other) = by (clock == other) refl
+    where
+      by : (same : Bool) → (clock == other) ≡ same → nat_le (length (with_nets (clock ∷ []) (other ∷ []))) 1 ≡ same
+      by true e = grind (arith, nat_tests, e)
+      by false e = grind (arith, nat_tests, e)
+
+  pub fits_is : (arch : Arch) (number outside : ℕ) (element : LogicElement) → slice_get elements number ≡ Some element
+      → outside ≡ length (outside_inputs (elements_at elements (growth.members.items ++ number ∷ [])))
+      → fits_in_cluster arch (elements_at elements (growth.members.items ++ number ∷ [])) ≡ (nat_lt (length growth.members.items) arch.cluster_size && (agree growth.clock element.clock && nat_le outside (input_count arch.pins)))
+  fits_is arch number outside element looked counted =
+      let same = element_is number element looked in
+      let clocks : nat_le (length (clocks_of (elements_at elements (growth.members.items ++ number ∷ [])))) 1 ≡ agree growth.clock element.clock =
+      rw (clocks_more number, same) (at_most_one growth.clock element.clock) in
+      let size : length (elements_at elements (growth.members.items ++ number ∷ [])) ≡ length growth.members.items + 1 =
+      length-map (growth.members.items ++ number ∷ []) (element_at elements) ∙ length-append growth.members.items (number ∷ []) in
+      grind (arith, nat_tests, clocks, size, counted)
+
+-- with no nets nothing is shared
+none_shared : (list : List ℕ) → length (filter (has []) list) ≡ 0
+none_shared [] = refl
+none_shared (net ∷ list) = none_shared list
+
+-- a cluster without members
+pub growth_none : (elements : List LogicElement) (nets : ℕ) (growth : GrowingCluster) → growth.members.items ≡ [] → growth.reads ≡ record { count = nets; nets = [] } → growth.drives ≡ record { count = nets; nets = [] }
+    → growth.outside ≡ 0 → growth.clock ≡ None → length growth.gains ≡ length elements → ShareNothing growth.gains → IsGrowingCluster elements nets growth
+growth_none elements nets growth m r d o c l n = record {
+  members = rw m (All-nil _);
+  reads_count = ap (λ set. set.count) r;
+  drives_count = ap (λ set. set.count) d;
+  gains_count = l;
+  reads = ap (λ set. set.nets) r ∙ rw m refl;
+  drives = ap (λ set. set.nets) d ∙ rw m refl;
+  outside = o ∙ rw m refl;
+  small = omega (arith, o);
+  clock = rw (m, c) refl;
+  gains = λ number small. n number (omega (arith, small, l)) ∙ rw m (sym (none_shared (nets_of (element_at elements number))));
+}
+
+-- a net that is there once counts once
+counted_once : (nets : List ℕ) (net : ℕ) (list : List ℕ) → IsOnce list → has nets net ≡ false → length (filter (λ other. has (net ∷ []) other && not (has nets other)) list) ≡ (if has list net then 1 else 0)
+counted_once nets net [] once h = refl
+counted_once nets net (other ∷ list) once h = by (eqb_tells other net) (counted_once nets net list once.1 h)
+  where
+    by : ((eqb other net ≡ true) × (other ≡ net)) ⊎ ((eqb other net ≡ false) × (other ≢ net)) → length (filter (λ m. has (net ∷ []) m && not (has nets m)) list) ≡ (if has list net then 1 else 0)
+        → length (filter (λ m. has (net ∷ []) m && not (has nets m)) (other ∷ list)) ≡ (if has (other ∷ list) net then 1 else 0)
+    by (inl same) ih = let none : has list net ≡ false = rw same.1 at once.0 in let new : has nets other ≡ false = rw (sym same.1) at h in let turned : (net == other) ≡ true = grind (arith, nat_tests, same.1) in grind (arith, same.0, none, new, turned, ih)
+    by (inr differs) ih = let turned : (net == other) ≡ false = grind (arith, nat_tests, differs.0) in grind (arith, differs.0, turned, ih)
+
+-- a net that enters is shared by those that have it
+pub entered : (elements : List LogicElement) (nets : List ℕ) (net : ℕ) (old new : List ℕ) → length old ≡ length elements → AreShared elements nets old → has nets net ≡ false → IsEntering elements net old new → AreShared elements (nets ++ net ∷ []) new
+entered elements nets net old new count s h e = λ number small.
+    let element = element_at elements number in
+    let raised = e.raised.raised number (omega (arith, small, count)) in
+    let listed = e.having.listed number small in
+    let before = s number small in
+    let more = shared_more nets (net ∷ []) (nets_of element) in
+    let one = counted_once nets net (nets_of element) (once-distinct (element.inputs ++ element.output ∷ [])) h in
+    grind (arith, raised, listed, before, more, one)
+
+-- what is told stays so for lists that have the same nets
+pub told_same : (elements : List LogicElement) (nets others gains : List ℕ) → ((net : ℕ) → has nets net ≡ has others net) → AreShared elements nets gains → AreShared elements others gains
+told_same elements nets others gains same s = λ number small. s number small ∙ shared_same nets others same (nets_of (element_at elements number))
+
+-- counts are small
+pub have_room : (over : BlesOver) (nets gains : List ℕ) → AreLawful over → length gains ≡ length over.elements → AreShared over.elements nets gains → HaveRoom gains
+have_room over nets gains lawful count s = All-from_get_or (λ gain. gain < 2 ^ 32 - 1) gains 0 (λ number small.
+    let element = element_at over.elements number in
+    let inside : number < length over.elements = omega (arith, small, count) in
+    let e = lawful.lawful number _ inside in
+    let few = once_few (nets_of element) over.nets (once-distinct (element.inputs ++ element.output ∷ [])) (nets_within over.nets element e) in
+    omega (arith, s number inside, length-filter (has nets) (nets_of element), count_by-le-length (has nets) (nets_of element), few, lawful.few))
+
+pub reads_has : (reads drives : List ℕ) (net other : ℕ) → has (with_net reads net ++ drives) other ≡ (has (reads ++ drives) other || (net == other))
+reads_has reads drives net other = let a = has-append (with_net reads net) drives other in let b = has-with_net reads net other in let c = has-append reads drives other in grind (arith, a, b, c)
+
+pub drives_has : (reads drives : List ℕ) (net other : ℕ) → has (reads ++ with_net drives net) other ≡ (has (reads ++ drives) other || (net == other))
+drives_has reads drives net other = let a = has-append reads (with_net drives net) other in let b = has-with_net drives net other in let c = has-append reads drives other in grind (arith, a, b, c)
+
+-- one net more, among those that are read or driven
+pub told_more : (elements : List LogicElement) (reads drives later : List ℕ) (net : ℕ) (old new : List ℕ) → length old ≡ length elements → AreShared elements (reads ++ drives) old
+    → EntersUnless (has reads net || has drives net) elements net old new → ((other : ℕ) → has later other ≡ (has (reads ++ drives) other || (net == other))) → AreShared elements later new
+told_more elements reads drives later net old new count s e same = by (has reads net || has drives net) refl e
+  where
+    all : List ℕ
+    all = reads ++ drives
+
+    by : (test : Bool) → (has reads net || has drives net) ≡ test → EntersUnless test elements net old new → AreShared elements later new
+    by true h e = told_same elements (reads ++ drives) later new (λ other. there other h (same other)) (rw e s)
+      where
+        there : (other : ℕ) → (has reads net || has drives net) ≡ true → has later other ≡ (has (reads ++ drives) other || (net == other)) → has (reads ++ drives) other ≡ has later other
+        there other h e = by_same (eqb_tells net other)
+          where
+            by_same : ((eqb net other ≡ true) × (net ≡ other)) ⊎ ((eqb net other ≡ false) × (net ≢ other)) → has (reads ++ drives) other ≡ has later other
+            by_same (inl s) = let a = has-append reads drives other in let moved = rw s.1 at h in grind (arith, a, moved, e, s.0)
+            by_same (inr d) = grind (arith, e, d.0)
+    by false h e =
+        told_same elements ((reads ++ drives) ++ net ∷ []) later new (λ other. let a = has-append (reads ++ drives) (net ∷ []) other in let b = same other in grind (arith, a, b))
+        (entered elements (reads ++ drives) net old new count s (has-append reads drives net ∙ h) e)
+
+-- one more of the nets is read
+pub reads_on : (old now new : GrowingCluster) (nets : List ℕ) (place : ℕ) → place < length nets
+    → now ≡ record old { gains = now.gains; reads = record { count = old.reads.count; nets = with_nets old.reads.nets (take place nets) } }
+    → new ≡ record now { gains = new.gains; reads = new.reads }
+    → new.reads ≡ record { count = now.reads.count; nets = with_net now.reads.nets (slice_index_or nets place 0) }
+    → new ≡ record old { gains = new.gains; reads = record { count = old.reads.count; nets = with_nets old.reads.nets (take (place + 1) nets) } }
+reads_on old now new nets place small before same read =
+    let here = slice_index_or nets place 0 in
+    let more : with_net (with_nets old.reads.nets (take place nets)) here ≡ with_nets old.reads.nets (take (place + 1) nets) =
+    sym (ap (with_nets old.reads.nets) (take_more nets place 0 small) ∙ with_nets-append old.reads.nets (take place nets) (here ∷ [])) in
+    let reads : new.reads ≡ record { count = old.reads.count; nets = with_nets old.reads.nets (take (place + 1) nets) } =
+    read ∙ ap (λ (growth : GrowingCluster). record { count = growth.reads.count; nets = with_net growth.reads.nets here }) before ∙ ap (λ nets. record { count = old.reads.count; nets = nets }) more in
+    same ∙ ap (λ (growth : GrowingCluster). record growth { gains = new.gains; reads = new.reads }) before ∙ ap (λ (set : NetsAmong). record old { gains = new.gains; reads = set }) reads
+
+-- the clock with a member more
+pub clock_more : (clock other : Option ℕ) (clocks : List ℕ) → clocks ≡ with_nets (option_to_list clock) (option_to_list other) → length clocks ≤ 1 → clocks ≡ option_to_list (later_clock clock other)
+clock_more clock None clocks e few = e
+clock_more None (Some other) clocks e few = e
+clock_more (Some clock) (Some other) clocks e few = by (has (clock ∷ []) other) refl e
+  where
+    by : (test : Bool) → has (clock ∷ []) other ≡ test → clocks ≡ (if test then clock ∷ [] else clock ∷ other ∷ []) → clocks ≡ other ∷ []
+    by true s e = let same = eqb-true clock other (grind (arith, s)) in e ∙ ap (λ c. c ∷ []) same
+    by false s e = let long : length clocks ≡ 2 = ap length e in absurd (omega (arith, long, few))
+
+-- what fits into a cluster has room there
+pub record HasRoom (arch : Arch) (elements : List LogicElement) : Type 0 where
+  pub few_inputs : length (outside_inputs elements) ≤ input_count arch.pins
+  pub few_clocks : length (clocks_of elements) ≤ 1
+
+pub has_room : (arch : Arch) (elements : List LogicElement) → fits_in_cluster arch elements ≡ true → HasRoom arch elements
+has_room arch elements fits =
+    by (nat_le (length elements) arch.cluster_size) (nat_le (length (outside_inputs elements)) (input_count arch.pins)) refl (nat_le (length (clocks_of elements)) 1) refl fits
+  where
+    by : (a b : Bool) → nat_le (length (outside_inputs elements)) (input_count arch.pins) ≡ b → (c : Bool) → nat_le (length (clocks_of elements)) 1 ≡ c → (a && (b && c)) ≡ true → HasRoom arch elements
+    by true true eb true ec h = record { few_inputs = grind (arith, nat_tests, eb); few_clocks = grind (arith, nat_tests, ec) }
+    by true true eb false ec h = absurd cc
+    by true false eb c ec h = absurd cc
+    by false b eb c ec h = absurd cc
+
+-- what follows when an element is added that fits
+pub record IsAdding (elements : List LogicElement) (nets : ℕ) (old new : GrowingCluster) (number outside : ℕ) : Type 0 where
+  pub members : new.members.items ≡ old.members.items ++ number ∷ []
+  pub reads : new.reads ≡ record { count = nets; nets = with_nets old.reads.nets (element_at elements number).inputs }
+  pub drives : new.drives ≡ record { count = nets; nets = with_net old.drives.nets (element_at elements number).output }
+  pub outside_is : new.outside ≡ outside
+  pub clock : new.clock ≡ later_clock old.clock (element_at elements number).clock
+  pub gains_count : length new.gains ≡ length elements
+  pub told : IsTold elements new
+
+pub growth_more : (elements : List LogicElement) (nets : ℕ) (old new : GrowingCluster) (number outside : ℕ) → IsGrowingCluster elements nets old → number < length elements → MayFit (elements_at elements (old.members.items ++ number ∷ []))
+    → outside ≡ length (outside_inputs (elements_at elements (old.members.items ++ number ∷ []))) → IsAdding elements nets old new number outside → IsGrowingCluster elements nets new
+growth_more elements nets old new number outside g small fit counted adding = record {
+  members = rw adding.members (All-append (λ n. n < length elements) old.members.items (number ∷ []) g.members (All-cons (λ n. n < length elements) number [] small (All-nil _)));
+  reads_count = ap (λ (set : NetsAmong). set.count) adding.reads;
+  drives_count = ap (λ (set : NetsAmong). set.count) adding.drives;
+  gains_count = adding.gains_count;
+  reads = read;
+  drives = driven;
+  outside = adding.outside_is ∙ counted ∙ sym (ap (λ members. length (outside_inputs (elements_at elements members))) adding.members);
+  small = omega (arith, adding.outside_is, counted, room.few_inputs, fit.lawful.inputs.1);
+  clock = ap (λ members. clocks_of (elements_at elements members)) adding.members ∙ clock_more old.clock element.clock _ (clocks_more elements nets old g number) room.few_clocks ∙ ap option_to_list (sym adding.clock);
+  gains = told_same elements (new.reads.nets ++ new.drives.nets) (flat_map nets_of (elements_at elements new.members.items)) new.gains same adding.told;
+}
+  where
+    room : HasRoom fit.arch (elements_at elements (old.members.items ++ number ∷ []))
+    room = has_room fit.arch (elements_at elements (old.members.items ++ number ∷ [])) fit.fits
+
+    element : LogicElement
+    element = element_at elements number
+
+    before : List LogicElement
+    before = elements_at elements old.members.items
+
+    after : elements_at elements new.members.items ≡ before ++ element ∷ []
+    after = ap (elements_at elements) adding.members ∙ members_more elements nets old g number
+
+    inputs : inputs_of (elements_at elements new.members.items) ≡ inputs_of before ++ element.inputs
+    inputs = ap inputs_of after ∙ flat_map-append (λ (e : LogicElement). e.inputs) before (element ∷ []) ∙ ap (λ last. inputs_of before ++ last) (append-nil element.inputs)
+
+    outputs : outputs_of (elements_at elements new.members.items) ≡ outputs_of before ++ element.output ∷ []
+    outputs = ap outputs_of after ∙ map-append (λ (e : LogicElement). e.output) before (element ∷ [])
+
+    read : new.reads.nets ≡ distinct (inputs_of (elements_at elements new.members.items))
+    read = ap (λ (set : NetsAmong). set.nets) adding.reads ∙ ap (λ front. with_nets front element.inputs) g.reads ∙ sym (ap distinct inputs ∙ with_nets-append [] (inputs_of before) element.inputs)
+
+    driven : new.drives.nets ≡ distinct (outputs_of (elements_at elements new.members.items))
+    driven = ap (λ (set : NetsAmong). set.nets) adding.drives ∙ ap (λ front. with_net front element.output) g.drives ∙ sym (ap distinct outputs ∙ with_nets-append [] (outputs_of before) (element.output ∷ []))
+
+    same : (net : ℕ) → has (new.reads.nets ++ new.drives.nets) net ≡ has (flat_map nets_of (elements_at elements new.members.items)) net
+    same net = has-append new.reads.nets new.drives.nets net
+        ∙ ap (λ front. has front net || has new.drives.nets net) read ∙ ap (λ front. has (distinct (inputs_of (elements_at elements new.members.items))) net || has front net) driven
+        ∙ ap (λ test. test || has (distinct (outputs_of (elements_at elements new.members.items))) net) (has-distinct (inputs_of (elements_at elements new.members.items)) net)
+        ∙ ap (λ test. has (inputs_of (elements_at elements new.members.items)) net || test) (has-distinct (outputs_of (elements_at elements new.members.items)) net)
+        ∙ sym (has-member_nets (elements_at elements new.members.items) net)
+
+-- what the members share is told by what they read and drive
+pub old_told : (elements : List LogicElement) (nets : ℕ) (growth : GrowingCluster) → IsGrowingCluster elements nets growth → IsTold elements growth
+old_told elements nets growth g = told_same elements (flat_map nets_of (elements_at elements growth.members.items)) (growth.reads.nets ++ growth.drives.nets) growth.gains same g.gains
+  where
+    same : (net : ℕ) → has (flat_map nets_of (elements_at elements growth.members.items)) net ≡ has (growth.reads.nets ++ growth.drives.nets) net
+    same net =
+        let a = has-member_nets (elements_at elements growth.members.items) net in
+        let b = has-append growth.reads.nets growth.drives.nets net in
+        let r = reads_are elements nets growth g net in
+        let d = drives_are elements nets growth g net in
+        grind (arith, a, b, r, d)
+
+pub clock_is : (clock other : Option ℕ) → option_or other clock ≡ later_clock clock other
+clock_is clock None = refl
+clock_is clock (Some other) = refl

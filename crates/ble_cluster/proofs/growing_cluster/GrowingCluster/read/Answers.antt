@@ -1,0 +1,18 @@
+use Rattle.std.proofs.Common.{◌≡◌, ◌++◌, ap, ◌∙◌}
+use Rattle.ble_cluster.specs.Nets.{with_net}
+use Rattle.ble_cluster.specs.declared.growing_cluster.GrowingCluster.{GrowingCluster}
+use Rattle.ble_cluster.specs.NetSets.{NetsAmong}
+use Rattle.ble_cluster.proofs.GrowingLemmas.{have_room, reads_has, told_more}
+use Rattle.ble_cluster.proofs.growing_cluster.GrowingCluster.read.Goals as goal
+
+pub enter-requires-clause-few : goal.enter-requires-clause-few
+enter-requires-clause-few c = have_room _ _ _ c.requires.lawful c.requires.room.gains c.requires.told
+
+pub returns-clause-told : goal.returns-clause-told
+returns-clause-told c =
+    let same = c.enter.ensures.same in
+    let before = ap (λ (growth : GrowingCluster). growth.reads.nets) same in
+    let own : c.insert.new.self.nets ≡ with_net c.args.self.now.reads.nets c.args.net = ap (λ (set : NetsAmong). set.nets) c.in_ok-insert.ensures.inserted ∙ ap (λ nets. with_net nets c.args.net) before in
+    let others : c.enter.new.self.drives.nets ≡ c.args.self.now.drives.nets = ap (λ (growth : GrowingCluster). growth.drives.nets) same in
+    rw (own, others) (told_more c.args.elements.now.elements c.args.self.now.reads.nets c.args.self.now.drives.nets (with_net c.args.self.now.reads.nets c.args.net ++ c.args.self.now.drives.nets) c.args.net _ _
+    c.requires.room.gains c.requires.told c.in_ok-enter.ensures.entered (reads_has c.args.self.now.reads.nets c.args.self.now.drives.nets c.args.net))

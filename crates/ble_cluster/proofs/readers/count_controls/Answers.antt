@@ -1,0 +1,27 @@
+use Rattle.std.proofs.Common.{List, ℕ, take, arith, subst}
+use Rattle.std.specs.List.{flat_map}
+use Rattle.std.specs.Option.{option_to_list}
+use Rattle.std.proofs.lemmas.List.{take_all}
+use Rattle.blif.specs.declared.latches.Latch.{Latch}
+use Rattle.ble_cluster.specs.Reads.{CountsOn}
+use Rattle.ble_cluster.proofs.Counting.{control_here, control_none, controls_more, counts_on, counts_on_none}
+use Rattle.ble_cluster.proofs.readers.count_controls.Goals as goal
+use Rattle.ble_cluster.proofs.readers.count_controls.Goals.{in-Some, in_default}
+
+abbrev controls_of : Latch → List ℕ
+controls_of latch = option_to_list latch.control
+
+pub loop-latch-preserved : goal.loop-latch-preserved
+loop-latch-preserved c =
+    let latches : List Latch = c.args.latches.now in
+    let i = c.loop-latch.latch-index in
+    let front = flat_map controls_of (take i latches) in
+    elim c.match-latch.branch [
+      | in-Some w ↦ rw w.counts-is (counts_on _ _ _ front _ _ c.loop-latch.invariant w.count.ensures (controls_more latches i _ _ (omega arith) (control_here _ _ w.in-Some.is)))
+      | in_default w ↦ rw w.counts-is (counts_on _ _ _ front _ _ c.loop-latch.invariant (counts_on_none _) (controls_more latches i _ _ (omega arith) (control_none _ w.in_default.not-Some)))
+    ]
+
+pub returns : goal.returns
+returns c =
+    subst (λ latches. CountsOn c.args.counts.now (flat_map controls_of latches) c.loop-latch.counts)
+    (take_all c.loop-latch.latch-index c.args.latches.now (omega arith)) c.loop-latch.invariant

@@ -1,0 +1,9 @@
+use Rattle.std.proofs.Common.{take}
+use Rattle.std.specs.List.{flat_map}
+use Rattle.std.specs.Option.{option_to_list}
+use Rattle.ble_cluster.specs.Reads.{CountsOn}
+use Rattle.ble_cluster.proofs.readers.count_controls.Given as goal
+
+-- the controls so far are counted
+abbrev pub invariant-loop-latch : goal.invariant-loop-latch
+invariant-loop-latch l = CountsOn l.fn.counts (flat_map (λ latch. option_to_list latch.control) (take l.latch-index l.latches)) l.counts

@@ -1,0 +1,7 @@
+use Rattle.std.proofs.Common.{take, map}
+use Rattle.ble_cluster.specs.Reads.{CountsOn}
+use Rattle.ble_cluster.proofs.readers.count_latches.Given as goal
+
+-- the latches so far are counted
+abbrev pub invariant-loop-latch : goal.invariant-loop-latch
+invariant-loop-latch l = CountsOn l.fn.counts (map (λ latch. latch.input) (take l.latch-index l.latches)) l.counts

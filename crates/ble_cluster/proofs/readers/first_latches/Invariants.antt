@@ -1,0 +1,10 @@
+use Rattle.std.proofs.Common.{◌≡◌, take, length}
+use Rattle.ble_cluster.specs.Reads.{AreLatches}
+use Rattle.ble_cluster.proofs.readers.first_latches.Given as goal
+
+-- the first of the latches so far
+abbrev pub invariant-loop-latch : goal.invariant-loop-latch
+invariant-loop-latch l = record {
+  nets : length l.behind.items ≡ l.nets;
+  latches : AreLatches (take l.latch-index l.latches) l.behind.items;
+}

@@ -1,0 +1,68 @@
+-- Private: the least free number within a bound.
+use Rattle.std.specs.Prelude.{ℕ, ◌≡◌, ◌+◌, ◌<◌, ◌≤◌, ◌⊎◌, Bool, true, false, not, ◌==◌, List, All, Option, None, Some, length, filter, slice_index_or}
+use Rattle.ble_cluster.specs.declared.first_free.FirstFree.{FirstFree}
+use Rattle.ble_cluster.specs.Bles.{LogicElement, element_at}
+use Rattle.ble_cluster.specs.Choosing.{taken_at}
+use Rattle.ble_cluster.specs.Clusters.{input_count_at}
+
+-- the key of the number
+abbrev pub key_at : List ℕ → ℕ → ℕ
+key_at keys number = slice_index_or keys number 0
+
+-- each free number below the end has a key above the bound
+abbrev pub AreAbove : List Bool → List ℕ → ℕ → ℕ → Type 0
+AreAbove taken keys bound end = (number : ℕ) → number < end → taken_at taken number ≡ false → bound < key_at keys number
+
+-- the least free number whose key is within the bound
+pub record IsLeastWithin (taken : List Bool) (keys : List ℕ) (bound number : ℕ) : Type 0 where
+  pub small : number < length keys
+  pub free : taken_at taken number ≡ false
+  pub within : key_at keys number ≤ bound
+  pub least : AreAbove taken keys bound number
+
+-- the same, if there is any
+abbrev pub IsFirstWithin : List Bool → List ℕ → ℕ → Option ℕ → Type 0
+IsFirstWithin taken keys bound None = AreAbove taken keys bound (length keys)
+IsFirstWithin taken keys bound (Some number) = IsLeastWithin taken keys bound number
+
+-- no free number has a lesser key, nor one as small at a lesser number
+pub record IsLowestAt (taken : List Bool) (keys : List ℕ) (number : ℕ) : Type 0 where
+  pub small : number < length keys
+  pub free : taken_at taken number ≡ false
+  pub least : (other : ℕ) → other < length keys → taken_at taken other ≡ false → (key_at keys number < key_at keys other) ⊎ ((key_at keys number ≡ key_at keys other) × (number ≤ other))
+
+-- the same, if there is any
+abbrev pub IsLowest : List Bool → List ℕ → Option ℕ → Type 0
+IsLowest taken keys None = (number : ℕ) → number < length keys → taken_at taken number ≡ true
+IsLowest taken keys (Some number) = IsLowestAt taken keys number
+
+-- the numbers have marks, their keys are within the greatest bound, and none that is free was passed over
+pub record IsFirstFree (taken : List Bool) (index : FirstFree) : Type 0 where
+  pub marks : length taken ≡ length index.keys.items
+  pub some : 0 < length index.firsts.items
+  pub bounds : All (λ key. key < length index.firsts.items) index.keys.items
+  pub passed : (bound : ℕ) → bound < length index.firsts.items → AreAbove taken index.keys.items bound (slice_index_or index.firsts.items bound 0)
+
+-- no BLE has more inputs
+abbrev pub HaveAtMost : List LogicElement → ℕ → Type 0
+HaveAtMost elements most = (number : ℕ) → number < length elements → input_count_at elements number ≤ most
+
+-- each key is what the BLE's inputs lack of the most
+pub record AreLacks (elements : List LogicElement) (keys : List ℕ) : Type 0 where
+  pub most : ℕ
+  pub count : length keys ≡ length elements
+  pub sum : (number : ℕ) → number < length elements → key_at keys number + input_count_at elements number ≡ most
+
+-- the nets that the BLE reads and doesn't drive
+abbrev pub own_outside : LogicElement → List ℕ
+own_outside element = filter (λ net. not (net == element.output)) element.inputs
+
+-- each key is how many nets the BLE reads and doesn't drive
+pub record AreOutsideCounts (elements : List LogicElement) (keys : List ℕ) : Type 0 where
+  pub count : length keys ≡ length elements
+  pub counted : (number : ℕ) → number < length elements → key_at keys number ≡ length (own_outside (element_at elements number))
+
+-- what is taken stays so
+pub record IsKept (old new : List Bool) : Type 0 where
+  pub count : length new ≡ length old
+  pub kept : (number : ℕ) → taken_at old number ≡ true → taken_at new number ≡ true

@@ -1,0 +1,14 @@
+pub mod Nets
+pub mod Bles
+pub mod Clusters
+pub mod FlatBles
+pub mod Reads
+pub mod CircuitReaders
+pub mod NetSets
+pub mod FreeBles
+pub mod OutsideInputs
+pub mod SharedNets
+pub mod BleIndex
+pub mod GrowingCluster
+pub mod Choosing
+pub mod FirstFree

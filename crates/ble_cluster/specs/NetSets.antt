@@ -1,0 +1,13 @@
+-- Sets of nets.
+use Rattle.std.specs.Prelude.{ℕ, ◌≡◌, ◌<◌, Bool, false, List, All, length, slice_index_or}
+use Rattle.ble_cluster.specs.Nets.{has}
+
+-- nets, each once, among so many
+pub record NetsAmong : Type 0 where
+  pub count : ℕ
+  pub nets : List ℕ
+
+-- the nets are marked, and no others
+pub record AreMarked (marks : List Bool) (nets : List ℕ) : Type 0 where
+  pub marked : (net : ℕ) → net < length marks → slice_index_or marks net false ≡ has nets net
+  pub within : All (λ net. net < length marks) nets

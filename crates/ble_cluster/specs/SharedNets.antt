@@ -1,0 +1,25 @@
+-- Private: how many nets each BLE shares with the cluster under way.
+use Rattle.std.specs.Prelude.{ℕ, ◌≡◌, ◌+◌, ◌<◌, List, All, nat_lt, length, slice_index_or, if◌then◌else◌}
+use Rattle.ble_cluster.specs.Nets.{has}
+
+-- what the BLE of that number shares
+abbrev pub gain_at : List ℕ → ℕ → ℕ
+gain_at gains number = slice_index_or gains number 0
+
+-- no BLE shares a net
+abbrev pub ShareNothing : List ℕ → Type 0
+ShareNothing gains = (number : ℕ) → number < length gains → gain_at gains number ≡ 0
+
+-- one more for each of these BLEs, no two of which are the same
+abbrev pub is_raised : List ℕ → ℕ → ℕ
+is_raised numbers number = if has numbers number then 1 else 0
+
+-- the touched BLEs are those that share a net
+pub record AreTouched (gains touched : List ℕ) : Type 0 where
+  pub touches : (number : ℕ) → number < length gains → has touched number ≡ nat_lt 0 (gain_at gains number)
+  pub within : All (λ number. number < length gains) touched
+
+-- each of these BLEs shares one net more
+pub record AreRaised (old new numbers : List ℕ) : Type 0 where
+  pub count : length new ≡ length old
+  pub raised : (number : ℕ) → number < length old → gain_at new number ≡ gain_at old number + is_raised numbers number

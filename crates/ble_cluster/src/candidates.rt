@@ -1,0 +1,134 @@
+//! Which BLE a cluster under way takes next.
+ghost use Rattle.std.specs.Prelude.{◌≡◌, ◌<◌, ◌≤◌, ℕ, false, length, ◌&&◌, IfSome, IsTrue, None};
+ghost use Rattle.std.specs.Option.{ForSome};
+ghost use Rattle.arch_file.specs.Arch.{input_count};
+ghost use Rattle.ble_cluster.specs.Clusters.{may_join, next_member};
+ghost use Rattle.ble_cluster.specs.Choosing.{IsBest, IsFirst, SharesNet, beats, is_candidate};
+ghost use Rattle.ble_cluster.specs.FirstFree.{AreOutsideCounts, IsFirstFree};
+ghost use Rattle.ble_cluster.specs.FreeBles.{free_in};
+ghost use Rattle.ble_cluster.specs.GrowingCluster.{IsGrowingCluster};
+
+use crate::ble_index::BleIndex;
+use crate::first_free::FirstFree;
+use crate::growing_cluster::GrowingCluster;
+use arch_file::Arch;
+use std::ops::Range;
+
+/// What may be added to the cluster under way: the BLEs that are not taken, and fit with its members.
+#[derive(Drop)]
+pub(crate) struct Candidates<'a> {
+    pub(crate) arch: &'a Arch,
+    /// How many input pins a cluster has.
+    pub(crate) pins: usize,
+    pub(crate) elements: &'a BleIndex,
+    pub(crate) is_taken: &'a [bool],
+    pub(crate) growth: &'a GrowingCluster,
+    ghost all_pins: { pins ≡ input_count arch.now.pins },
+    ghost under_way: { IsGrowingCluster elements.now.elements elements.now.nets growth.now },
+    ghost marks: { length is_taken.now ≡ length elements.now.elements },
+}
+
+impl Candidates<'_> {
+    /// Whether the BLE is free, and fits with the members.
+    fn is_candidate(&self, number: u32) -> bool
+        requires number { number < length self.now.elements.now.elements }
+        ensures { result ≡ is_candidate self.now.arch.now self.now.elements.now.elements self.now.is_taken.now self.now.growth.now.members.items number }
+    {
+        !self.is_taken[number as usize]
+            && !self.growth.members.contains(&number)
+            && self
+                .growth
+                .fits_with(self.arch, self.pins, self.elements, number)
+    }
+
+    /// Whether the BLE shares more nets with the members than the best so far, or as many and is lesser.
+    fn beats(&self, number: u32, best: Option<u32>) -> bool
+        requires number { number < length self.now.growth.now.gains }
+        requires best { ForSome best (λ other. other < length self.now.growth.now.gains) }
+        ensures { result ≡ beats self.now.growth.now.gains number best }
+    {
+        match best {
+            None => true,
+            Some(best) => {
+                let gain = self.growth.gains.of(number);
+                let most = self.growth.gains.of(best);
+                most < gain || (gain == most && number < best)
+            }
+        }
+    }
+
+    /// Whether the BLE is to be taken rather than the best so far.
+    fn prefers(&self, number: u32, best: Option<u32>) -> bool
+        requires number { number < length self.now.elements.now.elements }
+        requires best { ForSome best (λ other. other < length self.now.elements.now.elements) }
+        ensures { result ≡ (beats self.now.growth.now.gains number best && is_candidate self.now.arch.now self.now.elements.now.elements self.now.is_taken.now self.now.growth.now.members.items number) }
+    {
+        self.beats(number, best) && self.is_candidate(number)
+    }
+
+    /// Of the BLEs that share a net with the members, the one to take next, if one is free and fits.
+    fn best_touched(&self) -> Option<u32>
+        ensures { IsBest self.now.arch.now self.now.elements.now.elements self.now.is_taken.now self.now.growth.now.members.items self.now.growth.now.gains (SharesNet self.now.elements.now.elements self.now.growth.now.gains) result }
+    {
+        let mut best = None;
+        for number in self.growth.gains.touched() {
+            if self.prefers(*number, best) {
+                best = Some(*number);
+            }
+        }
+        best
+    }
+
+    /// The least BLE from the start on that is free and fits.
+    fn fitting_from(&self, numbers: Range<u32>) -> Option<u32>
+        requires end { numbers.end ≡ length self.now.elements.now.elements }
+        requires before { (other : ℕ) → other < numbers.start → is_candidate self.now.arch.now self.now.elements.now.elements self.now.is_taken.now self.now.growth.now.members.items other ≡ false }
+        ensures { IsFirst self.now.arch.now self.now.elements.now.elements self.now.is_taken.now self.now.growth.now.members.items result }
+    {
+        for number in numbers.start..numbers.end {
+            if self.is_candidate(number) {
+                return Some(number);
+            }
+        }
+        None
+    }
+
+    /// The least BLE that is free and fits, where none fits that shares a net with the members. What shares none
+    /// brings all its outside inputs, so the search begins at the first that has few enough of them.
+    fn first_fitting(&self, by_outside: &mut FirstFree) -> Option<u32>
+        requires few { length self.now.elements.now.elements ≤ 8192 }
+        requires counts { AreOutsideCounts self.now.elements.now.elements by_outside.old.keys.items }
+        requires free { IsFirstFree self.now.is_taken.now by_outside.old }
+        requires alone { IsBest self.now.arch.now self.now.elements.now.elements self.now.is_taken.now self.now.growth.now.members.items self.now.growth.now.gains (SharesNet self.now.elements.now.elements self.now.growth.now.gains) None }
+        ensures first { IsFirst self.now.arch.now self.now.elements.now.elements self.now.is_taken.now self.now.growth.now.members.items result }
+        ensures keys { by_outside.new.keys.items ≡ by_outside.old.keys.items }
+        ensures free { IsFirstFree self.now.is_taken.now by_outside.new }
+    {
+        let count = self.elements.len() as u32;
+        let room = self.pins.saturating_sub(self.growth.outside);
+        match by_outside.first_within(self.is_taken, room) {
+            None => None,
+            Some(start) => { self.fitting_from(start as u32..count) }
+        }
+    }
+
+    /// The BLE to take next: of those that are free and fit the one that shares most nets with the members, the
+    /// least number deciding.
+    pub(crate) fn next_member(&self, by_outside: &mut FirstFree) -> Option<u32>
+        requires few { length self.now.elements.now.elements ≤ 8192 }
+        requires counts { AreOutsideCounts self.now.elements.now.elements by_outside.old.keys.items }
+        requires free { IsFirstFree self.now.is_taken.now by_outside.old }
+        ensures next { result ≡ next_member self.now.arch.now self.now.elements.now.elements (free_in self.now.is_taken.now) self.now.growth.now.members.items }
+        ensures joins { IfSome result (λ number. (number < length self.now.elements.now.elements) × IsTrue (may_join self.now.arch.now self.now.elements.now.elements self.now.growth.now.members.items number)) }
+        ensures keys { by_outside.new.keys.items ≡ by_outside.old.keys.items }
+        ensures free { IsFirstFree self.now.is_taken.now by_outside.new }
+    {
+        if self.growth.members.len() >= self.arch.cluster_size as usize {
+            return None;
+        }
+        match self.best_touched() {
+            Some(number) => Some(number),
+            None => self.first_fitting(by_outside),
+        }
+    }
+}

@@ -1,0 +1,80 @@
+//! The least free number within a bound.
+ghost use Rattle.std.specs.Prelude.{◌≡◌, ◌<◌, ◌≤◌, ◌&&◌, List, Bool, All, length, nat_le, not, IfOk};
+ghost use Rattle.ble_cluster.specs.Choosing.{taken_at};
+ghost use Rattle.ble_cluster.specs.FirstFree.{AreAbove, IsFirstFree, IsFirstWithin, IsLowest, key_at};
+
+use std::alloc::{AllocError, Global};
+
+/// Numbers, each with a key, of which more and more are taken. Where the free ones within a bound begin is kept, so that
+/// all searches for one bound together go over the numbers once.
+#[derive(Debug, Drop)]
+pub(crate) struct FirstFree {
+    keys: Vec<usize>,
+    /// For each bound, no free number below this has a key within the bound.
+    firsts: Vec<usize>,
+}
+
+impl FirstFree {
+    /// Numbers with these keys, of which none is greater than that.
+    pub(crate) fn new(alloc: Global, keys: Vec<usize>, most: usize) -> Result<Self, AllocError>
+        requires keys { All (λ key. key ≤ most) keys.items }
+        requires few { most ≤ 8192 }
+        ensures keys { IfOk result (λ index. index.keys.items ≡ keys.items) }
+        ensures lawful { IfOk result (λ index. (taken : List Bool) → length taken ≡ length keys.items → IsFirstFree taken index) }
+    {
+        let firsts = Vec::from_elem(alloc, 0, most + 1)?;
+        Ok(FirstFree { keys, firsts })
+    }
+
+    /// Whether the number is free, and its key within the bound.
+    fn is_within(&self, taken: &[bool], bound: usize, number: usize) -> bool
+        requires marks { length taken.now ≡ length self.now.keys.items }
+        requires number { number < length self.now.keys.items }
+        ensures { result ≡ (not (taken_at taken.now number) && nat_le (key_at self.now.keys.items number) bound) }
+    {
+        !taken[number] && self.keys[number] <= bound
+    }
+
+    /// The least free number from the start on whose key is within the bound.
+    fn first_from(&self, taken: &[bool], bound: usize, start: usize) -> Option<usize>
+        requires marks { length taken.now ≡ length self.now.keys.items }
+        requires before { AreAbove taken.now self.now.keys.items bound start }
+        ensures { IsFirstWithin taken.now self.now.keys.items bound result }
+    {
+        for number in start..self.keys.len() {
+            if self.is_within(taken, bound, number) {
+                return Some(number);
+            }
+        }
+        None
+    }
+
+    /// The least free number whose key is within the bound.
+    pub(crate) fn first_within(&mut self, taken: &[bool], bound: usize) -> Option<usize>
+        requires { IsFirstFree taken.now self.old }
+        ensures first { IsFirstWithin taken.now self.old.keys.items bound result }
+        ensures keys { self.new.keys.items ≡ self.old.keys.items }
+        ensures lawful { IsFirstFree taken.now self.new }
+    {
+        let place = bound.min(self.firsts.len() - 1);
+        let first = self.first_from(taken, place, self.firsts[place]);
+        self.firsts[place] = first.unwrap_or(self.keys.len());
+        first
+    }
+
+    /// Of the free numbers with the least key the least.
+    pub(crate) fn lowest(&mut self, taken: &[bool]) -> Option<usize>
+        requires { IsFirstFree taken.now self.old }
+        ensures first { IsLowest taken.now self.old.keys.items result }
+        ensures keys { self.new.keys.items ≡ self.old.keys.items }
+        ensures lawful { IsFirstFree taken.now self.new }
+    {
+        for bound in 0..self.firsts.len() {
+            let first = self.first_within(taken, bound);
+            if first.is_some() {
+                return first;
+            }
+        }
+        None
+    }
+}

@@ -1,0 +1,26 @@
+//! Which BLEs fit into a cluster alone.
+ghost use Rattle.std.specs.Prelude.{◌≡◌, ◌≤◌, All, length};
+ghost use Rattle.arch_file.specs.Arch.{IsArch};
+ghost use Rattle.ble_cluster.specs.Clusters.{unfit_among};
+ghost use Rattle.ble_cluster.specs.FreeBles.{IsElement};
+
+use crate::bles::Bles;
+use crate::keys::outside_inputs;
+use crate::pins::input_count;
+use arch_file::Arch;
+
+/// The least BLE that doesn't fit into a cluster alone. Their nets are below the count.
+pub fn unfit(bles: &Bles, count: usize, arch: &Arch) -> Option<u32>
+    requires elements { All (IsElement count) bles.now }
+    requires few { length bles.now ≤ 8192 }
+    requires arch { IsArch arch.now }
+    ensures { result ≡ unfit_among arch.now bles.now }
+{
+    let pins = input_count(arch);
+    for number in 0..bles.len() {
+        if outside_inputs(bles.ble(number)) > pins {
+            return Some(number as u32);
+        }
+    }
+    None
+}

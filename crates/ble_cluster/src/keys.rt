@@ -1,0 +1,61 @@
+//! The keys by which free BLEs are found: the seed has most inputs, and what joins a cluster reads few nets from outside.
+ghost use Rattle.std.specs.Prelude.{◌≡◌, ◌≤◌, ◌==◌, All, filter, length, not, IfOk};
+ghost use Rattle.ble_cluster.specs.FreeBles.{IsElement};
+ghost use Rattle.ble_cluster.specs.FirstFree.{AreLacks, AreOutsideCounts, HaveAtMost};
+
+use crate::bles::{Ble, Bles};
+use std::alloc::{AllocError, Global};
+
+/// The most inputs that a BLE has. Their nets are below the count.
+pub(crate) fn most_inputs(bles: &Bles, count: usize) -> usize
+    requires elements { All (IsElement count) bles.now }
+    requires few_nets { count ≤ 8192 }
+    ensures most { HaveAtMost bles.now result }
+    ensures few { result ≤ 8192 }
+{
+    let mut most = 0;
+    for number in 0..bles.len() {
+        let inputs = bles.ble(number).inputs.len();
+        if most < inputs {
+            most = inputs;
+        }
+    }
+    most
+}
+
+/// How many inputs each BLE lacks of the most.
+pub(crate) fn lacks(alloc: Global, bles: &Bles, most: usize) -> Result<Vec<usize>, AllocError>
+    requires { HaveAtMost bles.now most }
+    ensures lacks { IfOk result (λ keys. AreLacks bles.now keys.items) }
+    ensures within { IfOk result (λ keys. All (λ key. key ≤ most) keys.items) }
+{
+    let mut keys = Vec::new(alloc);
+    for number in 0..bles.len() {
+        keys.push(most - bles.ble(number).inputs.len())?;
+    }
+    Ok(keys)
+}
+
+/// How many nets the BLE reads that it doesn't drive itself.
+pub(crate) fn outside_inputs(ble: Ble<'_>) -> usize
+    ensures { result ≡ length (filter (λ net. not (net == ble.entry.output)) ble.entry.inputs.now) }
+{
+    ble.inputs.iter().filter(|net| **net != ble.output).count()
+}
+
+/// How many nets each BLE reads that it doesn't drive itself.
+pub(crate) fn outside_counts(
+    alloc: Global,
+    bles: &Bles,
+    most: usize,
+) -> Result<Vec<usize>, AllocError>
+    requires { HaveAtMost bles.now most }
+    ensures counts { IfOk result (λ keys. AreOutsideCounts bles.now keys.items) }
+    ensures within { IfOk result (λ keys. All (λ key. key ≤ most) keys.items) }
+{
+    let mut keys = Vec::new(alloc);
+    for number in 0..bles.len() {
+        keys.push(outside_inputs(bles.ble(number)))?;
+    }
+    Ok(keys)
+}

@@ -1,0 +1,101 @@
+//! What BLEs share with the cluster under way.
+ghost use Rattle.std.specs.Prelude.{◌≡◌, ◌<◌, ◌+◌, ◌-◌, ◌^◌, All, length, IfErr, IfOk, slice_set};
+ghost use Rattle.ble_cluster.specs.Nets.{IsOnce};
+ghost use Rattle.ble_cluster.specs.SharedNets.{AreRaised, AreTouched, ShareNothing, gain_at};
+
+use std::alloc::{AllocError, Global};
+use std::marker::Model;
+
+/// How many nets each BLE shares with the cluster under way. Its value is the list of these counts.
+#[derive(Debug, Drop)]
+pub(crate) struct SharedNets {
+    gains: Vec<u32>,
+    touched: Vec<u32>,
+}
+
+impl Model for SharedNets {
+    ghost use Rattle.std.specs.Prelude.{List, ℕ};
+    ghost use Rattle.ble_cluster.specs.SharedNets.{AreTouched};
+
+    ghost Value = { List ℕ };
+
+    ghost view = { λ g. g.gains.items };
+
+    ghost invariant = { λ g. AreTouched g.gains.items g.touched.items };
+}
+
+impl SharedNets {
+    /// BleIndex, so many, that share nothing.
+    pub(crate) fn new(alloc: Global, count: usize) -> Result<Self, AllocError>
+        ensures count { IfOk result (λ gains. length gains ≡ count) }
+        ensures none { IfOk result ShareNothing }
+    {
+        Ok(SharedNets {
+            gains: Vec::from_elem(alloc, 0, count)?,
+            touched: Vec::new(alloc),
+        })
+    }
+
+    /// What the BLE shares.
+    pub(crate) fn of(&self, number: u32) -> u32
+        requires { number < length self.now }
+        ensures { result ≡ gain_at self.now number }
+    {
+        self.gains[number as usize]
+    }
+
+    /// The BLEs that share a net.
+    pub(crate) fn touched(&self) -> &[u32]
+        ensures { AreTouched self.now result.now }
+    {
+        self.touched.as_slice()
+    }
+
+    /// One net more for each of these BLEs, no two of which are the same. Where memory lacks, some have it.
+    pub(crate) fn raise(&mut self, numbers: &[u32]) -> Result<(), AllocError>
+        requires within { All (λ number. number < length self.old) numbers.now }
+        requires once { IsOnce numbers.now }
+        requires room { All (λ gain. gain < 2 ^ 32 - 1) self.old }
+        ensures count { length self.new ≡ length self.old }
+        ensures raised { IfOk result (λ _. AreRaised self.old self.new numbers.now) }
+    {
+        for number in numbers {
+            self.raise_one(*number)?;
+        }
+        Ok(())
+    }
+
+    /// One net more for the BLE.
+    fn raise_one(&mut self, number: u32) -> Result<(), AllocError>
+        requires within { number < length self.old }
+        requires room { gain_at self.old number < 2 ^ 32 - 1 }
+        ensures ok { IfOk result (λ _. self.new ≡ slice_set self.old number (gain_at self.old number + 1)) }
+        ensures err { IfErr result (λ _. self.new ≡ self.old) }
+    {
+        if self.gains[number as usize] == 0 {
+            self.touched.push(number)?;
+        }
+        self.gains[number as usize] += 1;
+        Ok(())
+    }
+
+    /// Nothing is shared any more.
+    pub(crate) fn clear(&mut self)
+        ensures count { length self.new ≡ length self.old }
+        ensures none { ShareNothing self.new }
+    {
+        forget(self.gains.as_mut_slice(), self.touched.as_slice());
+        self.touched.clear();
+    }
+}
+
+/// Sets the counts of these BLEs to 0, which are all that are not.
+fn forget(gains: &mut [u32], touched: &[u32])
+    requires { AreTouched gains.old touched.now }
+    ensures count { length gains.new ≡ length gains.old }
+    ensures none { ShareNothing gains.new }
+{
+    for number in touched {
+        gains[*number as usize] = 0;
+    }
+}

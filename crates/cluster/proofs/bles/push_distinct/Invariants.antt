@@ -1,7 +1,0 @@
-use Rattle.std.proofs.Common.{◌≡◌, ◌++◌, take}
-use Rattle.cluster.specs.Nets.{distinct}
-use Rattle.cluster.proofs.bles.push_distinct.Given as goal
-
--- each of the nets so far stands behind the old inputs
-abbrev pub invariant-loop-net : goal.invariant-loop-net
-invariant-loop-net l = l.inputs.items ≡ l.fn.inputs.items ++ distinct (take l.net-index l.nets)

@@ -1,9 +1,0 @@
-use Rattle.std.proofs.Common.{ℕ, ◌<◌, ◌≤◌}
-use Rattle.cluster.specs.Clusters.{input_count_at}
-use Rattle.cluster.proofs.keys.most_inputs.Given as goal
-
-abbrev pub invariant-loop-number : goal.invariant-loop-number
-invariant-loop-number l = record {
-  most : (number : ℕ) → number < l.number → input_count_at l.bles number ≤ l.most;
-  few : l.most ≤ 8192;
-}

@@ -1,7 +1,0 @@
-use Rattle.std.proofs.Common.{◌≡◌, drop}
-use Rattle.cluster.specs.Nets.{with_nets}
-use Rattle.cluster.proofs.net_set.NetSet.insert_all.Given as goal
-
-abbrev pub invariant-loop-net : goal.invariant-loop-net
-invariant-loop-net l =
-    (l.self.count ≡ l.fn.self.count) × (with_nets l.self.nets (drop l.net-index l.nets) ≡ with_nets l.fn.self.nets l.nets)

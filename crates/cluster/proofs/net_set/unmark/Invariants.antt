@@ -1,5 +1,0 @@
-use Rattle.cluster.proofs.Marks.{AreLeft}
-use Rattle.cluster.proofs.net_set.unmark.Given as goal
-
-abbrev pub invariant-loop-net : goal.invariant-loop-net
-invariant-loop-net l = AreLeft l.nets l.net-index l.marks

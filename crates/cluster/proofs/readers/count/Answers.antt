@@ -1,5 +1,0 @@
-use Rattle.cluster.proofs.Counting.{counts_more}
-use Rattle.cluster.proofs.readers.count.Goals as goal
-
-pub returns : goal.returns
-returns c = counts_more c.args.counts.now c.args.net c.saturating_add.result c.requires c.saturating_add.ensures

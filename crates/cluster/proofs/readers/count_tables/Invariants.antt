@@ -1,8 +1,0 @@
-use Rattle.std.proofs.Common.{take}
-use Rattle.std.specs.List.{flat_map}
-use Rattle.cluster.specs.Reads.{CountsOn}
-use Rattle.cluster.proofs.readers.count_tables.Given as goal
-
--- the tables so far are counted
-abbrev pub invariant-loop-place : goal.invariant-loop-place
-invariant-loop-place l = CountsOn l.fn.counts (flat_map (λ table. table.inputs) (take l.place l.tables)) l.counts

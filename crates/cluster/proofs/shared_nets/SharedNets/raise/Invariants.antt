@@ -1,6 +1,0 @@
-use Rattle.std.proofs.Common.{take}
-use Rattle.cluster.specs.SharedNets.{AreRaised}
-use Rattle.cluster.proofs.shared_nets.SharedNets.raise.Given as goal
-
-abbrev pub invariant-loop-number : goal.invariant-loop-number
-invariant-loop-number l = AreRaised l.fn.self l.self (take l.number-index l.numbers)
