@@ -1,5 +1,5 @@
 -- Who may own what.
-use Rattle.std.specs.Prelude.{ℕ, ◌≡◌, ◌+◌, ◌≤◌, List, All, Contains}
+use Rattle.std.specs.Prelude.{◌≡◌, ◌+◌, ◌≤◌, List, All, Contains}
 use Rattle.rr_graph.specs.declared.resource.Resource.{Resource}
 use Rattle.rr_graph.specs.declared.resource.ResourceKind.TheVariants.{ChanY}
 use Rattle.device_picture.specs.declared.device.Device.{Device}

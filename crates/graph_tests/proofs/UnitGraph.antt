@@ -1,5 +1,5 @@
 -- A routing graph whose nodes cost one each.
-use Rattle.std.proofs.Common.{ℕ, ◌^◌, ◌<◌, ◌≤◌, length, arith}
+use Rattle.std.proofs.Common.{◌^◌, ◌≤◌, arith}
 use Rattle.std.proofs.lemmas.List.Elements.{Contains-get_or}
 use Rattle.rr_graph.specs.Graph.{Basis, RoutingGraph, IsRoutingGraph}
 use Rattle.rr_graph.proofs.FewEnds.{ends_below, ends_few}

@@ -1,6 +1,5 @@
 -- The receipts of a transcript with one item more.
 use Rattle.std.proofs.Common.{◌≡◌, ℕ, ◌+◌, List, [], ◌∷◌, ◌++◌, length, Option, Some, None, ap, refl, ◌∙◌, arith, length-append}
-use Rattle.std.specs.List.{filter_map}
 use Rattle.std.proofs.lemmas.List.Elements.{filter_map-append}
 use Rattle.service_core.specs.Receipt.{Receipted}
 use Rattle.transcripts.specs.declared.item.Item.{Item}

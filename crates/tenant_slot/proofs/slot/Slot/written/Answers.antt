@@ -1,4 +1,4 @@
-use Rattle.std.proofs.Common.{◌≡◌, Some, sym, subst}
+use Rattle.std.proofs.Common.{subst}
 use Rattle.tenant_slot.specs.declared.origin.Origin.{Origin}
 use Rattle.tenant_slot.specs.Slot.{IsOrigin}
 use Rattle.tenant_slot.proofs.Taking.{written_next, written_of}
