@@ -1,7 +1,7 @@
 //! One cluster of free BLEs after another.
-ghost use Rattle.std.specs.Prelude.{◌≡◌, ◌<◌, ◌≤◌, [], ◌∷◌, All, List, ℕ, length, map, filter, not, None, vec_len, IfOk, IsTrue, ◌↔◌};
+ghost use Rattle.std.specs.Prelude.{◌≡◌, ◌<◌, ◌≤◌, [], All, length, filter, not, None, IfOk, IsTrue, ◌↔◌};
 ghost use Rattle.std.specs.List.{range_with_len};
-ghost use Rattle.arch_file.specs.Arch.{IsArch, input_count};
+ghost use Rattle.arch_file.specs.Arch.{IsArch};
 ghost use Rattle.ble_cluster.specs.Nets.{has};
 ghost use Rattle.ble_cluster.specs.Clusters.{cluster_of, unfit_among};
 ghost use Rattle.ble_cluster.specs.FirstFree.{IsKept};

@@ -1,9 +1,8 @@
 //! A cluster under way.
-ghost use Rattle.std.specs.Prelude.{◌≡◌, ◌<◌, ◌≤◌, ◌+◌, ◌++◌, [], ◌∷◌, ℕ, List, All, length, IfOk, OnErr, not, ◌&&◌, ◌||◌, is_ok, if◌then◌else◌};
+ghost use Rattle.std.specs.Prelude.{◌≡◌, ◌<◌, ◌+◌, ◌++◌, [], ◌∷◌, All, length, IfOk, OnErr, not, ◌&&◌, ◌||◌, is_ok, if◌then◌else◌};
 ghost use Rattle.arch_file.specs.Arch.{input_count};
 ghost use Rattle.ble_cluster.specs.Nets.{has, with_net, with_nets};
-ghost use Rattle.ble_cluster.specs.Bles.{LogicElement, element_at};
-ghost use Rattle.ble_cluster.specs.Clusters.{clocks_of, elements_at, fits_in_cluster, inputs_of, outputs_of, outside_inputs};
+ghost use Rattle.ble_cluster.specs.Clusters.{elements_at, fits_in_cluster, outside_inputs};
 ghost use Rattle.ble_cluster.specs.BleIndex.{AreLawful};
 ghost use Rattle.ble_cluster.specs.GrowingCluster.{agree, HaveRoom, IsEntered, IsGrowingCluster, IsRoomFor, IsTold, MayFit, is_new_input, new_inputs_of};
 

@@ -1,5 +1,5 @@
 //! The nets between blocks.
-ghost use Rattle.std.specs.Prelude.{◌≡◌, ◌<◌, ◌≤◌, ◌++◌, [], ◌∷◌, IfOk, OnOk, length, slice_get, Some, vec_len};
+ghost use Rattle.std.specs.Prelude.{◌≡◌, ◌<◌, ◌≤◌, ◌++◌, [], ◌∷◌, IfOk, OnOk, length, slice_get, Some};
 ghost use Rattle.cluster.specs.NetUses.{others};
 
 use crate::block::BlockNet;

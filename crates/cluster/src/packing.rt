@@ -1,5 +1,5 @@
 //! Packing, one cluster a step.
-ghost use Rattle.std.specs.Prelude.{◌≡◌, filter, not, length, IfOk, None, OnErr};
+ghost use Rattle.std.specs.Prelude.{◌≡◌, filter, not, IfOk, None, OnErr};
 ghost use Rattle.arch_file.specs.Arch.{IsArch};
 ghost use Rattle.blif.specs.LawfulCircuits.{IsCircuit};
 ghost use Rattle.ble_cluster.specs.Nets.{has};

@@ -1,5 +1,5 @@
 //! The sheet that the picture stands on: its size, its styles, its heading and the numbers beside it.
-ghost use Rattle.std.specs.Prelude.{◌≡◌, ◌≤◌};
+ghost use Rattle.std.specs.Prelude.{◌≤◌};
 
 use crate::device::Device;
 use crate::geometry::Geometry;

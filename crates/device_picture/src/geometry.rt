@@ -3,7 +3,7 @@
 //! Lengths are counted in the distance of two tracks. Columns and rows are squares side by side, `pitch` long: of column x the
 //! blocks and pads stand in the first `block` of it, and the vertical channel right of them in the rest. So does row y upwards, with the
 //! horizontal channel above its blocks. The pads of row 0 stand at its upper end, those above the last row at their row's lower end.
-ghost use Rattle.std.specs.Prelude.{◌≡◌, ◌+◌, ◌*◌, ◌≤◌};
+ghost use Rattle.std.specs.Prelude.{◌+◌, ◌*◌, ◌≤◌};
 
 use crate::device::Device;
 

@@ -1,5 +1,5 @@
 //! The device under what its tenancies own: tracks, blocks, pads, strips and guard columns.
-ghost use Rattle.std.specs.Prelude.{◌≡◌, ◌≤◌};
+ghost use Rattle.std.specs.Prelude.{◌≤◌};
 
 use crate::colours::write_colour;
 use crate::device::Device;

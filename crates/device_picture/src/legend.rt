@@ -1,5 +1,4 @@
 //! The legend: the tenancies with their names, and what the marks mean.
-ghost use Rattle.std.specs.Prelude.{◌≡◌, ◌≤◌};
 
 use crate::colours::write_colour;
 use crate::device::Device;

@@ -1,5 +1,5 @@
 //! Pins and pads as rectangles.
-ghost use Rattle.std.specs.Prelude.{◌≡◌, ◌≤◌};
+ghost use Rattle.std.specs.Prelude.{◌≤◌};
 
 use crate::device::Owned;
 use crate::geometry::Geometry;

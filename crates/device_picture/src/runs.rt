@@ -1,5 +1,5 @@
 //! Wires that adjoin.
-ghost use Rattle.std.specs.Prelude.{◌≡◌, ◌+◌, ◌≤◌, IfSome};
+ghost use Rattle.std.specs.Prelude.{◌+◌, ◌≤◌};
 
 use std::alloc::{AllocError, Global};
 

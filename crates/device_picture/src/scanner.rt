@@ -1,5 +1,4 @@
 //! What a line is made of, taken off from its front.
-ghost use Rattle.std.specs.Prelude.{◌≤◌, length};
 
 use line_text::decimal_u32;
 

@@ -1,5 +1,5 @@
 //! The size of the device that is drawn.
-ghost use Rattle.std.specs.Prelude.{◌≡◌, ◌≤◌, IfNone, IfSome};
+ghost use Rattle.std.specs.Prelude.{◌≤◌, IfNone, IfSome};
 
 /// The size of the device, of its channels and of its ends of columns, within the service's limits.
 #[derive(Clone, Copy, Debug, PartialEq, Eq)]

@@ -1,5 +1,4 @@
 //! Wires as lines.
-ghost use Rattle.std.specs.Prelude.{◌≡◌, ◌≤◌, IfSome};
 
 use crate::device::Owned;
 use crate::geometry::Geometry;

@@ -1,5 +1,5 @@
 //! Least paths over graphs of a few nodes, which a table or a rule gives.
-ghost use Rattle.std.specs.Prelude.{◌≡◌, ◌+◌, ◌*◌, ◌^◌, ◌<◌, ◌≤◌, [], ◌∷◌, All, length, map, take, drop, slice_index, vec_len, nat_lt, if◌then◌else◌};
+ghost use Rattle.std.specs.Prelude.{◌≡◌, ◌+◌, ◌*◌, ◌^◌, ◌<◌, ◌≤◌, [], ◌∷◌, All, length, map, take, drop, slice_index, nat_lt, if◌then◌else◌};
 
 use least_path::{Ends, Roads, Search, least};
 use std::test::Fail;

@@ -1,5 +1,5 @@
 //! What placing and routing may take for granted of a strip's places.
-ghost use Rattle.std.specs.Prelude.{◌≢◌, ◌≤◌, ℕ, All, AllPairs, Contains, length};
+ghost use Rattle.std.specs.Prelude.{◌≢◌, ◌≤◌, All, AllPairs, Contains, length};
 ghost use Rattle.grid.specs.declared.Strip.{Strip};
 ghost use Rattle.grid.specs.declared.place.Kind.{Kind};
 ghost use Rattle.grid.specs.declared.place.Kind.TheVariants.{Logic, Pad};

@@ -1,6 +1,6 @@
 //! The queue.
-ghost use Rattle.std.specs.Prelude.{◌≡◌, [], All, MatchOption, MatchResult, IfOk, vec_len};
-ghost use Rattle.job_queue.specs.Balance.{log, with_push, IsPopped, IsPushed};
+ghost use Rattle.std.specs.Prelude.{◌≡◌, [], All, MatchOption, IfOk, vec_len};
+ghost use Rattle.job_queue.specs.Balance.{log, IsPopped, IsPushed};
 
 use crate::bell::Bell;
 use crate::passes::{Pass, Seat};

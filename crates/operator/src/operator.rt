@@ -1,4 +1,4 @@
-ghost use Rattle.std.specs.Prelude.{◌≡◌, ◌+◌, ◌^◌, ◌<◌, ◌∷◌, ◌++◌, ◌↔◌, [], length, IsTrue, OnOk};
+ghost use Rattle.std.specs.Prelude.{◌≡◌, ◌+◌, ◌<◌, ◌∷◌, ◌++◌, ◌↔◌, [], length, IsTrue, OnOk};
 ghost use Rattle.operator.specs.OperatorText.{last_id, list_text};
 ghost use Rattle.operator.specs.Held.{held};
 ghost use Rattle.operator.specs.Operators.{Steps};

@@ -1,5 +1,5 @@
 //! Where blocks stand.
-ghost use Rattle.std.specs.Prelude.{◌≡◌, ◌≤◌};
+ghost use Rattle.std.specs.Prelude.{◌≤◌};
 ghost use Rattle.grid.specs.Sizes.{IsStripSize};
 
 use crate::packings::packed;

@@ -1,5 +1,5 @@
 //! Random circuits.
-ghost use Rattle.std.specs.Prelude.{◌≡◌, ◌≤◌, ◌<◌};
+ghost use Rattle.std.specs.Prelude.{◌≤◌, ◌<◌};
 
 use crate::draws::{Source, Square};
 use crate::plan::{Plan, side_of};

@@ -1,5 +1,5 @@
 //! Random draws.
-ghost use Rattle.std.specs.Prelude.{◌≡◌, ◌+◌, ◌≤◌, ◌<◌};
+ghost use Rattle.std.specs.Prelude.{◌+◌, ◌≤◌, ◌<◌};
 
 use rand_core::utils::NextWord;
 use rand_pcg::Pcg32;

@@ -1,5 +1,4 @@
 //! The script of a plan.
-ghost use Rattle.std.specs.Prelude.{◌≡◌, ◌≤◌};
 
 use crate::architecture::write_architecture;
 use crate::circuit::write_circuit;

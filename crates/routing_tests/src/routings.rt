@@ -1,6 +1,5 @@
 //! Circuits that are routed on the strip of one block, with two pads below it and two above.
 ghost use Rattle.std.specs.Prelude.{◌≡◌, ◌≤◌};
-ghost use Rattle.rr_graph.specs.Graph.{Basis};
 
 use crate::packed::{packed, placed};
 use fixtures::{AND, ARCHITECTURE, ONE_TRACK_A_PIN};

@@ -1,5 +1,5 @@
 //! A script as threads run it.
-ghost use Rattle.std.specs.Prelude.{◌≡◌, ◌+◌, ◌<◌, ◌^◌, ◌++◌, ◌∷◌, length, OnOk};
+ghost use Rattle.std.specs.Prelude.{◌≡◌, ◌+◌, ◌<◌, ◌^◌, length, OnOk};
 ghost use Rattle.script_text.specs.Threaded.{GivesThreaded, is_by_hand, nothing_said, parts_of, threaded_of};
 ghost use Rattle.script_text.specs.Script.{named_operator};
 

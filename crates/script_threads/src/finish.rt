@@ -1,5 +1,5 @@
 //! What the sessions were told, once they and the workers have ended.
-ghost use Rattle.std.specs.Prelude.{◌≡◌, ◌++◌, ◌∷◌, [], map, All, IfErr, IfOk, OnOk};
+ghost use Rattle.std.specs.Prelude.{[], map, IfErr, IfOk, OnOk};
 ghost use Rattle.script_threads.specs.Parts.{Adds, AreParts, Finishes};
 ghost use Rattle.script_threads.specs.Served.{IsUnserved, section_told};
 

@@ -1,4 +1,4 @@
-ghost use Rattle.std.specs.Prelude.{◌≡◌, ◌++◌, ◌∷◌, [], codes, decimal, length};
+ghost use Rattle.std.specs.Prelude.{◌≡◌, ◌++◌, [], codes, decimal, length};
 ghost use Rattle.line_text.specs.Writing.{Writes};
 ghost use Rattle.sessions.specs.SessionText.{blank_word, fault_text, file_line, misfit_text, numbered_line, refusal_line, reply_text, session_refusal_text, status_line, step_text, steps_line};
 

@@ -1,5 +1,3 @@
-ghost use Rattle.std.specs.Prelude.{◌≡◌};
-
 use shared_core::{Core, Share};
 use std::sync::ledger::Ledger;
 use transcripts::Transcript;

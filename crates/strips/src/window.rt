@@ -1,5 +1,5 @@
 //! Where a strip's routing graph lies in its device's.
-ghost use Rattle.std.specs.Prelude.{◌≡◌, ◌+◌, ◌<◌, ◌≤◌, ◌^◌, ℕ, true, false};
+ghost use Rattle.std.specs.Prelude.{◌≡◌, ◌+◌, ◌<◌, ◌≤◌, ◌^◌, true, false};
 ghost use Rattle.arch_file.specs.declared.arch.Arch.{Arch};
 ghost use Rattle.grid.specs.declared.Strip.{Strip};
 ghost use Rattle.rr_graph.specs.declared.node.Node.{Node};

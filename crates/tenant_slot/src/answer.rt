@@ -1,5 +1,5 @@
 //! A reply before it is given.
-ghost use Rattle.std.specs.Prelude.{◌≡◌, ◌≤◌, ℕ, List, length, nat_lt, IfErr, IfOk, None, Some};
+ghost use Rattle.std.specs.Prelude.{◌≡◌, ℕ, List, length, nat_lt, IfErr, IfOk, None, Some};
 ghost use Rattle.blif.specs.CircuitOf.{circuit_of};
 ghost use Rattle.cluster.specs.Blocks.{block_nets};
 ghost use Rattle.cluster.specs.Clusters.{packed_of, unfit_of};

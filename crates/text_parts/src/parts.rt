@@ -1,5 +1,4 @@
 //! Texts, bytes and numbers, written to a sink.
-ghost use Rattle.std.specs.Prelude.{◌≡◌};
 ghost use Rattle.std.specs.List.{flat_map};
 ghost use Rattle.line_text.specs.Writing.{Writes};
 ghost use Rattle.text_parts.specs.Parts.{bytes_of_part};

@@ -1,6 +1,5 @@
 //! What a picture shows. Lengths are counted in tracks. On these devices of two tracks and two pads a block is 4 long and high and a channel 3, so
 //! that columns and rows stand 7 apart; a pad is 1 long and 2 high, with its pins in the half at the channel, and stands 2 behind the one before.
-ghost use Rattle.std.specs.Prelude.{◌≡◌};
 
 use device_picture::{DeviceSize, DrawError, draw, read_device};
 use line_text::{Failed, MemorySink, Sink};

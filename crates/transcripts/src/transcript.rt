@@ -1,7 +1,7 @@
 //! What a session was told.
 ghost use Rattle.std.specs.Prelude.{◌≡◌, ◌<◌, ◌++◌, ◌∷◌, [], None, Some, MatchBool, length, vec_len, vec_capacity};
 ghost use Rattle.transcripts.specs.declared.item.Place.TheVariants.{Refused};
-ghost use Rattle.transcripts.specs.Transcripts.{IsPlaceOf, Enters, receipts_of, with_no_memory, with_place};
+ghost use Rattle.transcripts.specs.Transcripts.{Enters, receipts_of, with_no_memory, with_place};
 
 use crate::item::{End, Item, Place};
 use service_core::NotServed;

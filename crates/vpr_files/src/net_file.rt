@@ -1,13 +1,12 @@
 //! The `.net` file: the global nets of a packed circuit, and its blocks with what their pins carry.
-ghost use Rattle.std.specs.Prelude.{◌≡◌, ◌<◌, length, map, OnOk};
+ghost use Rattle.std.specs.Prelude.{◌≡◌, ◌<◌, length, map};
 ghost use Rattle.std.specs.List.{flat_map};
 ghost use Rattle.cluster.specs.declared.block.Block.TheVariants.{Cluster};
-ghost use Rattle.cluster.specs.Bles.{bles_of};
 ghost use Rattle.cluster.specs.Blocks.{block_name, blocks_of, elements_in, net_name, pins_of};
 ghost use Rattle.cluster.specs.Packing.{IsPacked};
 ghost use Rattle.vpr_files.specs.BlockClusters.{HasCluster};
 ghost use Rattle.vpr_files.specs.NetFile.{block_lines, element_line, global_lines, net_text_of, net_word};
-ghost use Rattle.vpr_files.specs.TextLines.{line_of, spaced, text_of};
+ghost use Rattle.vpr_files.specs.TextLines.{spaced, text_of};
 ghost use Rattle.line_text.specs.Writing.{Writes};
 
 use crate::pin_words::write_element;

@@ -1,5 +1,5 @@
 //! Nodes of the routing graph in words.
-ghost use Rattle.std.specs.Prelude.{◌≡◌, ◌++◌, ◌∷◌, codes};
+ghost use Rattle.std.specs.Prelude.{◌≡◌, ◌++◌, codes};
 ghost use Rattle.vpr_files.specs.NodeText.{is_pad_row, kind_word, node_text_of, number_word};
 ghost use Rattle.line_text.specs.Writing.{Writes};
 

@@ -1,5 +1,5 @@
 //! The words that say by which pins the BLEs of a cluster are connected.
-ghost use Rattle.std.specs.Prelude.{◌≡◌, ◌<◌, length, option_and_then, position, slice_get, Some};
+ghost use Rattle.std.specs.Prelude.{◌≡◌, ◌<◌, length, option_and_then, slice_get, Some};
 ghost use Rattle.arch_file.specs.declared.arch.PinClass.TheVariants.{Clock};
 ghost use Rattle.cluster.specs.Bles.{bles_of, element_at};
 ghost use Rattle.std.specs.List.{flat_map, range_with_len};
