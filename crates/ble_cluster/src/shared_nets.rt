@@ -25,7 +25,7 @@ impl Model for SharedNets {
 }
 
 impl SharedNets {
-    /// BleIndex, so many, that share nothing.
+    /// So many BLEs that share nothing.
     pub(crate) fn new(alloc: Global, count: usize) -> Result<Self, AllocError>
         ensures count { IfOk result (λ gains. length gains ≡ count) }
         ensures none { IfOk result ShareNothing }

@@ -1,8 +1,8 @@
 -- A packed circuit has few blocks, and its elements have nets of the circuit.
-use Rattle.std.proofs.Common.{◌≡◌, ◌≢◌, ℕ, suc, zero, ◌+◌, ◌^◌, ◌<◌, ◌≤◌, Bool, true, false, List, [], ◌∷◌, ◌++◌, Option, None, Some, All, filter, length, map, drop, if◌then◌else◌, refl, ap, subst, arith, length-append, ◌⊎◌, inl, inr, eqb}
-use Rattle.std.specs.List.{AllPairs, list_any, take_while, prefix_len, find}
+use Rattle.std.proofs.Common.{◌≡◌, ◌≢◌, ℕ, suc, zero, ◌+◌, ◌^◌, ◌<◌, ◌≤◌, Bool, true, false, List, [], ◌∷◌, ◌++◌, Option, None, Some, All, filter, length, map, drop, if◌then◌else◌, refl, ap, subst, arith, length-append, eqb}
+use Rattle.std.specs.List.{AllPairs, take_while, prefix_len, find}
 use Rattle.std.specs.Option.{ForSome}
-use Rattle.std.proofs.lemmas.Bool.Decides.{Decides-eqb, eqb_tells}
+use Rattle.std.proofs.lemmas.Bool.Decides.{Decides-eqb}
 use Rattle.std.proofs.lemmas.Map.Made.{IsDistinct-from_AllPairs}
 use Rattle.std.proofs.lemmas.Map.Steps.{length-le_from_distinct_below}
 use Rattle.std.proofs.lemmas.List.Elements.{All-nil, All-cons, All-head, All-tail, All-append, All-filter, All-map, All-drop, All-take, All-weaker}
@@ -17,16 +17,8 @@ use Rattle.ble_cluster.specs.Clusters.{clusters_after, cluster_of, free_of, with
 use Rattle.cluster.specs.Clusters.{PackedCircuit, packed_of}
 use Rattle.cluster.specs.ClusterPins.{IsElementWithin}
 use Rattle.cluster.specs.LawfulPackings.{IsPacked}
+use Rattle.ble_cluster.proofs.Leading.{found}
 use Rattle.cluster.proofs.Members.{within}
-
--- what holds of all holds of one that is found
-found : (P : ℕ → Type 0) (numbers : List ℕ) → All P numbers → (number : ℕ) → list_any (eqb number) numbers ≡ true → P number
-found P [] h number e = absurd cc
-found P (other ∷ numbers) h number e = by (eqb_tells number other) (found P numbers (All-tail P other numbers h) number)
-  where
-    by : ((eqb number other ≡ true) × (number ≡ other)) ⊎ ((eqb number other ≡ false) × (number ≢ other)) → (list_any (eqb number) numbers ≡ true → P number) → P number
-    by (inl same) next = rw same.1 (h 0 number (omega arith))
-    by (inr differs) next = next (rw differs.0 at e)
 
 -- numbers below a bound, each once, are no more than the bound
 pub few_distinct : (numbers : List ℕ) (bound : ℕ) → AllPairs (λ number other. number ≢ other) numbers → All (λ number. number < bound) numbers → length numbers ≤ bound

@@ -1,6 +1,7 @@
-//! Packing: the tables and latches of a circuit as basic logic elements (BLEs), and these in clusters, as T-VPack does.
+//! Packing: the basic logic elements (BLEs) of a circuit in clusters, as T-VPack does, and the blocks, nets and pins that
+//! follow.
 //!
-//! - `Bles` are the BLEs of a circuit, `check` says whether each fits into a cluster alone.
+//! - `check` says whether each BLE of a circuit fits into a cluster alone.
 //! - `Packing` makes the clusters, one a step. `Packed` is the result, with its blocks, nets and pins; `SharedPacked` is
 //!   one with many owners.
 //! - `laws_of_packing` says what placing and routing may take for granted of each packed circuit.
