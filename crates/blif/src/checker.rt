@@ -4,10 +4,9 @@ ghost use Rattle.blif.specs.LineByLine.{sights_after};
 ghost use Rattle.blif.specs.Numbering.{numbered};
 ghost use Rattle.blif.specs.Names.{repeats_from, texts, with_names};
 ghost use Rattle.blif.specs.FirstFaults.{first_kind};
-ghost use Rattle.blif.specs.Keywords.{keyword_of};
 ghost use Rattle.blif.specs.LatchLines.{is_latch};
 ghost use Rattle.blif.specs.LineNets.{latch_nets, latch_output, names_in, output_of};
-ghost use Rattle.blif.specs.Sights.{sights_of, undeclared};
+ghost use Rattle.blif.specs.Sights.{kind_of, names_of, sights_of, undeclared};
 ghost use Rattle.blif.specs.BlifFaults.{at_words, clock_faults, driver_faults, faults_in, kind_faults, row_faults, table_faults, latch_faults};
 ghost use Rattle.blif.specs.declared.fault.BlifFaultKind.TheVariants.{RepeatedOutput};
 
@@ -79,10 +78,10 @@ impl<'t> Checker<'t> {
         lut_size: u32,
         numbers: &mut Nets,
     ) -> Result<Option<BlifFaultKind>, AllocError>
-        ensures least { IfOk result (λ fault. fault ≡ first_kind (faults_in lut_size self.old (keyword_of line.now.words) line.now.words)) }
-        ensures sights { IfOk result (λ fault. IfNone fault (self.new ≡ sights_after (keyword_of line.now.words) line.now.words self.old)) }
+        ensures least { IfOk result (λ fault. fault ≡ first_kind (faults_in lut_size self.old (kind_of line.now) line.now.words)) }
+        ensures sights { IfOk result (λ fault. IfNone fault (self.new ≡ sights_after (kind_of line.now) line.now.words self.old)) }
         ensures few { IfOk result (λ fault. IfNone fault (length self.new.nets ≤ MAX_NETS)) }
-        ensures numbers { IfOk result (λ fault. IfNone fault (numbers.new ≡ numbers.old ++ numbered self.old.nets (names_in (keyword_of line.now.words) line.now.words))) }
+        ensures numbers { IfOk result (λ fault. IfNone fault (numbers.new ≡ numbers.old ++ numbered self.old.nets (names_of line.now))) }
     {
         if self.ended {
             return Ok(Some(BlifFaultKind::Unknown));

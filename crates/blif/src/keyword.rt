@@ -1,9 +1,9 @@
 //! What a line is, by its first word.
 ghost use Rattle.std.specs.Prelude.{◌≡◌};
 ghost use Rattle.blif.specs.Names.{texts};
-ghost use Rattle.blif.specs.Keywords.{command_of, is_skipped, keyword_of, last_of};
+ghost use Rattle.blif.specs.Keywords.{command_of, is_skipped, last_of};
 ghost use Rattle.blif.specs.LineNets.{front_of, inputs_in};
-ghost use Rattle.blif.specs.Sights.{is_end};
+ghost use Rattle.blif.specs.Sights.{is_end, kind_of};
 
 use line_text::{Line, is_word};
 
@@ -25,7 +25,7 @@ pub enum Keyword {
 
 /// The kind of the line.
 pub fn keyword_of(line: &Line<'_, '_>) -> Keyword
-    ensures { result ≡ keyword_of line.now.words }
+    ensures { result ≡ kind_of line.now }
 {
     match line.words() {
         [] => Keyword::Row,
