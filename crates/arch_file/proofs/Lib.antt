@@ -4,7 +4,6 @@ mod Examples
 pub mod FewPins
 mod KeywordRanks
 mod LineLemmas
-mod PinLemmas
 mod ReadLemmas
 mod ReaderLemmas
 mod SegmentLemmas

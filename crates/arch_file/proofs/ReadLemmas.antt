@@ -1,9 +1,8 @@
 -- What reading one line adds to the draft.
-use Rattle.std.proofs.Common.{◌≡◌, ◌∙◌, ℕ, ◌-◌, ◌<◌, ◌≤◌, List, [], ◌∷◌, ◌++◌, true, false, cond, not, Option, Some, None, Result, Ok, Err, refl, ap, sym, arith, length, get_or, set, take, drop}
-use Rattle.std.specs.Borrow.{Bor}
+use Rattle.std.proofs.Common.{◌≡◌, ◌∙◌, ℕ, ◌<◌, ◌≤◌, List, [], ◌∷◌, ◌++◌, true, false, cond, not, Option, Some, None, Result, Ok, Err, refl, ap, sym, arith, get_or, set}
 use Rattle.std.specs.Option.{option_or, option_to_list}
-use Rattle.std.proofs.lemmas.List.{append-nil, take_all}
-use Rattle.line_text.specs.Lines.{JoinedLine}
+use Rattle.std.proofs.lemmas.List.{append-nil}
+use Rattle.line_text.specs.Lines.{JoinedLine, with_first}
 use Rattle.arch_file.specs.declared.arch.Pin.{Pin}
 use Rattle.arch_file.specs.declared.draft.Draft.{Draft}
 use Rattle.line_text.specs.declared.text_error.TextError.{TextError}
@@ -21,7 +20,7 @@ use Rattle.arch_file.specs.PinLine.{pin_in, pin_line_faults}
 use Rattle.arch_file.specs.Segment.{segment_faults}
 use Rattle.arch_file.specs.Values.{value_faults}
 use Rattle.arch_file.specs.Ranks.{rank_of}
-use Rattle.arch_file.specs.Words.{is_pin_keyword, is_unread, keyword_of, same_keyword, texts}
+use Rattle.arch_file.specs.Words.{is_pin_keyword, is_unread, keyword_of, same_keyword}
 use Rattle.arch_file.proofs.DraftLemmas.{Follows-mark, Follows-set}
 use Rattle.arch_file.proofs.LineLemmas.{Follows-add, Follows-same, keyword_faults-pin, keyword_faults-segment, keyword_faults-value, no_pin, one_pin, pin_rank, pins_of-push, segment_pin, segment_rank, words_at-push}
 
@@ -56,15 +55,6 @@ reads_pin before keyword words old mid new pin follows is_pin faults is adds sid
       (Follows-add old mid (λ other. words_at other before) (pins_of before) pin follows adds sides clock room))),
 )
 
--- the words of a line that has a first one
-pub texts-first : (words : List (Bor (List ℕ))) (d : Bor (List ℕ)) → 1 ≤ length words → texts words ≡ (get_or words 0 d).now ∷ texts (take (length words - 1) (drop 1 words))
-texts-first [] d long = absurd (omega arith)
-texts-first (word ∷ words) d long = ap (λ xs. word.now ∷ texts xs) (sym (take_all (length (word ∷ words) - 1) words (omega arith)))
-
-pub texts-none : (words : List (Bor (List ℕ))) → length words < 1 → texts words ≡ []
-texts-none [] short = refl
-texts-none (word ∷ words) short = absurd (omega arith)
-
 -- the draft that follows these lines and what one more line adds
 pub lines_more : (draft : Draft) (before : List JoinedLine) (line : JoinedLine) → Follows draft (λ other. option_or (words_at other before) (words_at other (line ∷ []))) (pins_of before ++ option_to_list (pin_of_words line.words)) → FollowsLines draft (before ++ line ∷ [])
 lines_more draft before line follows =
@@ -84,25 +74,25 @@ lines_same draft before line nothing pin follows =
     (λ other. or_none (words_at other before) ∙ ap (option_or (words_at other before)) (sym (nothing other)))
     (sym (append-nil (pins_of before)) ∙ ap (λ p. pins_of before ++ option_to_list p) (sym pin)) follows)
 
-pub reads_empty : (before : List JoinedLine) (number : ℕ) (words : List (List ℕ)) (draft : Draft) → words ≡ [] → FollowsLines draft before → Reads before (record { number = number; words = words }) (Ok tt) draft
-reads_empty before number words draft is follows =
-    rw is (refl, lines_same draft before (record { number = number; words = [] }) (λ _. refl) refl follows)
+pub reads_empty : (before : List JoinedLine) (line : JoinedLine) (draft : Draft) → line.words ≡ [] → FollowsLines draft before → Reads before line (Ok tt) draft
+reads_empty before line draft is follows =
+    rw is (refl, lines_same draft before (record { number = line.number; words = [] }) (λ _. refl) refl follows)
 
-pub reads_unread : (before : List JoinedLine) (number : ℕ) (word : List ℕ) (words : List (List ℕ)) (draft : Draft) → keyword_of word ≡ None → is_unread word ≡ true → FollowsLines draft before → Reads before (record { number = number; words = word ∷ words }) (Ok tt) draft
-reads_unread before number word words draft is unread follows = (
-  ap (λ k. first_word_faults before word k words) is ∙ ap (λ b. only_if (not b) Unknown) unread,
-  lines_same draft before (record { number = number; words = word ∷ words }) (λ other. ap (λ k. cond (is_keyword other k) (Some words) None) is) (ap (λ k. pin_behind k words) is) follows,
+pub reads_unread : (before : List JoinedLine) (word : List ℕ) (rest : JoinedLine) (draft : Draft) → keyword_of word ≡ None → is_unread word ≡ true → FollowsLines draft before → Reads before (with_first word rest) (Ok tt) draft
+reads_unread before word rest draft is unread follows = (
+  ap (λ k. first_word_faults before word k rest.words) is ∙ ap (λ b. only_if (not b) Unknown) unread,
+  lines_same draft before (with_first word rest) (λ other. ap (λ k. cond (is_keyword other k) (Some rest.words) None) is) (ap (λ k. pin_behind k rest.words) is) follows,
 )
 
-pub reads_keyword : (before : List JoinedLine) (number : ℕ) (word : List ℕ) (words : List (List ℕ)) (keyword : Keyword) (result : Result (Unit {0}) (TextError ArchFaultKind)) (draft : Draft) → keyword_of word ≡ Some keyword → ReadsKeyword before keyword words result draft → Reads before (record { number = number; words = word ∷ words }) result draft
-reads_keyword before number word words keyword (Ok done) draft is reads = (
-  ap (λ k. first_word_faults before word k words) is ∙ reads.0,
-  lines_more draft before (record { number = number; words = word ∷ words })
-      (Follows-same draft (found_with (λ other. words_at other before) keyword words) (λ other. option_or (words_at other before) (cond (is_keyword other (keyword_of word)) (Some words) None))
-      (pins_of before ++ option_to_list (pin_behind (Some keyword) words)) (pins_of before ++ option_to_list (pin_behind (keyword_of word) words))
-      (λ other. ap (λ k. option_or (words_at other before) (cond (is_keyword other k) (Some words) None)) (sym is))
-      (ap (λ k. pins_of before ++ option_to_list (pin_behind k words)) (sym is)) reads.1),
+pub reads_keyword : (before : List JoinedLine) (word : List ℕ) (rest : JoinedLine) (keyword : Keyword) (result : Result (Unit {0}) (TextError ArchFaultKind)) (draft : Draft) → keyword_of word ≡ Some keyword → ReadsKeyword before keyword rest.words result draft → Reads before (with_first word rest) result draft
+reads_keyword before word rest keyword (Ok done) draft is reads = (
+  ap (λ k. first_word_faults before word k rest.words) is ∙ reads.0,
+  lines_more draft before (with_first word rest)
+      (Follows-same draft (found_with (λ other. words_at other before) keyword rest.words) (λ other. option_or (words_at other before) (cond (is_keyword other (keyword_of word)) (Some rest.words) None))
+      (pins_of before ++ option_to_list (pin_behind (Some keyword) rest.words)) (pins_of before ++ option_to_list (pin_behind (keyword_of word) rest.words))
+      (λ other. ap (λ k. option_or (words_at other before) (cond (is_keyword other k) (Some rest.words) None)) (sym is))
+      (ap (λ k. pins_of before ++ option_to_list (pin_behind k rest.words)) (sym is)) reads.1),
 )
-reads_keyword before number word words keyword (Err (Fault kind)) draft is reads =
-    ap (λ k. least_kind (first_word_faults before word k words)) is ∙ reads
-reads_keyword before number word words keyword (Err NoMemory) draft is reads = reads
+reads_keyword before word rest keyword (Err (Fault kind)) draft is reads =
+    ap (λ k. least_kind (first_word_faults before word k rest.words)) is ∙ reads
+reads_keyword before word rest keyword (Err NoMemory) draft is reads = reads

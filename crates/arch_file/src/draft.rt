@@ -1,5 +1,5 @@
 //! What the lines so far say of the architecture.
-ghost use Rattle.std.specs.Prelude.{ℕ, ◌≡◌, ◌<◌, List, [], OnOk, true, false, not, nat_lt, ◌≤◌, ◌&&◌, ◌==◌, slice_index_or, slice_set};
+ghost use Rattle.std.specs.Prelude.{◌≡◌, ◌<◌, List, [], OnOk, true, false, not, nat_lt, ◌≤◌, ◌&&◌, ◌==◌, slice_index_or, slice_set};
 ghost use Rattle.std.specs.List.{find};
 ghost use Rattle.line_text.specs.Lines.{JoinedLine};
 ghost use Rattle.arch_file.specs.Draft.{AddsPin, Ends, error_at, FollowsLines, Reads, ReadsKeyword, Sets};
@@ -7,7 +7,7 @@ ghost use Rattle.arch_file.specs.Readings.{Finds};
 ghost use Rattle.arch_file.specs.Pins.{is_input_class, output_count};
 ghost use Rattle.arch_file.specs.Values.{value_faults};
 ghost use Rattle.arch_file.specs.Ranks.{rank_of};
-ghost use Rattle.arch_file.specs.Words.{is_pin_keyword, required, same_keyword, texts};
+ghost use Rattle.arch_file.specs.Words.{is_pin_keyword, required, same_keyword};
 
 use crate::arch::{Arch, Pin, PinClass, Pins};
 use crate::fault::{ArchError, ArchFault, ArchFaultKind, Keyword};
@@ -15,7 +15,7 @@ use crate::pin_line::pin_in;
 use crate::segment::check_segment;
 use crate::values::{self, FcType};
 use crate::words::{REQUIRED, is_unread, keyword_of};
-use line_text::TextError;
+use line_text::{Line, TextError};
 use std::alloc::{AllocError, Global};
 
 /// Logic elements of a block.
@@ -90,42 +90,42 @@ impl Draft {
 
     /// The value behind a keyword.
     #[tactic(auto, unfolding(crate::specs::Values::value_faults))]
-    fn set(&mut self, keyword: Keyword, words: &[&[u8]]) -> Result<(), ArchFaultKind>
-        ensures faults { Finds (value_faults keyword (texts words.now)) result }
-        ensures sets { OnOk result (Sets self.old keyword (texts words.now) self.new) }
+    fn set(&mut self, keyword: Keyword, line: &Line<'_, '_>) -> Result<(), ArchFaultKind>
+        ensures faults { Finds (value_faults keyword line.now.words) result }
+        ensures sets { OnOk result (Sets self.old keyword line.now.words self.new) }
     {
         match keyword {
             Keyword::IoRat => {
-                self.io_rat = values::whole_up_to(words, MAX_IO_RAT)?;
+                self.io_rat = values::whole_up_to(line, MAX_IO_RAT)?;
                 Ok(())
             }
             Keyword::SubblocksPerClb => {
-                self.cluster_size = values::whole_up_to(words, MAX_CLUSTER_SIZE)?;
+                self.cluster_size = values::whole_up_to(line, MAX_CLUSTER_SIZE)?;
                 Ok(())
             }
             Keyword::SubblockLutSize => {
-                self.lut_size = values::whole_up_to(words, MAX_LUT_SIZE)?;
+                self.lut_size = values::whole_up_to(line, MAX_LUT_SIZE)?;
                 Ok(())
             }
-            Keyword::ChanWidthIo => values::check_one(keyword, words),
-            Keyword::ChanWidthX | Keyword::ChanWidthY => values::check_width(keyword, words),
+            Keyword::ChanWidthIo => values::check_one(keyword, line),
+            Keyword::ChanWidthX | Keyword::ChanWidthY => values::check_width(keyword, line),
             Keyword::FcType => {
-                self.fc_type = values::fc_type(words)?;
+                self.fc_type = values::fc_type(line)?;
                 Ok(())
             }
             Keyword::FcOutput => {
-                self.fc_output = values::decimal(words)?;
+                self.fc_output = values::decimal(line)?;
                 Ok(())
             }
             Keyword::FcInput => {
-                self.fc_input = values::decimal(words)?;
+                self.fc_input = values::decimal(line)?;
                 Ok(())
             }
             Keyword::FcPad => {
-                self.fc_pad = values::decimal(words)?;
+                self.fc_pad = values::decimal(line)?;
                 Ok(())
             }
-            Keyword::SwitchBlockType => values::check_switch_block(words),
+            Keyword::SwitchBlockType => values::check_switch_block(line),
             Keyword::Inpin | Keyword::Outpin | Keyword::Segment => Ok(()),
         }
     }
@@ -164,66 +164,66 @@ impl Draft {
     }
 
     /// The line of a pin, behind its keyword.
-    fn read_pin(&mut self, keyword: Keyword, words: &[&[u8]]) -> Result<(), Refusal>
+    fn read_pin(&mut self, keyword: Keyword, line: &Line<'_, '_>) -> Result<(), Refusal>
         requires { is_pin_keyword keyword ≡ true }
         ensures { (before : List JoinedLine) → FollowsLines self.old before
-            → ReadsKeyword before keyword (texts words.now) result self.new }
+            → ReadsKeyword before keyword line.now.words result self.new }
     {
-        let pin = pin_in(keyword, words, self.inputs, self.has_clock)?;
+        let pin = pin_in(keyword, line, self.inputs, self.has_clock)?;
         self.add(pin)?;
         self.mark(keyword);
         Ok(())
     }
 
     /// The line of a segment, behind its keyword.
-    fn read_segment(&mut self, keyword: Keyword, words: &[&[u8]]) -> Result<(), Refusal>
+    fn read_segment(&mut self, keyword: Keyword, line: &Line<'_, '_>) -> Result<(), Refusal>
         requires { same_keyword keyword Keyword.Segment ≡ true }
         ensures { (before : List JoinedLine) → FollowsLines self.old before
-            → ReadsKeyword before keyword (texts words.now) result self.new }
+            → ReadsKeyword before keyword line.now.words result self.new }
     {
-        check_segment(words, self.has(keyword))?;
+        check_segment(line, self.has(keyword))?;
         self.mark(keyword);
         Ok(())
     }
 
     /// The line of a value, behind its keyword.
-    fn read_value(&mut self, keyword: Keyword, words: &[&[u8]]) -> Result<(), Refusal>
+    fn read_value(&mut self, keyword: Keyword, line: &Line<'_, '_>) -> Result<(), Refusal>
         requires pin { is_pin_keyword keyword ≡ false }
         requires segment { same_keyword keyword Keyword.Segment ≡ false }
         ensures { (before : List JoinedLine) → FollowsLines self.old before
-            → ReadsKeyword before keyword (texts words.now) result self.new }
+            → ReadsKeyword before keyword line.now.words result self.new }
     {
         if self.has(keyword) {
             return Err(Refusal::Fault(ArchFaultKind::Repeated));
         }
-        self.set(keyword, words)?;
+        self.set(keyword, line)?;
         self.mark(keyword);
         Ok(())
     }
 
     /// A line, behind its keyword.
-    fn read_keyword(&mut self, keyword: Keyword, words: &[&[u8]]) -> Result<(), Refusal>
+    fn read_keyword(&mut self, keyword: Keyword, line: &Line<'_, '_>) -> Result<(), Refusal>
         ensures { (before : List JoinedLine) → FollowsLines self.old before
-            → ReadsKeyword before keyword (texts words.now) result self.new }
+            → ReadsKeyword before keyword line.now.words result self.new }
     {
         if keyword.is_pin() {
-            return self.read_pin(keyword, words);
+            return self.read_pin(keyword, line);
         }
         if keyword.is_segment() {
-            return self.read_segment(keyword, words);
+            return self.read_segment(keyword, line);
         }
-        self.read_value(keyword, words)
+        self.read_value(keyword, line)
     }
 
     /// A line.
-    pub(crate) fn read(&mut self, words: &[&[u8]]) -> Result<(), Refusal>
-        ensures { (before : List JoinedLine) (number : ℕ) → FollowsLines self.old before
-            → Reads before (record { number = number; words = texts words.now }) result self.new }
+    pub(crate) fn read(&mut self, line: &Line<'_, '_>) -> Result<(), Refusal>
+        ensures { (before : List JoinedLine) → FollowsLines self.old before
+            → Reads before line.now result self.new }
     {
-        match words {
-            [] => Ok(()),
-            [word, rest @ ..] => match keyword_of(word) {
-                Some(keyword) => self.read_keyword(keyword, rest),
+        match line.split_first() {
+            None => Ok(()),
+            Some((word, rest)) => match keyword_of(word) {
+                Some(keyword) => self.read_keyword(keyword, &rest),
                 None => {
                     if is_unread(word) {
                         Ok(())

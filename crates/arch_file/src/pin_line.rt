@@ -4,12 +4,11 @@ ghost use Rattle.arch_file.specs.Readings.{FindsLeast};
 ghost use Rattle.arch_file.specs.PinLine.{are_sides, class_faults, class_fits, class_of, pin_in, pin_line_faults, sides_of};
 ghost use Rattle.arch_file.specs.Pins.{clock_count, has_side, input_count, is_clock_class, is_input_class};
 ghost use Rattle.arch_file.specs.SideWords.{Shows};
-ghost use Rattle.arch_file.specs.Words.{texts};
 ghost use Rattle.arch_file.specs.declared.arch.Pin.{Pin};
 
 use crate::arch::{Pin, PinClass, Sides};
 use crate::fault::{ArchFaultKind, Keyword};
-use line_text::is_word;
+use line_text::{Line, is_word};
 
 /// How many inputs a logic block may have.
 const MAX_INPUTS: u32 = 128;
@@ -74,10 +73,11 @@ impl SideWords {
         more
     }
 
-    /// All of these words.
-    fn of(words: &[&[u8]]) -> Self
-        ensures { Shows result (texts words.now) }
+    /// All words of the line.
+    fn of(line: &Line<'_, '_>) -> Self
+        ensures { Shows result line.now.words }
     {
+        let words = line.words();
         let mut read = SideWords::none();
         for word in words {
             read = read.with(word);
@@ -121,23 +121,23 @@ fn class_fits(keyword: Keyword, class: PinClass, is_global: bool) -> bool
     }
 }
 
-/// The pin of a class word and the words behind it, where so many inputs stand before, and perhaps a clock.
+/// The pin of a class word and the line behind it, where so many inputs stand before, and perhaps a clock.
 fn pin_of(
     keyword: Keyword,
     class: &[u8],
-    words: &[&[u8]],
+    sides: &Line<'_, '_>,
     inputs: u32,
     has_clock: bool,
 ) -> Result<Pin, ArchFaultKind>
     ensures faults { (pins : List Pin) → inputs ≡ input_count pins → has_clock ≡ nat_lt 0 (clock_count pins)
-        → FindsLeast (class_faults pins keyword (class_of class.now) (texts words.now)) result }
+        → FindsLeast (class_faults pins keyword (class_of class.now) sides.now.words) result }
     ensures class { IfOk result (λ pin. class_of class.now ≡ Some pin.class) }
-    ensures sides { IfOk result (λ pin. pin.sides ≡ sides_of (texts words.now)) }
+    ensures sides { IfOk result (λ pin. pin.sides ≡ sides_of sides.now.words) }
     ensures reached { IfOk result (λ pin. has_side pin.sides ≡ true) }
     ensures clock { IfOk result (λ pin. is_clock_class pin.class ≡ true → has_clock ≡ false) }
     ensures room { IfOk result (λ pin. is_input_class pin.class ≡ true → inputs < 128) }
 {
-    let read = SideWords::of(words);
+    let read = SideWords::of(sides);
     let Some(class) = class_of(class) else {
         return Err(ArchFaultKind::BadClass);
     };
@@ -159,30 +159,30 @@ fn pin_of(
     })
 }
 
-/// The pin of the words behind its keyword, where so many inputs stand before, and perhaps a clock.
+/// The pin of the line behind its keyword, where so many inputs stand before, and perhaps a clock.
 #[tactic(auto, unfolding(crate::specs::PinLine::pin_line_faults, crate::specs::PinLine::pin_in))]
 pub(crate) fn pin_in(
     keyword: Keyword,
-    words: &[&[u8]],
+    line: &Line<'_, '_>,
     inputs: u32,
     has_clock: bool,
 ) -> Result<Pin, ArchFaultKind>
     ensures faults { (pins : List Pin) → inputs ≡ input_count pins → has_clock ≡ nat_lt 0 (clock_count pins)
-        → FindsLeast (pin_line_faults pins keyword (texts words.now)) result }
-    ensures value { IfOk result (λ pin. pin_in (texts words.now) ≡ Some pin) }
+        → FindsLeast (pin_line_faults pins keyword line.now.words) result }
+    ensures value { IfOk result (λ pin. pin_in line.now.words ≡ Some pin) }
     ensures reached { IfOk result (λ pin. has_side pin.sides ≡ true) }
     ensures clock { IfOk result (λ pin. is_clock_class pin.class ≡ true → has_clock ≡ false) }
     ensures room { IfOk result (λ pin. is_input_class pin.class ≡ true → inputs < 128) }
 {
-    match words {
-        [] => Err(ArchFaultKind::Unknown),
-        [word, rest @ ..] => {
+    match line.split_first() {
+        None => Err(ArchFaultKind::Unknown),
+        Some((word, rest)) => {
             if !is_word(word, "class:") {
                 return Err(ArchFaultKind::Unknown);
             }
-            match rest {
-                [] => Err(ArchFaultKind::BadClass),
-                [class, sides @ ..] => pin_of(keyword, class, sides, inputs, has_clock),
+            match rest.split_first() {
+                None => Err(ArchFaultKind::BadClass),
+                Some((class, sides)) => pin_of(keyword, class, &sides, inputs, has_clock),
             }
         }
     }

@@ -19,8 +19,8 @@ fn read_lines(alloc: Global, lines: &Lines<'_>) -> Result<Draft, ArchError>
     let mut draft = Draft::new(alloc);
     for place in 0..lines.len() {
         let line = lines.line(place);
-        if let Err(refusal) = draft.read(line.words) {
-            return Err(at_line(refusal, line.number));
+        if let Err(refusal) = draft.read(&line) {
+            return Err(at_line(refusal, line.number()));
         }
     }
     Ok(draft)

@@ -3,11 +3,10 @@ ghost use Rattle.std.specs.Prelude.{◌≡◌};
 ghost use Rattle.line_text.specs.Decimal.{millionths_of};
 ghost use Rattle.arch_file.specs.Readings.{FindsLeast};
 ghost use Rattle.arch_file.specs.Segment.{are_ones, is_number_one, is_one, segment_faults, values_under};
-ghost use Rattle.arch_file.specs.Words.{texts};
 
 use crate::fault::{ArchFaultKind, Keyword};
 use crate::values::ONE;
-use line_text::{is_word, millionths};
+use line_text::{Line, is_word, millionths};
 
 /// Whether the word is the decimal 1.
 fn is_number_one(word: &[u8]) -> bool
@@ -19,10 +18,11 @@ fn is_number_one(word: &[u8]) -> bool
     }
 }
 
-/// Whether one value stands behind the key, and is 1.
-fn is_one(words: &[&[u8]], key: &str) -> bool
-    ensures { result ≡ is_one (values_under key.now (texts words.now)) }
+/// Whether one value stands behind the key on the line, and is 1.
+fn is_one(line: &Line<'_, '_>, key: &str) -> bool
+    ensures { result ≡ is_one (values_under key.now line.now.words) }
 {
+    let words = line.words();
     let mut is_found = false;
     for pair in 0..words.len() / 2 {
         if is_word(words[2 * pair], key) {
@@ -39,24 +39,24 @@ fn is_one(words: &[&[u8]], key: &str) -> bool
 }
 
 /// Whether the four keys that must be 1 are.
-fn are_ones(words: &[&[u8]]) -> bool
-    ensures { result ≡ are_ones (texts words.now) }
+fn are_ones(line: &Line<'_, '_>) -> bool
+    ensures { result ≡ are_ones line.now.words }
 {
-    is_one(words, "frequency:")
-        && is_one(words, "length:")
-        && is_one(words, "Frac_cb:")
-        && is_one(words, "Frac_sb:")
+    is_one(line, "frequency:")
+        && is_one(line, "length:")
+        && is_one(line, "Frac_cb:")
+        && is_one(line, "Frac_sb:")
 }
 
-/// Whether the words behind `segment` are lawful, where another `segment` may stand before.
+/// Whether the line behind `segment` is lawful, where another `segment` may stand before.
 #[tactic(auto, unfolding(crate::specs::Segment::segment_faults))]
-pub(crate) fn check_segment(words: &[&[u8]], is_second: bool) -> Result<(), ArchFaultKind>
-    ensures { FindsLeast (segment_faults is_second (texts words.now)) result }
+pub(crate) fn check_segment(line: &Line<'_, '_>, is_second: bool) -> Result<(), ArchFaultKind>
+    ensures { FindsLeast (segment_faults is_second line.now.words) result }
 {
-    if words.len() % 2 == 1 {
+    if line.words().len() % 2 == 1 {
         return Err(ArchFaultKind::BadNumber);
     }
-    if is_second || !are_ones(words) {
+    if is_second || !are_ones(line) {
         return Err(ArchFaultKind::NotProfile(Keyword::Segment));
     }
     Ok(())

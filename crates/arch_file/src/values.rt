@@ -3,11 +3,11 @@ ghost use Rattle.std.specs.Prelude.{◌≡◌, ◌<◌, ◌≤◌, IfOk, Some, o
 ghost use Rattle.arch_file.specs.Readings.{Finds};
 ghost use Rattle.arch_file.specs.Values.{decimal_faults, decimal_in, is_fc_type, is_fractional_choice, is_subset, one_faults, reach, whole_faults, whole_in, width_faults, word_faults};
 ghost use Rattle.arch_file.specs.FcTypes.{is_fractional_type};
-ghost use Rattle.arch_file.specs.Words.{lone, texts};
+ghost use Rattle.arch_file.specs.Words.{lone};
 
 use crate::fault::{ArchFaultKind, Keyword};
 use crate::words::lone;
-use line_text::{is_word, millionths, whole_number};
+use line_text::{Line, is_word, millionths, whole_number};
 
 /// 1, in millionths.
 pub(crate) const ONE: u64 = 1_000_000;
@@ -21,28 +21,28 @@ pub(crate) enum FcType {
     Fractional,
 }
 
-/// The words as one whole number.
-fn whole_in(words: &[&[u8]]) -> Option<u32>
-    ensures { result ≡ whole_in (texts words.now) }
+/// The line's words as one whole number.
+fn whole_in(line: &Line<'_, '_>) -> Option<u32>
+    ensures { result ≡ whole_in line.now.words }
 {
-    whole_number(lone(words)?)
+    whole_number(lone(line)?)
 }
 
-/// The words as one decimal, in millionths.
-fn decimal_in(words: &[&[u8]]) -> Option<u64>
-    ensures { result ≡ decimal_in (texts words.now) }
+/// The line's words as one decimal, in millionths.
+fn decimal_in(line: &Line<'_, '_>) -> Option<u64>
+    ensures { result ≡ decimal_in line.now.words }
 {
-    millionths(lone(words)?)
+    millionths(lone(line)?)
 }
 
 /// A whole number from 1 to that limit.
-pub(crate) fn whole_up_to(words: &[&[u8]], limit: u32) -> Result<u32, ArchFaultKind>
-    ensures faults { Finds (whole_faults limit (whole_in (texts words.now))) result }
-    ensures value { IfOk result (λ number. whole_in (texts words.now) ≡ Some number) }
+pub(crate) fn whole_up_to(line: &Line<'_, '_>, limit: u32) -> Result<u32, ArchFaultKind>
+    ensures faults { Finds (whole_faults limit (whole_in line.now.words)) result }
+    ensures value { IfOk result (λ number. whole_in line.now.words ≡ Some number) }
     ensures low { IfOk result (λ number. 1 ≤ number) }
     ensures high { IfOk result (λ number. number ≤ limit) }
 {
-    match whole_in(words) {
+    match whole_in(line) {
         None => Err(ArchFaultKind::BadNumber),
         Some(number) => {
             if number == 0 {
@@ -57,21 +57,21 @@ pub(crate) fn whole_up_to(words: &[&[u8]], limit: u32) -> Result<u32, ArchFaultK
 }
 
 /// A decimal, in millionths.
-pub(crate) fn decimal(words: &[&[u8]]) -> Result<u64, ArchFaultKind>
-    ensures faults { Finds (decimal_faults (decimal_in (texts words.now))) result }
-    ensures value { IfOk result (λ number. decimal_in (texts words.now) ≡ Some number) }
+pub(crate) fn decimal(line: &Line<'_, '_>) -> Result<u64, ArchFaultKind>
+    ensures faults { Finds (decimal_faults (decimal_in line.now.words)) result }
+    ensures value { IfOk result (λ number. decimal_in line.now.words ≡ Some number) }
 {
-    match decimal_in(words) {
+    match decimal_in(line) {
         None => Err(ArchFaultKind::BadNumber),
         Some(value) => Ok(value),
     }
 }
 
-/// Whether the words are one decimal that is 1.
-pub(crate) fn check_one(keyword: Keyword, words: &[&[u8]]) -> Result<(), ArchFaultKind>
-    ensures { Finds (one_faults keyword (decimal_in (texts words.now))) result }
+/// Whether the line's words are one decimal that is 1.
+pub(crate) fn check_one(keyword: Keyword, line: &Line<'_, '_>) -> Result<(), ArchFaultKind>
+    ensures { Finds (one_faults keyword (decimal_in line.now.words)) result }
 {
-    match decimal_in(words) {
+    match decimal_in(line) {
         None => Err(ArchFaultKind::BadNumber),
         Some(value) => {
             if value == ONE {
@@ -83,15 +83,15 @@ pub(crate) fn check_one(keyword: Keyword, words: &[&[u8]]) -> Result<(), ArchFau
     }
 }
 
-/// Whether the words say that all channels have the width 1.
-pub(crate) fn check_width(keyword: Keyword, words: &[&[u8]]) -> Result<(), ArchFaultKind>
-    ensures { Finds (width_faults keyword (texts words.now)) result }
+/// Whether the line says that all channels have the width 1.
+pub(crate) fn check_width(keyword: Keyword, line: &Line<'_, '_>) -> Result<(), ArchFaultKind>
+    ensures { Finds (width_faults keyword line.now.words) result }
 {
-    match words {
-        [] => Err(ArchFaultKind::BadNumber),
-        [kind, rest @ ..] => {
+    match line.split_first() {
+        None => Err(ArchFaultKind::BadNumber),
+        Some((kind, rest)) => {
             if is_word(kind, "uniform") {
-                check_one(keyword, rest)
+                check_one(keyword, &rest)
             } else {
                 Err(ArchFaultKind::NotProfile(keyword))
             }
@@ -100,11 +100,11 @@ pub(crate) fn check_width(keyword: Keyword, words: &[&[u8]]) -> Result<(), ArchF
 }
 
 /// How the numbers of tracks are meant.
-pub(crate) fn fc_type(words: &[&[u8]]) -> Result<FcType, ArchFaultKind>
-    ensures faults { Finds (word_faults Keyword.FcType is_fc_type (lone (texts words.now))) result }
-    ensures value { IfOk result (λ meant. is_fractional_type meant ≡ is_fractional_choice (lone (texts words.now))) }
+pub(crate) fn fc_type(line: &Line<'_, '_>) -> Result<FcType, ArchFaultKind>
+    ensures faults { Finds (word_faults Keyword.FcType is_fc_type (lone line.now.words)) result }
+    ensures value { IfOk result (λ meant. is_fractional_type meant ≡ is_fractional_choice (lone line.now.words)) }
 {
-    match lone(words) {
+    match lone(line) {
         None => Err(ArchFaultKind::BadNumber),
         Some(word) => {
             if is_word(word, "absolute") {
@@ -118,11 +118,11 @@ pub(crate) fn fc_type(words: &[&[u8]]) -> Result<FcType, ArchFaultKind>
     }
 }
 
-/// Whether the words are the one kind of switch blocks.
-pub(crate) fn check_switch_block(words: &[&[u8]]) -> Result<(), ArchFaultKind>
-    ensures { Finds (word_faults Keyword.SwitchBlockType is_subset (lone (texts words.now))) result }
+/// Whether the line names the one kind of switch blocks.
+pub(crate) fn check_switch_block(line: &Line<'_, '_>) -> Result<(), ArchFaultKind>
+    ensures { Finds (word_faults Keyword.SwitchBlockType is_subset (lone line.now.words)) result }
 {
-    match lone(words) {
+    match lone(line) {
         None => Err(ArchFaultKind::BadNumber),
         Some(word) => {
             if is_word(word, "subset") {

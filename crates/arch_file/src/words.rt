@@ -1,10 +1,10 @@
 //! The keywords of the architecture file.
 ghost use Rattle.std.specs.Prelude.{◌≡◌, ◌<◌, option_map};
 ghost use Rattle.arch_file.specs.Ranks.{rank_of};
-ghost use Rattle.arch_file.specs.Words.{is_pin_keyword, is_unread, keyword_of, lone, same_keyword, text_of, texts};
+ghost use Rattle.arch_file.specs.Words.{is_pin_keyword, is_unread, keyword_of, lone, same_keyword, text_of};
 
 use crate::fault::Keyword;
-use line_text::is_word;
+use line_text::{Line, is_word};
 
 /// The keywords that must stand, in the order in which a missing one is told.
 pub(crate) const REQUIRED: [Keyword; 12] = [
@@ -123,11 +123,11 @@ pub(crate) fn is_unread(word: &[u8]) -> bool
         || word.starts_with(b"T_")
 }
 
-/// The word that stands alone.
-pub(crate) fn lone<'t>(words: &[&'t [u8]]) -> Option<&'t [u8]>
-    ensures { option_map (λ word. word.now) result ≡ lone (texts words.now) }
+/// The word that stands alone on the line.
+pub(crate) fn lone<'t>(line: &Line<'_, 't>) -> Option<&'t [u8]>
+    ensures { option_map (λ word. word.now) result ≡ lone line.now.words }
 {
-    match words {
+    match line.words() {
         [word] => Some(*word),
         _ => None,
     }

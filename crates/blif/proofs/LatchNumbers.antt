@@ -27,56 +27,63 @@ pub record AreLatchNumbers (nets : List (List ℕ)) (input : List ℕ) (control 
   pub control_is : (name : List ℕ) → control ≡ Some name → IsNumbered nets (get_or numbers 2 0) name
 
 module _ (nets : List (List ℕ)) (numbers : List ℕ) where
-  pub latch_numbers : (args : List (Bor (List ℕ))) (d : Bor (List ℕ)) → is_latch (texts args) ≡ true → list_all (has_name nets) (latch_nets (texts args)) ≡ true → numbers ≡ map (number_of nets) (latch_nets (texts args)) → AreLatchNumbers nets (get_or args 0 d).now (control_of (texts args)) numbers
-  latch_numbers [] d form named are = absurd cc
-  latch_numbers (input ∷ []) d form named are = absurd cc
-  latch_numbers (input ∷ output ∷ rest) d form named are = by (is_latch (texts (input ∷ output ∷ rest))) (control_of (texts (input ∷ output ∷ rest))) form named are
+  pub latch_numbers : (args : List (List ℕ)) → is_latch args ≡ true → list_all (has_name nets) (latch_nets args) ≡ true → numbers ≡ map (number_of nets) (latch_nets args) → AreLatchNumbers nets (get_or args 0 []) (control_of args) numbers
+  latch_numbers [] form named are = absurd cc
+  latch_numbers (input ∷ []) form named are = absurd cc
+  latch_numbers (input ∷ output ∷ rest) form named are = by (is_latch (input ∷ output ∷ rest)) (control_of (input ∷ output ∷ rest)) form named are
     where
-      by : (b : Bool) (control : Option (List ℕ)) → b ≡ true → list_all (has_name nets) (if b then input.now ∷ output.now ∷ option_to_list control else []) ≡ true → numbers ≡ map (number_of nets) (if b then input.now ∷ output.now ∷ option_to_list control else []) → AreLatchNumbers nets input.now control numbers
+      by : (b : Bool) (control : Option (List ℕ)) → b ≡ true → list_all (has_name nets) (if b then input ∷ output ∷ option_to_list control else []) ≡ true → numbers ≡ map (number_of nets) (if b then input ∷ output ∷ option_to_list control else []) → AreLatchNumbers nets input control numbers
       by false control form named are = absurd cc
       by true None form named are = record {
-        input_is = is_numbered nets (get_or numbers 0 0) input.now (ap (λ ns. get_or ns 0 0) are) (and_left _ _ named);
+        input_is = is_numbered nets (get_or numbers 0 0) input (ap (λ ns. get_or ns 0 0) are) (and_left _ _ named);
         control_is = λ name is. absurd cc;
       }
       by true (Some net) form named are = record {
-        input_is = is_numbered nets (get_or numbers 0 0) input.now (ap (λ ns. get_or ns 0 0) are) (and_left _ _ named);
+        input_is = is_numbered nets (get_or numbers 0 0) input (ap (λ ns. get_or ns 0 0) are) (and_left _ _ named);
         control_is = λ name is. let same : net ≡ name = cc in
             is_numbered nets (get_or numbers 2 0) name (ap (λ ns. get_or ns 2 0) are ∙ ap (number_of nets) same) (sym (ap (has_name nets) same) ∙ and_left _ _ (and_right _ _ (and_right _ _ named)));
       }
 
+-- the input of a latch, by the slices of its words
+pub latch_input : (slices : List (Bor (List ℕ))) (d : Bor (List ℕ)) (args : List (List ℕ)) → texts slices ≡ args → is_latch args ≡ true → (get_or slices 0 d).now ≡ get_or args 0 []
+latch_input [] d args are form =
+    let none : is_latch [] ≡ true = ap is_latch are ∙ form in
+    absurd cc
+latch_input (slice ∷ slices) d args are form = ap (λ words. get_or words 0 []) are
+
 -- the first net that a latch reads and that is not driven
 module _ (drivers : List (List ℕ)) where
-  reads_are : (args : List (Bor (List ℕ))) (d : Bor (List ℕ)) → is_latch (texts args) ≡ true → latch_reads (texts args) ≡ (get_or args 0 d).now ∷ option_to_list (control_of (texts args))
-  reads_are [] d form = absurd cc
-  reads_are (input ∷ []) d form = absurd cc
-  reads_are (input ∷ output ∷ rest) d form = ap (λ b. if b then input.now ∷ option_to_list (control_of (texts (input ∷ output ∷ rest))) else []) form
+  reads_are : (args : List (List ℕ)) → is_latch args ≡ true → latch_reads args ≡ get_or args 0 [] ∷ option_to_list (control_of args)
+  reads_are [] form = absurd cc
+  reads_are (input ∷ []) form = absurd cc
+  reads_are (input ∷ output ∷ rest) form = ap (λ b. if b then input ∷ option_to_list (control_of (input ∷ output ∷ rest)) else []) form
 
-  pub input_undriven : (args : List (Bor (List ℕ))) (d : Bor (List ℕ)) → is_latch (texts args) ≡ true → has_name drivers (get_or args 0 d).now ≡ false → Some (get_or args 0 d).now ≡ first (undriven drivers (latch_reads (texts args)))
-  input_undriven args d form h =
-      let input = (get_or args 0 d).now in
-      let control = option_to_list (control_of (texts args)) in
+  pub input_undriven : (args : List (List ℕ)) → is_latch args ≡ true → has_name drivers (get_or args 0 []) ≡ false → Some (get_or args 0 []) ≡ first (undriven drivers (latch_reads args))
+  input_undriven args form h =
+      let input = get_or args 0 [] in
+      let control = option_to_list (control_of args) in
       sym (ap (λ b. first (if not b then input ∷ undriven drivers control else undriven drivers control)) h)
-      ∙ ap (λ names. first (undriven drivers names)) (sym (reads_are args d form))
+      ∙ ap (λ names. first (undriven drivers names)) (sym (reads_are args form))
 
-  control_left : (args : List (Bor (List ℕ))) (d : Bor (List ℕ)) → is_latch (texts args) ≡ true → has_name drivers (get_or args 0 d).now ≡ true → first (undriven drivers (option_to_list (control_of (texts args)))) ≡ first (undriven drivers (latch_reads (texts args)))
-  control_left args d form h =
-      let input = (get_or args 0 d).now in
-      let control = option_to_list (control_of (texts args)) in
+  control_left : (args : List (List ℕ)) → is_latch args ≡ true → has_name drivers (get_or args 0 []) ≡ true → first (undriven drivers (option_to_list (control_of args))) ≡ first (undriven drivers (latch_reads args))
+  control_left args form h =
+      let input = get_or args 0 [] in
+      let control = option_to_list (control_of args) in
       sym (ap (λ b. first (if not b then input ∷ undriven drivers control else undriven drivers control)) h)
-      ∙ ap (λ names. first (undriven drivers names)) (sym (reads_are args d form))
+      ∙ ap (λ names. first (undriven drivers names)) (sym (reads_are args form))
 
   of_one : (name : List ℕ) (b : Bool) → has_name drivers name ≡ b → first (undriven drivers (name ∷ [])) ≡ (if b then None else Some name)
   of_one name true h = ap (λ b. first (if not b then name ∷ [] else [])) h
   of_one name false h = ap (λ b. first (if not b then name ∷ [] else [])) h
 
-  pub control_undriven : (args : List (Bor (List ℕ))) (d : Bor (List ℕ)) (net : List ℕ) → is_latch (texts args) ≡ true → has_name drivers (get_or args 0 d).now ≡ true → control_of (texts args) ≡ Some net → has_name drivers net ≡ false → Some net ≡ first (undriven drivers (latch_reads (texts args)))
-  control_undriven args d net form input is h =
-      sym (ap (λ c. first (undriven drivers (option_to_list c))) is ∙ of_one net false h) ∙ control_left args d form input
+  pub control_undriven : (args : List (List ℕ)) (net : List ℕ) → is_latch args ≡ true → has_name drivers (get_or args 0 []) ≡ true → control_of args ≡ Some net → has_name drivers net ≡ false → Some net ≡ first (undriven drivers (latch_reads args))
+  control_undriven args net form input is h =
+      sym (ap (λ c. first (undriven drivers (option_to_list c))) is ∙ of_one net false h) ∙ control_left args form input
 
-  pub latch_driven : (args : List (Bor (List ℕ))) (d : Bor (List ℕ)) (net : List ℕ) → is_latch (texts args) ≡ true → has_name drivers (get_or args 0 d).now ≡ true → control_of (texts args) ≡ Some net → has_name drivers net ≡ true → None ≡ first (undriven drivers (latch_reads (texts args)))
-  latch_driven args d net form input is h =
-      sym (ap (λ c. first (undriven drivers (option_to_list c))) is ∙ of_one net true h) ∙ control_left args d form input
+  pub latch_driven : (args : List (List ℕ)) (net : List ℕ) → is_latch args ≡ true → has_name drivers (get_or args 0 []) ≡ true → control_of args ≡ Some net → has_name drivers net ≡ true → None ≡ first (undriven drivers (latch_reads args))
+  latch_driven args net form input is h =
+      sym (ap (λ c. first (undriven drivers (option_to_list c))) is ∙ of_one net true h) ∙ control_left args form input
 
-  pub free_latch_driven : (args : List (Bor (List ℕ))) (d : Bor (List ℕ)) → is_latch (texts args) ≡ true → has_name drivers (get_or args 0 d).now ≡ true → control_of (texts args) ≡ None → None ≡ first (undriven drivers (latch_reads (texts args)))
-  free_latch_driven args d form input is =
-      sym (ap (λ c. first (undriven drivers (option_to_list c))) is) ∙ control_left args d form input
+  pub free_latch_driven : (args : List (List ℕ)) → is_latch args ≡ true → has_name drivers (get_or args 0 []) ≡ true → control_of args ≡ None → None ≡ first (undriven drivers (latch_reads args))
+  free_latch_driven args form input is =
+      sym (ap (λ c. first (undriven drivers (option_to_list c))) is) ∙ control_left args form input

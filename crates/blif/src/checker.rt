@@ -4,10 +4,9 @@ ghost use Rattle.blif.specs.LineByLine.{sights_after};
 ghost use Rattle.blif.specs.Numbering.{numbered};
 ghost use Rattle.blif.specs.Names.{repeats_from, texts, with_names};
 ghost use Rattle.blif.specs.FirstFaults.{first_kind};
-ghost use Rattle.blif.specs.Keywords.{args_of, keyword_of};
 ghost use Rattle.blif.specs.LatchLines.{is_latch};
 ghost use Rattle.blif.specs.LineNets.{latch_nets, latch_output, names_in, output_of};
-ghost use Rattle.blif.specs.Sights.{sights_of, undeclared};
+ghost use Rattle.blif.specs.Sights.{kind_of, names_of, sights_of, undeclared};
 ghost use Rattle.blif.specs.BlifFaults.{at_words, clock_faults, driver_faults, faults_in, kind_faults, row_faults, table_faults, latch_faults};
 ghost use Rattle.blif.specs.declared.fault.BlifFaultKind.TheVariants.{RepeatedOutput};
 
@@ -15,11 +14,11 @@ use crate::circuit::MAX_NETS;
 use crate::cover::{Cover, cover_after, is_mixed, is_row};
 use crate::driven::Driven;
 use crate::fault::BlifFaultKind;
-use crate::keyword::{Keyword, args_of, keyword_of, last_of};
+use crate::keyword::{Keyword, keyword_of, last_of};
 use crate::latch_line::{control_of, is_latch};
 use crate::names::{add_different, number_all};
 use crate::nets::Nets;
-use line_text::{NameSet, Text};
+use line_text::{Line, NameSet, Text};
 use std::alloc::{AllocError, Global};
 use std::marker::Model;
 
@@ -70,25 +69,25 @@ impl<'t> Checker<'t> {
         Driven::new(alloc, self.nets, self.clocks, self.drivers)
     }
 
-    /// The least fault of the line with these words; without one the line has come, and the numbers of the nets that it
+    /// The least fault of the line; without one it has come, and the numbers of the nets that it
     /// names stand at the end.
     pub fn check(
         &mut self,
         alloc: Global,
-        words: &[&'t [u8]],
+        line: &Line<'_, 't>,
         lut_size: u32,
         numbers: &mut Nets,
     ) -> Result<Option<BlifFaultKind>, AllocError>
-        ensures least { IfOk result (λ fault. fault ≡ first_kind (faults_in lut_size self.old (keyword_of (texts words.now)) (texts words.now))) }
-        ensures sights { IfOk result (λ fault. IfNone fault (self.new ≡ sights_after (keyword_of (texts words.now)) (texts words.now) self.old)) }
+        ensures least { IfOk result (λ fault. fault ≡ first_kind (faults_in lut_size self.old (kind_of line.now) line.now.words)) }
+        ensures sights { IfOk result (λ fault. IfNone fault (self.new ≡ sights_after (kind_of line.now) line.now.words self.old)) }
         ensures few { IfOk result (λ fault. IfNone fault (length self.new.nets ≤ MAX_NETS)) }
-        ensures numbers { IfOk result (λ fault. IfNone fault (numbers.new ≡ numbers.old ++ numbered self.old.nets (names_in (keyword_of (texts words.now)) (texts words.now)))) }
+        ensures numbers { IfOk result (λ fault. IfNone fault (numbers.new ≡ numbers.old ++ numbered self.old.nets (names_of line.now))) }
     {
         if self.ended {
             return Ok(Some(BlifFaultKind::Unknown));
         }
-        let keyword = keyword_of(words);
-        let fault = self.kind_fault(alloc, keyword, words, lut_size, numbers)?;
+        let keyword = keyword_of(line);
+        let fault = self.kind_fault(alloc, keyword, line, lut_size, numbers)?;
         if fault.is_some() {
             return Ok(fault);
         }
@@ -107,18 +106,19 @@ impl<'t> Checker<'t> {
         &mut self,
         alloc: Global,
         keyword: Keyword,
-        words: &[&'t [u8]],
+        line: &Line<'_, 't>,
         lut_size: u32,
         numbers: &mut Nets,
     ) -> Result<Option<BlifFaultKind>, AllocError>
         requires { self.old.ended ≡ false }
-        ensures least { IfOk result (λ fault. fault ≡ first_kind (kind_faults lut_size self.old keyword (texts words.now))) }
-        ensures sights { IfOk result (λ fault. IfNone fault (record self.new { begun = true } ≡ sights_after keyword (texts words.now) self.old)) }
+        ensures least { IfOk result (λ fault. fault ≡ first_kind (kind_faults lut_size self.old keyword line.now.words)) }
+        ensures sights { IfOk result (λ fault. IfNone fault (record self.new { begun = true } ≡ sights_after keyword line.now.words self.old)) }
         ensures begun { IfOk result (λ fault. self.new.begun ≡ self.old.begun) }
-        ensures nets { IfOk result (λ fault. IfNone fault (self.new.nets ≡ with_names self.old.nets (names_in keyword (texts words.now)))) }
-        ensures numbers { IfOk result (λ fault. IfNone fault (numbers.new ≡ numbers.old ++ numbered self.old.nets (names_in keyword (texts words.now)))) }
+        ensures nets { IfOk result (λ fault. IfNone fault (self.new.nets ≡ with_names self.old.nets (names_in keyword line.now.words))) }
+        ensures numbers { IfOk result (λ fault. IfNone fault (numbers.new ≡ numbers.old ++ numbered self.old.nets (names_in keyword line.now.words))) }
     {
-        let args = args_of(words);
+        let rest = line.behind_first();
+        let args = rest.words();
         let fault = match keyword {
             Keyword::Model if self.begun => Some(BlifFaultKind::Unknown),
             Keyword::Model | Keyword::Skipped => None,
@@ -136,7 +136,7 @@ impl<'t> Checker<'t> {
             }
             Keyword::Names => {
                 number_all(&mut self.nets, args, numbers)?;
-                table(alloc, lut_size, &self.clocks, &mut self.drivers, args)?
+                table(alloc, lut_size, &self.clocks, &mut self.drivers, &rest)?
             }
             Keyword::Latch => latch(
                 alloc,
@@ -144,16 +144,16 @@ impl<'t> Checker<'t> {
                 numbers,
                 &self.clocks,
                 &mut self.drivers,
-                args,
+                &rest,
             )?,
             Keyword::End => {
                 self.ended = true;
                 None
             }
             Keyword::Other => Some(BlifFaultKind::Unknown),
-            Keyword::Row => row_fault(self.cover, words),
+            Keyword::Row => row_fault(self.cover, line),
         };
-        self.cover = cover_after(keyword, words, self.cover);
+        self.cover = cover_after(keyword, line, self.cover);
         Ok(fault)
     }
 }
@@ -213,74 +213,75 @@ fn clock<'t>(
     Ok(None)
 }
 
-/// The least fault of a table with these names; without one its output is driven now.
+/// The least fault of the table whose names this line has; without one its output is driven now.
 fn table<'t>(
     alloc: Global,
     lut_size: u32,
     clocks: &NameSet<'t>,
     drivers: &mut NameSet<'t>,
-    names: &[&'t [u8]],
+    args: &Line<'_, 't>,
 ) -> Result<Option<BlifFaultKind>, AllocError>
-    ensures least { IfOk result (λ fault. fault ≡ first_kind (table_faults lut_size (clocks.now ++ drivers.old) (texts names.now))) }
-    ensures drivers { IfOk result (λ fault. IfNone fault (drivers.new ≡ drivers.old ++ output_of (texts names.now))) }
+    ensures least { IfOk result (λ fault. fault ≡ first_kind (table_faults lut_size (clocks.now ++ drivers.old) args.now.words)) }
+    ensures drivers { IfOk result (λ fault. IfNone fault (drivers.new ≡ drivers.old ++ output_of args.now.words)) }
 {
+    let names = args.words();
     if names.is_empty() {
         return Ok(Some(BlifFaultKind::BadCover));
     }
     if names.len() - 1 > lut_size as usize {
         return Ok(Some(BlifFaultKind::TooWide));
     }
-    drive(alloc, clocks, drivers, &[last_of(names)])
+    drive(alloc, clocks, drivers, &[last_of(args)])
 }
 
-/// The least fault of a latch with these words; without one its nets are named and its output is driven now.
+/// The least fault of the latch that this line is; without one its nets are named and its output is driven now.
 fn latch<'t>(
     alloc: Global,
     nets: &mut NameSet<'t>,
     numbers: &mut Nets,
     clocks: &NameSet<'t>,
     drivers: &mut NameSet<'t>,
-    args: &[&'t [u8]],
+    args: &Line<'_, 't>,
 ) -> Result<Option<BlifFaultKind>, AllocError>
-    ensures least { IfOk result (λ fault. fault ≡ first_kind (latch_faults (clocks.now ++ drivers.old) (texts args.now))) }
-    ensures nets { IfOk result (λ fault. nets.new ≡ with_names nets.old (latch_nets (texts args.now))) }
-    ensures numbers { IfOk result (λ fault. numbers.new ≡ numbers.old ++ numbered nets.old (latch_nets (texts args.now))) }
-    ensures drivers { IfOk result (λ fault. IfNone fault (drivers.new ≡ drivers.old ++ latch_output (texts args.now))) }
+    ensures least { IfOk result (λ fault. fault ≡ first_kind (latch_faults (clocks.now ++ drivers.old) args.now.words)) }
+    ensures nets { IfOk result (λ fault. nets.new ≡ with_names nets.old (latch_nets args.now.words)) }
+    ensures numbers { IfOk result (λ fault. numbers.new ≡ numbers.old ++ numbered nets.old (latch_nets args.now.words)) }
+    ensures drivers { IfOk result (λ fault. IfNone fault (drivers.new ≡ drivers.old ++ latch_output args.now.words)) }
 {
     if !is_latch(args) {
         return Ok(Some(BlifFaultKind::BadLatch));
     }
     name_latch(nets, numbers, args)?;
-    drive(alloc, clocks, drivers, &args[1..2])
+    drive(alloc, clocks, drivers, &args.words()[1..2])
 }
 
 /// Adds the nets of a latch, and puts their numbers at the end.
 fn name_latch<'t>(
     nets: &mut NameSet<'t>,
     numbers: &mut Nets,
-    args: &[&'t [u8]],
+    args: &Line<'_, 't>,
 ) -> Result<(), AllocError>
-    requires { IsTrue (is_latch (texts args.now)) }
-    ensures nets { IfOk result (λ _. nets.new ≡ with_names nets.old (latch_nets (texts args.now))) }
-    ensures numbers { IfOk result (λ _. numbers.new ≡ numbers.old ++ numbered nets.old (latch_nets (texts args.now))) }
+    requires { IsTrue (is_latch args.now.words) }
+    ensures nets { IfOk result (λ _. nets.new ≡ with_names nets.old (latch_nets args.now.words)) }
+    ensures numbers { IfOk result (λ _. numbers.new ≡ numbers.old ++ numbered nets.old (latch_nets args.now.words)) }
 {
-    number_all(nets, &args[..2], numbers)?;
+    number_all(nets, &args.words()[..2], numbers)?;
     match control_of(args) {
         Some(control) => number_all(nets, &[control], numbers),
         None => Ok(()),
     }
 }
 
-/// The least fault of a row with these words below this cover.
-fn row_fault(cover: Option<Cover>, words: &[&[u8]]) -> Option<BlifFaultKind>
-    ensures { result ≡ first_kind (row_faults cover (texts words.now)) }
+/// The least fault of a row below this cover.
+fn row_fault(cover: Option<Cover>, line: &Line<'_, '_>) -> Option<BlifFaultKind>
+    ensures { result ≡ first_kind (row_faults cover line.now.words) }
 {
     match cover {
         None => Some(BlifFaultKind::Unknown),
         Some(cover) => {
-            if !is_row(cover.inputs, words) {
+            if !is_row(cover.inputs, line) {
                 Some(BlifFaultKind::BadCover)
-            } else if is_mixed(cover.output, words) {
+            } else if is_mixed(cover.output, line) {
                 Some(BlifFaultKind::MixedCover)
             } else {
                 None

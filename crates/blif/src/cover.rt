@@ -1,11 +1,10 @@
 //! The cover of a table: the rows below its line, of which only the form is checked.
 ghost use Rattle.std.specs.Prelude.{◌≡◌, ◌<◌, length};
 ghost use Rattle.std.specs.List.{list_all};
-ghost use Rattle.blif.specs.Names.{texts};
 ghost use Rattle.blif.specs.Covers.{cover_after, gives_one, is_literal, is_output, is_mixed, is_row};
 
 use crate::keyword::{Keyword, last_of};
-use line_text::is_word;
+use line_text::{Line, is_word};
 
 /// A table whose rows may follow: how many inputs it has, and whether its first row gives 1, once there is one.
 #[derive(Clone, Copy)]
@@ -14,11 +13,11 @@ pub struct Cover {
     pub output: Option<bool>,
 }
 
-/// Whether these words are a row for so many inputs: a character `0`, `1` or `-` for each, and the output.
-pub fn is_row(inputs: usize, words: &[&[u8]]) -> bool
-    ensures { result ≡ is_row inputs (texts words.now) }
+/// Whether the line is a row for so many inputs: a character `0`, `1` or `-` for each, and the output.
+pub fn is_row(inputs: usize, line: &Line<'_, '_>) -> bool
+    ensures { result ≡ is_row inputs line.now.words }
 {
-    match words {
+    match line.words() {
         [output] => inputs == 0 && is_output(output),
         [pattern, output] => {
             inputs != 0 && pattern.len() == inputs && is_pattern(pattern) && is_output(output)
@@ -43,31 +42,31 @@ fn is_output(word: &[u8]) -> bool
     }
 }
 
-/// Whether the output of the row with these words is 1.
-fn gives_one(words: &[&[u8]]) -> bool
-    ensures { result ≡ gives_one (texts words.now) }
+/// Whether the row's output is 1.
+fn gives_one(line: &Line<'_, '_>) -> bool
+    ensures { result ≡ gives_one line.now.words }
 {
-    is_word(last_of(words), "1")
+    is_word(last_of(line), "1")
 }
 
-/// Whether the output of the row with these words is another than that of the cover's first row.
-pub fn is_mixed(first: Option<bool>, words: &[&[u8]]) -> bool
-    ensures { result ≡ is_mixed first (texts words.now) }
+/// Whether the row's output is another than that of the cover's first row.
+pub fn is_mixed(first: Option<bool>, line: &Line<'_, '_>) -> bool
+    ensures { result ≡ is_mixed first line.now.words }
 {
     match first {
-        Some(true) => !gives_one(words),
-        Some(false) => gives_one(words),
+        Some(true) => !gives_one(line),
+        Some(false) => gives_one(line),
         None => false,
     }
 }
 
 /// The cover that a line of this kind begins or goes on with, where `above` stands above the line.
-pub fn cover_after(keyword: Keyword, words: &[&[u8]], above: Option<Cover>) -> Option<Cover>
-    ensures { result ≡ cover_after keyword (texts words.now) above }
+pub fn cover_after(keyword: Keyword, line: &Line<'_, '_>, above: Option<Cover>) -> Option<Cover>
+    ensures { result ≡ cover_after keyword line.now.words above }
 {
     match keyword {
         Keyword::Names => Some(Cover {
-            inputs: words.len().saturating_sub(2),
+            inputs: line.words().len().saturating_sub(2),
             output: None,
         }),
         Keyword::Row => match above {
@@ -75,7 +74,7 @@ pub fn cover_after(keyword: Keyword, words: &[&[u8]], above: Option<Cover>) -> O
                 inputs: cover.inputs,
                 output: match cover.output {
                     Some(one) => Some(one),
-                    None => Some(gives_one(words)),
+                    None => Some(gives_one(line)),
                 },
             }),
             None => None,

@@ -1,11 +1,11 @@
 //! What a line is, by its first word.
 ghost use Rattle.std.specs.Prelude.{◌≡◌};
 ghost use Rattle.blif.specs.Names.{texts};
-ghost use Rattle.blif.specs.Keywords.{args_of, command_of, is_skipped, keyword_of, last_of};
+ghost use Rattle.blif.specs.Keywords.{command_of, is_skipped, last_of};
 ghost use Rattle.blif.specs.LineNets.{front_of, inputs_in};
-ghost use Rattle.blif.specs.Sights.{is_end};
+ghost use Rattle.blif.specs.Sights.{is_end, kind_of};
 
-use line_text::is_word;
+use line_text::{Line, is_word};
 
 /// The kinds of lines. A line whose first word has no point in front is a row of a cover.
 #[derive(Clone, Copy, Debug, PartialEq, Eq)]
@@ -23,11 +23,11 @@ pub enum Keyword {
     Row,
 }
 
-/// The kind of the line with these words.
-pub fn keyword_of(words: &[&[u8]]) -> Keyword
-    ensures { result ≡ keyword_of (texts words.now) }
+/// The kind of the line.
+pub fn keyword_of(line: &Line<'_, '_>) -> Keyword
+    ensures { result ≡ kind_of line.now }
 {
-    match words {
+    match line.words() {
         [] => Keyword::Row,
         [word, ..] => match word {
             [b'.', ..] => command_of(word),
@@ -81,30 +81,21 @@ fn is_skipped(word: &[u8]) -> bool
         || is_word(word, ".clock_event")
 }
 
-/// The words after the first.
-pub fn args_of<'a, 't>(words: &'a [&'t [u8]]) -> &'a [&'t [u8]]
-    ensures { texts result.now ≡ args_of (texts words.now) }
+/// The last of the line's words, or no bytes where there is none.
+pub fn last_of<'t>(line: &Line<'_, 't>) -> &'t [u8]
+    ensures { result.now ≡ last_of line.now.words }
 {
-    match words {
-        [] => words,
-        [_, args @ ..] => args,
-    }
-}
-
-/// The last of the words, or no bytes where there is none.
-pub fn last_of<'t>(words: &[&'t [u8]]) -> &'t [u8]
-    ensures { result.now ≡ last_of (texts words.now) }
-{
-    match words {
+    match line.words() {
         [] => b"",
         [.., word] => word,
     }
 }
 
-/// The words before the last.
-pub fn front_of<'a, 't>(words: &'a [&'t [u8]]) -> &'a [&'t [u8]]
-    ensures { texts result.now ≡ front_of (texts words.now) }
+/// The line's words before the last.
+pub fn front_of<'a, 't>(line: &Line<'a, 't>) -> &'a [&'t [u8]]
+    ensures { texts result.now ≡ front_of line.now.words }
 {
+    let words = line.words();
     match words {
         [] => words,
         [front @ .., _] => front,
@@ -119,11 +110,12 @@ pub fn is_end(keyword: Keyword) -> bool
 }
 
 /// The inputs that a line of this kind names.
-pub fn inputs_in<'a, 't>(keyword: Keyword, words: &'a [&'t [u8]]) -> &'a [&'t [u8]]
-    ensures { texts result.now ≡ inputs_in keyword (texts words.now) }
+pub fn inputs_in<'a, 't>(keyword: Keyword, line: &Line<'a, 't>) -> &'a [&'t [u8]]
+    ensures { texts result.now ≡ inputs_in keyword line.now.words }
 {
+    let args = line.behind_first().words();
     match keyword {
-        Keyword::Inputs => args_of(words),
-        _ => &[],
+        Keyword::Inputs => args,
+        _ => &args[..0],
     }
 }

@@ -1,16 +1,15 @@
 //! The words of a `.latch` line: `input output [type control] [init]`.
 ghost use Rattle.std.specs.Prelude.{◌≡◌};
 ghost use Rattle.std.specs.Option.{option_map};
-ghost use Rattle.blif.specs.Names.{texts};
 ghost use Rattle.blif.specs.LatchLines.{control_of, is_init, is_latch, is_type};
 
-use line_text::is_word;
+use line_text::{Line, is_word};
 
-/// Whether these words are a latch.
-pub fn is_latch(words: &[&[u8]]) -> bool
-    ensures { result ≡ is_latch (texts words.now) }
+/// Whether the line's words are a latch.
+pub fn is_latch(line: &Line<'_, '_>) -> bool
+    ensures { result ≡ is_latch line.now.words }
 {
-    match words {
+    match line.words() {
         [_, _] => true,
         [_, _, init] => is_init(init),
         [_, _, kind, _] => is_type(kind),
@@ -19,11 +18,11 @@ pub fn is_latch(words: &[&[u8]]) -> bool
     }
 }
 
-/// The net that controls the latch with these words, if one does.
-pub fn control_of<'t>(words: &[&'t [u8]]) -> Option<&'t [u8]>
-    ensures { option_map (λ net. net.now) result ≡ control_of (texts words.now) }
+/// The net that controls the latch with the line's words, if one does.
+pub fn control_of<'t>(line: &Line<'_, 't>) -> Option<&'t [u8]>
+    ensures { option_map (λ net. net.now) result ≡ control_of line.now.words }
 {
-    match words {
+    match line.words() {
         [_, _, _, control, ..] => {
             if is_word(control, "NIL") {
                 None

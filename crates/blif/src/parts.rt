@@ -2,7 +2,7 @@
 ghost use Rattle.std.specs.Prelude.{◌≡◌, List, ℕ, ◌≤◌, ◌++◌, [], map, length, option_map, IfOk, IfNone, IsTrue};
 ghost use Rattle.std.specs.List.{list_all};
 ghost use Rattle.blif.specs.LineByLine.{parts_after};
-ghost use Rattle.blif.specs.Names.{first, has_name, number_of, texts};
+ghost use Rattle.blif.specs.Names.{first, has_name, number_of};
 ghost use Rattle.blif.specs.LatchLines.{is_latch};
 ghost use Rattle.blif.specs.LineNets.{front_of, latch_nets, latch_reads, names_in, reads_in};
 ghost use Rattle.blif.specs.Circuits.{latch_with, parts_of, table_with};
@@ -10,13 +10,13 @@ ghost use Rattle.blif.specs.Repeats.{undriven};
 
 use crate::circuit::Circuit;
 use crate::driven::Driven;
-use crate::keyword::{Keyword, args_of, front_of};
+use crate::keyword::{Keyword, front_of};
 use crate::latch_line::{control_of, is_latch};
 use crate::latches::{Latch, Latches};
 use crate::net_names::NetNames;
 use crate::nets::Nets;
 use crate::tables::{Table, Tables};
-use line_text::{NameSet, Text};
+use line_text::{Line, NameSet, Text};
 use std::alloc::{AllocError, Global};
 use std::marker::Model;
 
@@ -77,84 +77,81 @@ impl CircuitParts {
     pub fn add_line<'t>(
         &mut self,
         driven: &Driven<'t>,
-        line: u32,
+        line: &Line<'_, 't>,
         keyword: Keyword,
-        words: &[&'t [u8]],
         nets: &[u32],
     ) -> Result<Option<&'t [u8]>, AllocError>
-        requires named { IsTrue (list_all (has_name driven.now.nets) (names_in keyword (texts words.now))) }
-        requires numbers { nets.now ≡ map (number_of driven.now.nets) (names_in keyword (texts words.now)) }
-        ensures least { IfOk result (λ net. option_map (λ n. n.now) net ≡ first (undriven (driven.now.clocks ++ driven.now.drivers) (reads_in keyword (texts words.now)))) }
-        ensures parts { IfOk result (λ net. IfNone net (self.new ≡ parts_after driven.now.nets line keyword (texts words.now) self.old)) }
+        requires named { IsTrue (list_all (has_name driven.now.nets) (names_in keyword line.now.words)) }
+        requires numbers { nets.now ≡ map (number_of driven.now.nets) (names_in keyword line.now.words) }
+        ensures least { IfOk result (λ net. option_map (λ n. n.now) net ≡ first (undriven (driven.now.clocks ++ driven.now.drivers) (reads_in keyword line.now.words))) }
+        ensures parts { IfOk result (λ net. IfNone net (self.new ≡ parts_after driven.now.nets line.now.number keyword line.now.words self.old)) }
     {
-        let args = args_of(words);
+        let args = line.behind_first();
         match keyword {
             Keyword::Inputs => {
                 self.inputs.extend(nets)?;
                 Ok(None)
             }
             Keyword::Outputs => {
-                if let Some(net) = driven.first_undriven(args, nets) {
+                if let Some(net) = driven.first_undriven(args.words(), nets) {
                     return Ok(Some(net));
                 }
                 self.outputs.extend(nets)?;
                 Ok(None)
             }
-            Keyword::Names => add_table(&mut self.tables, driven, line, args, nets),
-            Keyword::Latch => add_latch(&mut self.latches, driven, line, args, nets),
+            Keyword::Names => add_table(&mut self.tables, driven, &args, nets),
+            Keyword::Latch => add_latch(&mut self.latches, driven, &args, nets),
             _ => Ok(None),
         }
     }
 }
 
-/// The first input of the table with these names that is not driven; without one the table is added.
+/// Of the table whose names this line has, the first input that is not driven; without one the table is added.
 fn add_table<'t>(
     tables: &mut Tables,
     driven: &Driven<'t>,
-    line: u32,
-    names: &[&'t [u8]],
+    args: &Line<'_, 't>,
     nets: &[u32],
 ) -> Result<Option<&'t [u8]>, AllocError>
-    requires named { IsTrue (list_all (has_name driven.now.nets) (texts names.now)) }
-    requires numbers { nets.now ≡ map (number_of driven.now.nets) (texts names.now) }
-    ensures least { IfOk result (λ net. option_map (λ n. n.now) net ≡ first (undriven (driven.now.clocks ++ driven.now.drivers) (front_of (texts names.now)))) }
-    ensures tables { IfOk result (λ net. IfNone net (tables.new ≡ tables.old ++ table_with driven.now.nets line (texts names.now))) }
+    requires named { IsTrue (list_all (has_name driven.now.nets) args.now.words) }
+    requires numbers { nets.now ≡ map (number_of driven.now.nets) args.now.words }
+    ensures least { IfOk result (λ net. option_map (λ n. n.now) net ≡ first (undriven (driven.now.clocks ++ driven.now.drivers) (front_of args.now.words))) }
+    ensures tables { IfOk result (λ net. IfNone net (tables.new ≡ tables.old ++ table_with driven.now.nets args.now.number args.now.words)) }
 {
     if nets.is_empty() {
         return Ok(None);
     }
     let end = nets.len() - 1;
     let inputs = &nets[..end];
-    if let Some(net) = driven.first_undriven(front_of(names), inputs) {
+    if let Some(net) = driven.first_undriven(front_of(args), inputs) {
         return Ok(Some(net));
     }
     let output = nets[end];
     tables.push(Table {
-        line,
+        line: args.number(),
         inputs,
         output,
     })?;
     Ok(None)
 }
 
-/// The first net that the latch with these words reads and that is not driven; without one the latch is added.
+/// Of the latch that this line is, the first net that it reads and that is not driven; without one the latch is added.
 fn add_latch<'t>(
     latches: &mut Latches,
     driven: &Driven<'t>,
-    line: u32,
-    args: &[&'t [u8]],
+    args: &Line<'_, 't>,
     nets: &[u32],
 ) -> Result<Option<&'t [u8]>, AllocError>
-    requires named { IsTrue (list_all (has_name driven.now.nets) (latch_nets (texts args.now))) }
-    requires numbers { nets.now ≡ map (number_of driven.now.nets) (latch_nets (texts args.now)) }
-    ensures least { IfOk result (λ net. option_map (λ n. n.now) net ≡ first (undriven (driven.now.clocks ++ driven.now.drivers) (latch_reads (texts args.now)))) }
-    ensures latches { IfOk result (λ net. IfNone net (latches.new ≡ latches.old ++ latch_with driven.now.nets line (texts args.now))) }
+    requires named { IsTrue (list_all (has_name driven.now.nets) (latch_nets args.now.words)) }
+    requires numbers { nets.now ≡ map (number_of driven.now.nets) (latch_nets args.now.words) }
+    ensures least { IfOk result (λ net. option_map (λ n. n.now) net ≡ first (undriven (driven.now.clocks ++ driven.now.drivers) (latch_reads args.now.words))) }
+    ensures latches { IfOk result (λ net. IfNone net (latches.new ≡ latches.old ++ latch_with driven.now.nets args.now.number args.now.words)) }
 {
     if !is_latch(args) {
         return Ok(None);
     }
     if !driven.is_driven(nets[0]) {
-        return Ok(Some(args[0]));
+        return Ok(Some(args.words()[0]));
     }
     let control = match control_of(args) {
         Some(net) => {
@@ -166,7 +163,7 @@ fn add_latch<'t>(
         None => None,
     };
     latches.push(Latch {
-        line,
+        line: args.number(),
         input: nets[0],
         output: nets[1],
         control,

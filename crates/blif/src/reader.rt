@@ -3,7 +3,7 @@ ghost use Rattle.std.specs.Prelude.{◌≡◌, ◌≤◌, ◌++◌, [], ◌∷�
 ghost use Rattle.std.specs.List.{flat_map};
 ghost use Rattle.line_text.specs.TextErrors.{Fails, Gives};
 ghost use Rattle.blif.specs.Numbering.{numbered};
-ghost use Rattle.blif.specs.Names.{number_of, texts, with_names};
+ghost use Rattle.blif.specs.Names.{number_of, with_names};
 ghost use Rattle.blif.specs.FirstFaults.{first_fault};
 ghost use Rattle.blif.specs.Keywords.{keyword_of};
 ghost use Rattle.blif.specs.LineNets.{names_in};
@@ -16,12 +16,12 @@ use crate::checker::Checker;
 use crate::circuit::{Circuit, MAX_NETS};
 use crate::driven::Driven;
 use crate::fault::{BlifError, BlifFault, BlifFaultKind};
-use crate::keyword::{Keyword, args_of, inputs_in, is_end, keyword_of};
+use crate::keyword::{Keyword, inputs_in, is_end, keyword_of};
 use crate::latch_line::{control_of, is_latch};
 use crate::net_names::NetNames;
 use crate::nets::Nets;
 use crate::parts::CircuitParts;
-use line_text::{Lines, MAX_TEXT, NameSet, Text, logical_lines};
+use line_text::{Line, Lines, MAX_TEXT, NameSet, Text, logical_lines};
 use std::alloc::{AllocError, Global};
 
 /// The circuit of a text whose tables have at most that many inputs, or its least fault.
@@ -60,12 +60,12 @@ fn declared_inputs<'t>(alloc: Global, lines: &Lines<'t>) -> Result<NameSet<'t>, 
 {
     let mut declared = NameSet::new(alloc);
     for place in 0..lines.len() {
-        let words = lines.line(place).words;
-        let keyword = keyword_of(words);
+        let line = lines.line(place);
+        let keyword = keyword_of(&line);
         if is_end(keyword) {
             break;
         }
-        declared.add_all(inputs_in(keyword, words))?;
+        declared.add_all(inputs_in(keyword, &line))?;
     }
     Ok(declared)
 }
@@ -86,9 +86,9 @@ fn check_lines<'t>(
     let mut checker = Checker::new(alloc, declared);
     for place in 0..lines.len() {
         let line = lines.line(place);
-        if let Some(kind) = checker.check(alloc, line.words, lut_size, numbers)? {
+        if let Some(kind) = checker.check(alloc, &line, lut_size, numbers)? {
             return Err(BlifError::Fault(BlifFault {
-                line: line.number,
+                line: line.number(),
                 kind,
             }));
         }
@@ -153,13 +153,13 @@ fn parts_of<'t>(
     let mut parts = CircuitParts::new(alloc);
     let mut rest = numbers;
     for place in 0..lines.len() {
-        let reader = lines.line(place);
-        let keyword = keyword_of(reader.words);
-        let (nets, others) = rest.split_at(net_count(keyword, reader.words));
+        let line = lines.line(place);
+        let keyword = keyword_of(&line);
+        let (nets, others) = rest.split_at(net_count(keyword, &line));
         rest = others;
-        if let Some(net) = parts.add_line(driven, reader.number, keyword, reader.words, nets)? {
+        if let Some(net) = parts.add_line(driven, &line, keyword, nets)? {
             return Err(BlifError::Fault(BlifFault {
-                line: reader.number,
+                line: line.number(),
                 kind: BlifFaultKind::Undriven(Text::from_slice(alloc, net)?),
             }));
         }
@@ -167,14 +167,16 @@ fn parts_of<'t>(
     Ok(parts)
 }
 
-/// How many nets a line of this kind with these words names.
-fn net_count(keyword: Keyword, words: &[&[u8]]) -> usize
-    ensures { result ≡ length (names_in keyword (texts words.now)) }
+/// How many nets a line of this kind names.
+fn net_count(keyword: Keyword, line: &Line<'_, '_>) -> usize
+    ensures { result ≡ length (names_in keyword line.now.words) }
 {
-    let args = args_of(words);
+    let args = line.behind_first();
     match keyword {
-        Keyword::Inputs | Keyword::Outputs | Keyword::Clock | Keyword::Names => args.len(),
-        Keyword::Latch if is_latch(args) => 2 + usize::from(control_of(args).is_some()),
+        Keyword::Inputs | Keyword::Outputs | Keyword::Clock | Keyword::Names => {
+            args.words().len()
+        }
+        Keyword::Latch if is_latch(&args) => 2 + usize::from(control_of(&args).is_some()),
         _ => 0,
     }
 }
@@ -186,9 +188,9 @@ fn model_of(alloc: Global, lines: &Lines<'_>) -> Result<Text, AllocError>
     if lines.len() == 0 {
         return Text::from_slice(alloc, b"top");
     }
-    match args_of(lines.line(0).words) {
-        [] => Text::from_slice(alloc, b"top"),
-        [name, ..] => Text::from_slice(alloc, name),
+    match lines.line(0).behind_first().split_first() {
+        None => Text::from_slice(alloc, b"top"),
+        Some((name, _)) => Text::from_slice(alloc, name),
     }
 }
 

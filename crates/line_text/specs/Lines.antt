@@ -1,5 +1,5 @@
 -- Joined lines of words.
-use Rattle.std.specs.Prelude.{ℕ, ◌-◌, Bool, not, ◌&&◌, ◌||◌, ◌==◌, nat_lt, nat_le, if◌then◌else◌, List, [], ◌∷◌, ◌++◌, length, take, map, filter, slice_index, Result, Ok, Err, Option, Some, None}
+use Rattle.std.specs.Prelude.{ℕ, ◌-◌, Bool, not, ◌&&◌, ◌||◌, ◌==◌, nat_lt, nat_le, if◌then◌else◌, List, [], ◌∷◌, ◌++◌, length, take, drop, map, filter, slice_index, Result, Ok, Err, Option, Some, None}
 use Rattle.std.specs.List.{before_first, suffix_len, list_all, find, filter_map, flat_map, enumerate_from, onto_first}
 use Rattle.line_text.specs.declared.fault.LineFault.{LineFault}
 use Rattle.line_text.specs.declared.fault.LineFault.TheVariants.{NotAscii, LineTooLong}
@@ -10,6 +10,14 @@ use Rattle.line_text.specs.Words.{is_blank, is_filled, words_of}
 pub record JoinedLine : Type 0 where
   pub number : ℕ
   pub words : List (List ℕ)
+
+-- the line with one more word in front
+abbrev pub with_first : List ℕ → JoinedLine → JoinedLine
+with_first word line = record { number = line.number; words = word ∷ line.words }
+
+-- the line of the words behind the first
+abbrev pub behind_first : JoinedLine → JoinedLine
+behind_first line = record { number = line.number; words = drop 1 line.words }
 
 -- the physical lines: each ends at LF or at the end of the text
 abbrev pub physical_lines : List ℕ → List (List ℕ)

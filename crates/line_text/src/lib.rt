@@ -17,6 +17,7 @@
 
 mod decimal;
 mod fault;
+mod line;
 mod lines;
 mod memory_sink;
 mod memory_source;
@@ -34,7 +35,8 @@ mod writing;
 
 pub use decimal::{decimal_u32, decimal_u64, millionths, whole_number};
 pub use fault::{LineError, LineFault};
-pub use lines::{Line, Lines, MAX_LINE, MAX_TEXT, logical_lines};
+pub use line::Line;
+pub use lines::{Lines, MAX_LINE, MAX_TEXT, logical_lines};
 pub use memory_sink::MemorySink;
 pub use memory_source::MemorySource;
 pub use name_set::NameSet;

@@ -5,6 +5,7 @@ ghost use Rattle.line_text.specs.Lines.{JoinedLine, lines_of, physical_lines};
 ghost use Rattle.line_text.specs.TextErrors.{Gives};
 
 use crate::fault::{LineError, LineFault};
+use crate::line::Line;
 use crate::physical_line::split_content;
 use crate::reader::Reader;
 use std::alloc::Global;
@@ -15,13 +16,6 @@ pub const MAX_TEXT: usize = 1_048_576;
 
 /// The most bytes of a joined line.
 pub const MAX_LINE: usize = 262_144;
-
-/// A joined line: the number of its first physical line, from 1, and its words, slices of the text.
-#[derive(Clone, Copy)]
-pub struct Line<'a, 't> {
-    pub number: u32,
-    pub words: &'a [&'t [u8]],
-}
 
 /// Where the words of a line stand among all words.
 #[derive(Clone, Copy)]
@@ -80,13 +74,10 @@ impl<'t> Lines<'t> {
     /// The line at that place, from 0.
     pub fn line(&self, place: usize) -> Line<'_, 't>
         requires { place < length self.now }
-        ensures { slice_get self.now place ≡ Some (record { number = result.number; words = texts result.words.now }) }
+        ensures { slice_get self.now place ≡ Some result }
     {
         let span = self.spans[place];
-        Line {
-            number: span.number,
-            words: &self.words[span.start..span.end],
-        }
+        Line::new(span.number, &self.words[span.start..span.end])
     }
 }
 

@@ -12,11 +12,24 @@ fn joins_lines_and_cuts_comments(rt: HostRuntime) -> Result<(), Fail> {
     let lines = logical_lines(rt.alloc(), b".inputs a \\\r\nb # two\n\n.end")?;
     assert_eq!(rt; lines.len(), 2);
     let inputs = lines.line(0);
-    assert_eq!(rt; inputs.number, 1);
-    assert_eq!(rt; inputs.words.len(), 3);
-    assert_eq!(rt; inputs.words[0], b".inputs".as_slice());
-    assert_eq!(rt; inputs.words[2], b"b".as_slice());
-    assert_eq!(rt; lines.line(1).number, 4);
+    assert_eq!(rt; inputs.number(), 1);
+    assert_eq!(rt; inputs.words().len(), 3);
+    assert_eq!(rt; inputs.words()[0], b".inputs".as_slice());
+    assert_eq!(rt; inputs.words()[2], b"b".as_slice());
+    assert_eq!(rt; lines.line(1).number(), 4);
+    Ok(())
+}
+
+#[test]
+fn a_line_is_read_word_by_word(rt: HostRuntime) -> Result<(), Fail> {
+    let lines = logical_lines(rt.alloc(), b"\na b")?;
+    let line = lines.line(0);
+    let last = line.behind_first();
+    assert_eq!(rt; last.number(), 2);
+    assert_eq!(rt; last.words().len(), 1);
+    let word = last.split_first().map(|(word, _)| word);
+    assert_eq!(rt; word, Some(b"b".as_slice()));
+    assert!(rt; last.behind_first().split_first().is_none());
     Ok(())
 }
 
@@ -44,7 +57,7 @@ fn allows_the_most_bytes(rt: HostRuntime) -> Result<(), Fail> {
     assert!(rt; text.len() < 1_000_000);
     let lines = logical_lines(rt.alloc(), &text)?;
     assert_eq!(rt; lines.len(), 1);
-    assert_eq!(rt; lines.line(0).words.len(), 2);
+    assert_eq!(rt; lines.line(0).words().len(), 2);
     Ok(())
 }
 

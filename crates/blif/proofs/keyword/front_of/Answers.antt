@@ -1,6 +1,7 @@
-use Rattle.std.proofs.Common.{sym}
+use Rattle.std.proofs.Common.{◌∙◌, ap, sym}
+use Rattle.blif.specs.LineNets.{front_of}
 use Rattle.blif.proofs.Words.{front_of-texts}
 use Rattle.blif.proofs.keyword.front_of.Goals as goal
 
 pub returns-in-len1-up : goal.returns-in-len1-up
-returns-in-len1-up c = sym (front_of-texts c.args.words.now)
+returns-in-len1-up c = sym (ap front_of (sym c.words-words.ensures) ∙ front_of-texts c.words-words.result.now)

@@ -3,7 +3,6 @@ use Rattle.std.proofs.lemmas.List.{take_all, drop_all}
 use Rattle.line_text.specs.Lines.{JoinedLine}
 use Rattle.std.specs.List.{flat_map}
 use Rattle.blif.specs.Numbering.{numbered}
-use Rattle.blif.specs.Names.{texts}
 use Rattle.blif.specs.FirstFaults.{first_fault}
 use Rattle.blif.specs.Sights.{names_of, sights_of}
 use Rattle.blif.specs.CircuitOf.{line_faults}
@@ -12,12 +11,13 @@ use Rattle.blif.proofs.reader.check_lines.Goals as goal
 
 pub returns-in-Some : goal.returns-in-Some
 returns-in-Some c =
-    let line : JoinedLine = record { number = c.line-line.result.number; words = texts c.line-line.result.words.now } in
-    fault_at c.args.lut_size c.args.declared c.args.lines.now c.loop-place.place line c.loop-place.checker (omega arith) c.line-line.ensures c.loop-place.invariant.sights c.in-Some.kind (sym c.in-Some.is ∙ c.in_ok-kind.ensures.least) c.loop-place.invariant.faults_left
+    let line : JoinedLine = c.line-line.result in
+    rw c.number.ensures
+    (fault_at c.args.lut_size c.args.declared c.args.lines.now c.loop-place.place line c.loop-place.checker (omega arith) c.line-line.ensures c.loop-place.invariant.sights c.in-Some.kind (sym c.in-Some.is ∙ c.in_ok-kind.ensures.least) c.loop-place.invariant.faults_left)
 
 pub loop-place-preserved : goal.loop-place-preserved
 loop-place-preserved c =
-    let line : JoinedLine = record { number = c.line-line.result.number; words = texts c.line-line.result.words.now } in
+    let line : JoinedLine = c.line-line.result in
     let within : c.loop-place.place < length c.args.lines.now = omega arith in
     record {
       sights = sights_at c.args.lut_size c.args.declared c.args.lines.now c.loop-place.place line c.loop-place.checker within c.line-line.ensures c.loop-place.invariant.sights c.check.new.self (rw c.in_default.is at c.in_ok-kind.ensures.sights);

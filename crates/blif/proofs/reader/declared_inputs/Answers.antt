@@ -1,6 +1,6 @@
 use Rattle.std.proofs.Common.{◌∙◌, sym, ap, arith}
 use Rattle.line_text.specs.Lines.{JoinedLine}
-use Rattle.blif.specs.Names.{texts, with_names}
+use Rattle.blif.specs.Names.{with_names}
 use Rattle.blif.specs.LineNets.{inputs_in}
 use Rattle.blif.specs.Sights.{is_end}
 use Rattle.blif.specs.CircuitOf.{declared_in}
@@ -10,9 +10,9 @@ use Rattle.blif.proofs.reader.declared_inputs.Goals.{else-loop-place-test, then-
 
 pub loop-place-preserved : goal.loop-place-preserved
 loop-place-preserved c =
-    let line : JoinedLine = record { number = c.line.result.number; words = texts c.line.result.words.now } in
+    let line : JoinedLine = c.line-line.result in
     let kind = c.keyword_of-keyword.ensures in
-    declared_at c.args.lines.now c.loop-place.place line (omega arith) c.line.ensures (sym (c.is_end.ensures ∙ ap is_end kind) ∙ c.if-is_end.false) c.loop-place.declared c.add_all.new.self _ (c.in_ok-add_all.ensures ∙ ap (with_names c.loop-place.declared) (c.inputs_in.ensures ∙ ap (λ k. inputs_in k (texts c.line.result.words.now)) kind)) c.loop-place.invariant
+    declared_at c.args.lines.now c.loop-place.place line (omega arith) c.line-line.ensures (sym (c.is_end.ensures ∙ ap is_end kind) ∙ c.if-is_end.false) c.loop-place.declared c.add_all.new.self _ (c.in_ok-add_all.ensures ∙ ap (with_names c.loop-place.declared) (c.inputs_in.ensures ∙ ap (λ k. inputs_in k line.words) kind)) c.loop-place.invariant
 
 pub returns : goal.returns
 unfolding declared_in
@@ -20,6 +20,6 @@ returns c =
     elim c.loop-place-test.branch [
       | else-loop-place-test w ↦ declared_past c.args.lines.now c.loop-place.place (omega arith) c.loop-place.declared _ c.loop-place.invariant
       | then-loop-place-test+then-is_end w ↦
-          let line : JoinedLine = record { number = w.line.result.number; words = texts w.line.result.words.now } in
-          declared_at_end c.args.lines.now c.loop-place.place line (omega arith) w.line.ensures (sym (w.is_end.ensures ∙ ap is_end w.keyword_of-keyword.ensures) ∙ w.if-is_end.true) c.loop-place.declared _ c.loop-place.invariant
+          let line : JoinedLine = w.line-line.result in
+          declared_at_end c.args.lines.now c.loop-place.place line (omega arith) w.line-line.ensures (sym (w.is_end.ensures ∙ ap is_end w.keyword_of-keyword.ensures) ∙ w.if-is_end.true) c.loop-place.declared _ c.loop-place.invariant
     ]

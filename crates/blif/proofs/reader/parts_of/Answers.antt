@@ -1,6 +1,6 @@
 use Rattle.std.proofs.Common.{[], ◌<◌, ◌++◌, ◌∙◌, flat_map, length, refl, ap, arith}
 use Rattle.line_text.specs.Lines.{JoinedLine}
-use Rattle.blif.specs.Names.{texts, has_name, number_of, with_names}
+use Rattle.blif.specs.Names.{has_name, number_of, with_names}
 use Rattle.blif.specs.LineNets.{names_in}
 use Rattle.blif.specs.Sights.{names_of}
 use Rattle.blif.proofs.Named.{all_named, list_all-part}
@@ -13,41 +13,41 @@ loop-place-init c = record { parts = c.new-parts.ensures c.args.driven.now.nets;
 
 pub split_at-requires : goal.split_at-requires
 split_at-requires c =
-    let line : JoinedLine = record { number = c.line-reader.result.number; words = texts c.line-reader.result.words.now } in
-    enough_numbers (number_of c.args.driven.now.nets) c.args.lines.now c.loop-place.place line (omega arith) c.line-reader.ensures c.loop-place.rest.now c.net_count.result c.loop-place.invariant.rest
+    let line : JoinedLine = c.line-line.result in
+    enough_numbers (number_of c.args.driven.now.nets) c.args.lines.now c.loop-place.place line (omega arith) c.line-line.ensures c.loop-place.rest.now c.net_count.result c.loop-place.invariant.rest
     (c.net_count.ensures ∙ ap (λ k. length (names_in k line.words)) c.keyword_of-keyword.ensures)
 
 pub add_line-requires-clause-named : goal.add_line-requires-clause-named
 add_line-requires-clause-named c =
-    let line : JoinedLine = record { number = c.line-reader.result.number; words = texts c.line-reader.result.words.now } in
+    let line : JoinedLine = c.line-line.result in
     let names = flat_map names_of c.args.lines.now in
-    rw (c.keyword_of-keyword.ensures, c.requires.nets) (list_all-part (has_name (with_names [] names)) names_of c.args.lines.now c.loop-place.place line (all_named [] names) c.line-reader.ensures)
+    rw (c.keyword_of-keyword.ensures, c.requires.nets) (list_all-part (has_name (with_names [] names)) names_of c.args.lines.now c.loop-place.place line (all_named [] names) c.line-line.ensures)
 
 pub add_line-requires-clause-numbers : goal.add_line-requires-clause-numbers
 add_line-requires-clause-numbers c =
-    let line : JoinedLine = record { number = c.line-reader.result.number; words = texts c.line-reader.result.words.now } in
+    let line : JoinedLine = c.line-line.result in
     rw c.keyword_of-keyword.ensures
-    (own_numbers (number_of c.args.driven.now.nets) c.args.lines.now c.loop-place.place line (omega arith) c.line-reader.ensures c.loop-place.rest.now c.net_count.result c.loop-place.invariant.rest
+    (own_numbers (number_of c.args.driven.now.nets) c.args.lines.now c.loop-place.place line (omega arith) c.line-line.ensures c.loop-place.rest.now c.net_count.result c.loop-place.invariant.rest
     (c.net_count.ensures ∙ ap (λ k. length (names_in k line.words)) c.keyword_of-keyword.ensures) c.split_at.result.0.now c.split_at.ensures.front)
 
 pub returns-in-Some : goal.returns-in-Some
 returns-in-Some c =
-    let line : JoinedLine = record { number = c.line-reader.result.number; words = texts c.line-reader.result.words.now } in
+    let line : JoinedLine = c.line-line.result in
     let driven = c.args.driven.now in
     let least = rw c.in-Some.is at c.in_ok-net.ensures.least in
-    rw c.in_ok-from_slice.ensures
-    (undriven_at driven.nets (driven.clocks ++ driven.drivers) c.args.lines.now c.loop-place.place line (omega arith) c.line-reader.ensures c.in-Some.net.now (rw c.keyword_of-keyword.ensures at least) c.loop-place.invariant.faults_left)
+    rw (c.in_ok-from_slice.ensures, c.number.ensures)
+    (undriven_at driven.nets (driven.clocks ++ driven.drivers) c.args.lines.now c.loop-place.place line (omega arith) c.line-line.ensures c.in-Some.net.now (rw c.keyword_of-keyword.ensures at least) c.loop-place.invariant.faults_left)
 
 pub loop-place-preserved : goal.loop-place-preserved
 loop-place-preserved c =
-    let line : JoinedLine = record { number = c.line-reader.result.number; words = texts c.line-reader.result.words.now } in
+    let line : JoinedLine = c.line-line.result in
     let within : c.loop-place.place < length c.args.lines.now = omega arith in
     let driven = c.args.driven.now in
     let least = rw c.in_default.is at c.in_ok-net.ensures.least in
     let parts = rw c.in_default.is at c.in_ok-net.ensures.parts in
     record {
-      parts = parts_at driven.nets (driven.clocks ++ driven.drivers) c.args.lines.now c.loop-place.place line within c.line-reader.ensures c.loop-place.parts c.add_line.new.self c.loop-place.invariant.parts (rw c.keyword_of-keyword.ensures at parts);
-      rest = later_numbers (number_of driven.nets) c.args.lines.now c.loop-place.place line within c.line-reader.ensures c.loop-place.rest.now c.net_count.result c.loop-place.invariant.rest
+      parts = parts_at driven.nets (driven.clocks ++ driven.drivers) c.args.lines.now c.loop-place.place line within c.line-line.ensures c.loop-place.parts c.add_line.new.self c.loop-place.invariant.parts (rw c.keyword_of-keyword.ensures at parts);
+      rest = later_numbers (number_of driven.nets) c.args.lines.now c.loop-place.place line within c.line-line.ensures c.loop-place.rest.now c.net_count.result c.loop-place.invariant.rest
           (c.net_count.ensures ∙ ap (λ k. length (names_in k line.words)) c.keyword_of-keyword.ensures) c.split_at.result.1.now c.split_at.ensures.back;
-      faults_left = no_undriven_at driven.nets (driven.clocks ++ driven.drivers) c.args.lines.now c.loop-place.place line within c.line-reader.ensures (rw c.keyword_of-keyword.ensures at least) c.loop-place.invariant.faults_left;
+      faults_left = no_undriven_at driven.nets (driven.clocks ++ driven.drivers) c.args.lines.now c.loop-place.place line within c.line-line.ensures (rw c.keyword_of-keyword.ensures at least) c.loop-place.invariant.faults_left;
     }

@@ -1,10 +1,9 @@
 use Rattle.std.proofs.Common.{◌∙◌, ap, sym}
 use Rattle.arch_file.specs.Segment.{segment_faults}
-use Rattle.arch_file.specs.Words.{texts}
 use Rattle.arch_file.proofs.ReadLemmas.{reads_segment}
 use Rattle.arch_file.proofs.draft.Draft.read_segment.Goals as goal
 
 pub returns : goal.returns
 returns c = λ before follows.
-    reads_segment before c.args.keyword (texts c.args.words.now) c.args.self.now c.mark.new.self follows c.requires
-    (ap (λ b. segment_faults b (texts c.args.words.now)) (sym c.has.ensures) ∙ c.in_ok-check_segment.ensures) c.mark.ensures
+    reads_segment before c.args.keyword c.args.line.now.words c.args.self.now c.mark.new.self follows c.requires
+    (ap (λ b. segment_faults b c.args.line.now.words) (sym c.has.ensures) ∙ c.in_ok-check_segment.ensures) c.mark.ensures

@@ -22,4 +22,4 @@ returns c =
     let view : seen_lines (texts words) c.self.inside.spans.items ≡ c.args.self.now = c.self.view_is in
     ap (λ lines. slice_get lines c.args.place) (sym view)
     ∙ (slice_get-map (seen_line (texts words)) c.self.inside.spans.items c.args.place span (omega (arith, ap length view, length-map c.self.inside.spans.items (seen_line (texts words)))) c.index-span.ensures
-    ∙ ap Some (seen_line-words words span ∙ ap (λ (ws : List (Bor (List ℕ))). record { number = span.number; words = map (λ w. w.now) (take (span.end - span.start) (drop span.start ws)) }) (sym c.deref.ensures.value)))
+    ∙ ap Some (seen_line-words words span ∙ ap (λ (ws : List (Bor (List ℕ))). record { number = span.number; words = map (λ w. w.now) (take (span.end - span.start) (drop span.start ws)) }) (sym c.deref.ensures.value) ∙ sym c.new.ensures))
