@@ -1,7 +1,7 @@
 //! What it costs at least to come to a sink over one of its pins.
 ghost use Rattle.std.specs.Prelude.{◌≡◌, ◌+◌, ◌<◌, ◌≤◌, ◌^◌, true, All, ℕ, length, IfOk};
 
-use crate::rates::price;
+use crate::rate::price;
 use crate::round::Round;
 use arch_file::Sides;
 use rr_graph::{Node, NodeKind, Numbers, StripGraph, sides_at};

@@ -34,4 +34,4 @@ pub use joins::sides_at;
 pub use laws::{laws_of_geometry, laws_of_ways};
 pub use node::{Node, NodeKind};
 pub use resource::{Resource, ResourceKind};
-pub use ways::from_sink;
+pub use ways::{across_of, point_from_sink, up_of};

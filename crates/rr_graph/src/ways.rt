@@ -13,7 +13,7 @@ fn gap(a: u64, b: u64) -> u64
 }
 
 /// Where the middle of a wire is along the rows, in half steps.
-fn across_of(kind: NodeKind, x: u32) -> u64
+pub fn across_of(kind: NodeKind, x: u32) -> u64
     ensures { result ≡ across_of kind x }
 {
     let is_right = matches!(kind, NodeKind::ChanY);
@@ -21,7 +21,7 @@ fn across_of(kind: NodeKind, x: u32) -> u64
 }
 
 /// Where the middle of a wire is along the columns, in half steps.
-fn up_of(kind: NodeKind, y: u32) -> u64
+pub fn up_of(kind: NodeKind, y: u32) -> u64
     ensures { result ≡ up_of kind y }
 {
     let is_above = matches!(kind, NodeKind::ChanX);
@@ -30,11 +30,19 @@ fn up_of(kind: NodeKind, y: u32) -> u64
 
 /// How far the middle of a wire lies from that of the sink's block or pad, in half steps.
 #[inline(always)]
-pub fn from_sink(sink: Node, wire: Node) -> u64
+fn from_sink(sink: Node, wire: Node) -> u64
     ensures { result ≡ from_sink sink wire.kind wire.x wire.y }
 {
     gap(across_of(wire.kind, wire.x), 2 * sink.x as u64)
         + gap(up_of(wire.kind, wire.y), 2 * sink.y as u64)
+}
+
+/// How far a point lies from the middle of the sink's block or pad, in half steps.
+#[inline(always)]
+pub fn point_from_sink(sink: Node, across: u32, up: u32) -> u64
+    ensures { result ≡ gap across (2 * sink.x) + gap up (2 * sink.y) }
+{
+    gap(across as u64, 2 * sink.x as u64) + gap(up as u64, 2 * sink.y as u64)
 }
 
 /// Whether the kind is that of a wire.

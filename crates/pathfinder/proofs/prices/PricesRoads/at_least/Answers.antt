@@ -1,4 +1,4 @@
-use Rattle.std.proofs.Common.{◌≡◌, ◌≤◌, ◌^◌, ◌∙◌, true, arith, refl, subst, sym}
+use Rattle.std.proofs.Common.{◌≡◌, ◌≤◌, ◌^◌, true, arith, refl, subst, sym}
 use Rattle.rr_graph.specs.declared.node.Node.{Node}
 use Rattle.rr_graph.specs.Geometry.{is_node}
 use Rattle.rr_graph.specs.Graph.{graph_of}
@@ -22,7 +22,7 @@ pub from_node-requires-clause-there : goal.from_node-requires-clause-there
 from_node-requires-clause-there g c =
     let prices = c.args.self.now in
     let basis = g.G.StripGraph.basis prices.graph.now in
-    let node = c.node.ensures ∙ prices.rated.node c.args.node _ c.requires.node in
+    let node = prices.rated.node c.args.node _ c.requires.node in
     subst (λ (node : Node). is_node basis.arch basis.strip node ≡ true) (sym node) (c.count-count.ensures.lawful.nodes c.args.node c.requires.node)
 
 pub returns-then-goal-aim : goal.returns-then-goal-aim
@@ -33,7 +33,7 @@ returns-then-goal-aim g c =
     let at_prices = tabled (wiring_of basis) prices.iterations prices.history.now prices.held.now in
     let lawful = tabled_lawful (wiring_of basis) (strip_wiring basis c.count-count.ensures.lawful few) prices.iterations prices.history.now prices.held.now prices.lawful in
     let place = (graph_of basis).node c.args.node in
-    let node = c.node.ensures ∙ prices.rated.node c.args.node _ c.requires.node in
+    let node = prices.rated.node c.args.node _ c.requires.node in
     let here : IsNoMore c.from_node.result (raised prices.pins prices.lasts.now prices.sink place (further_to basis.arch basis.strip prices.sink place)) =
     subst (λ (node : Node). IsNoMore c.from_node.result (raised prices.pins prices.lasts.now prices.sink node (further_to basis.arch basis.strip prices.sink node))) node c.from_node.ensures in
     let bound = aimed_bound basis c.count-count.ensures.lawful prices.goal prices.sink prices.aim at_prices lawful refl (λ node. refl) prices.pins prices.lasts.now prices.entered c.args.node c.requires.node c.from_node.result here in
