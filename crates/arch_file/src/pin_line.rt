@@ -1,7 +1,7 @@
 //! The line of a pin: its class and its sides.
 ghost use Rattle.std.specs.Prelude.{ℕ, ◌≡◌, ◌<◌, ◌++◌, ◌∷◌, [], List, IfOk, Some, nat_lt, true, false};
 ghost use Rattle.arch_file.specs.Readings.{FindsLeast};
-ghost use Rattle.arch_file.specs.PinLine.{are_sides, class_faults, class_fits, class_of, pin_in, pin_line_faults, sides_of};
+ghost use Rattle.arch_file.specs.PinLine.{class_faults, class_fits, class_of, pin_in, pin_line_faults, sides_of};
 ghost use Rattle.arch_file.specs.Pins.{clock_count, has_side, input_count, is_clock_class, is_input_class};
 ghost use Rattle.arch_file.specs.SideWords.{Shows};
 ghost use Rattle.arch_file.specs.declared.arch.Pin.{Pin};

@@ -1,5 +1,5 @@
 //! The values behind the keywords.
-ghost use Rattle.std.specs.Prelude.{◌≡◌, ◌<◌, ◌≤◌, IfOk, Some, option_map, option_and_then};
+ghost use Rattle.std.specs.Prelude.{◌≡◌, ◌<◌, ◌≤◌, IfOk, Some};
 ghost use Rattle.arch_file.specs.Readings.{Finds};
 ghost use Rattle.arch_file.specs.Values.{decimal_faults, decimal_in, is_fc_type, is_fractional_choice, is_subset, one_faults, reach, whole_faults, whole_in, width_faults, word_faults};
 ghost use Rattle.arch_file.specs.FcTypes.{is_fractional_type};

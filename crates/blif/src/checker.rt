@@ -1,5 +1,5 @@
 //! The faults of the lines, one line after another.
-ghost use Rattle.std.specs.Prelude.{◌≡◌, ◌≤◌, ◌||◌, ◌++◌, [], ◌∷◌, map, length, None, true, false, IfOk, IfNone, IsTrue};
+ghost use Rattle.std.specs.Prelude.{◌≡◌, ◌≤◌, ◌||◌, ◌++◌, [], length, None, true, false, IfOk, IfNone, IsTrue};
 ghost use Rattle.blif.specs.LineByLine.{sights_after};
 ghost use Rattle.blif.specs.Numbering.{numbered};
 ghost use Rattle.blif.specs.Names.{repeats_from, texts, with_names};

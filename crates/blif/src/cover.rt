@@ -1,5 +1,5 @@
 //! The cover of a table: the rows below its line, of which only the form is checked.
-ghost use Rattle.std.specs.Prelude.{◌≡◌, ◌<◌, length};
+ghost use Rattle.std.specs.Prelude.{◌≡◌, ◌<◌};
 ghost use Rattle.std.specs.List.{list_all};
 ghost use Rattle.blif.specs.Covers.{cover_after, gives_one, is_literal, is_output, is_mixed, is_row};
 

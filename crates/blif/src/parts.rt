@@ -1,5 +1,5 @@
 //! The parts of a circuit, line after line, with nets by number.
-ghost use Rattle.std.specs.Prelude.{◌≡◌, List, ℕ, ◌≤◌, ◌++◌, [], map, length, option_map, IfOk, IfNone, IsTrue};
+ghost use Rattle.std.specs.Prelude.{◌≡◌, List, ℕ, ◌++◌, [], map, option_map, IfOk, IfNone, IsTrue};
 ghost use Rattle.std.specs.List.{list_all};
 ghost use Rattle.blif.specs.LineByLine.{parts_after};
 ghost use Rattle.blif.specs.Names.{first, has_name, number_of};

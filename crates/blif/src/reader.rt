@@ -1,5 +1,5 @@
 //! From the text to the circuit.
-ghost use Rattle.std.specs.Prelude.{◌≡◌, ◌≤◌, ◌++◌, [], ◌∷◌, length, map, None, Some, IfOk, MatchResult, MatchOption};
+ghost use Rattle.std.specs.Prelude.{◌≡◌, ◌≤◌, ◌++◌, [], length, map, None, Some, IfOk, MatchResult};
 ghost use Rattle.std.specs.List.{flat_map};
 ghost use Rattle.line_text.specs.TextErrors.{Fails, Gives};
 ghost use Rattle.blif.specs.Numbering.{numbered};

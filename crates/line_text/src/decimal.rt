@@ -1,6 +1,6 @@
 //! Numbers in decimal digits.
 ghost use Rattle.std.specs.Prelude.{◌≡◌, ◌^◌, ◌&&◌, ◌*◌, ◌+◌, ◌-◌, ◌<◌, ◌≤◌, length, nat_le, nat_lt, IfSome, position, if◌then◌else◌, Some, None};
-ghost use Rattle.std.specs.List.{after_first, before_first, list_all};
+ghost use Rattle.std.specs.List.{list_all};
 ghost use Rattle.line_text.specs.Decimal.{decimal_of, fraction_digits, is_digit, is_point, millionths_of, value_of, whole_digits, whole_of, with_digit};
 
 /// The digits that a whole number may have.

@@ -1,5 +1,5 @@
 //! A joined line of a text, or what is left of it behind words that have been read.
-ghost use Rattle.std.specs.Prelude.{◌≡◌, [], ◌∷◌, MatchOption};
+ghost use Rattle.std.specs.Prelude.{◌≡◌, [], MatchOption};
 ghost use Rattle.line_text.specs.Lines.{behind_first, with_first};
 ghost use Rattle.line_text.specs.Words.{texts};
 

@@ -1,7 +1,7 @@
 //! The joined lines of a text.
-ghost use Rattle.std.specs.Prelude.{IsTrue, ◌↔◌, ◌≡◌, ◌<◌, ◌^◌, ◌∷◌, ◌+◌, ◌≤◌, ◌==◌, length, position, slice_get, Some, map, IfOk};
+ghost use Rattle.std.specs.Prelude.{IsTrue, ◌↔◌, ◌≡◌, ◌<◌, ◌^◌, ◌+◌, length, slice_get, Some, IfOk};
 ghost use Rattle.line_text.specs.LineOrder.{RisesFrom};
-ghost use Rattle.line_text.specs.Lines.{JoinedLine, lines_of, physical_lines};
+ghost use Rattle.line_text.specs.Lines.{JoinedLine, lines_of};
 ghost use Rattle.line_text.specs.TextErrors.{Gives};
 
 use crate::fault::{LineError, LineFault};

@@ -1,5 +1,5 @@
 //! Physical lines, taken off from the front of a text.
-ghost use Rattle.std.specs.Prelude.{◌≡◌, ◌≤◌, ◌<◌, ◌∷◌, length, not, position, drop, take, true, MatchOption, ◌==◌};
+ghost use Rattle.std.specs.Prelude.{◌≡◌, ◌<◌, ◌∷◌, length, not, position, drop, take, true, MatchOption, ◌==◌};
 ghost use Rattle.std.specs.List.{position_or_len};
 ghost use Rattle.line_text.specs.Lines.{is_not_ascii, physical_lines};
 ghost use Rattle.line_text.specs.Physical.{IsContent, first_line, is_plain as is_plain_byte, later_lines};

@@ -1,9 +1,8 @@
 //! Joined lines, read one physical line after another.
-ghost use Rattle.std.specs.Prelude.{◌≡◌, ◌+◌, ◌≤◌, ◌<◌, ◌^◌, length, take, drop, map, position, OnOk, IsTrue, ◌==◌, MatchOption, IfErr, ◌++◌, [], true, false};
-ghost use Rattle.std.specs.List.{suffix_len};
+ghost use Rattle.std.specs.Prelude.{◌≡◌, ◌+◌, ◌≤◌, ◌<◌, ◌^◌, length, OnOk, ◌==◌, MatchOption, IfErr, ◌++◌, [], true, false};
 ghost use Rattle.line_text.specs.Lines.{ends_in_backslash, is_not_ascii, trimmed as trimmed_bytes, without_comment, without_last};
-ghost use Rattle.line_text.specs.Spans.{AreWithin, seen_lines};
-ghost use Rattle.line_text.specs.Words.{is_blank as is_blank_byte, texts, words_of};
+ghost use Rattle.line_text.specs.Spans.{AreWithin};
+ghost use Rattle.line_text.specs.Words.{words_of};
 
 use crate::fault::{LineError, LineFault};
 use crate::lines::{Lines, MAX_LINE, Span};

@@ -54,7 +54,7 @@ fn read_once<R: Read>(reader: &mut R, buffer: &mut [u8]) -> Result<usize, Failed
 }
 
 impl<R: Read + Drop> Source for StdSource<R> {
-    ghost use Rattle.std.specs.Prelude.{◌==◌, ◌||◌, true, false, refl};
+    ghost use Rattle.std.specs.Prelude.{◌==◌, ◌||◌, true, false};
     ghost use Rattle.line_text.specs.Device.{or_true};
 
     ghost remaining = { λ s. R.remaining s.reader };

@@ -1,5 +1,5 @@
 //! Bytes that belong to their holder.
-ghost use Rattle.std.specs.Prelude.{◌≡◌, ◌<◌, ◌^◌, length, IfOk, IsTrue, ◌↔◌};
+ghost use Rattle.std.specs.Prelude.{◌≡◌, ◌<◌, IfOk, IsTrue, ◌↔◌};
 
 use std::alloc::{AllocError, Global};
 use std::marker::Model;
