@@ -3,7 +3,8 @@ use Rattle.std.specs.Prelude.{ℕ, ◌+◌, max, List, length}
 use Rattle.arch_file.specs.declared.arch.Arch.{Arch}
 use Rattle.blif.specs.declared.circuit.Circuit.{Circuit}
 use Rattle.ble_cluster.specs.Bles.{bles_of}
-pub use Rattle.ble_cluster.specs.Clusters.{cluster_of, clusters_after, fits_in_cluster, free_of, outputs_of, unfit_of, with_cluster}
+unfoldable pub use Rattle.ble_cluster.specs.Clusters.{cluster_of, clusters_after, unfit_of}
+pub use Rattle.ble_cluster.specs.Clusters.{fits_in_cluster, free_of, outputs_of, with_cluster}
 
 -- a packed circuit: its BLEs by number in clusters
 pub record PackedCircuit : Type 0 where
