@@ -1,6 +1,6 @@
 //! Joined lines, words and numbers.
 use line_text::{
-    LineError, LineFault, Text, append_words, decimal_u32, decimal_u64, is_blank, is_word,
+    Line, LineError, LineFault, Text, append_words, decimal_u32, decimal_u64, is_blank, is_word,
     logical_lines, millionths, skip_blanks, split_line, split_word, whole_number, word_end,
     word_start,
 };
@@ -20,16 +20,21 @@ fn joins_lines_and_cuts_comments(rt: HostRuntime) -> Result<(), Fail> {
     Ok(())
 }
 
+/// Whether a line has two words, of which the second is this one.
+fn ends_in(line: &Line<'_, '_>, word: &[u8]) -> bool {
+    match line.behind_first().split_first() {
+        Some((second, rest)) => second == word && rest.split_first().is_none(),
+        None => false,
+    }
+}
+
 #[test]
 fn a_line_is_read_word_by_word(rt: HostRuntime) -> Result<(), Fail> {
     let lines = logical_lines(rt.alloc(), b"\na b")?;
     let line = lines.line(0);
-    let last = line.behind_first();
-    assert_eq!(rt; last.number(), 2);
-    assert_eq!(rt; last.words().len(), 1);
-    let word = last.split_first().map(|(word, _)| word);
-    assert_eq!(rt; word, Some(b"b".as_slice()));
-    assert!(rt; last.behind_first().split_first().is_none());
+    assert_eq!(rt; line.number(), 2);
+    assert_eq!(rt; line.words().len(), 2);
+    assert!(rt; ends_in(&line, b"b"));
     Ok(())
 }
 
