@@ -31,6 +31,7 @@ fn ends_in(line: &Line<'_, '_>, word: &[u8]) -> bool {
 #[test]
 fn a_line_is_read_word_by_word(rt: HostRuntime) -> Result<(), Fail> {
     let lines = logical_lines(rt.alloc(), b"\na b")?;
+    assert_eq!(rt; lines.len(), 1);
     let line = lines.line(0);
     assert_eq!(rt; line.number(), 2);
     assert_eq!(rt; line.words().len(), 2);
