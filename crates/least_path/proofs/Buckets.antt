@@ -14,7 +14,7 @@ use Rattle.std.proofs.lemmas.Cmp.{ranked}
 use Rattle.std.proofs.lemmas.List.{length-map, map-append, map-set, get_or-map, get_or_append_left, get_or_push, get_or_past, get_or-set_same, get_or-set_other}
 use Rattle.std.proofs.lemmas.List.Elements.{All-nil, All-cons, All-tail, All-append, All-push, All-from_recursion}
 use Rattle.std.proofs.lemmas.List.Sorted.{All-permutation, IsPermutation-sym, IsPermutation-trans, IsPermutation-to_front, IsPermutation-middle, IsPermutation-append_left, IsPermutation-append_right}
-use Rattle.least_path.specs.Queue.{entry_cmp, bucket_at, buckets_of, all_of, IsQueue, TakesNearest}
+use Rattle.least_path.specs.Queue.{entry_cmp, bucket_at, all_of, IsQueue, TakesNearest}
 use Rattle.least_path.specs.declared.search.Waiting.{Waiting}
 
 -- all are empty, where those before a place are, and those from an end before it
@@ -34,60 +34,6 @@ none_of (Some a) p f = tt
 pub on_err : {A B P : Type 0} (r : Result A B) → P → OnErr r P
 on_err (Ok a) p = tt
 on_err (Err b) p = p
-
--- what is read at a place
-pub read_at : (near : List (Vec (Reverse Waiting))) (place : ℕ) (bucket : Vec (Reverse Waiting)) → place < length near → bucket ≡ get_or near place bucket → bucket.items ≡ bucket_at (buckets_of near) place
-read_at near place bucket l e = ap (λ (v : Vec (Reverse Waiting)). v.items) e ∙ sym (get_or-map (λ (v : Vec (Reverse Waiting)). v.items) near place bucket [] l)
-
--- what a place holds after a write
-pub written : (near : List (Vec (Reverse Waiting))) (place : ℕ) (bucket : Vec (Reverse Waiting)) (entries : List (Reverse Waiting)) → bucket.items ≡ entries → buckets_of (set near place bucket) ≡ set (buckets_of near) place entries
-written near place bucket entries e = map-set (λ (v : Vec (Reverse Waiting)). v.items) near place bucket ∙ ap (λ z. set (buckets_of near) place z) e
-
--- one bucket more is empty
-pub emptied : (near : List (Vec (Reverse Waiting))) (place : ℕ) (bucket : Vec (Reverse Waiting)) → bucket.items ≡ [] → ((p : ℕ) → p < place → bucket_at (buckets_of near) p ≡ [])
-    → (p : ℕ) → p < place + 1 → bucket_at (buckets_of (set near place bucket)) p ≡ []
-emptied near place bucket e before p l = elim (cases_eq p place) [
-  | inl same ↦ elim (cases_lt place (length near)) [
-    | inl b ↦ rw (written near place bucket [] e, same) (get_or-set_same (buckets_of near) place [] [] (omega (arith, b, length-map near (λ (v : Vec (Reverse Waiting)). v.items))))
-    | inr past ↦ get_or_past (buckets_of (set near place bucket)) p [] (omega (arith, same, past, length-map (set near place bucket) (λ (v : Vec (Reverse Waiting)). v.items), length-set near place bucket))
-  ]
-  | inr other ↦ rw (written near place bucket [] e) (get_or-set_other (buckets_of near) place p [] [] other ∙ before p (omega (arith, l, other)))
-]
-
--- Those before a place are empty, and those from an end on.
-pub record Emptying (near : List (Vec (Reverse Waiting))) (place end : ℕ) : Type 0 where
-  pub low : (p : ℕ) → p < place → bucket_at (buckets_of near) p ≡ []
-  pub high : (p : ℕ) → end ≤ p → bucket_at (buckets_of near) p ≡ []
-  pub within : end ≤ length near
-
-pub emptying_more : (near : List (Vec (Reverse Waiting))) (place end : ℕ) (bucket : Vec (Reverse Waiting)) → bucket.items ≡ [] → place < end → Emptying near place end → Emptying (set near place bucket) (place + 1) end
-emptying_more near place end bucket e b now = record {
-  low = emptied near place bucket e now.low;
-  high = λ p l. rw (written near place bucket [] e) (get_or-set_other (buckets_of near) place p [] [] (λ same. omega (arith, same, b, l)) ∙ now.high p l);
-  within = omega (arith, now.within, length-set near place bucket);
-}
-
-pub emptied_all : (near : List (Vec (Reverse Waiting))) (place end : ℕ) → end ≤ place → Emptying near place end → (p : ℕ) → bucket_at (buckets_of near) p ≡ []
-emptied_all near place end past now = all_empty (buckets_of near) place end past now.low now.high
-
--- one bucket more, with nothing in it
-pub filled : (near : List (Vec (Reverse Waiting))) (bucket : Vec (Reverse Waiting)) → bucket.items ≡ [] → ((p : ℕ) → bucket_at (buckets_of near) p ≡ []) → (p : ℕ) → bucket_at (buckets_of (near ++ bucket ∷ [])) p ≡ []
-filled near bucket e each p = rw (map-append (λ (v : Vec (Reverse Waiting)). v.items) near (bucket ∷ [])) (elim (cases_lt p (length (buckets_of near))) [
-  | inl b ↦ get_or_append_left (buckets_of near) (bucket.items ∷ []) [] p b ∙ each p
-  | inr above ↦ elim (cases_eq p (length (buckets_of near))) [
-    | inl here ↦ get_or_push (buckets_of near) bucket.items [] p (sym here) ∙ e
-    | inr other ↦ get_or_past (buckets_of near ++ bucket.items ∷ []) p [] (omega (arith, above, other, length-append (buckets_of near) (bucket.items ∷ [])))
-  ]
-])
-
--- what comes out of a bucket
-pub taken_from : (near : List (Vec (Reverse Waiting))) (place : ℕ) (bucket new : Vec (Reverse Waiting)) (result : Option (Reverse Waiting)) → place < length near → bucket ≡ get_or near place bucket → bucket.items ≡ new.items ++ option_to_list result
-    → IfSome result (λ entry. (bucket_at (buckets_of near) place ≡ bucket_at (buckets_of (set near place new)) place ++ entry ∷ []) × (buckets_of (set near place new) ≡ set (buckets_of near) place (bucket_at (buckets_of (set near place new)) place)))
-taken_from near place bucket new None l e i = tt
-taken_from near place bucket new (Some entry) l e i =
-    let wrote = written near place new new.items refl in
-    let now : bucket_at (buckets_of (set near place new)) place ≡ new.items = rw wrote (get_or-set_same (buckets_of near) place new.items [] (omega (arith, l, length-map near (λ (v : Vec (Reverse Waiting)). v.items)))) in
-    (sym (read_at near place bucket l e) ∙ i ∙ ap (λ z. z ++ entry ∷ []) (sym now), wrote ∙ ap (λ z. set (buckets_of near) place z) (sym now))
 
 -- ---- all that waits
 
@@ -280,11 +226,3 @@ module _ {near : List (List (Reverse Waiting))} {first end : ℕ} {far : List (R
     pub far_none : (result : Option (Reverse Waiting)) → IfNone result (far ≡ []) → IfNone result (all_of near ++ far ≡ [])
     far_none None none = none_waits near far each none
     far_none (Some entry) none = tt
-
--- one bucket more was looked at
-pub looked_further : (near : List (Vec (Reverse Waiting))) (from place : ℕ) (bucket : Vec (Reverse Waiting)) → place < length near → bucket ≡ get_or near place bucket → bucket.items ≡ [] → ((p : ℕ) → from ≤ p → p < place → bucket_at (buckets_of near) p ≡ [])
-    → (p : ℕ) → from ≤ p → p < place + 1 → bucket_at (buckets_of near) p ≡ []
-looked_further near from place bucket l read e before p above below = elim (cases_eq p place) [
-  | inl same ↦ rw same (sym (read_at near place bucket l read) ∙ e)
-  | inr other ↦ before p above (omega (arith, below, other))
-]

@@ -3,6 +3,7 @@ mod Exact
 pub mod Agrees
 pub mod Bounds
 mod Examples
+mod Links
 mod Buckets
 mod Labels
 mod Settles

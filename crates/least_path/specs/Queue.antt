@@ -1,9 +1,8 @@
 -- Private: what waits to be looked at, in buckets and a heap.
-use Rattle.std.proofs.Common.{◌≡◌, ℕ, ◌<◌, ◌≤◌, List, [], ◌∷◌, ◌++◌, length, get_or, map}
+use Rattle.std.proofs.Common.{◌≡◌, ℕ, ◌<◌, ◌≤◌, List, [], ◌∷◌, ◌++◌, length, get_or}
 use Rattle.std.specs.List.{All}
 use Rattle.std.specs.List.Sorted.{IsPermutation}
 use Rattle.std.specs.BinaryHeap.{IsHeap}
-use Rattle.std.specs.Global.{Vec}
 use Rattle.std.specs.Ordering.{nat_cmp, ordering_then}
 use Rattle.std.specs.declared.cmp.Ordering.{Ordering}
 use Rattle.std.specs.declared.cmp.Reverse.{Reverse}
@@ -15,10 +14,6 @@ waiting_cmp a b = ordering_then (nat_cmp a.at_least b.at_least) (ordering_then (
 -- the greatest comes out of the heap first
 abbrev pub entry_cmp : Reverse Waiting → Reverse Waiting → Ordering
 entry_cmp x y = waiting_cmp y.0 x.0
-
--- what is in the buckets
-abbrev pub buckets_of : List (Vec (Reverse Waiting)) → List (List (Reverse Waiting))
-buckets_of near = map (λ bucket. bucket.items) near
 
 -- the bucket at a place; beyond the last it is empty
 abbrev pub bucket_at : List (List (Reverse Waiting)) → ℕ → List (Reverse Waiting)

@@ -4,6 +4,7 @@ ghost use Rattle.least_path.specs.Graph.{AreNodes};
 ghost use Rattle.least_path.specs.LeastPath.{least_path, TellsLeastPath, HasNoPath, nodes_of};
 
 mod bounds;
+mod buckets;
 mod frontier;
 mod queue;
 mod walk;
