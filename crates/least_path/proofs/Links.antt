@@ -119,7 +119,7 @@ module _ {tops : List ℕ} {entries : List Linked} (linked : AreLinked tops entr
   stacks_put link top e long =
       let one : top ≡ suc (length entries) = omega (arith, long, length-append entries (link ∷ [])) in
       let new : stack_of (entries ++ link ∷ []) top ≡ bucket_at (stacks_of tops entries) place ++ link.entry ∷ [] =
-          rw one (stack_pushed entries linked.below link (rw e (linked.within place 0 l)) ∙ ap (λ z. z ++ link.entry ∷ []) (ap (stack_of entries) e ∙ sym (bucket_by_top tops entries place l))) in
+      rw one (stack_pushed entries linked.below link (rw e (linked.within place 0 l)) ∙ ap (λ z. z ++ link.entry ∷ []) (ap (stack_of entries) e ∙ sym (bucket_by_top tops entries place l))) in
       map-set (stack_of (entries ++ link ∷ [])) tops place top ∙ (λ i. set (stacks_pushed entries linked.below tops link linked.within i) place (new i))
 
   -- without its top

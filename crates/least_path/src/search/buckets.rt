@@ -91,11 +91,7 @@ impl Buckets {
 
     /// Puts something on top of a bucket.
     #[inline(always)]
-    pub(super) fn put(
-        &mut self,
-        place: usize,
-        entry: Reverse<Waiting>,
-    ) -> Result<(), AllocError>
+    pub(super) fn put(&mut self, place: usize, entry: Reverse<Waiting>) -> Result<(), AllocError>
         requires { place < length self.old }
         ensures put { OnOk result (self.new ≡ set self.old place (bucket_at self.old place ++ entry ∷ [])) }
         ensures err { OnErr result (self.new ≡ self.old) }
