@@ -1,8 +1,6 @@
 -- Buckets, one for each distance.
-use Rattle.std.proofs.Common.{◌≡◌, ◌≢◌, ℕ, zero, suc, refl, ◌+◌, ◌<◌, ◌≤◌, Option, Some, None, Result, Ok, Err, OnOk, OnErr, IfSome, IfNone, List, [], ◌∷◌, ◌++◌, length, get_or, set, false, arith, ◌∙◌, inl, inr, sym, ap, subst, length-set, length-append}
+use Rattle.std.proofs.Common.{◌≡◌, ◌≢◌, ℕ, zero, suc, refl, ◌<◌, ◌≤◌, Option, Some, None, Result, Ok, Err, OnOk, OnErr, IfSome, IfNone, List, [], ◌∷◌, ◌++◌, length, get_or, set, false, arith, ◌∙◌, inl, inr, sym, ap, subst, length-set, length-append}
 use Rattle.std.specs.List.{All}
-use Rattle.std.specs.Option.{option_to_list}
-use Rattle.std.specs.Global.{Vec}
 use Rattle.std.specs.List.Sorted.{IsPermutation}
 use Rattle.std.specs.BinaryHeap.{IsHeap, IsUpperBound, PopsGreatest}
 use Rattle.std.specs.Ordering.{nat_cmp, ordering_then, is_lt, MatchOrdering}
@@ -11,7 +9,7 @@ use Rattle.std.specs.declared.cmp.Ordering.TheVariants.{Less, Equal, Greater}
 use Rattle.std.specs.declared.cmp.Reverse.{Reverse}
 use Rattle.std.proofs.lemmas.Bool.{cases_eq, cases_lt}
 use Rattle.std.proofs.lemmas.Cmp.{ranked}
-use Rattle.std.proofs.lemmas.List.{length-map, map-append, map-set, get_or-map, get_or_append_left, get_or_push, get_or_past, get_or-set_same, get_or-set_other}
+use Rattle.std.proofs.lemmas.List.{get_or_append_left, get_or_push, get_or-set_same, get_or-set_other}
 use Rattle.std.proofs.lemmas.List.Elements.{All-nil, All-cons, All-tail, All-append, All-push, All-from_recursion}
 use Rattle.std.proofs.lemmas.List.Sorted.{All-permutation, IsPermutation-sym, IsPermutation-trans, IsPermutation-to_front, IsPermutation-middle, IsPermutation-append_left, IsPermutation-append_right}
 use Rattle.least_path.specs.Queue.{entry_cmp, bucket_at, all_of, IsQueue, TakesNearest}

@@ -1,14 +1,12 @@
 -- Buckets whose entries stand in one list.
-use Rattle.std.proofs.Common.{◌≡◌, ◌≢◌, ℕ, zero, suc, refl, ◌+◌, ◌-◌, ◌<◌, ◌≤◌, List, [], ◌∷◌, ◌++◌, length, get_or, set, map, replicate, arith, ◌∙◌, inl, inr, sym, ap, length-append}
+use Rattle.std.proofs.Common.{◌≡◌, ◌≢◌, ℕ, zero, suc, refl, ◌-◌, ◌<◌, ◌≤◌, List, [], ◌∷◌, ◌++◌, length, get_or, set, map, replicate, arith, ◌∙◌, inl, inr, sym, ap, length-append}
 use Rattle.std.specs.List.{All}
-use Rattle.std.specs.declared.cmp.Reverse.{Reverse}
 use Rattle.std.specs.Prelude.{slice_index}
 use Rattle.std.proofs.lemmas.Bool.{cases_eq, cases_lt}
 use Rattle.std.proofs.lemmas.List.{map-set, get_or-map, get_or_append_left, get_or-append_right, get_or-replicate, length-replicate, get_or_push, get_or_past, get_or_default, get_or-set_same, length-map}
 use Rattle.std.proofs.lemmas.List.Elements.{All-set}
 use Rattle.least_path.specs.Buckets.{no_link, linked_at, down_from, stack_of, stacks_of, AreLinked}
 use Rattle.least_path.specs.Queue.{bucket_at}
-use Rattle.least_path.specs.declared.search.Waiting.{Waiting}
 use Rattle.least_path.specs.declared.search.buckets.Linked.{Linked}
 
 -- nothing is below the lowest

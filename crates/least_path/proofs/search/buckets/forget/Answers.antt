@@ -1,4 +1,4 @@
-use Rattle.std.proofs.Common.{◌++◌, ◌-◌, ◌∙◌, ap, arith, length, replicate}
+use Rattle.std.proofs.Common.{◌++◌, ◌-◌, ◌∙◌, ap, arith, replicate}
 use Rattle.std.specs.Vec.{vec_len}
 use Rattle.std.proofs.lemmas.List.{take_all}
 use Rattle.least_path.proofs.Links.{all_zero, zeros_more}

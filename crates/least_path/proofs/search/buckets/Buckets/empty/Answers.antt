@@ -1,4 +1,3 @@
-use Rattle.std.proofs.lemmas.List.{length-map}
 use Rattle.least_path.proofs.Links.{no_top, no_bucket}
 use Rattle.least_path.proofs.search.buckets.Buckets.empty.Goals as goal
 

@@ -1,4 +1,4 @@
-use Rattle.std.proofs.Common.{◌≡◌, ◌<◌, ◌+◌, ◌-◌, ◌∙◌, ap, arith, suc, get_or, length}
+use Rattle.std.proofs.Common.{◌≡◌, ◌<◌, ◌-◌, ◌∙◌, arith, suc, get_or, length}
 use Rattle.std.proofs.lemmas.List.{get_or_default, length-map}
 use Rattle.least_path.specs.Buckets.{no_link, linked_at, stack_of}
 use Rattle.least_path.proofs.Links.{stack_taken, stacks_taken}
