@@ -16,6 +16,7 @@ use script_text::{Act, Script, read_script};
 use service_core::{Service, headline};
 use sessions::end_to_end;
 use std::alloc::{AllocError, Global};
+use strips::DeviceGraph;
 
 /// The bytes that the run of a script writes, or why it writes none.
 pub(crate) fn replies(
@@ -46,34 +47,38 @@ fn serve(
     requires { IsArch arch }
     ensures { IfOk result (λ output. IsReplies options.now (Ok (arch, script.entry)) output.items) }
 {
-    let core = Service::new(alloc, options.device(arch))?;
-    let mut running = Running::new(alloc, core);
+    let device = options.device(arch);
+    let graph = DeviceGraph::new(alloc, &device.arch, device.columns, device.rows)?;
+    let core = Service::new(alloc, device)?;
+    let mut running = Running::new(alloc, &graph, core);
     let output = running.serve_all(alloc, script);
     running.end();
     output
 }
 
-/// A script that runs: the core, the operator's names and jobs, and what was told so far.
-struct Running<'t> {
+/// A script that runs: the device's graph, the core, the operator's names and jobs, and what was told so far.
+struct Running<'t, 'g> {
+    graph: &'g DeviceGraph,
     core: Service,
     operator: Operator<'t>,
-    jobs: HeldJobs,
+    jobs: HeldJobs<'g>,
     operator_text: MemorySink,
     sections: Sections<'t>,
 }
 
-impl<'t> Running<'t> {
+impl<'t, 'g> Running<'t, 'g> {
     ghost use Rattle.arch_file.specs.declared.arch.Arch.{Arch};
     ghost use Rattle.service_core.specs.Service.{empty};
     ghost use Rattle.fpgad_run.specs.declared.options.Options.{Options};
     ghost use Rattle.fpgad_run.specs.Program.{device_of};
     ghost use Rattle.fpgad_run.specs.Told.{Begins, IsEven, Serves, told_so_far};
 
-    fn new(alloc: Global, core: Service) -> Self
+    fn new(alloc: Global, graph: &'g DeviceGraph, core: Service) -> Self
         requires { core.histories ≡ [] }
         ensures { Begins core result }
     {
         Running {
+            graph,
             core,
             operator: Operator::new(alloc),
             jobs: HeldJobs::new(alloc),
@@ -98,6 +103,7 @@ impl<'t> Running<'t> {
     /// Ends the service: jobs that are still held are given back.
     fn end(self) {
         let Running {
+            graph: _,
             mut core,
             operator,
             jobs,
@@ -120,6 +126,7 @@ impl<'t> Running<'t> {
             Act::Operator(line) => {
                 self.operator.serve(
                     &mut self.core,
+                    self.graph,
                     &mut self.jobs,
                     line,
                     &mut self.operator_text,
@@ -127,7 +134,8 @@ impl<'t> Running<'t> {
             }
             Act::Session(name, line) => {
                 let id = self.operator.last_id(name);
-                self.sections.answer(&mut self.core, name, id, line)
+                self.sections
+                    .answer(&mut self.core, self.graph, name, id, line)
             }
         }
     }

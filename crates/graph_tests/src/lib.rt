@@ -2,6 +2,7 @@
 //!
 //! - `graphs`: nodes, pairs and capacities of strips of a few blocks.
 //! - `unit_roads`: least paths over the routing graph of a strip, where each node costs one.
+//! - `windows`: what the windows of three strips show of a device of five columns.
 //! - `tables`: least paths over graphs of a few nodes, which a table or a rule gives.
 #![tactic(auto)]
 
@@ -11,3 +12,5 @@ mod graphs;
 mod tables;
 #[cfg(test)]
 mod unit_roads;
+#[cfg(test)]
+mod windows;

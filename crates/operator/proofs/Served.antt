@@ -20,7 +20,7 @@ pub served_runs : (old : Stage) (line : OperatorLine (List ℕ)) (calls : List C
 served_runs old (Admit name width) calls text new is = admission_runs (live_of old.service.histories (last_id old.names name)) old name width calls text new is
 served_runs old (Evict name) calls text new is = rw is.4 (new.service, is.1, refl)
 served_runs old (Step name count) calls text new is = is.3
-served_runs old (Take name) calls text new is = rw is.4 (new.service, is.1, refl)
+served_runs old (Take name) calls text new is = is.2
 served_runs old (Put number) calls text new is = is.2
 served_runs old ListAll calls text new is = rw is.0 (ap (λ (s : Stage). s.service) is.2)
 served_runs old Owners calls text new is = rw is.2 (ap (λ (s : Stage). s.service) is.4)

@@ -16,12 +16,12 @@ use Rattle.service_core.specs.Service.{ServiceState, live_of, modified}
 use Rattle.sessions.specs.declared.line.SessionLine.{SessionLine}
 use Rattle.sessions.specs.declared.line.SessionLine.TheVariants.{Blank, Command, Wait, Refused}
 use Rattle.sessions.specs.declared.steps.StepOutcome.{StepOutcome}
-use Rattle.sessions.specs.declared.steps.StepOutcome.TheVariants.{Recorded, Full, Gone, NoMemory, Nothing}
+use Rattle.sessions.specs.declared.steps.StepOutcome.TheVariants.{Recorded, Full, Gone, NoMemory, Nothing, Unfit}
 use Rattle.sessions.specs.declared.told.Answer.{Answer}
 use Rattle.sessions.specs.SessionAnswer.{Asks, AsksCommand, EndsWait}
 use Rattle.sessions.specs.Steps.{MadeStep, MakesStep, StepsAndPuts, Waits}
 use Rattle.sessions.proofs.StepLemmas.{Run-append}
-use Rattle.operator.specs.HeldJobs.{PutsHeld}
+use Rattle.operator.specs.HeldJobs.{Holds, PutsHeld}
 use Rattle.operator.specs.OperatorText.{outcome_text}
 use Rattle.operator.specs.Operators.{Steps}
 use Rattle.operator.specs.Serving.{tried_calls, tried_text}
@@ -81,6 +81,7 @@ steady_puts job calls Gone is = to_steady calls _ is.1 (tt, tt)
 steady_puts job calls NoMemory (inl is) = to_steady calls _ is (tt, tt)
 steady_puts job calls NoMemory (inr is) = to_steady calls _ is.2 (tt, (tt, tt))
 steady_puts job calls Nothing is = absurd is
+steady_puts job calls Unfit is = to_steady calls _ is (tt, tt)
 
 taking : (id : ℕ) (job : JobState) (calls more : List Call) (outcome : StepOutcome) → StepsAndPuts job more outcome → calls ≡ Take id (Some job) ∷ more → AreSteady calls
 taking id job calls more outcome puts is = to_steady calls _ is (tt, steady_puts job more outcome puts)
@@ -91,6 +92,7 @@ steady_step id calls Full is = taking id is.0 calls is.1 Full is.2 is.3
 steady_step id calls Gone is = taking id is.0 calls is.1 Gone is.2 is.3
 steady_step id calls NoMemory is = taking id is.0 calls is.1 NoMemory is.2 is.3
 steady_step id calls Nothing is = to_steady calls _ is (tt, tt)
+steady_step id calls Unfit is = taking id is.0 calls is.1 Unfit is.2 is.3
 
 steady_made : (id : ℕ) (made : List MadeStep) → All (λ (m : MadeStep). MakesStep id m.0 (Recorded m.1)) made → AreSteady (flat_map (λ (m : MadeStep). m.0) made)
 steady_made id [] all = tt
@@ -105,6 +107,7 @@ steady_end id Full calls answer is = steady_command id _ calls answer is
 steady_end id Gone calls answer is = steady_command id _ calls answer is
 steady_end id NoMemory calls answer is = to_steady calls [] is.0 tt
 steady_end id Nothing calls answer is = steady_command id _ calls answer is
+steady_end id Unfit calls answer is = steady_command id _ calls answer is
 
 steady_wait : (id : ℕ) (calls : List Call) (last : StepOutcome) → Waits id calls last → AreSteady calls
 steady_wait id calls last is = to_steady calls _ is.5 (steady-append _ is.1 (steady_made id is.0 is.2) (steady_step id is.1 last is.3))
@@ -119,6 +122,12 @@ steady_asks id Wait calls answer is = to_steady calls _ is.5 (steady-append is.1
 pub steady_held : (job : Option JobState) (calls : List Call) (outcome : StepOutcome) → PutsHeld job calls outcome → AreSteady calls
 steady_held None calls outcome is = to_steady calls [] is.0 tt
 steady_held (Some job) calls outcome is = steady_puts job calls outcome is
+
+-- nor does the taking of a job
+pub steady_take : (id : ℕ) (job : Option JobState) (calls : List Call) → Holds id job calls → AreSteady calls
+steady_take id (Some job) calls is = to_steady calls _ is (tt, tt)
+steady_take id None calls (inl is) = to_steady calls _ is (tt, tt)
+steady_take id None calls (inr is) = to_steady calls _ is.1 (tt, (tt, tt))
 
 -- none is tried
 pub steps_none : (service : ServiceState) (id : ℕ) (before : List ℕ) → Steps service id 0 before before service

@@ -2,7 +2,7 @@
 use Rattle.std.specs.Prelude.{ℕ, ◌+◌, List, [], ◌∷◌, ◌++◌, length, codes, decimal, Result, Ok, Err, Option, Some, None, unwrap_or, if◌then◌else◌}
 use Rattle.std.specs.Str.{bytes_eq}
 use Rattle.sessions.specs.declared.steps.StepOutcome.{StepOutcome}
-use Rattle.sessions.specs.declared.steps.StepOutcome.TheVariants.{Recorded, Full, Gone, NoMemory, Nothing}
+use Rattle.sessions.specs.declared.steps.StepOutcome.TheVariants.{Recorded, Full, Gone, NoMemory, Nothing, Unfit}
 use Rattle.tenant_slot.specs.Names.{state_text}
 use Rattle.strips.specs.Plan.{offset_of}
 use Rattle.service_core.specs.declared.op_refusal.OpRefusal.{OpRefusal}
@@ -30,6 +30,7 @@ outcome_word Full = codes "full"
 outcome_word Gone = codes "gone"
 outcome_word NoMemory = codes "nomemory"
 outcome_word Nothing = codes "none"
+outcome_word Unfit = codes "none"
 
 -- and as a line
 abbrev pub outcome_text : StepOutcome → List ℕ

@@ -5,8 +5,8 @@ use Rattle.job_state.specs.Job.{JobState}
 use Rattle.service_core.specs.declared.op_refusal.OpRefusal.{OpRefusal}
 use Rattle.service_core.specs.History.{History}
 use Rattle.service_core.specs.Run.{Call, Run}
-use Rattle.service_core.specs.Run.Call.{Admit as AdmitCall, Evict as EvictCall, Take as TakeCall}
-use Rattle.service_core.specs.Calls.{IsAdmitted, IsEvicted, IsTaken}
+use Rattle.service_core.specs.Run.Call.{Admit as AdmitCall, Evict as EvictCall}
+use Rattle.service_core.specs.Calls.{IsAdmitted, IsEvicted}
 use Rattle.service_core.specs.Service.{ServiceState, live_of}
 use Rattle.script_text.specs.declared.operator_line.OperatorLine.{OperatorLine}
 use Rattle.script_text.specs.declared.operator_line.OperatorLine.TheVariants.{Admit, Evict, List as ListAll, Owners, Step, Take, Put}
@@ -15,7 +15,7 @@ use Rattle.sessions.specs.Steps.{MakesStep}
 use Rattle.device_book.specs.declared.book.Owned.{Owned}
 use Rattle.service_core.specs.Owners.{ListsOwnersOf}
 use Rattle.operator.specs.OwnersText.{owners_text}
-use Rattle.operator.specs.HeldJobs.{HeldList, PutsHeld, job_at, with_job, without_job}
+use Rattle.operator.specs.HeldJobs.{HeldList, Holds, PutsHeld, job_at, with_job, without_job}
 use Rattle.operator.specs.OperatorText.{admitted_text, evicted_text, last_id, list_text, names_after, outcome_text, refused_text, taken_text}
 
 -- the core's state, the names of all ids, the newest first, and the jobs that the operator took
@@ -52,8 +52,8 @@ IsServed old (Step name count) calls text new = (tried : Tried)
     × (length tried ≡ count) × All (λ t. MakesStep (last_id old.names name) t.0 t.1) tried × Run old.service calls new.service
     × (new.names ≡ old.names) × (new.jobs ≡ old.jobs) × (calls ≡ tried_calls tried) × (text ≡ tried_text tried)
 IsServed old (Take name) calls text new = (job : Option JobState)
-    × IsTaken old.service (last_id old.names name) job new.service × (new.names ≡ old.names) × (new.jobs ≡ with_job old.jobs job)
-    × (calls ≡ TakeCall (last_id old.names name) job ∷ []) × (text ≡ taken_text (option_map (λ j. length old.jobs + 1) job))
+    × Holds (last_id old.names name) job calls × Run old.service calls new.service
+    × (new.names ≡ old.names) × (new.jobs ≡ with_job old.jobs job) × (text ≡ taken_text (option_map (λ j. length old.jobs + 1) job))
 IsServed old (Put number) calls text new = (outcome : StepOutcome)
     × PutsHeld (job_at old.jobs number) calls outcome × Run old.service calls new.service
     × (new.names ≡ old.names) × (new.jobs ≡ without_job old.jobs number) × (text ≡ outcome_text outcome)

@@ -15,6 +15,7 @@ use service_core::Service;
 use sessions::make_step;
 use std::alloc::{AllocError, Global};
 use std::marker::Model;
+use strips::DeviceGraph;
 
 /// The operator: names over ids, one live tenancy a name. Its value is the names of all ids, the newest first; the oldest
 /// has id 1.
@@ -64,11 +65,12 @@ impl<'t> Operator<'t> {
         self.admitted.len() == core.admissions() as usize
     }
 
-    /// Does what a line of the operator asks, and appends its reply.
-    pub fn serve(
+    /// Does what a line of the operator asks, steps on the device's graph, and appends its reply.
+    pub fn serve<'g>(
         &mut self,
         core: &mut Service,
-        jobs: &mut HeldJobs,
+        graph: &'g DeviceGraph,
+        jobs: &mut HeldJobs<'g>,
         line: OperatorLine<&'t [u8]>,
         reply: &mut MemorySink,
     ) -> Result<(), AllocError>
@@ -86,9 +88,9 @@ impl<'t> Operator<'t> {
                 let owners = core.owners()?;
                 push_owners(reply, core.rows(), owners.as_slice())
             }
-            OperatorLine::Step(name, count) => step(core, self.last_id(name), count, reply),
+            OperatorLine::Step(name, count) => step(core, graph, self.last_id(name), count, reply),
             OperatorLine::Take(name) => {
-                let number = jobs.take(core, self.last_id(name))?;
+                let number = jobs.take(core, graph, self.last_id(name))?;
                 push_taken(reply, number)
             }
             OperatorLine::Put(number) => {
@@ -146,11 +148,17 @@ impl<'t> Operator<'t> {
 }
 
 /// Makes the next step of a tenancy's job so many times, and appends the outcome of each as a line.
-fn step(core: &mut Service, id: u32, count: u32, reply: &mut MemorySink) -> Result<(), AllocError>
+fn step(
+    core: &mut Service,
+    graph: &DeviceGraph,
+    id: u32,
+    count: u32,
+    reply: &mut MemorySink,
+) -> Result<(), AllocError>
     ensures { OnOk result (Steps core.old id count (held reply.old) (held reply.new) core.new) }
 {
     for number in 0..count {
-        let outcome = make_step(core, id);
+        let outcome = make_step(core, graph, id);
         push_outcome(reply, outcome)?;
     }
     Ok(())

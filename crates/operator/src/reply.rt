@@ -98,7 +98,7 @@ fn outcome_word(outcome: StepOutcome) -> &'static [u8]
         StepOutcome::Full => b"full",
         StepOutcome::Gone => b"gone",
         StepOutcome::NoMemory => b"nomemory",
-        StepOutcome::Nothing => b"none",
+        StepOutcome::Nothing | StepOutcome::Unfit => b"none",
     }
 }
 

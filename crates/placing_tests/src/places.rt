@@ -7,7 +7,7 @@ use cluster::SharedPacked;
 use grid::{Fit, Place, Strip};
 use std::alloc::{AllocError, Global};
 use std::test::Fail;
-use strip_place::{PassEnd, Placing};
+use strip_place::{Kept, PassEnd, Placing};
 
 /// Where two blocks stand after the first pass, and how many passes there are.
 #[derive(Clone, Copy, Debug, PartialEq, Eq)]
@@ -52,7 +52,7 @@ fn after_a_pass_on(
     if packed.packed().block_count() != 2 || strip.fits(packed.packed()) != Fit::Fits {
         return Ok(None);
     }
-    let mut placing = Placing::start(alloc, packed, strip, seed, effort)?;
+    let mut placing = Placing::start(alloc, packed, strip, &Kept::none(), seed, effort)?;
     let end = placing.pass();
     let first = placing.place_of(0);
     let second = placing.place_of(1);
@@ -123,6 +123,67 @@ fn no_draws(rt: HostRuntime) -> Result<(), Fail> {
             second: place(1, 0, 1),
             passes: 3
         })
+    );
+    Ok(())
+}
+
+/// The places of five blocks with seed 7 and effort 0 in one column, where those of another netlist are kept or none.
+fn five_places(
+    alloc: Global,
+    before: Option<&str>,
+    netlist: &str,
+) -> Result<Option<[Place; 5]>, AllocError> {
+    let strip = Strip {
+        width: 1,
+        rows: 1,
+        io_rat: 2,
+    };
+    let kept = match before {
+        None => Kept::none(),
+        Some(before) => {
+            let old = packed(alloc, before)?;
+            if strip.fits(old.packed()) != Fit::Fits {
+                return Ok(None);
+            }
+            let placing = Placing::start(alloc, &old, strip, &Kept::none(), 7, 0)?;
+            placing.kept(alloc)?
+        }
+    };
+    let new = packed(alloc, netlist)?;
+    if new.packed().block_count() != 5 || strip.fits(new.packed()) != Fit::Fits {
+        return Ok(None);
+    }
+    let mut placing = Placing::start(alloc, &new, strip, &kept, 7, 0)?;
+    let end = placing.pass();
+    let _ = passes_from(&mut placing, end);
+    Ok(Some([
+        placing.place_of(0),
+        placing.place_of(1),
+        placing.place_of(2),
+        placing.place_of(3),
+        placing.place_of(4),
+    ]))
+}
+
+/// Blocks of old names keep their places, in whatever order they stand; the others take the least that are free.
+#[test]
+fn change_keeps_places(rt: HostRuntime) -> Result<(), Fail> {
+    let before = ".model t\n.inputs a b\n.outputs f\n.names a b f\n11 1\n.end\n";
+    let after = ".model t\n.inputs b a c\n.outputs f\n.names b c f\n11 1\n";
+    assert_eq!(rt;
+        five_places(rt.alloc(), Some(before), after)?,
+        Some([place(1, 0, 1), place(1, 0, 0), place(1, 2, 1), place(1, 2, 0), place(1, 1, 0)])
+    );
+    Ok(())
+}
+
+/// Where none are kept each takes the next.
+#[test]
+fn nothing_kept(rt: HostRuntime) -> Result<(), Fail> {
+    let after = ".model t\n.inputs b a c\n.outputs f\n.names b c f\n11 1\n";
+    assert_eq!(rt;
+        five_places(rt.alloc(), None, after)?,
+        Some([place(1, 0, 0), place(1, 0, 1), place(1, 2, 0), place(1, 2, 1), place(1, 1, 0)])
     );
     Ok(())
 }

@@ -24,6 +24,7 @@ use std::marker::Brand;
 use std::sync::Wait;
 use std::sync::ledger::{Blank, Ledger};
 use std::thread::Threads;
+use strips::DeviceGraph;
 use worker_pool::Shared;
 
 /// Serves a script with so many workers, from an empty device.
@@ -76,10 +77,18 @@ fn serve<
         sessions,
         rest,
     } = script;
+    let graph = DeviceGraph::new(alloc, &device.arch, device.columns, device.rows)?;
     let mut service = Service::new(alloc, device)?;
     let mut operator = Operator::new(alloc);
     let mut reply = MemorySink::new(alloc);
-    serve_lines(alloc, &mut operator, &mut service, ahead, &mut reply)?;
+    serve_lines(
+        alloc,
+        &graph,
+        &mut operator,
+        &mut service,
+        ahead,
+        &mut reply,
+    )?;
     let core = match Core::<C, P>::over(alloc, service, commands, puts) {
         Ok(core) => core,
         Err((service, error)) => {
@@ -87,11 +96,11 @@ fn serve<
             return Err(Unserved::from(error));
         }
     };
-    let (mut service, sections) = run_sessions(rt, workers, core, &operator, sessions)?;
+    let (mut service, sections) = run_sessions(rt, &graph, workers, core, &operator, sessions)?;
     if !operator.is_of(&service) {
         return Err(Unserved::NotSettled(Cause::Missing));
     }
-    serve_lines(alloc, &mut operator, &mut service, rest, &mut reply)?;
+    serve_lines(alloc, &graph, &mut operator, &mut service, rest, &mut reply)?;
     Ok(Answered {
         operator: reply.into_bytes(),
         sections,
@@ -106,6 +115,7 @@ fn run_sessions<
     R: Threads + Wait + AllocGlobal + Sync,
 >(
     rt: &R,
+    graph: &DeviceGraph,
     workers: u32,
     core: Core<C, P>,
     operator: &Operator<'t>,
@@ -116,7 +126,7 @@ fn run_sessions<
 {
     let mut core = core;
     match prepare(rt.alloc(), workers, &mut core, operator, sessions) {
-        Ok(prepared) => run_prepared(rt, core, prepared),
+        Ok(prepared) => run_prepared(rt, graph, core, prepared),
         Err(unserved) => {
             drop(core);
             Err(unserved)
@@ -163,6 +173,7 @@ fn run_prepared<
     R: Threads + Wait + AllocGlobal + Sync,
 >(
     rt: &R,
+    graph: &DeviceGraph,
     core: Core<C, P>,
     prepared: Prepared<'t, C, P>,
 ) -> Result<(Service, Vec<Section<'t>>), Unserved>
@@ -177,7 +188,7 @@ fn run_prepared<
         sessions,
     } = prepared;
     let shared = Shared::new(core);
-    let ran = run_crowd(rt, &shared, &ready, workers, sessions);
+    let ran = run_crowd(rt, &shared, &ready, graph, workers, sessions);
     drop(ready);
     let core = shared.into_core();
     match ran {

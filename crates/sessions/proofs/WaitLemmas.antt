@@ -14,7 +14,7 @@ use Rattle.service_core.specs.Run.{Call, Run}
 use Rattle.service_core.specs.Run.Call.{Take, Put}
 use Rattle.service_core.specs.Service.{ServiceState, live_of}
 use Rattle.sessions.specs.declared.steps.StepOutcome.{StepOutcome}
-use Rattle.sessions.specs.declared.steps.StepOutcome.TheVariants.{Recorded, Full, Gone, NoMemory, Nothing}
+use Rattle.sessions.specs.declared.steps.StepOutcome.TheVariants.{Recorded, Full, Gone, NoMemory, Nothing, Unfit}
 use Rattle.sessions.specs.Steps.{EndsSteps, IsOnePut, MadeStep, MakesStep, Waits}
 use Rattle.sessions.proofs.Counted.{live_of-changed, some_and}
 use Rattle.sessions.proofs.EndToEndLemmas.{split}
@@ -48,14 +48,15 @@ nothing_left old new id calls is runs =
     let run : Run old (Take id None ∷ []) new = (let P : List Call → Type 0 = λ cs. Run old cs new in subst P is runs) in
     same_left old new id (run.2 ∙ run.1.1) run.1.0
 
-step_left : (old new : ServiceState) (id : ℕ) (calls : List Call) (last : StepOutcome) → MakesStep id calls last → EndsSteps last → Run old calls new → (last ≡ NoMemory) ⊎ NothingLeft new id
+step_left : (old new : ServiceState) (id : ℕ) (calls : List Call) (last : StepOutcome) → MakesStep id calls last → EndsSteps last → Run old calls new → (last ≡ NoMemory) ⊎ ((last ≡ Unfit) ⊎ NothingLeft new id)
 step_left old new id calls (Recorded reply) makes ends runs = absurd ends
-step_left old new id calls Full makes ends runs = inr (put_left old new id makes.0 calls makes.1 (Ok PutFull) (λ foreign a b run. run.2 ∙ run.1.1) makes.2 makes.3 runs)
-step_left old new id calls Gone makes ends runs = inr (put_left old new id makes.0 calls makes.1 (Ok PutGone) (λ foreign a b run. run.2 ∙ run.1.1) makes.2 makes.3 runs)
+step_left old new id calls Full makes ends runs = inr (inr (put_left old new id makes.0 calls makes.1 (Ok PutFull) (λ foreign a b run. run.2 ∙ run.1.1) makes.2 makes.3 runs))
+step_left old new id calls Gone makes ends runs = inr (inr (put_left old new id makes.0 calls makes.1 (Ok PutGone) (λ foreign a b run. run.2 ∙ run.1.1) makes.2 makes.3 runs))
 step_left old new id calls NoMemory makes ends runs = inl refl
-step_left old new id calls Nothing makes ends runs = inr (nothing_left old new id calls makes runs)
+step_left old new id calls Nothing makes ends runs = inr (inr (nothing_left old new id calls makes runs))
+step_left old new id calls Unfit makes ends runs = inr (inl refl)
 
-pub wait_left : (old new : ServiceState) (id : ℕ) (steps : List Call) (last : StepOutcome) → Waits id steps last → Run old steps new → (last ≡ NoMemory) ⊎ (takeable_in (live_of new.histories id) ≡ false)
+pub wait_left : (old new : ServiceState) (id : ℕ) (steps : List Call) (last : StepOutcome) → Waits id steps last → Run old steps new → (last ≡ NoMemory) ⊎ ((last ≡ Unfit) ⊎ (takeable_in (live_of new.histories id) ≡ false))
 wait_left old new id steps last waits runs =
     let whole : Run old (flat_map (λ (m : MadeStep). m.0) waits.0 ++ waits.1) new = (let P : List Call → Type 0 = λ cs. Run old cs new in subst P waits.5 runs) in
     let parts = split old (flat_map (λ (m : MadeStep). m.0) waits.0) waits.1 new whole in

@@ -28,7 +28,7 @@ use Rattle.service_core.proofs.Lists.{history_of-modified, history_of-past, hist
 use Rattle.sessions.specs.declared.line.SessionLine.{SessionLine}
 use Rattle.sessions.specs.declared.line.SessionLine.TheVariants.{Blank, Command, Wait, Refused as RefusedLine}
 use Rattle.sessions.specs.declared.steps.StepOutcome.{StepOutcome}
-use Rattle.sessions.specs.declared.steps.StepOutcome.TheVariants.{Recorded, Full, Gone, NoMemory as StepNoMemory, Nothing}
+use Rattle.sessions.specs.declared.steps.StepOutcome.TheVariants.{Recorded, Full, Gone, NoMemory as StepNoMemory, Nothing, Unfit}
 use Rattle.sessions.specs.declared.told.Answer.{Answer}
 use Rattle.sessions.specs.declared.told.Answer.TheVariants.{Served}
 use Rattle.sessions.specs.EndToEnd.{alone_after, alone_text, told_text}
@@ -113,6 +113,7 @@ puts_others id job calls Gone is = to_others id calls _ is.1 (tt, tt)
 puts_others id job calls StepNoMemory (inl is) = to_others id calls _ is (tt, tt)
 puts_others id job calls StepNoMemory (inr is) = to_others id calls _ is.2 (tt, (tt, tt))
 puts_others id job calls Nothing is = absurd is
+puts_others id job calls Unfit is = to_others id calls _ is (tt, tt)
 
 taking : (id : ℕ) (job : JobState) (calls more : List Call) (outcome : StepOutcome) → StepsAndPuts job more outcome → calls ≡ Take id (Some job) ∷ more → AreOthers id calls
 taking id job calls more outcome puts is = to_others id calls _ is (tt, puts_others id job more outcome puts)
@@ -123,6 +124,7 @@ step_others id calls Full is = taking id is.0 calls is.1 Full is.2 is.3
 step_others id calls Gone is = taking id is.0 calls is.1 Gone is.2 is.3
 step_others id calls StepNoMemory is = taking id is.0 calls is.1 StepNoMemory is.2 is.3
 step_others id calls Nothing is = to_others id calls _ is (tt, tt)
+step_others id calls Unfit is = taking id is.0 calls is.1 Unfit is.2 is.3
 
 made_others : (id : ℕ) (made : List MadeStep) → All (λ (m : MadeStep). MakesStep id m.0 (Recorded m.1)) made → AreOthers id (flat_map (λ (m : MadeStep). m.0) made)
 made_others id [] all = tt
@@ -276,6 +278,7 @@ wait_ends device before calls old new id width Full answer runs stays ends next 
 wait_ends device before calls old new id width Gone answer runs stays ends next = asked_ends device before calls old new id width Status answer runs stays ends next
 wait_ends device before calls old new id width StepNoMemory answer runs stays ends next = rw (ends.0, ends.1) (λ rest. refl)
 wait_ends device before calls old new id width Nothing answer runs stays ends next = asked_ends device before calls old new id width Status answer runs stays ends next
+wait_ends device before calls old new id width Unfit answer runs stays ends next = asked_ends device before calls old new id width Status answer runs stays ends next
 
 -- steps of others, and then an end
 steps_then : (device : Device) (width id : ℕ) (before steps more : List Call) (answer : Answer) → AreOthers id steps → Ends device width id (before ++ steps) more answer → Ends device width id before (steps ++ more) answer
@@ -303,6 +306,7 @@ end_spares id Full calls answer ends = rw ends.1 (tt, tt)
 end_spares id Gone calls answer ends = rw ends.1 (tt, tt)
 end_spares id StepNoMemory calls answer ends = rw ends.0 tt
 end_spares id Nothing calls answer ends = rw ends.1 (tt, tt)
+end_spares id Unfit calls answer ends = rw ends.1 (tt, tt)
 
 -- an item
 item_ends : (device : Device) (before calls : List Call) (old new : ServiceState) (id width : ℕ) (line : SessionLine) (answer : Answer) → Run (empty device) before old → Stays id width old → Asks id line calls answer → Run old calls new →

@@ -28,6 +28,6 @@ pub use line::{LineForm, SessionLine, TextKind, line_form};
 pub use pending_text::{MAX_KEPT, PendingText, append_kept, is_point, without_cr};
 pub use reading::{SessionReader, read_items};
 pub use refusal::SessionRefusal;
-pub use steps::{StepOutcome, make_step, step_and_put};
+pub use steps::{StepOutcome, make_step, step_and_put, window_of};
 pub use text::{step_word, write_refused, write_reply, write_session_refusal};
 pub use told::Answer;

@@ -5,14 +5,22 @@ use Rattle.sessions.proofs.StepLemmas.{take_happens, taken}
 use Rattle.sessions.proofs.steps.make_step.Goals as goal
 
 -- the job that was just taken makes its tenancy's next step
-pub step_and_put_from-requires : goal.step_and_put_from-requires
-step_and_put_from-requires c =
+pub step_and_put_from-requires-clause-origin : goal.step_and_put_from-requires-clause-origin
+step_and_put_from-requires-clause-origin c =
     taken_next c.args.core.now c.take.new.self c.args.id c.in-Some.job (take_happens c.args.core.now c.take.new.self c.args.id c.take.result c.in-Some.job c.in-Some.is c.take.ensures)
 
-pub returns-in-Some : goal.returns-in-Some
-returns-in-Some c =
+pub returns-in-Some-window_of : goal.returns-in-Some-window_of
+returns-in-Some-window_of c =
     let put = c.step_and_put_from.ensures in (
       Take c.args.id (Some c.in-Some.job) ∷ put.0,
       taken c.args.id c.in-Some.job put.0 c.step_and_put_from.result put.1,
       (c.take.new.self, take_happens c.args.core.now c.take.new.self c.args.id c.take.result c.in-Some.job c.in-Some.is c.take.ensures, put.2),
+    )
+
+pub returns-in-None-window_of : goal.returns-in-None-window_of
+returns-in-None-window_of c =
+    let given = c.unfit.ensures in (
+      Take c.args.id (Some c.in-Some.job) ∷ given.0,
+      taken c.args.id c.in-Some.job given.0 c.unfit.result given.1,
+      (c.take.new.self, take_happens c.args.core.now c.take.new.self c.args.id c.take.result c.in-Some.job c.in-Some.is c.take.ensures, given.2),
     )

@@ -9,7 +9,7 @@ use Rattle.sessions.proofs.steps.step_and_put_from.Goals as goal
 
 -- the step that was made is the job's
 pub put_from-requires : goal.put_from-requires
-put_from-requires c = subst (λ (step : JobStep). IsOriginIn c.args.core.now step c.args.origin) (sym c.in-Ok.ensures) c.requires
+put_from-requires c = subst (λ (step : JobStep). IsOriginIn c.args.core.now step c.args.origin) (sym c.in-Ok.ensures) c.requires.origin
 
 pub returns-in-Ok-Recorded : goal.returns-in-Ok-Recorded
 returns-in-Ok-Recorded c =

@@ -1,12 +1,12 @@
 use Rattle.std.proofs.Common.{ℕ, ◌≡◌, [], ◌∷◌, ◌++◌, refl, sym, ap, subst, ◌∙◌}
-use Rattle.service_core.specs.Calls.{IsTaken}
-use Rattle.service_core.specs.Run.Call.{Evict as EvictCall, Take as TakeCall}
+use Rattle.service_core.specs.Run.Call.{Evict as EvictCall}
 use Rattle.operator.specs.OwnersText.{owners_text}
 use Rattle.operator.specs.OperatorText.{evicted_text, list_text, outcome_text, taken_text}
 use Rattle.operator.proofs.OperatorLemmas.{on_ok, lengths-evicted, evicts}
 use Rattle.operator.specs.Held.{held}
+use Rattle.operator.specs.HeldJobs.{Holds}
 use Rattle.operator.specs.Serving.{tried_calls, tried_text}
-use Rattle.operator.proofs.Stepping.{lengths-run, steady_held}
+use Rattle.operator.proofs.Stepping.{lengths-run, steady_held, steady_take}
 use Rattle.operator.proofs.operator.Operator.serve.Goals as goal
 
 pub returns-in-Evict : goal.returns-in-Evict
@@ -74,16 +74,15 @@ returns-in-Put c =
 
 pub returns-in_ok-number-in-Take : goal.returns-in_ok-number-in-Take
 returns-in_ok-number-in-Take c =
-    let id = c.last_id-in-Take.result in
     let new = c.take.new.core in
     let taken = c.in_ok-number-in-Take.ensures in
     rw c.in-Take.is
     (on_ok c.push_taken.result
     (λ appended. (
-      TakeCall id taken.0 ∷ [],
+      taken.1,
       taken_text c.in_ok-number-in-Take.number,
-      (taken.0, (let P : ℕ → Type 0 = λ n. IsTaken c.args.core.now n taken.0 new in subst P c.last_id-in-Take.ensures taken.1), refl, taken.2, ap (λ n. TakeCall n taken.0 ∷ []) c.last_id-in-Take.ensures, ap taken_text taken.3),
+      (taken.0, (let P : ℕ → Type 0 = λ n. Holds n taken.0 taken.1 in subst P c.last_id-in-Take.ensures taken.2), taken.3, refl, taken.4, ap taken_text taken.5),
       appended,
-      c.requires ∙ lengths-run c.args.core.now new (TakeCall id taken.0 ∷ []) (tt, tt) (new, taken.1, refl),
+      c.requires ∙ lengths-run c.args.core.now new taken.1 (steady_take c.last_id-in-Take.result taken.0 taken.1 taken.2) taken.3,
     ))
     c.push_taken.ensures)
