@@ -1,9 +1,14 @@
 -- The parts of a circuit that one more line brings, and what the line reads that is not driven.
-use Rattle.std.proofs.Common.{◌≡◌, ℕ, ◌+◌, ◌<◌, ◌≤◌, true, false, not, if◌then◌else◌, arith, List, [], ◌∷◌, ◌++◌, None, Some, length, take, drop, slice_get, map, refl, sym, ap, ◌∙◌}
+use Rattle.std.proofs.Common.{◌≡◌, ℕ, ◌+◌, ◌<◌, ◌≤◌, true, false, not, if◌then◌else◌, arith, List, [], ◌∷◌, ◌++◌, Option, None, Some, Result, Ok, Err, MatchResult, length, take, drop, slice_get, map, refl, sym, ap, ◌∙◌, subst}
 use Rattle.std.specs.List.{flat_map}
 use Rattle.std.proofs.lemmas.List.{map-append, drop_all}
 use Rattle.line_text.specs.Lines.{JoinedLine}
+use Rattle.line_text.specs.LeastFault.{Found}
+use Rattle.line_text.specs.TextErrors.{Fails}
+use Rattle.line_text.specs.declared.text_error.TextError.{TextError}
 use Rattle.blif.specs.LineByLine.{parts_after}
+use Rattle.blif.specs.declared.circuit.Circuit.{Circuit}
+use Rattle.blif.specs.declared.fault.BlifFault.{BlifFault}
 use Rattle.blif.specs.declared.fault.BlifFaultKind.TheVariants.{Undriven}
 use Rattle.blif.specs.Names.{first, has_name, number_of, placed, with_names}
 use Rattle.blif.specs.LineNets.{reads_in, inputs_in, outputs_in}
@@ -92,6 +97,15 @@ module _ (checked : Sights) (lines : List JoinedLine) (nets clocks drivers : Lis
       ap (circuit_with nets clocks lines) built
       ∙ (λ i. circuit_with (same_nets i) (same_clocks i) lines (parts_of (same_nets i) lines))
       ∙ ap (λ s. let t : Sights = s in circuit_with t.nets t.clocks lines (parts_of t.nets lines)) sights
+
+  -- the answer over these nets is that over all that the lines bring
+  pub built_is : 0 < length lines → (built : Result Circuit (TextError BlifFault)) → MatchResult built (λ circuit. (first_fault (flat_map (undriven_faults (clocks ++ drivers)) lines) ≡ None) × (circuit ≡ circuit_with nets clocks lines (parts_of nets lines))) (Fails (first_fault (flat_map (undriven_faults (clocks ++ drivers)) lines))) → MatchResult built (λ circuit. (first_fault (final_faults checked.declared lines) ≡ None) × (circuit ≡ circuit_from checked.declared lines)) (Fails (first_fault (final_faults checked.declared lines)))
+  built_is some (Ok circuit) h = (ap first_fault (final_faults_is some) ∙ h.0, h.1 ∙ circuit_is (parts_of nets lines) refl)
+  built_is some (Err error) h = subst (λ (faults : List (Found BlifFault)). Fails (first_fault faults) error) (sym (final_faults_is some)) h
+
+-- an error that tells a fault tells the first one, where it is that
+pub fails_as : (error : TextError BlifFault) (fault : BlifFault) (found : Option BlifFault) → Fails (Some fault) error → found ≡ Some fault → Fails found error
+fails_as error fault found fails is = subst (λ (first : Option BlifFault). Fails first error) (sym is) fails
 
 -- the inputs that lines declare, one line further
 module _ (lines : List JoinedLine) (place : ℕ) (line : JoinedLine) (within : place < length lines) (at : slice_get lines place ≡ Some line) where

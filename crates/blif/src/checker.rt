@@ -87,9 +87,8 @@ impl<'t> Checker<'t> {
             return Ok(Some(BlifFaultKind::Unknown));
         }
         let keyword = keyword_of(line);
-        let fault = self.kind_fault(alloc, keyword, line, lut_size, numbers)?;
-        if fault.is_some() {
-            return Ok(fault);
+        if let Some(fault) = self.kind_fault(alloc, keyword, line, lut_size, numbers)? {
+            return Ok(Some(fault));
         }
         if !self.begun && keyword != Keyword::Model {
             return Ok(Some(BlifFaultKind::NoModel));

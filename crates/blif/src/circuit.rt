@@ -11,7 +11,7 @@ pub const MAX_NETS: usize = 8192;
 
 /// A circuit of lookup tables and latches (Berkeley Logic Interchange Format). Nets are numbered from 0 in the order of
 /// first sight; tables and latches stand in the order of their lines.
-#[derive(Debug, Drop)]
+#[derive(Drop)]
 pub struct Circuit {
     /// The model's name.
     pub model: Text,

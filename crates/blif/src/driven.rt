@@ -40,13 +40,20 @@ impl<'t> Driven<'t> {
         requires { length nets ≤ MAX_NETS }
         ensures { IfOk result (λ driven. driven ≡ record { nets = nets.entry; clocks = clocks.entry; drivers = drivers.entry }) }
     {
-        let is_driven = marks(alloc, &nets, &clocks, &drivers)?;
-        Ok(Driven {
-            nets,
-            clocks,
-            drivers,
-            is_driven,
-        })
+        match marks(alloc, &nets, &clocks, &drivers) {
+            Ok(is_driven) => Ok(Driven {
+                nets,
+                clocks,
+                drivers,
+                is_driven,
+            }),
+            Err(error) => {
+                drop(nets);
+                drop(clocks);
+                drop(drivers);
+                Err(error)
+            }
+        }
     }
 
     /// The nets, by number.

@@ -8,7 +8,7 @@ ghost use Rattle.blif.specs.Sights.{is_end, kind_of};
 use line_text::{Line, is_word};
 
 /// The kinds of lines. A line whose first word has no point in front is a row of a cover.
-#[derive(Clone, Copy, Debug, PartialEq, Eq)]
+#[derive(Clone, Copy, PartialEq, Eq)]
 pub enum Keyword {
     Model,
     Inputs,

@@ -15,7 +15,7 @@ pub struct Latch {
 }
 
 /// Latches, in the order of their lines. Its value is the list of them.
-#[derive(Debug, Drop)]
+#[derive(Drop)]
 pub struct Latches {
     latches: Vec<Latch>,
 }

@@ -6,7 +6,7 @@ use std::alloc::{AllocError, Global};
 use std::marker::Model;
 
 /// The names of nets, by net number. Its value is the list of the names.
-#[derive(Debug, Drop)]
+#[derive(Drop)]
 pub struct NetNames {
     bytes: Vec<u8>,
     spans: Vec<Span>,

@@ -5,7 +5,7 @@ use std::alloc::{AllocError, Global};
 use std::marker::Model;
 
 /// Nets, by number. Its value is the list of the numbers.
-#[derive(Debug, Drop)]
+#[derive(Drop)]
 pub struct Nets {
     nets: Vec<u32>,
 }

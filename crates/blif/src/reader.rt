@@ -2,9 +2,11 @@
 ghost use Rattle.std.specs.Prelude.{◌≡◌, ◌≤◌, ◌++◌, [], length, map, None, Some, IfOk, MatchResult};
 ghost use Rattle.std.specs.List.{flat_map};
 ghost use Rattle.line_text.specs.TextErrors.{Fails, Gives};
+ghost use Rattle.line_text.specs.declared.text_error.TextError.TheVariants.{Fault};
 ghost use Rattle.blif.specs.Numbering.{numbered};
 ghost use Rattle.blif.specs.Names.{number_of, with_names};
 ghost use Rattle.blif.specs.FirstFaults.{first_fault};
+ghost use Rattle.blif.specs.declared.fault.BlifFaultKind.TheVariants.{Undriven};
 ghost use Rattle.blif.specs.Keywords.{keyword_of};
 ghost use Rattle.blif.specs.LineNets.{names_in};
 ghost use Rattle.line_text.specs.LineOrder.{RisesFrom};
@@ -59,6 +61,20 @@ fn declared_inputs<'t>(alloc: Global, lines: &Lines<'t>) -> Result<NameSet<'t>, 
     ensures { IfOk result (λ names. names ≡ declared_in lines.now) }
 {
     let mut declared = NameSet::new(alloc);
+    match declare_inputs(&mut declared, lines) {
+        Ok(()) => Ok(declared),
+        Err(error) => {
+            drop(declared);
+            Err(error)
+        }
+    }
+}
+
+/// Adds the inputs that lines of inputs declare before the end.
+fn declare_inputs<'t>(declared: &mut NameSet<'t>, lines: &Lines<'t>) -> Result<(), AllocError>
+    requires { declared.old ≡ [] }
+    ensures { IfOk result (λ _. declared.new ≡ declared_in lines.now) }
+{
     for place in 0..lines.len() {
         let line = lines.line(place);
         let keyword = keyword_of(&line);
@@ -67,7 +83,7 @@ fn declared_inputs<'t>(alloc: Global, lines: &Lines<'t>) -> Result<NameSet<'t>, 
         }
         declared.add_all(inputs_in(keyword, &line))?;
     }
-    Ok(declared)
+    Ok(())
 }
 
 /// What the lines bring, with the number of each net that they name, or the least of their own faults.
@@ -84,16 +100,43 @@ fn check_lines<'t>(
         (Fails (first_fault (line_faults lut_size declared.entry [] lines.now))) }
 {
     let mut checker = Checker::new(alloc, declared);
+    match check_each(alloc, &mut checker, lines, lut_size, numbers) {
+        Ok(()) => Ok(checker),
+        Err(error) => {
+            drop(checker);
+            Err(error)
+        }
+    }
+}
+
+/// Checks the lines one after another, up to the first fault.
+fn check_each<'t>(
+    alloc: Global,
+    checker: &mut Checker<'t>,
+    lines: &Lines<'t>,
+    lut_size: u32,
+    numbers: &mut Nets,
+) -> Result<(), BlifError>
+    requires begun { checker.old ≡ sights_of checker.old.declared [] }
+    requires numbers { numbers.old ≡ [] }
+    ensures { MatchResult result
+        (λ _. (first_fault (line_faults lut_size checker.old.declared [] lines.now) ≡ None) × (checker.new ≡ sights_of checker.old.declared lines.now) × (length checker.new.nets ≤ MAX_NETS) × (numbers.new ≡ numbered [] (flat_map names_of lines.now)))
+        (Fails (first_fault (line_faults lut_size checker.old.declared [] lines.now))) }
+{
     for place in 0..lines.len() {
         let line = lines.line(place);
         if let Some(kind) = checker.check(alloc, &line, lut_size, numbers)? {
-            return Err(BlifError::Fault(BlifFault {
-                line: line.number(),
-                kind,
-            }));
+            return Err(fault_at(line.number(), kind));
         }
     }
-    Ok(checker)
+    Ok(())
+}
+
+/// That fault, on the line of that number.
+fn fault_at(line: u32, kind: BlifFaultKind) -> BlifError
+    ensures { result ≡ Fault (record { line = line; kind = kind }) }
+{
+    BlifError::Fault(BlifFault { line, kind })
 }
 
 /// The circuit of lines without a fault of their own, whose nets have these numbers, or the first net that is read and not
@@ -112,14 +155,48 @@ fn build<'t>(
         (Fails (first_fault (final_faults checker.entry.declared lines.now))) }
 {
     if lines.len() == 0 {
-        return Err(BlifError::Fault(BlifFault {
-            line: 0,
-            kind: BlifFaultKind::NoModel,
-        }));
+        drop(checker);
+        return Err(fault_at(0, BlifFaultKind::NoModel));
     }
-    let driven = checker.into_driven(alloc)?;
-    let parts = parts_of(alloc, lines, &driven, numbers)?;
-    Ok(assemble(alloc, lines, &driven, parts)?)
+    match checker.into_driven(alloc) {
+        Ok(driven) => build_driven(alloc, lines, driven, numbers),
+        Err(error) => Err(error.into()),
+    }
+}
+
+/// The circuit of lines with these nets, or the first net that is read and not driven.
+fn build_driven<'t>(
+    alloc: Global,
+    lines: &Lines<'t>,
+    driven: Driven<'t>,
+    numbers: &[u32],
+) -> Result<Circuit, BlifError>
+    requires nets { driven.nets ≡ with_names [] (flat_map names_of lines.now) }
+    requires numbers { numbers.now ≡ map (number_of driven.nets) (flat_map names_of lines.now) }
+    ensures { MatchResult result
+        (λ circuit. (first_fault (flat_map (undriven_faults (driven.entry.clocks ++ driven.entry.drivers)) lines.now) ≡ None) × (circuit ≡ circuit_with driven.entry.nets driven.entry.clocks lines.now (parts_of driven.entry.nets lines.now)))
+        (Fails (first_fault (flat_map (undriven_faults (driven.entry.clocks ++ driven.entry.drivers)) lines.now))) }
+{
+    let built = build_over(alloc, lines, &driven, numbers);
+    drop(driven);
+    built
+}
+
+/// The same of nets that are kept.
+fn build_over<'t>(
+    alloc: Global,
+    lines: &Lines<'t>,
+    driven: &Driven<'t>,
+    numbers: &[u32],
+) -> Result<Circuit, BlifError>
+    requires nets { driven.now.nets ≡ with_names [] (flat_map names_of lines.now) }
+    requires numbers { numbers.now ≡ map (number_of driven.now.nets) (flat_map names_of lines.now) }
+    ensures { MatchResult result
+        (λ circuit. (first_fault (flat_map (undriven_faults (driven.now.clocks ++ driven.now.drivers)) lines.now) ≡ None) × (circuit ≡ circuit_with driven.now.nets driven.now.clocks lines.now (parts_of driven.now.nets lines.now)))
+        (Fails (first_fault (flat_map (undriven_faults (driven.now.clocks ++ driven.now.drivers)) lines.now))) }
+{
+    let parts = parts_of(alloc, lines, driven, numbers)?;
+    Ok(assemble(alloc, lines, driven, parts)?)
 }
 
 /// The circuit of these parts, with the clocks as inputs.
@@ -131,10 +208,34 @@ fn assemble<'t>(
 ) -> Result<Circuit, AllocError>
     ensures { IfOk result (λ circuit. circuit ≡ circuit_with driven.now.nets driven.now.clocks lines.now parts) }
 {
+    match name_parts(alloc, lines, driven, &mut parts) {
+        Ok((model, nets)) => Ok(parts.into_circuit(model, nets)),
+        Err(error) => {
+            drop(parts);
+            Err(error)
+        }
+    }
+}
+
+/// Adds the clocks to these parts. The model's name and those of the nets.
+fn name_parts<'t>(
+    alloc: Global,
+    lines: &Lines<'t>,
+    driven: &Driven<'t>,
+    parts: &mut CircuitParts,
+) -> Result<(Text, NetNames), AllocError>
+    ensures names { IfOk result (λ names. (names.0 ≡ model_of lines.now) × (names.1 ≡ driven.now.nets)) }
+    ensures parts { IfOk result (λ _. parts.new ≡ record parts.old { inputs = parts.old.inputs ++ map (number_of driven.now.nets) driven.now.clocks }) }
+{
     parts.add_clocks(driven)?;
     let model = model_of(alloc, lines)?;
-    let nets = net_names(alloc, driven.nets())?;
-    Ok(parts.into_circuit(model, nets))
+    match net_names(alloc, driven.nets()) {
+        Ok(nets) => Ok((model, nets)),
+        Err(error) => {
+            drop(model);
+            Err(error)
+        }
+    }
 }
 
 /// The parts of the circuit, or the first net that is read and not driven.
@@ -151,6 +252,30 @@ fn parts_of<'t>(
         (Fails (first_fault (flat_map (undriven_faults (driven.now.clocks ++ driven.now.drivers)) lines.now))) }
 {
     let mut parts = CircuitParts::new(alloc);
+    match add_lines(alloc, &mut parts, lines, driven, numbers) {
+        Ok(()) => Ok(parts),
+        Err(error) => {
+            drop(parts);
+            Err(error)
+        }
+    }
+}
+
+/// Adds the parts of the lines one after another, up to the first net that is read and not driven.
+fn add_lines<'t>(
+    alloc: Global,
+    parts: &mut CircuitParts,
+    lines: &Lines<'t>,
+    driven: &Driven<'t>,
+    numbers: &[u32],
+) -> Result<(), BlifError>
+    requires empty { parts.old ≡ parts_of driven.now.nets [] }
+    requires nets { driven.now.nets ≡ with_names [] (flat_map names_of lines.now) }
+    requires numbers { numbers.now ≡ map (number_of driven.now.nets) (flat_map names_of lines.now) }
+    ensures { MatchResult result
+        (λ _. (first_fault (flat_map (undriven_faults (driven.now.clocks ++ driven.now.drivers)) lines.now) ≡ None) × (parts.new ≡ parts_of driven.now.nets lines.now))
+        (Fails (first_fault (flat_map (undriven_faults (driven.now.clocks ++ driven.now.drivers)) lines.now))) }
+{
     let mut rest = numbers;
     for place in 0..lines.len() {
         let line = lines.line(place);
@@ -158,13 +283,20 @@ fn parts_of<'t>(
         let (nets, others) = rest.split_at(net_count(keyword, &line));
         rest = others;
         if let Some(net) = parts.add_line(driven, &line, keyword, nets)? {
-            return Err(BlifError::Fault(BlifFault {
-                line: line.number(),
-                kind: BlifFaultKind::Undriven(Text::from_slice(alloc, net)?),
-            }));
+            return Err(undriven_at(alloc, line.number(), net));
         }
     }
-    Ok(parts)
+    Ok(())
+}
+
+/// The fault that the net is read on the line of that number, and not driven.
+fn undriven_at(alloc: Global, line: u32, net: &[u8]) -> BlifError
+    ensures { Fails (Some (record { line = line; kind = Undriven net.now })) result }
+{
+    match Text::from_slice(alloc, net) {
+        Ok(net) => fault_at(line, BlifFaultKind::Undriven(net)),
+        Err(_) => BlifError::NoMemory,
+    }
 }
 
 /// How many nets a line of this kind names.

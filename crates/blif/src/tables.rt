@@ -6,7 +6,7 @@ use std::alloc::{AllocError, Global};
 use std::marker::Model;
 
 /// A table: the number of its `.names` line, the nets that it reads, in order, and the net that it drives.
-#[derive(Clone, Copy, Debug)]
+#[derive(Clone, Copy)]
 pub struct Table<'a> {
     pub line: u32,
     pub inputs: &'a [u32],
@@ -14,7 +14,7 @@ pub struct Table<'a> {
 }
 
 /// A table, without its inputs, and where these stand.
-#[derive(Clone, Copy, Debug)]
+#[derive(Clone, Copy)]
 pub(crate) struct TableSpan {
     pub(crate) line: u32,
     pub(crate) inputs: Span,
@@ -22,7 +22,7 @@ pub(crate) struct TableSpan {
 }
 
 /// Tables, in the order of their lines. Its value is the list of them.
-#[derive(Debug, Drop)]
+#[derive(Drop)]
 pub struct Tables {
     inputs: Vec<u32>,
     tables: Vec<TableSpan>,

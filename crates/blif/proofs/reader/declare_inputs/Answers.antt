@@ -5,8 +5,7 @@ use Rattle.blif.specs.LineNets.{inputs_in}
 use Rattle.blif.specs.Sights.{is_end}
 use Rattle.blif.specs.CircuitOf.{declared_in}
 use Rattle.blif.proofs.Building.{declared_at, declared_at_end, declared_past}
-use Rattle.blif.proofs.reader.declared_inputs.Goals as goal
-use Rattle.blif.proofs.reader.declared_inputs.Goals.{else-loop-place-test, then-loop-place-test+then-is_end}
+use Rattle.blif.proofs.reader.declare_inputs.Goals as goal
 
 pub loop-place-preserved : goal.loop-place-preserved
 loop-place-preserved c =
@@ -14,12 +13,12 @@ loop-place-preserved c =
     let kind = c.keyword_of-keyword.ensures in
     declared_at c.args.lines.now c.loop-place.place line (omega arith) c.line-line.ensures (sym (c.is_end.ensures ∙ ap is_end kind) ∙ c.if-is_end.false) c.loop-place.declared c.add_all.new.self _ (c.in_ok-add_all.ensures ∙ ap (with_names c.loop-place.declared) (c.inputs_in.ensures ∙ ap (λ k. inputs_in k line.words) kind)) c.loop-place.invariant
 
-pub returns : goal.returns
+pub returns-then-is_end : goal.returns-then-is_end
 unfolding declared_in
-returns c =
-    elim c.loop-place-test.branch [
-      | else-loop-place-test w ↦ declared_past c.args.lines.now c.loop-place.place (omega arith) c.loop-place.declared _ c.loop-place.invariant
-      | then-loop-place-test+then-is_end w ↦
-          let line : JoinedLine = w.line-line.result in
-          declared_at_end c.args.lines.now c.loop-place.place line (omega arith) w.line-line.ensures (sym (w.is_end.ensures ∙ ap is_end w.keyword_of-keyword.ensures) ∙ w.if-is_end.true) c.loop-place.declared _ c.loop-place.invariant
-    ]
+returns-then-is_end c =
+    let line : JoinedLine = c.line-line.result in
+    declared_at_end c.args.lines.now c.loop-place.place line (omega arith) c.line-line.ensures (sym (c.is_end.ensures ∙ ap is_end c.keyword_of-keyword.ensures) ∙ c.if-is_end.true) c.loop-place.declared _ c.loop-place.invariant
+
+pub returns-after-loop-place : goal.returns-after-loop-place
+unfolding declared_in
+returns-after-loop-place c = declared_past c.args.lines.now c.loop-place.place (omega arith) c.loop-place.declared _ c.loop-place.invariant

@@ -5,7 +5,7 @@ use Rattle.blif.specs.FirstFaults.{first_fault}
 use Rattle.blif.specs.Sights.{names_of}
 use Rattle.blif.specs.Circuits.{parts_of}
 use Rattle.blif.specs.CircuitOf.{undriven_faults}
-use Rattle.blif.proofs.reader.parts_of.Given as goal
+use Rattle.blif.proofs.reader.add_lines.Given as goal
 
 -- each net that is read so far is driven, and the numbers of the lines below are left
 abbrev pub invariant-loop-place : goal.invariant-loop-place

@@ -5,11 +5,11 @@ use Rattle.blif.specs.LineNets.{names_in}
 use Rattle.blif.specs.Sights.{names_of}
 use Rattle.blif.proofs.Named.{all_named, list_all-part}
 use Rattle.blif.proofs.Numbered.{enough_numbers, own_numbers, later_numbers}
-use Rattle.blif.proofs.Building.{parts_at, undriven_at, no_undriven_at}
-use Rattle.blif.proofs.reader.parts_of.Goals as goal
+use Rattle.blif.proofs.Building.{parts_at, undriven_at, no_undriven_at, fails_as}
+use Rattle.blif.proofs.reader.add_lines.Goals as goal
 
 pub loop-place-init : goal.loop-place-init
-loop-place-init c = record { parts = c.new-parts.ensures c.args.driven.now.nets; rest = c.requires.numbers; faults_left = refl }
+loop-place-init c = record { parts = c.requires.empty; rest = c.requires.numbers; faults_left = refl }
 
 pub split_at-requires : goal.split_at-requires
 split_at-requires c =
@@ -35,7 +35,7 @@ returns-in-Some c =
     let line : JoinedLine = c.line-line.result in
     let driven = c.args.driven.now in
     let least = rw c.in-Some.is at c.in_ok-net.ensures.least in
-    rw (c.in_ok-from_slice.ensures, c.number.ensures)
+    fails_as c.undriven_at.result _ _ (rw c.number.ensures at c.undriven_at.ensures)
     (undriven_at driven.nets (driven.clocks ++ driven.drivers) c.args.lines.now c.loop-place.place line (omega arith) c.line-line.ensures c.in-Some.net.now (rw c.keyword_of-keyword.ensures at least) c.loop-place.invariant.faults_left)
 
 pub loop-place-preserved : goal.loop-place-preserved
