@@ -1,6 +1,7 @@
 //! Jobs: long work of a tenancy, which leaves its slot, is stepped anywhere, and comes back late, stale or never.
 //!
-//! - [`Sources`] are what a job is computed from: its kind, the architecture, the strip's size, the netlist, seed and effort.
+//! - [`Sources`] are what a job is computed from: its kind, the architecture, the strip's size, the netlist, the places that are
+//!   kept for blocks, seed and effort.
 //! - [`AnyJob`] has a step to make. [`AnyJob::step`] makes it, without a lock and without its slot, through a window of its strip's
 //!   size wherever that stands, and answers a [`Done`], or without memory a [`Back`] with the job unchanged. Each tells its tenancy, generation, step number and sources.
 //! - [`Parked`] is a job as its slot keeps it, running or finished; it alone may be dropped. The others must be spent: by a

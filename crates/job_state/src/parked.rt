@@ -74,7 +74,8 @@ impl Parked {
         Parked::begin(alloc, id, generation, sources, work)
     }
 
-    /// A placing of what a finished packing of the same netlist has made, before its first pass.
+    /// A placing of what a finished packing of the same netlist has made, before its first pass: each block stands on the place
+    /// that the sources keep for it, or on the least of its kind that is free.
     pub fn place(
         alloc: Global,
         id: u32,
@@ -105,8 +106,8 @@ impl Parked {
         Parked::begin(alloc, id, generation, sources, Work::Placing(placing))
     }
 
-    /// A routing of what a finished placing of the same kept places, seed and effort has made, before its first iteration. It builds no
-    /// graph.
+    /// A routing of what a finished placing of the same netlist, kept places, seed and effort has made, before its first
+    /// iteration. It builds no graph.
     pub fn route(
         alloc: Global,
         id: u32,

@@ -27,7 +27,8 @@ pub struct Sources {
     pub strip: Strip,
     /// The netlist.
     pub text: SharedText,
-    /// The places that a placing, and the placing that a routing goes on from, keeps for blocks; none for a packing.
+    /// The places that are kept for blocks at the start of a placing, and of the placing that a routing goes on from; none for a
+    /// packing.
     pub kept: Kept,
     /// The seed of a placing, and of the placing that a routing goes on from; 0 for a packing.
     pub seed: u64,

@@ -14,8 +14,8 @@ use std::alloc::{AllocError, Global};
 use std::marker::Model;
 use std::sync::Arc;
 
-/// Places that are kept for blocks, with many owners, which do not copy them. Its value is the map, as a list in the order of
-/// the keys.
+/// Places that are kept for blocks, with many owners, which do not copy them. Its value is the map from keys to places, as a
+/// list in the order of the keys.
 #[derive(Debug, Drop)]
 pub struct Kept {
     table: Option<Arc<Table>>,
@@ -31,14 +31,14 @@ impl Model for Kept {
 }
 
 impl Kept {
-    /// None. Takes no memory.
+    /// No place is kept. Takes no memory.
     pub fn none() -> Self
         ensures { result ≡ [] }
     {
         Kept { table: None }
     }
 
-    /// The map of these entries, whose keys are different.
+    /// The map of these entries, no two of which have one key. Copies the names.
     pub fn of(alloc: Global, entries: Vec<KeptPlace<'_>>) -> Result<Self, AllocError>
         requires { IsDistinct (eq_by_cmp key_order) (keys_of (entries_of entries.items)) }
         ensures { IfOk result (λ kept. kept ≡ in_order (entries_of entries.entry.items)) }
@@ -50,7 +50,7 @@ impl Kept {
         }
     }
 
-    /// The place that is kept for the block of that key, if one is.
+    /// The place that is kept for the block of that key, if one is. Takes no memory.
     pub fn place_of(&self, key: BlockKey<'_>) -> Option<Place>
         ensures { result ≡ kept_place self.now (key_of key.entry) }
     {
@@ -60,7 +60,7 @@ impl Kept {
         }
     }
 
-    /// Whether both are the same map.
+    /// Whether both are the same map, by value.
     pub fn same(&self, other: &Kept) -> bool
         ensures { IsTrue result ↔ (self.now ≡ other.now) }
     {

@@ -15,10 +15,12 @@ use std::alloc::{AllocError, Global};
 use std::cmp::Ordering;
 use std::marker::Model;
 
-/// A place that is kept for the block that is told by that key.
+/// A place that is kept for a block.
 #[derive(Clone, Copy, Debug, PartialEq, Eq, PartialOrd, Ord)]
 pub struct KeptPlace<'a> {
+    /// What the block is told by.
     pub key: BlockKey<'a>,
+    /// Its place.
     pub place: Place,
 }
 

@@ -108,7 +108,7 @@ pub record IsMadeOf (from : Sources) (job : JobState) : Type 0 where
   pub over : is_over job ≡ true
   pub put : job.made ≡ false
 
--- what is carried along is what the text, the seed and the effort lead to
+-- what is carried along is what the text, the kept places, the seed and the effort lead to
 abbrev pub HasContent : Arch → Strip → KeptPlaces → ℕ → ℕ → Content → Type 0
 HasContent arch strip kept seed effort Empty = ⊤
 HasContent arch strip kept seed effort (Loaded netlist) = IsNetlist arch.lut_size netlist

@@ -30,8 +30,8 @@ loading netlist None = Load netlist
 loading netlist (Some kept) = Replace netlist kept
 
 abbrev pub load_outcome : ℕ → List ℕ → Option KeptPlaces → Result Circuit BlifFault → Outcome
-load_outcome lut_size text replaces (Ok circuit) = changing lut_size (loading (record { text = text; circuit = circuit }) replaces) (Accepted Loaded)
-load_outcome lut_size text replaces (Err fault) = told lut_size (Refused (BadBlif fault))
+load_outcome lut_size text kept (Ok circuit) = changing lut_size (loading (record { text = text; circuit = circuit }) kept) (Accepted Loaded)
+load_outcome lut_size text kept (Err fault) = told lut_size (Refused (BadBlif fault))
 
 -- a job that begins
 abbrev pub job_begun : ℕ → ℕ → Sources → Running

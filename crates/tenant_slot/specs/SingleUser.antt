@@ -32,15 +32,15 @@ use Rattle.kept_places.specs.Kept.{KeptPlaces}
 use Rattle.tenant_slot.specs.Results.{ending_told, kept_at_end, failure_of, place_file_of, route_file_of}
 use Rattle.vpr_files.specs.NetFile.{net_text_of}
 
--- what the tenancy is in, and no more: the circuit, its packing, its places and its routes are those of the text, the seed and the
--- effort, and aren't kept. Seed and effort are those of the last accepted `place`, 0 before the first. The steps are those that
--- the running job has made, 0 where none runs
+-- what the tenancy is in, and no more: the circuit, its packing, its places and its routes are those of the text, the kept places,
+-- the seed and the effort, and don't stand here. Seed and effort are those of the last accepted `place`, 0 before the first. The
+-- steps are those that the running job has made, 0 where none runs
 pub record State : Type 0 where
   pub arch : Arch
   pub strip : Strip
   pub name : StateName
   pub text : List ℕ
-  pub kept : KeptPlaces  -- the places that the next placing keeps, by kind and name of block
+  pub kept : KeptPlaces  -- where the next placing starts its blocks, by kind and name
   pub seed : ℕ
   pub effort : ℕ
   pub ending : Option RoutingFailure  -- how a routing ended without routes, in the state Unrouted
@@ -139,7 +139,7 @@ sources_from arch strip text kept seed effort RoutingJob = routing_sources arch 
 abbrev pub sources_of : State → JobKind → Sources
 sources_of state kind = sources_from state.arch state.strip state.text state.kept state.seed state.effort kind
 
--- a placing has ended, and its places stand
+-- the state has places: those of a placing that has ended and wasn't given up
 abbrev pub has_places : StateName → Bool
 has_places Placed = true
 has_places Routing = true
@@ -147,7 +147,7 @@ has_places Routed = true
 has_places Unrouted = true
 has_places name = false
 
--- a change keeps the places at that moment; where there are none, what was kept stays
+-- a change keeps the places at that moment; in a state without places what was kept before stays
 abbrev pub keeping : State → State
 keeping state = record state { kept = if has_places state.name then kept_at_end (end_value (sources_of state PlacingJob)) else state.kept }
 

@@ -83,7 +83,8 @@ impl Answer {
         }
     }
 
-    /// The answer to a netlist that may be loaded, in place of another, of which these places are kept, or not. Shares the text.
+    /// The answer to a netlist that may be loaded: as the first, or, where there are kept places, in place of another, of which
+    /// these are kept. Shares the text.
     pub(crate) fn load(
         alloc: Global,
         lut_size: u32,
@@ -247,7 +248,8 @@ impl Answer {
     }
 }
 
-/// The change to a netlist that is loaded, or loaded in place of another, of which these places are kept.
+/// What a netlist that is loaded changes: it is the first, or, where there are kept places, stands in place of another, of which
+/// these are kept.
 fn loading(netlist: Netlist, kept: Option<Kept>) -> Change
     ensures { result ≡ loading netlist kept }
 {

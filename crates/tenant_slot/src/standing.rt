@@ -22,7 +22,7 @@ pub(crate) struct Running {
 pub(crate) struct Standing {
     pub(crate) content: Content,
     pub(crate) running: Option<Running>,
-    /// The places that the next placing keeps.
+    /// Where the next placing starts its blocks, by kind and name.
     pub(crate) kept: Kept,
     /// The seed of the last accepted placing, 0 before the first.
     pub(crate) seed: u64,

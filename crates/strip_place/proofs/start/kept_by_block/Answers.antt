@@ -8,7 +8,7 @@ use Rattle.cluster.specs.Keys.{BlockKey, keys_of}
 use Rattle.kept_places.specs.Kept.{kept_place}
 use Rattle.kept_places.specs.Table.{key_of}
 use Rattle.strip_place.specs.KeptSites.{site_of}
-use Rattle.strip_place.proofs.start.kept_sites.Goals as goal
+use Rattle.strip_place.proofs.start.kept_by_block.Goals as goal
 
 pub loop-block-preserved : goal.loop-block-preserved
 loop-block-preserved c =
