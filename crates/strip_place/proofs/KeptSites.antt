@@ -139,3 +139,7 @@ module _ (strip : Strip) (apart : (kind : Kind) → AllPairs (λ place next. pla
 
 pub kept_lawful : (strip : Strip) (packed : PackedCircuit) (kept : KeptPlaces) → ((kind : Kind) → AllPairs (λ place next. place ≢ next) (places_of strip kind)) → AllPairs (λ key other. key ≢ other) (keys_of packed) → AreKeptOn strip kept → AreKeptSites strip (map kind_of (blocks_of packed)) (kept_by_block strip packed kept)
 kept_lawful strip packed kept apart keys lawful = kept_lawful_by strip apart packed kept keys lawful
+
+-- where none is kept
+pub none_kept : (strip : Strip) → AreKeptOn strip []
+none_kept strip = record { by_kind = λ key place is. absurd cc; one_to_one = λ key other place is also. absurd cc }
