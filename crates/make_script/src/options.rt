@@ -1,88 +1,87 @@
 //! The options of the program.
-use clap::error::ErrorKind;
-use clap::{Arg, ArgMatches, Command, Error, value_parser};
-use line_text::{decimal_u32, decimal_u64};
+use clap::Error;
+use option_words::{Given, OptionWord, Program, Takes, read_words, refusal};
 use random_script::{Phase, Plan, Wishes};
-use std::alloc::{AllocError, Global};
+use std::alloc::Global;
 use std::convert::AsStr;
 
-const ABOUT: &str = "Prints a script for fpgad with random circuits, to measure it with";
-
-const EXAMPLE: &str =
-    "Its first line names the options of fpgad. Example: make_script --tables 60 > my.script && fpgad --tracks 8 --columns 10 --rows 9 < my.script";
+/// The program for its options.
+const PROGRAM: Program = Program {
+    name: "make_script",
+    about: "Prints a script for fpgad with random circuits, to measure it with",
+    after_help: "Its first line names the options of fpgad. Example: make_script --tables 60 > my.script && fpgad --tracks 8 --columns 10 --rows 9 < my.script",
+    options: &[
+        OptionWord {
+            name: "tables",
+            value_name: "N",
+            help: "Tables of each circuit, 1 to 7500",
+            takes: Takes::Number(1, 7500),
+            default: Some("400"),
+        },
+        OptionWord {
+            name: "tenancies",
+            value_name: "T",
+            help: "Tenancies with a circuit each, 1 to 64",
+            takes: Takes::Number(1, 64),
+            default: Some("1"),
+        },
+        OptionWord {
+            name: "inputs",
+            value_name: "K",
+            help: "Inputs of a table, 1 to 8",
+            takes: Takes::Number(1, 8),
+            default: Some("4"),
+        },
+        OptionWord {
+            name: "cluster",
+            value_name: "C",
+            help: "Tables of a cluster, 1 to 16",
+            takes: Takes::Number(1, 16),
+            default: Some("1"),
+        },
+        OptionWord {
+            name: "seed",
+            value_name: "S",
+            help: "Where the random draws begin, 0 to 18446744073709551615",
+            takes: Takes::Long,
+            default: Some("1"),
+        },
+        OptionWord {
+            name: "until",
+            value_name: "PHASE",
+            help: "The last phase that the tenants ask for",
+            takes: Takes::Word(&["reading", "packing", "placing", "routing"]),
+            default: Some("routing"),
+        },
+    ],
+};
 
 const NO_ROOM: &str = "no device has room for so many tenancies with so many tables";
 
-/// The phases by their words.
-static PHASES: [&str; 4] = ["reading", "packing", "placing", "routing"];
+const NO_PHASE: &str = "no phase has this name";
 
 /// The plan that these words give, the first being the program's name. An error is clap's, and a call for help is one.
 pub fn read_plan<'a, S: AsStr>(alloc: Global, words: &'a [S]) -> Result<Plan, Error> {
-    let mut command = command(alloc)?;
-    let matches = command.try_get_matches_from_mut(words)?;
-    let Some(wishes) = wishes_in(&matches) else {
-        return Err(command.error(ErrorKind::ValueValidation, "a number has a sign")?);
-    };
-    match Plan::new(wishes) {
-        Some(plan) => Ok(plan),
-        None => Err(command.error(ErrorKind::ValueValidation, NO_ROOM)?),
+    let given = read_words(alloc, &PROGRAM, words)?;
+    let plan = plan_of(&given);
+    drop(given);
+    match plan {
+        Ok(plan) => Ok(plan),
+        Err(why) => Err(refusal(alloc, &PROGRAM, words, why)),
     }
 }
 
-/// What the program takes.
-fn command<'a>(alloc: Global) -> Result<Command<'a>, AllocError> {
-    let tables = number(alloc, "tables", "N", "400", 7500).help(
-        "Tables of each circuit, 1 to 7500",
-    );
-    let tenancies = number(alloc, "tenancies", "T", "1", 64).help(
-        "Tenancies with a circuit each, 1 to 64",
-    );
-    let inputs = number(alloc, "inputs", "K", "4", 8).help("Inputs of a table, 1 to 8");
-    let cluster = number(alloc, "cluster", "C", "1", 16).help("Tables of a cluster, 1 to 16");
-    let seed = Arg::new(alloc, "seed")
-        .long("seed")
-        .value_name("S")
-        .value_parser(value_parser!(u64))
-        .help("Where the random draws begin, 0 to 18446744073709551615")
-        .default_value("1");
-    let until = Arg::new(alloc, "until")
-        .long("until")
-        .value_name("PHASE")
-        .value_parser(PHASES.as_slice())
-        .help("The last phase that the tenants ask for")
-        .default_value("routing");
-    let command = Command::new(alloc, "make_script")
-        .about(ABOUT)
-        .after_help(EXAMPLE);
-    let command = command.arg(tables)?.arg(tenancies)?.arg(inputs)?;
-    command.arg(cluster)?.arg(seed)?.arg(until)
-}
-
-/// An option that is a number from 1 on.
-fn number<'a>(
-    alloc: Global,
-    name: &'a str,
-    value: &'a str,
-    default: &'a str,
-    most: i64,
-) -> Arg<'a> {
-    Arg::new(alloc, name)
-        .long(name)
-        .value_name(value)
-        .value_parser(value_parser!(u32).range(1..=most))
-        .default_value(default)
-}
-
-/// What is asked for, if no number has a sign.
-fn wishes_in(matches: &ArgMatches<'_>) -> Option<Wishes> {
-    Some(Wishes {
-        tables: decimal_u32(matches.get_str("tables")?.as_bytes())?,
-        tenancies: decimal_u32(matches.get_str("tenancies")?.as_bytes())?,
-        inputs: decimal_u32(matches.get_str("inputs")?.as_bytes())?,
-        cluster: decimal_u32(matches.get_str("cluster")?.as_bytes())?,
-        seed: decimal_u64(matches.get_str("seed")?.as_bytes())?,
-        until: phase(matches.get_str("until")?)?,
-    })
+/// The plan that the options give, or why they are refused.
+fn plan_of(given: &Given<'_>) -> Result<Plan, &'static str> {
+    let wishes = Wishes {
+        tables: given.number("tables")?,
+        tenancies: given.number("tenancies")?,
+        inputs: given.number("inputs")?,
+        cluster: given.number("cluster")?,
+        seed: given.long("seed")?,
+        until: given.text("until").and_then(phase).ok_or(NO_PHASE)?,
+    };
+    Plan::new(wishes).ok_or(NO_ROOM)
 }
 
 /// The phase of that word.

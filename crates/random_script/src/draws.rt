@@ -5,7 +5,7 @@ use rand_core::utils::NextWord;
 use rand_pcg::Pcg32;
 
 /// Where the tables of a circuit stand for the draws: in a square, row by row. Tables that are wired together stand near one another.
-#[derive(Clone, Copy, Debug)]
+#[derive(Clone, Copy)]
 pub(crate) struct Square {
     /// How many tables there are.
     pub(crate) tables: u32,
@@ -19,7 +19,7 @@ pub(crate) struct Square {
 }
 
 /// What a table reads.
-#[derive(Clone, Copy, Debug, PartialEq, Eq)]
+#[derive(Clone, Copy, PartialEq)]
 pub(crate) enum Source {
     /// The input of that number.
     Input(u32),

@@ -2,7 +2,7 @@
 ghost use Rattle.std.specs.Prelude.{◌≡◌, ◌+◌, ◌*◌, ◌/◌, ◌≤◌, ◌<◌, IfSome};
 
 /// The last thing that a script's tenants ask for.
-#[derive(Clone, Copy, Debug, PartialEq, Eq, PartialOrd, Ord)]
+#[derive(Clone, Copy, PartialEq, PartialOrd)]
 pub enum Phase {
     Reading,
     Packing,
@@ -11,7 +11,7 @@ pub enum Phase {
 }
 
 /// What somebody wants to measure.
-#[derive(Clone, Copy, Debug, PartialEq, Eq)]
+#[derive(Clone, Copy)]
 pub struct Wishes {
     /// Tables of each circuit, 1 to 7,500.
     pub tables: u32,
@@ -28,7 +28,7 @@ pub struct Wishes {
 }
 
 /// A script's circuits and its device.
-#[derive(Clone, Copy, Debug, PartialEq, Eq)]
+#[derive(Clone, Copy)]
 pub struct Plan {
     pub(crate) wishes: Wishes,
     /// Columns of each strip.

@@ -1,0 +1,80 @@
+//! What a program declares.
+use clap::builder::ValueParser;
+use clap::{Arg, Command};
+use std::alloc::{AllocError, Global};
+
+/// What an option takes.
+#[derive(Clone, Copy)]
+pub enum Takes {
+    /// Any text.
+    Text,
+    /// A number from the first to the second.
+    Number(u32, u32),
+    /// Any number of 64 bits.
+    Long,
+    /// One of these words.
+    Word(&'static [&'static str]),
+}
+
+/// An option, given as `--name VALUE`.
+#[derive(Clone, Copy)]
+pub struct OptionWord {
+    pub name: &'static str,
+    /// What the help calls its value.
+    pub value_name: &'static str,
+    pub help: &'static str,
+    pub takes: Takes,
+    /// Its value where the words do not give it.
+    pub default: Option<&'static str>,
+}
+
+/// A program that has options.
+#[derive(Clone, Copy)]
+pub struct Program {
+    pub name: &'static str,
+    /// What its help begins with.
+    pub about: &'static str,
+    /// What its help ends with.
+    pub after_help: &'static str,
+    /// Its options, in the help's order.
+    pub options: &'static [OptionWord],
+}
+
+/// The program as clap takes it.
+pub(crate) fn command<'a>(alloc: Global, program: &Program) -> Result<Command<'a>, AllocError> {
+    let mut command = named(alloc, program);
+    for option in program.options {
+        command = command.arg(argument(alloc, option))?;
+    }
+    Ok(command)
+}
+
+/// The program without its options.
+fn named<'a>(alloc: Global, program: &Program) -> Command<'a> {
+    Command::new(alloc, program.name)
+        .about(program.about)
+        .after_help(program.after_help)
+}
+
+/// An option as clap takes it.
+fn argument<'a>(alloc: Global, option: &OptionWord) -> Arg<'a> {
+    let argument = Arg::new(alloc, option.name)
+        .long(option.name)
+        .value_name(option.value_name)
+        .value_parser(parser(option.takes))
+        .help(option.help);
+    match option.default {
+        Some(default) => argument.default_value(default),
+        None => argument,
+    }
+}
+
+/// How clap checks what an option takes.
+fn parser<'a>(takes: Takes) -> ValueParser<'a> {
+    match takes {
+        Takes::Text => ValueParser::String,
+        Takes::Number(least, most) => ValueParser::Signed(i64::from(least), i64::from(most)),
+        Takes::Long => ValueParser::Unsigned(0, u64::MAX),
+        Takes::Word(words) => ValueParser::Names(words),
+    }
+}

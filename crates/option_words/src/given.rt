@@ -1,0 +1,67 @@
+//! What the words give.
+use crate::declared::OptionWord;
+use clap::ArgMatches;
+use line_text::{decimal_u32, decimal_u64};
+use std::alloc::{AllocError, Global};
+
+/// Why a number is refused that clap takes.
+const SIGNED: &str = "a number has a sign";
+
+/// The value of an option.
+#[derive(Clone, Copy)]
+struct Value<'a> {
+    name: &'a str,
+    text: &'a str,
+}
+
+/// The values of a program's options: what its words give, and the defaults of the others.
+#[derive(Drop)]
+pub struct Given<'a> {
+    values: Vec<Value<'a>>,
+}
+
+impl<'a> Given<'a> {
+    /// What clap found of these options.
+    pub(crate) fn new(
+        alloc: Global,
+        options: &[OptionWord],
+        matches: &ArgMatches<'a>,
+    ) -> Result<Self, AllocError> {
+        let mut values = Vec::new(alloc);
+        for option in options {
+            if let Some(text) = matches.get_str(option.name) {
+                values.push(Value {
+                    name: option.name,
+                    text,
+                })?;
+            }
+        }
+        Ok(Given { values })
+    }
+
+    /// The text of an option. None where it has no value.
+    pub fn text(&self, name: &str) -> Option<&'a str> {
+        for value in self.values.iter() {
+            if value.name == name {
+                return Some(value.text);
+            }
+        }
+        None
+    }
+
+    /// The number of an option that takes one of 32 bits, or why the words are refused.
+    pub fn number(&self, name: &str) -> Result<u32, &'static str> {
+        match self.text(name) {
+            Some(text) => decimal_u32(text.as_bytes()).ok_or(SIGNED),
+            None => Err(SIGNED),
+        }
+    }
+
+    /// The number of an option that takes one of 64 bits, or why the words are refused.
+    pub fn long(&self, name: &str) -> Result<u64, &'static str> {
+        match self.text(name) {
+            Some(text) => decimal_u64(text.as_bytes()).ok_or(SIGNED),
+            None => Err(SIGNED),
+        }
+    }
+}

@@ -1,0 +1,56 @@
+//! Words that are read.
+use crate::declared::{Program, command};
+use crate::given::Given;
+use clap::error::ErrorKind;
+use clap::{Command, Error};
+use std::alloc::Global;
+use std::convert::AsStr;
+
+/// What the words of a program, the first being its name, give its options. An error is clap's: the words are refused, or ask for help.
+pub fn read_words<'a, S: AsStr>(
+    alloc: Global,
+    program: &Program,
+    words: &'a [S],
+) -> Result<Given<'a>, Error> {
+    let mut command = command(alloc, program)?;
+    let given = given_by(alloc, &mut command, program, words);
+    drop(command);
+    given
+}
+
+/// The same, by the program as clap takes it.
+fn given_by<'a, S: AsStr>(
+    alloc: Global,
+    command: &mut Command<'a>,
+    program: &Program,
+    words: &'a [S],
+) -> Result<Given<'a>, Error> {
+    let matches = command.try_get_matches_from_mut(words)?;
+    let given = Given::new(alloc, program.options, &matches);
+    drop(matches);
+    Ok(given?)
+}
+
+/// The refusal of words that could be read, told as clap tells its own.
+pub fn refusal<'a, S: AsStr>(alloc: Global, program: &Program, words: &'a [S], why: &str) -> Error {
+    let mut command = match command(alloc, program) {
+        Ok(command) => command,
+        Err(error) => return Error::from(error),
+    };
+    let told = refused_by(&mut command, words, why);
+    drop(command);
+    match told {
+        Ok(refusal) => refusal,
+        Err(error) => error,
+    }
+}
+
+/// The same, by the program as clap takes it, which learns from the words how it is called. An error is that memory lacks.
+fn refused_by<'a, S: AsStr>(
+    command: &mut Command<'a>,
+    words: &'a [S],
+    why: &str,
+) -> Result<Error, Error> {
+    drop(command.try_get_matches_from_mut(words)?);
+    Ok(command.error(ErrorKind::ValueValidation, why)?)
+}
