@@ -1,4 +1,4 @@
-use Rattle.thread_tests.proofs.workers.shows.Given as goal
+use Rattle.thread_tests.proofs.showing.shows.Given as goal
 
 abbrev pub ghosts-shows_on-C-Ledger : goal.ghosts-shows_on-C-Ledger
 ghosts-shows_on-C-Ledger g a = record { name = a.commands.name; parts = a.commands.parts }
