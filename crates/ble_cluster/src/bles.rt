@@ -3,10 +3,10 @@ ghost use Rattle.std.specs.Prelude.{◌≡◌, ◌<◌, ◌≤◌, ◌++◌, [],
 ghost use Rattle.std.specs.List.{take_while};
 ghost use Rattle.blif.specs.LawfulCircuits.{IsCircuit};
 ghost use Rattle.ble_cluster.specs.Nets.{distinct};
-ghost use Rattle.ble_cluster.specs.Bles.{bles_of, element_of_latch, in_line_order, is_above};
+ghost use Rattle.ble_cluster.specs.Bles.{bles_of, element_of_latch, element_of_table, in_line_order, is_above};
 
 use crate::readers::Readers;
-use blif::{Circuit, Latch};
+use blif::{Circuit, Latch, Table};
 use rows::Span;
 use std::alloc::{AllocError, Global};
 use std::marker::Model;
@@ -58,10 +58,16 @@ impl Bles {
         ensures { IfOk result (λ bles. bles ≡ bles_of circuit.now) }
     {
         let readers = Readers::new(alloc, circuit)?;
-        let latches = readers.lone_latches(alloc, circuit)?;
         let mut bles = Bles::empty(alloc);
-        bles.push_in_order(circuit, &readers, latches.as_slice())?;
-        Ok(bles)
+        let pushed = bles.push_all(alloc, circuit, &readers);
+        drop(readers);
+        match pushed {
+            Ok(()) => Ok(bles),
+            Err(error) => {
+                drop(bles);
+                Err(error)
+            }
+        }
     }
 
     /// No BLEs.
@@ -109,6 +115,24 @@ impl Bles {
         Ok(())
     }
 
+    /// Adds the BLEs of the circuit to none, in the order of their lines.
+    fn push_all(
+        &mut self,
+        alloc: Global,
+        circuit: &Circuit,
+        readers: &Readers,
+    ) -> Result<(), AllocError>
+        requires circuit { IsCircuit circuit.now }
+        requires readers { AreReaders circuit.now readers.now }
+        requires none { self.old ≡ [] }
+        ensures { IfOk result (λ _. self.new ≡ bles_of circuit.now) }
+    {
+        let latches = readers.lone_latches(alloc, circuit)?;
+        let pushed = self.push_in_order(circuit, readers, latches.as_slice());
+        drop(latches);
+        pushed
+    }
+
     /// Adds the tables of the circuit and these latches, in the order of their lines.
     fn push_in_order(
         &mut self,
@@ -126,13 +150,19 @@ impl Bles {
             let (above, below) = rest.split_at(count_above(table.line, rest));
             self.push_latches(above)?;
             rest = below;
-            match readers.latch_behind(circuit, table.output) {
-                None => self.push(table.inputs, table.output, None)?,
-                Some(latch) => self.push(table.inputs, latch.output, latch.control)?,
-            }
+            self.push_table(table, readers.latch_behind(circuit, table.output))?;
         }
-        self.push_latches(rest)?;
-        Ok(())
+        self.push_latches(rest)
+    }
+
+    /// Adds a table with the latch behind it, if there is one.
+    fn push_table(&mut self, table: Table<'_>, behind: Option<Latch>) -> Result<(), AllocError>
+        ensures { IfOk result (λ _. self.new ≡ self.old ++ element_of_table (record { line = table.entry.line; inputs = table.entry.inputs.now; output = table.entry.output }) behind ∷ []) }
+    {
+        match behind {
+            None => self.push(table.inputs, table.output, None),
+            Some(latch) => self.push(table.inputs, latch.output, latch.control),
+        }
     }
 
     /// Adds the latches, each alone.

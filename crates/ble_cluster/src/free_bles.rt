@@ -1,10 +1,10 @@
 //! One cluster of free BLEs after another.
-ghost use Rattle.std.specs.Prelude.{◌≡◌, ◌<◌, ◌≤◌, [], All, length, filter, not, None, IfOk, IsTrue, ◌↔◌};
+ghost use Rattle.std.specs.Prelude.{◌≡◌, ◌<◌, ◌≤◌, List, Bool, [], All, length, filter, not, None, IfOk, IsTrue, ◌↔◌, false, replicate};
 ghost use Rattle.std.specs.List.{range_with_len};
 ghost use Rattle.arch_file.specs.Arch.{IsArch};
 ghost use Rattle.ble_cluster.specs.Nets.{has};
 ghost use Rattle.ble_cluster.specs.Clusters.{cluster_of, unfit_among};
-ghost use Rattle.ble_cluster.specs.FirstFree.{IsKept};
+ghost use Rattle.ble_cluster.specs.FirstFree.{AreLacks, AreOutsideCounts, HaveAtMost, IsFirstFree, IsKept};
 ghost use Rattle.ble_cluster.specs.FreeBles.{IsElement, free_in};
 
 use crate::ble_index::BleIndex;
@@ -49,21 +49,53 @@ impl FreeBles {
         requires few_nets { count ≤ 8192 }
         ensures { IfOk result (λ grower. grower ≡ record { elements = bles; free = range_with_len 0 (length bles); members = [] }) }
     {
-        let taken = vec![in alloc; false; bles.len()]?;
-        let most = most_inputs(&bles, count);
-        let mut by_lack = FirstFree::new(alloc, lacks(alloc, &bles, most)?, most)?;
-        let by_outside = FirstFree::new(alloc, outside_counts(alloc, &bles, most)?, most)?;
-        let seed = by_lack.lowest(taken.as_slice());
-        let growth = GrowingCluster::new(alloc, bles.len(), count)?;
         let elements = BleIndex::new(alloc, bles, count)?;
-        Ok(FreeBles {
-            elements,
-            taken,
-            by_lack,
-            by_outside,
-            seed,
-            growth,
-        })
+        match by_keys(alloc, elements.bles(), count) {
+            Ok((by_lack, by_outside)) => {
+                FreeBles::all_free(alloc, elements, by_lack, by_outside, count)
+            }
+            Err(error) => {
+                drop(elements);
+                Err(error)
+            }
+        }
+    }
+
+    /// BLEs over so many nets, all free, with where those begin.
+    fn all_free(
+        alloc: Global,
+        elements: BleIndex,
+        mut by_lack: FirstFree,
+        by_outside: FirstFree,
+        count: usize,
+    ) -> Result<Self, AllocError>
+        requires nets { elements.nets ≡ count }
+        requires few { length elements.elements ≤ 8192 }
+        requires lacks { AreLacks elements.elements by_lack.keys.items }
+        requires outside { AreOutsideCounts elements.elements by_outside.keys.items }
+        requires by_lack { (taken : List Bool) → length taken ≡ length elements.elements → IsFirstFree taken by_lack }
+        requires by_outside { (taken : List Bool) → length taken ≡ length elements.elements → IsFirstFree taken by_outside }
+        ensures { IfOk result (λ grower. grower ≡ record { elements = elements.elements; free = range_with_len 0 (length elements.elements); members = [] }) }
+    {
+        match room_for(alloc, elements.len(), count) {
+            Ok((taken, growth)) => {
+                let seed = by_lack.lowest(taken.as_slice());
+                Ok(FreeBles {
+                    elements,
+                    taken,
+                    by_lack,
+                    by_outside,
+                    seed,
+                    growth,
+                })
+            }
+            Err(error) => {
+                drop(elements);
+                drop(by_lack);
+                drop(by_outside);
+                Err(error)
+            }
+        }
     }
 
     /// The BLEs.
@@ -119,6 +151,58 @@ impl FreeBles {
     {
         mark_taken(self.taken.as_mut_slice(), self.growth.members.as_slice());
         self.seed = self.by_lack.lowest(self.taken.as_slice());
+    }
+}
+
+/// The BLEs by how many inputs they lack of the most, and by how many nets they read from outside. Their nets are below
+/// the count.
+fn by_keys(alloc: Global, bles: &Bles, count: usize) -> Result<(FirstFree, FirstFree), AllocError>
+    requires elements { All (IsElement count) bles.now }
+    requires few_nets { count ≤ 8192 }
+    ensures lacks { IfOk result (λ made. AreLacks bles.now made.0.keys.items) }
+    ensures outside { IfOk result (λ made. AreOutsideCounts bles.now made.1.keys.items) }
+    ensures by_lack { IfOk result (λ made. (taken : List Bool) → length taken ≡ length bles.now → IsFirstFree taken made.0) }
+    ensures by_outside { IfOk result (λ made. (taken : List Bool) → length taken ≡ length bles.now → IsFirstFree taken made.1) }
+{
+    let most = most_inputs(bles, count);
+    let by_lack = FirstFree::new(alloc, lacks(alloc, bles, most)?, most)?;
+    match by_outside(alloc, bles, most) {
+        Ok(by_outside) => Ok((by_lack, by_outside)),
+        Err(error) => {
+            drop(by_lack);
+            Err(error)
+        }
+    }
+}
+
+/// The BLEs by how many nets they read from outside, where none has more inputs than the most.
+fn by_outside(alloc: Global, bles: &Bles, most: usize) -> Result<FirstFree, AllocError>
+    requires most { HaveAtMost bles.now most }
+    requires few { most ≤ 8192 }
+    ensures outside { IfOk result (λ index. AreOutsideCounts bles.now index.keys.items) }
+    ensures lawful { IfOk result (λ index. (taken : List Bool) → length taken ≡ length bles.now → IsFirstFree taken index) }
+{
+    let keys = outside_counts(alloc, bles, most)?;
+    FirstFree::new(alloc, keys, most)
+}
+
+/// A mark for each of so many BLEs, none of which is taken, and a cluster without members for them and so many nets.
+fn room_for(
+    alloc: Global,
+    elements: usize,
+    nets: usize,
+) -> Result<(Vec<bool>, GrowingCluster), AllocError>
+    ensures marks { IfOk result (λ room. room.0.items ≡ replicate elements false) }
+    ensures members { IfOk result (λ room. room.1.members.items ≡ []) }
+    ensures room { IfOk result (λ room. (room.1.reads.count ≡ nets) × (room.1.drives.count ≡ nets) × (length room.1.gains ≡ elements)) }
+{
+    let taken = vec![in alloc; false; elements]?;
+    match GrowingCluster::new(alloc, elements, nets) {
+        Ok(growth) => Ok((taken, growth)),
+        Err(error) => {
+            drop(taken);
+            Err(error)
+        }
     }
 }
 

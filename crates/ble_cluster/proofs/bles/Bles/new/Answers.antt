@@ -1,7 +1,0 @@
-use Rattle.std.proofs.Common.{refl}
-use Rattle.ble_cluster.specs.Bles.{bles_of}
-use Rattle.ble_cluster.proofs.bles.Bles.new.Goals as goal
-
-pub returns : goal.returns
-unfolding bles_of
-returns c = rw (c.in_ok-push_in_order.ensures, c.as_slice.ensures.value, c.in_ok-latches.ensures, c.empty-bles.ensures) refl
