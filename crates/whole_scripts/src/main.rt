@@ -10,7 +10,7 @@ mod row;
 mod run;
 mod verdict;
 
-use crate::row::Row;
+use crate::row::row_in;
 use crate::run::verdict_on;
 use crate::verdict::Verdict;
 use std::alloc::AllocGlobal;
@@ -49,7 +49,7 @@ fn tell<H: Print + Files + Threads + Wait + AllocGlobal + Sync>(
     rt: &H,
     line: &str,
 ) -> io::Result<bool> {
-    let verdict = match Row::in_line(line) {
+    let verdict = match row_in(line) {
         Some(row) => verdict_on(rt, row)?,
         None => Verdict::NoRow,
     };

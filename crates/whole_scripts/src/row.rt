@@ -1,3 +1,7 @@
+ghost use Rattle.std.specs.Prelude.{◌≡◌, None, MatchOption};
+ghost use Rattle.line_text.specs.Decimal.{decimal_of};
+ghost use Rattle.whole_scripts.specs.Rows.{IsRow, ahead, behind};
+
 use line_text::decimal_u32;
 
 /// A line of the list.
@@ -11,16 +15,27 @@ pub(crate) struct Row<'a> {
     pub words: &'a str,
 }
 
-impl<'a> Row<'a> {
-    /// The row of a line, `NAME STATUS WORDS`. The words may be none.
-    pub(crate) fn in_line(line: &'a str) -> Option<Self> {
-        let (name, rest) = line.split_once(' ')?;
-        let (status, words) = rest.split_once(' ').unwrap_or((rest, ""));
-        let status = decimal_u32(status.as_bytes())?;
-        Some(Row {
-            name,
-            status,
-            words,
-        })
+/// The row of a line: a name, a status and words. The words may be none.
+pub(crate) fn row_in(line: &str) -> Option<Row<'_>>
+    ensures { MatchOption result (decimal_of 32 (ahead (behind line.now)) ≡ None) (λ row. IsRow line.now row) }
+{
+    let (name, rest) = cut(line);
+    let (status, words) = cut(rest);
+    let status = decimal_u32(status.as_bytes())?;
+    Some(Row {
+        name,
+        status,
+        words,
+    })
+}
+
+/// What stands ahead of a text's first blank, and behind it.
+fn cut(text: &str) -> (&str, &str)
+    ensures ahead { result.0.now ≡ ahead text.now }
+    ensures behind { result.1.now ≡ behind text.now }
+{
+    match text.split_once(' ') {
+        Some(parts) => parts,
+        None => (text, ""),
     }
 }

@@ -7,6 +7,7 @@ use fpgad_run::{Outcome, run_words};
 use line_text::{MemorySink, MemorySource, ReadError, StdSource, read_all};
 use std::alloc::{AllocError, AllocGlobal, Global};
 use std::fs::File;
+use std::io::Read;
 use std::rt::Files;
 use std::sync::Wait;
 use std::thread::Threads;
@@ -19,34 +20,54 @@ struct Ended {
     status: u8,
 }
 
-/// Runs a row, and compares what comes of it with its files.
+/// Runs a row as the service's program does, and compares what comes of it with its files.
 pub(crate) fn verdict_on<H: Files + Threads + Wait + AllocGlobal + Sync>(
     rt: &H,
     row: Row<'_>,
 ) -> Result<Verdict, AllocError> {
-    let ended = run_row(rt, row)?;
+    let words = words(rt.alloc(), row.words)?;
+    let ended = run_row(rt, row.name, words.as_slice());
+    drop(words);
+    let ended = ended?;
     let verdict = compared(rt, row, &ended);
     drop(ended);
     verdict
 }
 
-/// Runs a row as the service's program does.
+/// Runs a row's script under these words.
 fn run_row<H: Files + Threads + Wait + AllocGlobal + Sync>(
     rt: &H,
-    row: Row<'_>,
+    name: &str,
+    words: &[&str],
 ) -> Result<Ended, AllocError> {
-    let words = words(rt.alloc(), row.words)?;
-    let script = bytes_of(rt, row.name, "script")?;
-    let mut reader = MemorySource::new(script.as_slice());
+    let script = bytes_of(rt, name, "script")?;
+    let ended = run_script(rt, words, script.as_slice());
+    drop(script);
+    ended
+}
+
+/// Runs a script under these words.
+fn run_script<H: Files + Threads + Wait + AllocGlobal + Sync>(
+    rt: &H,
+    words: &[&str],
+    script: &[u8],
+) -> Result<Ended, AllocError> {
+    let mut reader = MemorySource::new(script);
     let mut writer = MemorySink::new(rt.alloc());
-    let outcome = run_words(rt, words.as_slice(), &mut reader, &mut writer);
+    let outcome = run_words(rt, words, &mut reader, &mut writer);
     let status = status_of(&outcome);
-    let told = told(rt.alloc(), outcome)?;
-    Ok(Ended {
-        written: writer.into_bytes(),
-        told,
-        status,
-    })
+    let written = writer.into_bytes();
+    match told(rt.alloc(), outcome) {
+        Ok(told) => Ok(Ended {
+            written,
+            told,
+            status,
+        }),
+        Err(error) => {
+            drop(written);
+            Err(error)
+        }
+    }
 }
 
 /// The words of a command line, behind the service's name.
@@ -112,12 +133,19 @@ fn bytes_of<H: Files + AllocGlobal>(
     kind: &str,
 ) -> Result<Vec<u8>, AllocError> {
     let path = format!(in rt.alloc(); "{name}.{kind}")?;
-    let Ok(file) = File::open(rt, path.as_str()) else {
-        return Ok(Vec::new(rt.alloc()));
-    };
-    match read_all(rt.alloc(), &mut StdSource::new(file)) {
+    let file = File::open(rt, path.as_str());
+    drop(path);
+    match file {
+        Ok(file) => bytes_in(rt.alloc(), file),
+        Err(_) => Ok(Vec::new(rt.alloc())),
+    }
+}
+
+/// The bytes of a file; none where it can't be read.
+fn bytes_in<F: Read + Drop>(alloc: Global, file: F) -> Result<Vec<u8>, AllocError> {
+    match read_all(alloc, &mut StdSource::new(file)) {
         Ok(bytes) => Ok(bytes),
         Err(ReadError::NoMemory) => Err(AllocError),
-        Err(ReadError::Failed) => Ok(Vec::new(rt.alloc())),
+        Err(ReadError::Failed) => Ok(Vec::new(alloc)),
     }
 }
