@@ -24,8 +24,7 @@ pub record IsBlockNet (packed : PackedCircuit) (between : BlockNet) : Type 0 whe
   pub controls : IsTrue between.global ↔ ControlsLatch packed.circuit between.net
 
 -- Each BLE stands in one cluster, once, and what stands in a cluster fits there. Nets are few enough to be counted by the
--- circuit's, pads of a kind have nets of their own, no two blocks have one kind and one name, and the bounds hold for all
--- circuits and architectures.
+-- circuit's, pads of a kind have nets of their own, no two blocks are told by the same, and the bounds hold for all circuits and architectures.
 pub record IsLawfulPacking (packed : PackedCircuit) : Type 0 where
   pub whole : (number : ℕ) → number < length (bles_of packed.circuit) → Contains (concat packed.clusters) number
   pub once : AllPairs (λ number other. number ≢ other) (concat packed.clusters)

@@ -25,9 +25,8 @@ pub enum BlockKind {
 /// What a block is told by, whatever its number: its kind and its name. No two blocks of a packed circuit have the same.
 #[derive(Clone, Copy, Debug, PartialEq, Eq, PartialOrd, Ord)]
 pub struct BlockKey<'a> {
-    /// Its kind.
     pub kind: BlockKind,
-    /// Its name; that of an output pad without the `out:`, which the kind tells.
+    /// The name; of an output pad without the `out:`, which the kind tells.
     pub name: &'a [u8],
 }
 
