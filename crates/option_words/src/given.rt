@@ -1,4 +1,7 @@
 //! What the words give.
+ghost use Rattle.std.specs.Prelude.{◌≡◌, IfOk, IfErr, Some, None, option_map};
+ghost use Rattle.option_words.specs.Values.{number_of, text_of};
+
 use crate::declared::OptionWord;
 use clap::ArgMatches;
 use line_text::{decimal_u32, decimal_u64};
@@ -40,17 +43,18 @@ impl<'a> Given<'a> {
     }
 
     /// The text of an option. None where it has no value.
-    pub fn text(&self, name: &str) -> Option<&'a str> {
-        for value in self.values.iter() {
-            if value.name == name {
-                return Some(value.text);
-            }
-        }
-        None
+    pub fn text(&self, name: &str) -> Option<&'a str>
+        ensures { option_map (λ text. text.now) result ≡ text_of self.now name.now }
+    {
+        let value = self.values.iter().find(|value| value.name == name)?;
+        Some(value.text)
     }
 
     /// The number of an option that takes one of 32 bits, or why the words are refused.
-    pub fn number(&self, name: &str) -> Result<u32, &'static str> {
+    pub fn number(&self, name: &str) -> Result<u32, &'static str>
+        ensures told { IfOk result (λ number. number_of 32 self.now name.now ≡ Some number) }
+        ensures none { IfErr result (λ _. number_of 32 self.now name.now ≡ None) }
+    {
         match self.text(name) {
             Some(text) => decimal_u32(text.as_bytes()).ok_or(SIGNED),
             None => Err(SIGNED),
@@ -58,7 +62,10 @@ impl<'a> Given<'a> {
     }
 
     /// The number of an option that takes one of 64 bits, or why the words are refused.
-    pub fn long(&self, name: &str) -> Result<u64, &'static str> {
+    pub fn long(&self, name: &str) -> Result<u64, &'static str>
+        ensures told { IfOk result (λ number. number_of 64 self.now name.now ≡ Some number) }
+        ensures none { IfErr result (λ _. number_of 64 self.now name.now ≡ None) }
+    {
         match self.text(name) {
             Some(text) => decimal_u64(text.as_bytes()).ok_or(SIGNED),
             None => Err(SIGNED),

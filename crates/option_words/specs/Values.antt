@@ -1,0 +1,13 @@
+-- The values of a program's options.
+use Rattle.std.specs.Prelude.{ℕ, List, Option, find, option_map, option_and_then}
+use Rattle.std.specs.Str.{bytes_eq}
+use Rattle.line_text.specs.Decimal.{decimal_of}
+use Rattle.option_words.specs.declared.given.Given.{Given}
+
+-- the text of an option
+abbrev pub text_of : Given → List ℕ → Option (List ℕ)
+text_of given name = option_map (λ value. value.text.now) (find (λ value. bytes_eq value.name.now name) given.values.items)
+
+-- the number of an option that takes one of so many bits
+abbrev pub number_of : ℕ → Given → List ℕ → Option ℕ
+number_of bits given name = option_and_then (decimal_of bits) (text_of given name)
