@@ -127,11 +127,7 @@ fn difference_from<H: Files + AllocGlobal>(
 }
 
 /// The bytes of a row's file; none where there is no such file.
-fn bytes_of<H: Files + AllocGlobal>(
-    rt: &H,
-    name: &str,
-    kind: &str,
-) -> Result<Vec<u8>, AllocError> {
+fn bytes_of<H: Files + AllocGlobal>(rt: &H, name: &str, kind: &str) -> Result<Vec<u8>, AllocError> {
     let path = format!(in rt.alloc(); "{name}.{kind}")?;
     let file = File::open(rt, path.as_str());
     drop(path);
