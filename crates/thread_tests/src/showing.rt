@@ -28,12 +28,11 @@ pub(crate) enum Worked {
 }
 
 /// Whether that is so of a core without tenancies.
-fn is_shown<C: Ledger + Send + Sync, P: Ledger + Send + Sync, R: Threads + Wait + AllocGlobal + Sync>(
-    rt: &R,
-    core: Core<C, P>,
-    graph: &DeviceGraph,
-    shown: Shown,
-) -> bool {
+fn is_shown<
+    C: Ledger + Send + Sync,
+    P: Ledger + Send + Sync,
+    R: Threads + Wait + AllocGlobal + Sync,
+>(rt: &R, core: Core<C, P>, graph: &DeviceGraph, shown: Shown) -> bool {
     match shown {
         Shown::Worked(worked) => is_worked(rt, core, graph, worked),
         Shown::WaitWaits => waits(rt, core, graph),
@@ -41,16 +40,18 @@ fn is_shown<C: Ledger + Send + Sync, P: Ledger + Send + Sync, R: Threads + Wait 
 }
 
 /// The same, of a core with two ledgers.
-fn shows_on<C: Ledger + Send + Sync, P: Ledger + Send + Sync, R: Threads + Wait + AllocGlobal + Sync>(
-    rt: &R,
-    commands: Blank,
-    puts: Blank,
-    shown: Shown,
-) -> bool
+fn shows_on<
+    C: Ledger + Send + Sync,
+    P: Ledger + Send + Sync,
+    R: Threads + Wait + AllocGlobal + Sync,
+>(rt: &R, commands: Blank, puts: Blank, shown: Shown) -> bool
     requires commands { (commands.name ≡ C.name) × (commands.parts ≡ C.parts) × (commands.parts ≡ 65536) }
     requires puts { (puts.name ≡ P.name) × (puts.parts ≡ P.parts) × (puts.parts ≡ 17) }
 {
-    match (new_graph(rt.alloc()), new_core::<C, P>(rt.alloc(), commands, puts)) {
+    match (
+        new_graph(rt.alloc()),
+        new_core::<C, P>(rt.alloc(), commands, puts),
+    ) {
         (Some(graph), Some(core)) => {
             let is_so = is_shown(rt, core, &graph, shown);
             drop(graph);

@@ -171,7 +171,10 @@ fn prepared<C: Ledger, P: Ledger>(
     if core.admit(1) != Ok((1, 0)) {
         return None;
     }
-    match (a_worker(core, ready, seats), a_speaker(core, ready, passes, 1)) {
+    match (
+        a_worker(core, ready, seats),
+        a_speaker(core, ready, passes, 1),
+    ) {
         (Some(worker), Some(speaker)) => Some((worker, speaker)),
         _ => None,
     }
@@ -207,10 +210,7 @@ pub(crate) fn waits<
     P: Ledger + Send + Sync,
     R: Threads + Wait + AllocGlobal + Sync,
 >(rt: &R, core: Core<C, P>, graph: &DeviceGraph) -> bool {
-    match (
-        ROUTED_AND.session(rt.alloc()),
-        ROUTED_AND.told(rt.alloc()),
-    ) {
+    match (ROUTED_AND.session(rt.alloc()), ROUTED_AND.told(rt.alloc())) {
         (Ok(input), Ok(want)) => is_told_on(rt, core, graph, (input.as_str(), want.as_str())),
         _ => {
             drop(core);

@@ -78,13 +78,14 @@ fn prepared<C: Ledger, P: Ledger, R: Wait + AllocGlobal>(
     rt: &R,
     core: &mut Core<C, P>,
     graph: &DeviceGraph,
-    queue: (&Ready, &mut Vec<Seat>, &mut Vec<Pass>),
+    ready: &Ready,
+    seats: &mut Vec<Seat>,
+    passes: &mut Vec<Pass>,
 ) -> Option<(Worker<P>, Worker<P>)>
-    requires seats { All (λ s. s ≡ record { of = queue.0.now; log = log [] [] }) queue.1.old.items }
-    requires passes { All (λ p. p ≡ record { of = queue.0.now; log = log [] [] }) queue.2.old.items }
-    ensures { IfSome result (λ both. (both.0.seat.of ≡ queue.0.now) × (both.1.seat.of ≡ queue.0.now)) }
+    requires seats { All (λ s. s ≡ record { of = ready.now; log = log [] [] }) seats.old.items }
+    requires passes { All (λ p. p ≡ record { of = ready.now; log = log [] [] }) passes.old.items }
+    ensures { IfSome result (λ both. (both.0.seat.of ≡ ready.now) × (both.1.seat.of ≡ ready.now)) }
 {
-    let (ready, seats, passes) = queue;
     if both_begin(rt, core, graph, ready, passes) {
         two_workers(core, ready, seats)
     } else {
@@ -101,8 +102,7 @@ pub(crate) fn is_worked<
     let mut core = core;
     match Ready::new(rt.alloc(), 2, 1) {
         Ok((ready, mut seats, mut passes)) => {
-            let queue = (&ready, &mut seats, &mut passes);
-            match prepared(rt, &mut core, graph, queue) {
+            match prepared(rt, &mut core, graph, &ready, &mut seats, &mut passes) {
                 Some((one, other)) => works(rt, core, graph, &ready, one, other, worked),
                 None => {
                     drop(core);
