@@ -17,7 +17,8 @@ use std::cell::Cell;
 use strip_place::Placing;
 use strips::{DeviceGraph, Window};
 
-/// A window, and how often the edges of its nodes were read.
+/// A window, and how often the edges of its nodes were read: by `ends`, `ends_towards` and `edge` together, since a router asks for
+/// many at once.
 #[derive(Drop)]
 struct Counted<'a> {
     window: &'a Window<'a>,

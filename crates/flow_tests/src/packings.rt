@@ -1,5 +1,5 @@
 //! The BLEs of a circuit, and a packing that is given up.
-use crate::circuits::started;
+use crate::circuits::{packed, started};
 use blif::SharedCircuit;
 use cluster::{Bles, Packing};
 use std::alloc::Global;
@@ -49,12 +49,28 @@ fn leaves_its_circuit(alloc: Global, packing: Packing) -> bool {
     was_there && is_so
 }
 
+/// Whether the circuit is there when its packing is given up.
+fn packing_is_given_up(alloc: Global) -> bool {
+    match started(alloc, STORED) {
+        Some(packing) => leaves_its_circuit(alloc, packing),
+        None => false,
+    }
+}
+
+/// Whether what is packed has one BLE.
+fn packs_one_ble(alloc: Global) -> bool {
+    match packed(alloc, STORED) {
+        Some(packed) => {
+            let count = packed.packed().ble_count();
+            drop(packed);
+            count == 1
+        }
+        None => false,
+    }
+}
+
 #[test]
 fn packings(rt: HostRuntime) {
-    let packing = started(rt.alloc(), STORED);
-    let is_so = match packing {
-        Some(packing) => leaves_its_circuit(rt.alloc(), packing),
-        None => false,
-    };
-    assert!(rt; is_so);
+    assert!(rt; packing_is_given_up(rt.alloc()));
+    assert!(rt; packs_one_ble(rt.alloc()));
 }
