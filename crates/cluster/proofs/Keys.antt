@@ -1,5 +1,5 @@
 -- No two blocks are told by the same.
-use Rattle.std.proofs.Common.{◌≡◌, ◌≢◌, ℕ, suc, zero, ◌+◌, ◌<◌, ◌≤◌, ◌⊎◌, inl, inr, List, [], ◌∷◌, ◌++◌, All, Option, Some, None, slice_get, length, get_or, map, refl, sym, ap, subst, ◌∙◌, arith}
+use Rattle.std.proofs.Common.{◌≡◌, ◌≢◌, ℕ, ◌<◌, ◌⊎◌, inl, inr, List, [], ◌∷◌, ◌++◌, All, Option, Some, None, slice_get, length, get_or, map, refl, sym, ap, subst, ◌∙◌, arith}
 use Rattle.std.specs.Prelude.{AllPairs}
 use Rattle.std.specs.List.{concat, range_with_len}
 use Rattle.std.proofs.lemmas.Bool.{cases_order}
@@ -15,7 +15,6 @@ use Rattle.cluster.specs.declared.block.Block.TheVariants.{InputPad, OutputPad, 
 use Rattle.cluster.specs.declared.block.BlockKind.{BlockKind}
 use Rattle.cluster.specs.declared.block.BlockKind.TheVariants as kind
 use Rattle.ble_cluster.specs.Bles.{LogicElement, bles_of, element_at}
-use Rattle.ble_cluster.specs.Clusters.{outputs_of}
 use Rattle.cluster.specs.Clusters.{PackedCircuit}
 use Rattle.cluster.specs.Blocks.{blocks_of, elements_in, net_name, seed_name}
 use Rattle.cluster.specs.Keys.{BlockKey, key_of, keys_of}

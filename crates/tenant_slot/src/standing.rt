@@ -131,8 +131,15 @@ impl Standing {
     fn rest_with(&mut self, content: Content)
         ensures { self.new ≡ record self.old { content = content; running = None } }
     {
-        drop(mem::replace(&mut self.content, content));
+        self.stand(content);
         self.run(None);
+    }
+
+    /// That stands in the place of what there is.
+    fn stand(&mut self, content: Content)
+        ensures { self.new ≡ record self.old { content = content } }
+    {
+        drop(mem::replace(&mut self.content, content));
     }
 
     /// A placing runs, and places and routes are given up.
@@ -142,7 +149,7 @@ impl Standing {
         self.seed = job.sources.seed;
         self.effort = job.sources.effort;
         let content = mem::replace(&mut self.content, Content::Empty);
-        self.content = content.cut_back();
+        self.stand(content.cut_back());
         self.run(Some(job));
     }
 
@@ -216,6 +223,6 @@ impl Standing {
         self.steps = 0;
         self.run(None);
         let content = mem::replace(&mut self.content, Content::Empty);
-        self.content = content.finished_with(job);
+        self.stand(content.finished_with(job));
     }
 }

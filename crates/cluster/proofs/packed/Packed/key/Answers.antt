@@ -1,8 +1,6 @@
-use Rattle.std.proofs.Common.{◌≡◌, ◌∙◌, ℕ, List, Option, Some, ap, sym}
-use Rattle.cluster.specs.declared.block.Block.{Block}
+use Rattle.std.proofs.Common.{◌∙◌, ℕ, List, Option, Some, ap, sym}
 use Rattle.cluster.specs.declared.block.Block.TheVariants.{InputPad, OutputPad, Cluster}
 use Rattle.cluster.specs.declared.block.BlockKind.TheVariants as kind
-use Rattle.cluster.specs.Blocks.{blocks_of}
 use Rattle.cluster.specs.Keys.{BlockKey}
 use Rattle.cluster.proofs.Keys.{block_there, key_at}
 use Rattle.cluster.proofs.packed.Packed.key.Goals as goal

@@ -1,7 +1,7 @@
-use Rattle.std.proofs.Common.{◌≡◌, ◌∙◌, ◌<◌, ℕ, List, [], length, arith, ap, sym, subst}
+use Rattle.std.proofs.Common.{◌≡◌, ◌∙◌, ◌<◌, [], length, arith, ap, sym, subst}
 use Rattle.cluster.specs.Clusters.{PackedCircuit}
 use Rattle.cluster.specs.Blocks.{elements_in, net_name, seed_name}
-use Rattle.cluster.proofs.Keys.{seed_drives, seed_named, seed_net, seed_nets_inside}
+use Rattle.cluster.proofs.Keys.{seed_drives, seed_named, seed_nets_inside}
 use Rattle.cluster.proofs.packed.Packed.seed_output.Goals as goal
 
 pub returns-clause-name : goal.returns-clause-name

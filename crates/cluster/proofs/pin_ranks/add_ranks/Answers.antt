@@ -1,10 +1,10 @@
 use Rattle.std.proofs.Common.{◌∙◌, ◌<◌, ap, arith, length, ℕ, Vec, Global}
 use Rattle.cluster.proofs.PinRanks.{ranked_none, ranked_input, ranked_output, ranked_clock, ranked_all}
-use Rattle.cluster.proofs.pin_ranks.ranks_of.Goals as goal
-use Rattle.cluster.proofs.pin_ranks.ranks_of.Goals.{in-Input+in_ok-push-in-Input, in-Output+in_ok-push-in-Output, in-Clock+in_ok-push-in-Clock}
+use Rattle.cluster.proofs.pin_ranks.add_ranks.Goals as goal
+use Rattle.cluster.proofs.pin_ranks.add_ranks.Goals.{in-Input+in_ok-push-in-Input, in-Output+in_ok-push-in-Output, in-Clock+in_ok-push-in-Clock}
 
 pub loop-pin-init : goal.loop-pin-init
-loop-pin-init c = ranked_none _ _ c.in_ok-ranks.ensures.items
+loop-pin-init c = ranked_none _ _ c.requires
 
 pub loop-pin-preserved : goal.loop-pin-preserved
 loop-pin-preserved c =
