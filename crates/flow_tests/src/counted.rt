@@ -183,9 +183,7 @@ fn reads_the_window(alloc: Global, window: &Window<'_>, placing: &Placing) -> bo
 }
 
 /// The same on the third of five columns, for a circuit that is placed.
-fn reads_a_window(alloc: Global, placing: &Placing) -> bool
-    requires { placing.now.strip ≡ NARROW }
-{
+fn reads_a_window(alloc: Global, placing: &Placing) -> bool {
     match DeviceGraph::new(alloc, placing.packed().arch(), 5, 1) {
         Ok(graph) => {
             let is_so = match Window::new(&graph, 2, placing.strip()) {
