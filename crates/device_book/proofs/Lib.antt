@@ -1,4 +1,3 @@
 pub mod Listing
 pub mod Places
-pub mod Shifting
 mod Examples
