@@ -11,7 +11,7 @@ use Rattle.service_core.specs.declared.put_reply.PutReply.TheVariants.{Recorded 
 use Rattle.service_core.specs.Calls.{IsGivenBackTo}
 use Rattle.service_core.specs.History.{History}
 use Rattle.service_core.specs.Run.{Call, Happens, Run}
-use Rattle.service_core.specs.Run.Call.{Admit, Evict, Tenant, Take, Put, GiveBack}
+use Rattle.service_core.specs.Run.Call.{Admit, Evict, Move, Tenant, Take, Put, GiveBack}
 use Rattle.service_core.specs.Service.{ServiceState, live_of, modified}
 use Rattle.sessions.specs.declared.line.SessionLine.{SessionLine}
 use Rattle.sessions.specs.declared.line.SessionLine.TheVariants.{Blank, Command, Wait, Refused}
@@ -31,6 +31,7 @@ use Rattle.operator.proofs.OperatorLemmas.{length-modified}
 abbrev pub Steady : Call → Type 0
 Steady (Admit width answer) = ⊥
 Steady (Evict id answer) = ⊥
+Steady (Move id offset answer) = ⊥
 Steady call = ⊤
 
 abbrev pub AreSteady : List Call → Type 0
@@ -54,6 +55,7 @@ given (Some h) old new job is = changed old new job.step.id _ is.2
 lengths-happens : (old new : ServiceState) (call : Call) → Steady call → Happens old call new → length old.histories ≡ length new.histories
 lengths-happens old new (Admit width answer) never is = absurd never
 lengths-happens old new (Evict id answer) never is = absurd never
+lengths-happens old new (Move id offset answer) never is = absurd never
 lengths-happens old new (Tenant id command (Ok r)) steady is = changed old new id _ is.1
 lengths-happens old new (Tenant id command (Err (JournalFull note))) steady is = same old new is.2
 lengths-happens old new (Tenant id command (Err (NoSuchTenancy note))) steady is = same old new is.2

@@ -23,6 +23,11 @@ abbrev pub evicted_text : Result (Unit {0}) OpRefusal → List ℕ
 evicted_text (Ok nothing) = codes "ok" ++ 10 ∷ []
 evicted_text (Err refusal) = refused_text (op_refusal_number refusal) (op_refusal_text refusal)
 
+-- a strip that has moved is told where it stands
+abbrev pub moved_text : ℕ → Result (Unit {0}) OpRefusal → List ℕ
+moved_text offset (Ok nothing) = codes "ok" ++ blank_word (decimal offset) ++ 10 ∷ []
+moved_text offset (Err refusal) = refused_text (op_refusal_number refusal) (op_refusal_text refusal)
+
 -- what the making of a step came to, as a word
 abbrev pub outcome_word : StepOutcome → List ℕ
 outcome_word (Recorded reply) = step_text reply

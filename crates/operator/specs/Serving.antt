@@ -5,18 +5,18 @@ use Rattle.job_state.specs.Job.{JobState}
 use Rattle.service_core.specs.declared.op_refusal.OpRefusal.{OpRefusal}
 use Rattle.service_core.specs.History.{History}
 use Rattle.service_core.specs.Run.{Call, Run}
-use Rattle.service_core.specs.Run.Call.{Admit as AdmitCall, Evict as EvictCall}
-use Rattle.service_core.specs.Calls.{IsAdmitted, IsEvicted}
+use Rattle.service_core.specs.Run.Call.{Admit as AdmitCall, Evict as EvictCall, Move as MoveCall}
+use Rattle.service_core.specs.Calls.{IsAdmitted, IsEvicted, IsMoved}
 use Rattle.service_core.specs.Service.{ServiceState, live_of}
 use Rattle.script_text.specs.declared.operator_line.OperatorLine.{OperatorLine}
-use Rattle.script_text.specs.declared.operator_line.OperatorLine.TheVariants.{Admit, Evict, List as ListAll, Owners, Step, Take, Put}
+use Rattle.script_text.specs.declared.operator_line.OperatorLine.TheVariants.{Admit, Evict, Move, List as ListAll, Owners, Step, Take, Put}
 use Rattle.sessions.specs.declared.steps.StepOutcome.{StepOutcome}
 use Rattle.sessions.specs.Steps.{MakesStep}
 use Rattle.device_book.specs.declared.book.Owned.{Owned}
 use Rattle.service_core.specs.Owners.{ListsOwnersOf}
 use Rattle.operator.specs.OwnersText.{owners_text}
 use Rattle.operator.specs.HeldJobs.{HeldList, Holds, PutsHeld, job_at, with_job, without_job}
-use Rattle.operator.specs.OperatorText.{admitted_text, evicted_text, last_id, list_text, names_after, outcome_text, refused_text, taken_text}
+use Rattle.operator.specs.OperatorText.{admitted_text, evicted_text, last_id, list_text, moved_text, names_after, outcome_text, refused_text, taken_text}
 
 -- the core's state, the names of all ids, the newest first, and the jobs that the operator took
 pub record Stage : Type 0 where
@@ -48,6 +48,9 @@ IsServed old (Admit name width) calls text new = IsAdmission (live_of old.servic
 IsServed old (Evict name) calls text new = (answer : Result (Unit {0}) OpRefusal)
     × IsEvicted old.service (last_id old.names name) answer new.service × (new.names ≡ old.names) × (new.jobs ≡ old.jobs)
     × (calls ≡ EvictCall (last_id old.names name) answer ∷ []) × (text ≡ evicted_text answer)
+IsServed old (Move name offset) calls text new = (answer : Result (Unit {0}) OpRefusal)
+    × IsMoved old.service (last_id old.names name) offset answer new.service × (new.names ≡ old.names) × (new.jobs ≡ old.jobs)
+    × (calls ≡ MoveCall (last_id old.names name) offset answer ∷ []) × (text ≡ moved_text offset answer)
 IsServed old (Step name count) calls text new = (tried : Tried)
     × (length tried ≡ count) × All (λ t. MakesStep (last_id old.names name) t.0 t.1) tried × Run old.service calls new.service
     × (new.names ≡ old.names) × (new.jobs ≡ old.jobs) × (calls ≡ tried_calls tried) × (text ≡ tried_text tried)

@@ -6,7 +6,7 @@ ghost use Rattle.operator.specs.Operators.{Steps};
 use crate::held_jobs::HeldJobs;
 use crate::owners::push_owners;
 use crate::reply::{
-    push_admitted, push_evicted, push_listed, push_outcome, push_refused, push_taken,
+    push_admitted, push_evicted, push_listed, push_moved, push_outcome, push_refused, push_taken,
 };
 use indexmap::IndexMap;
 use line_text::MemorySink;
@@ -82,6 +82,10 @@ impl<'t> Operator<'t> {
             OperatorLine::Evict(name) => {
                 let answer = core.evict(self.last_id(name));
                 push_evicted(reply, &answer)
+            }
+            OperatorLine::Move(name, offset) => {
+                let answer = core.move_strip(self.last_id(name), offset);
+                push_moved(reply, offset, &answer)
             }
             OperatorLine::List => self.list(core, reply),
             OperatorLine::Owners => {

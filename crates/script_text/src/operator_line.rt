@@ -10,6 +10,8 @@ use std::alloc::AllocError;
 pub enum OperatorLine<N> {
     Admit(N, u32),
     Evict(N),
+    /// Its strip moves to that offset.
+    Move(N, u32),
     List,
     /// Who owns which pin, wire and pad.
     Owners,
@@ -63,6 +65,8 @@ pub(crate) fn operator_line<'t>(words: &[&'t [u8]]) -> Option<OperatorLine<&'t [
         [verb, name, number] => {
             if is_word(*verb, "admit") && is_name(*name) {
                 Some(OperatorLine::Admit(*name, decimal_u32(*number)?))
+            } else if is_word(*verb, "move") && is_name(*name) {
+                Some(OperatorLine::Move(*name, decimal_u32(*number)?))
             } else if is_word(*verb, "step") && is_name(*name) {
                 Some(OperatorLine::Step(*name, decimal_u32(*number)?))
             } else {

@@ -22,8 +22,9 @@ use Rattle.service_core.specs.History.{History, closed, with_entry, with_out}
 use Rattle.service_core.specs.OwnEvents.{if_own, own_events, own_exchange, own_exchanges}
 use Rattle.service_core.specs.Receipt.{Receipted}
 use Rattle.service_core.specs.Run.{Call, Happens, Run}
-use Rattle.service_core.specs.Run.Call.{Admit, Evict, Tenant, Take, Put, GiveBack}
+use Rattle.service_core.specs.Run.Call.{Admit, Evict, Move, Tenant, Take, Put, GiveBack}
 use Rattle.service_core.specs.Service.{ServiceState, empty, history_of, if_live, live_of, live_width, modified, strip_on, with_tenancy}
+use Rattle.service_core.proofs.MovedStrips.{same_histories}
 use Rattle.service_core.proofs.Lists.{history_of-modified, history_of-past, history_of-push}
 use Rattle.sessions.specs.declared.line.SessionLine.{SessionLine}
 use Rattle.sessions.specs.declared.line.SessionLine.TheVariants.{Blank, Command, Wait, Refused as RefusedLine}
@@ -84,6 +85,7 @@ others_steps id (Put done foreign (Ok PutGone)) is = tt
 others_steps id (Put done foreign (Err back)) is = tt
 others_steps id (Admit width answer) is = tt
 others_steps id (Evict t answer) is = tt
+others_steps id (Move t offset answer) is = tt
 others_steps id (Take t answer) is = tt
 others_steps id (GiveBack job) is = tt
 
@@ -193,6 +195,7 @@ call_stays id width old (Admit w (Ok given)) new spares is was = let P : Service
 call_stays id width old (Admit w (Err refusal)) new spares is was = unchanged id width old new is.1 was
 call_stays id width old (Evict t (Ok nothing)) new spares is was = let P : ServiceState → Type 0 = λ s. Stays id width s in subst P (sym is.1) (width_of_other old.histories t id width spares was)
 call_stays id width old (Evict t (Err refusal)) new spares is was = unchanged id width old new is.2 was
+call_stays id width old (Move t offset answer) new spares is was = let P : List History → Type 0 = λ hs. live_width hs id ≡ Some width in subst P (sym (same_histories old t offset answer new is)) was
 call_stays id width old (Tenant t command (Ok r)) new spares is was = changed id width t old new (with_entry (record { event = Asked command; reply = r.reply })) (λ g. (refl, refl)) is.1 was
 call_stays id width old (Tenant t command (Err (JournalFull note))) new spares is was = unchanged id width old new is.2 was
 call_stays id width old (Tenant t command (Err (NoSuchTenancy note))) new spares is was = unchanged id width old new is.2 was
@@ -215,6 +218,7 @@ others_spare id (call ∷ calls) are = (one call are.0, others_spare id calls ar
   where
     one : (call : Call) → IsOthers id call → Spares id call
     one (Evict t answer) is = is
+    one (Move t offset answer) is = tt
     one (Tenant t command served) is = tt
     one (Admit width answer) is = tt
     one (Take t answer) is = tt

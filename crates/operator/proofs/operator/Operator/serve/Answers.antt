@@ -1,8 +1,8 @@
 use Rattle.std.proofs.Common.{ℕ, ◌≡◌, [], ◌∷◌, ◌++◌, refl, sym, ap, subst, ◌∙◌}
-use Rattle.service_core.specs.Run.Call.{Evict as EvictCall}
+use Rattle.service_core.specs.Run.Call.{Evict as EvictCall, Move as MoveCall}
 use Rattle.operator.specs.OwnersText.{owners_text}
-use Rattle.operator.specs.OperatorText.{evicted_text, list_text, outcome_text, taken_text}
-use Rattle.operator.proofs.OperatorLemmas.{on_ok, lengths-evicted, evicts}
+use Rattle.operator.specs.OperatorText.{evicted_text, list_text, moved_text, outcome_text, taken_text}
+use Rattle.operator.proofs.OperatorLemmas.{on_ok, lengths-evicted, lengths-moved, evicts, moves}
 use Rattle.operator.specs.Held.{held}
 use Rattle.operator.specs.HeldJobs.{Holds}
 use Rattle.operator.specs.Serving.{tried_calls, tried_text}
@@ -21,6 +21,19 @@ returns-in-Evict c =
       c.requires ∙ lengths-evicted c.args.core.now c.evict-answer.new.self c.last_id.result c.evict-answer.result c.evict-answer.ensures,
     ))
     c.push_evicted.ensures)
+
+pub returns-in-Move : goal.returns-in-Move
+returns-in-Move c =
+    rw c.in-Move.is
+    (on_ok c.push_moved.result
+    (λ appended. (
+      MoveCall c.last_id-in-Move.result c.in-Move.offset c.move_strip-answer.result ∷ [],
+      moved_text c.in-Move.offset c.move_strip-answer.result,
+      moves c.args.self.now c.args.jobs.now c.args.core.now c.move_strip-answer.new.self c.in-Move.name.now c.last_id-in-Move.result c.in-Move.offset c.move_strip-answer.result c.last_id-in-Move.ensures c.move_strip-answer.ensures,
+      appended,
+      c.requires ∙ lengths-moved c.args.core.now c.move_strip-answer.new.self c.last_id-in-Move.result c.in-Move.offset c.move_strip-answer.result c.move_strip-answer.ensures,
+    ))
+    c.push_moved.ensures)
 
 pub returns-in-List : goal.returns-in-List
 returns-in-List c =
