@@ -1,8 +1,8 @@
 -- A strip that moves keeps its id and its width, and all that tenancies are.
-use Rattle.std.proofs.Common.{◌≡◌, ℕ, List, [], ◌∷◌, map, Bool, true, false, eqb, Result, Ok, Err, Option, Some, None, refl, sym, ap, ◌∙◌}
+use Rattle.std.proofs.Common.{◌≡◌, ℕ, List, [], ◌∷◌, map, true, false, eqb, Result, Ok, Err, Option, Some, None, refl, ap, ◌∙◌}
 use Rattle.std.specs.Prelude.{option_map, if◌then◌else◌}
 use Rattle.strips.specs.declared.placed_strip.PlacedStrip.{PlacedStrip}
-use Rattle.strips.specs.Plan.{moved_strip, offset_of, strip_of}
+use Rattle.strips.specs.Plan.{moved_strip, strip_of}
 use Rattle.service_core.specs.declared.device.Device.{Device}
 use Rattle.service_core.specs.declared.op_refusal.OpRefusal.{OpRefusal}
 use Rattle.service_core.specs.declared.op_refusal.OpRefusal.TheVariants.{NoMemory, NoRoom, TooManyStrips, BadWidth, NoSuchTenancy, IdsSpent}
