@@ -14,7 +14,7 @@ use line_text::MemorySink;
 use operator::{HeldJobs, Operator};
 use script_text::{Act, Script, read_script};
 use service_core::{Service, headline};
-use sessions::end_to_end;
+use sessions::{device_graph, end_to_end};
 use std::alloc::{AllocError, Global};
 use strips::DeviceGraph;
 
@@ -48,7 +48,7 @@ fn serve(
     ensures { IfOk result (λ output. IsReplies options.now (Ok (arch, script.entry)) output.items) }
 {
     let device = options.device(arch);
-    let graph = DeviceGraph::new(alloc, &device.arch, device.columns, device.rows)?;
+    let graph = device_graph(alloc, &device)?;
     let core = Service::new(alloc, device)?;
     let mut running = Running::new(alloc, &graph, core);
     let output = running.serve_all(alloc, script);
