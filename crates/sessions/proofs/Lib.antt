@@ -2,7 +2,7 @@ mod CommandLemmas
 mod Counted
 mod EndToEndLemmas
 mod Examples
-mod Fitting
+pub mod Fitting
 pub mod KeptLemmas
 pub mod ReadingLemmas
 pub mod StepLemmas
