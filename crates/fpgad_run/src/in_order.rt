@@ -14,7 +14,7 @@ use line_text::MemorySink;
 use operator::{HeldJobs, Operator};
 use script_text::{Act, Script, read_script};
 use service_core::{Service, headline};
-use sessions::end_to_end;
+use sessions::{device_graph, end_to_end};
 use std::alloc::{AllocError, Global};
 use strips::DeviceGraph;
 
@@ -48,7 +48,7 @@ fn serve(
     ensures { IfOk result (λ output. IsReplies options.now (Ok (arch, script.entry)) output.items) }
 {
     let device = options.device(arch);
-    let graph = DeviceGraph::new(alloc, &device.arch, device.columns, device.rows)?;
+    let graph = device_graph(alloc, &device)?;
     let core = Service::new(alloc, device)?;
     let mut running = Running::new(alloc, &graph, core);
     let output = running.serve_all(alloc, script);
@@ -69,13 +69,14 @@ struct Running<'t, 'g> {
 impl<'t, 'g> Running<'t, 'g> {
     ghost use Rattle.arch_file.specs.declared.arch.Arch.{Arch};
     ghost use Rattle.service_core.specs.Service.{empty};
+    ghost use Rattle.sessions.specs.Fitting.{own_graph};
     ghost use Rattle.fpgad_run.specs.declared.options.Options.{Options};
     ghost use Rattle.fpgad_run.specs.Program.{device_of};
     ghost use Rattle.fpgad_run.specs.Told.{Begins, IsEven, Serves, told_so_far};
 
     fn new(alloc: Global, graph: &'g DeviceGraph, core: Service) -> Self
         requires { core.histories ≡ [] }
-        ensures { Begins core result }
+        ensures { Begins graph.now core result }
     {
         Running {
             graph,
@@ -89,8 +90,8 @@ impl<'t, 'g> Running<'t, 'g> {
 
     /// Serves a script in order, and gives all that was told.
     fn serve_all(&mut self, alloc: Global, script: Script<'t>) -> Result<Vec<u8>, AllocError>
-        requires { Begins self.old.core self.old }
-        ensures { (options : Options) (arch : Arch) → self.old.core ≡ empty (device_of options arch) → IfOk result (λ output. IsReplies options (Ok (arch, script.entry)) output.items) }
+        requires { Begins self.old.graph.now self.old.core self.old }
+        ensures { (options : Options) (arch : Arch) → self.old.core ≡ empty (device_of options arch) → self.old.graph.now ≡ own_graph (device_of options arch) → IfOk result (λ output. IsReplies options (Ok (arch, script.entry)) output.items) }
     {
         for act in script.into_acts() {
             self.serve(act)?;

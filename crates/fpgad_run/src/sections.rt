@@ -42,7 +42,7 @@ impl<'t> Sections<'t> {
         line: SessionLine,
     ) -> Result<(), AllocError>
         requires { length self.old.texts.items ≡ length self.old.names }
-        ensures { OnOk result (AnswersSession self.old core.old name.now id line self.new core.new) }
+        ensures { OnOk result (AnswersSession graph.now self.old core.old name.now id line self.new core.new) }
     {
         let number = self.names.add_numbered(name)?;
         if number < self.texts.len() {

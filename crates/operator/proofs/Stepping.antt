@@ -1,9 +1,10 @@
 -- Steps of a tenancy's job, one after another, and which calls admit no one.
 use Rattle.std.proofs.Common.{◌≡◌, ℕ, suc, ◌+◌, List, [], ◌∷◌, ◌++◌, length, Option, Some, None, Ok, Err, inl, inr, refl, sym, ap, ◌∙◌, subst, append_assoc, append-nil, length-append, arith}
-use Rattle.std.specs.Prelude.{All, ⊤}
+use Rattle.std.specs.Prelude.{◌≢◌, All, ⊤}
 use Rattle.std.specs.List.{flat_map}
 use Rattle.std.proofs.lemmas.Grind.{flat_map-append}
 use Rattle.std.proofs.lemmas.List.Elements.{All-push}
+use Rattle.rr_graph.specs.Graph.{Basis}
 use Rattle.job_state.specs.Job.{JobState}
 use Rattle.tenant_slot.specs.declared.command.Command.{Command as TenantCommand}
 use Rattle.service_core.specs.declared.not_served.NotServed.TheVariants.{JournalFull, NoMemory as NotServedNoMemory, NoSuchTenancy}
@@ -20,6 +21,8 @@ use Rattle.sessions.specs.declared.steps.StepOutcome.TheVariants.{Recorded, Full
 use Rattle.sessions.specs.declared.told.Answer.{Answer}
 use Rattle.sessions.specs.SessionAnswer.{Asks, AsksCommand, EndsWait}
 use Rattle.sessions.specs.Steps.{MadeStep, MakesStep, StepsAndPuts, Waits}
+use Rattle.sessions.specs.Fitting.{own_graph}
+use Rattle.sessions.proofs.Fitting.{own_after}
 use Rattle.sessions.proofs.StepLemmas.{Run-append}
 use Rattle.operator.specs.HeldJobs.{Holds, PutsHeld}
 use Rattle.operator.specs.OperatorText.{outcome_text}
@@ -132,13 +135,15 @@ steady_take id None calls (inl is) = to_steady calls _ is (tt, tt)
 steady_take id None calls (inr is) = to_steady calls _ is.1 (tt, (tt, tt))
 
 -- none is tried
-pub steps_none : (service : ServiceState) (id : ℕ) (before : List ℕ) → Steps service id 0 before before service
-steps_none service id before = record { tried = []; counted = refl; makes = λ k d within. absurd (omega arith); runs = refl; told = sym (append-nil before); even = refl }
+pub steps_none : (graph : Basis) (service : ServiceState) (id : ℕ) (before : List ℕ) → Steps graph service id 0 before before service
+steps_none graph service id before =
+    record { tried = []; counted = refl; makes = λ k d within. absurd (omega arith); runs = refl; told = sym (append-nil before); even = refl; fits = λ own k d within. absurd (omega arith) }
 
 -- one more
-pub steps_more : (old mid new : ServiceState) (id count : ℕ) (before middle after : List ℕ) (calls : List Call) (outcome : StepOutcome) →
-    Steps old id count before middle mid → MakesStep id calls outcome → Run mid calls new → after ≡ middle ++ outcome_text outcome → Steps old id (count + 1) before after new
-steps_more old mid new id count before middle after calls outcome s makes runs told =
+pub steps_more : (graph : Basis) (old mid new : ServiceState) (id count : ℕ) (before middle after : List ℕ) (calls : List Call) (outcome : StepOutcome) →
+    Steps graph old id count before middle mid → MakesStep id calls outcome → Run mid calls new → after ≡ middle ++ outcome_text outcome → (graph ≡ own_graph mid.device → outcome ≢ Unfit) →
+    Steps graph old id (count + 1) before after new
+steps_more graph old mid new id count before middle after calls outcome s makes runs told fits =
     let t : List Call × StepOutcome = (calls, outcome) in
     let flat : tried_calls (s.tried ++ t ∷ []) ≡ tried_calls s.tried ++ calls =
     flat_map-append (λ (t : List Call × StepOutcome). t.0) s.tried (t ∷ []) ∙ ap (λ cs. tried_calls s.tried ++ cs) (append-nil calls) in
@@ -151,4 +156,5 @@ steps_more old mid new id count before middle after calls outcome s makes runs t
       runs = (let P : List Call → Type 0 = λ cs. Run old cs new in subst P (sym flat) (Run-append old (tried_calls s.tried) mid calls new s.runs runs));
       told = told ∙ ap (λ line. line ++ outcome_text outcome) s.told ∙ append_assoc before (tried_text s.tried) (outcome_text outcome) ∙ ap (λ line. before ++ line) (sym text);
       even = sym (lengths-run mid new calls (steady_step id calls outcome makes) runs) ∙ s.even;
+      fits = λ own. All-push (λ (t : List Call × StepOutcome). t.1 ≢ Unfit) s.tried t (s.fits own) (fits (own_after old (tried_calls s.tried) mid graph s.runs own));
     }

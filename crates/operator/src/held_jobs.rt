@@ -1,6 +1,9 @@
-ghost use Rattle.std.specs.Prelude.{◌≡◌, ◌+◌, [], List, length, option_map, IfOk, Option};
+ghost use Rattle.std.specs.Prelude.{◌≡◌, ◌≢◌, ◌+◌, ◌∷◌, [], List, None, length, option_map, IfOk, Option};
 ghost use Rattle.job_state.specs.Job.{JobState};
 ghost use Rattle.service_core.specs.Run.{Call, Run};
+ghost use Rattle.service_core.specs.Run.Call.{Take};
+ghost use Rattle.sessions.specs.declared.steps.StepOutcome.TheVariants.{Unfit};
+ghost use Rattle.sessions.specs.Fitting.{own_graph};
 ghost use Rattle.sessions.specs.Steps.{StepsAndPuts};
 ghost use Rattle.operator.specs.HeldJobs.{Holds, PutsHeld, give_backs, job_at, with_job, without_job};
 
@@ -35,14 +38,14 @@ impl<'g> HeldJobs<'g> {
     }
 
     /// Takes the next step of that tenancy's job, if there is one to take, and tells its number. One that the graph doesn't fit is
-    /// given back.
+    /// given back; the device's own graph fits each.
     pub fn take(
         &mut self,
         core: &mut Service,
         graph: &'g DeviceGraph,
         id: u32,
     ) -> Result<Option<usize>, AllocError>
-        ensures { IfOk result (λ number. (job : Option JobState) × (calls : List Call) × Holds id job calls × Run core.old calls core.new × (self.new ≡ with_job self.old job) × (number ≡ option_map (λ _. length self.old + 1) job)) }
+        ensures { IfOk result (λ number. (job : Option JobState) × (calls : List Call) × Holds id job calls × Run core.old calls core.new × (self.new ≡ with_job self.old job) × (number ≡ option_map (λ _. length self.old + 1) job) × (graph.now ≡ own_graph core.old.device → job ≡ None → calls ≡ Take id None ∷ [])) }
     {
         self.jobs.reserve(1)?;
         match core.take(id) {
@@ -64,6 +67,7 @@ impl<'g> HeldJobs<'g> {
     pub fn put(&mut self, core: &mut Service, number: u32) -> StepOutcome
         ensures jobs { self.new ≡ without_job self.old number }
         ensures put { (calls : List Call) × PutsHeld (job_at self.old number) calls result × Run core.old calls core.new }
+        ensures fits { result ≢ Unfit }
     {
         match self.remove(number) {
             Some(held) => put_held(core, held),
@@ -102,7 +106,8 @@ impl<'g> HeldJobs<'g> {
 
 /// Steps a job that was held, and puts it.
 fn put_held(core: &mut Service, held: HeldJob<'_>) -> StepOutcome
-    ensures { (calls : List Call) × StepsAndPuts held.entry calls result × Run core.old calls core.new }
+    ensures put { (calls : List Call) × StepsAndPuts held.entry calls result × Run core.old calls core.new }
+    ensures fits { result ≢ Unfit }
 {
     let HeldJob { job, window } = held;
     step_and_put(core, job, &window)

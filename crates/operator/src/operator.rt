@@ -65,7 +65,7 @@ impl<'t> Operator<'t> {
         self.admitted.len() == core.admissions() as usize
     }
 
-    /// Does what a line of the operator asks, steps on the device's graph, and appends its reply.
+    /// Does what a line of the operator asks, steps on the device's graph, and appends its reply. The device's own graph fits each job.
     pub fn serve<'g>(
         &mut self,
         core: &mut Service,
@@ -75,7 +75,7 @@ impl<'t> Operator<'t> {
         reply: &mut MemorySink,
     ) -> Result<(), AllocError>
         requires { length self.old ≡ length core.old.histories }
-        ensures { OnOk result (Answers self.old jobs.old core.old line.entry (held reply.old) (held reply.new) self.new jobs.new core.new) }
+        ensures { OnOk result (Answers graph.now self.old jobs.old core.old line.entry (held reply.old) (held reply.new) self.new jobs.new core.new) }
     {
         match line {
             OperatorLine::Admit(name, width) => self.admit(core, name, width, reply),
@@ -159,7 +159,7 @@ fn step(
     count: u32,
     reply: &mut MemorySink,
 ) -> Result<(), AllocError>
-    ensures { OnOk result (Steps core.old id count (held reply.old) (held reply.new) core.new) }
+    ensures { OnOk result (Steps graph.now core.old id count (held reply.old) (held reply.new) core.new) }
 {
     for number in 0..count {
         let outcome = make_step(core, graph, id);

@@ -4,6 +4,7 @@ use Rattle.service_core.specs.declared.device.Device.{Device}
 use Rattle.service_core.specs.Headline.{AreParted}
 use Rattle.service_core.specs.History.{History}
 use Rattle.service_core.specs.Service.{AreAlone, ServiceState, empty}
+use Rattle.sessions.specs.Fitting.{own_graph}
 use Rattle.shared_core.specs.CoreState.{CoreState, ShareState}
 use Rattle.settling.specs.declared.not_settled.Cause.TheVariants.{Missing, Mismatch}
 use Rattle.settling.specs.Settling.{IsCause, IsSettled}
@@ -42,18 +43,18 @@ pub record Ran (names : List (List ℕ)) (histories : List History) (sessions : 
   pub parted : AreParted service.device service
 
 -- the operator's lines ahead are served from the empty device; then the sessions run; and then the operator's other lines are served by the
--- settled service. The operator's text is that of all these lines
+-- settled service, all over the device's own graph. The operator's text is that of all these lines
 pub record IsServedOnThreads (device : Device) (script : Script) (answered : Answered) : Type 0 where
   pub names : List (List ℕ)
   pub service : ServiceState
   pub ahead_text : List ℕ
-  pub ahead : Serves [] (empty device) script.ahead ahead_text names service
+  pub ahead : Serves (own_graph device) [] (empty device) script.ahead ahead_text names service
   pub settled : ServiceState
   pub ran : Ran names service.histories script.sessions (map section_told answered.sections.items) settled
   pub last_names : List (List ℕ)
   pub last : ServiceState
   pub rest_text : List ℕ
-  pub rest : Serves names settled script.rest rest_text last_names last
+  pub rest : Serves (own_graph device) names settled script.rest rest_text last_names last
   pub operator_is : answered.operator.items ≡ ahead_text ++ rest_text
 
 -- a receipt that isn't borne out is the first such

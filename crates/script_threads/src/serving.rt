@@ -17,6 +17,7 @@ use line_text::MemorySink;
 use operator::Operator;
 use script_text::{SessionInput, ThreadedScript};
 use service_core::{Device, Service};
+use sessions::device_graph;
 use settling::Cause;
 use shared_core::{Core, Share};
 use std::alloc::{AllocGlobal, Global};
@@ -77,7 +78,7 @@ fn serve<
         sessions,
         rest,
     } = script;
-    let graph = DeviceGraph::new(alloc, &device.arch, device.columns, device.rows)?;
+    let graph = device_graph(alloc, &device)?;
     let mut service = Service::new(alloc, device)?;
     let mut operator = Operator::new(alloc);
     let mut reply = MemorySink::new(alloc);

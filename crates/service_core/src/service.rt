@@ -130,6 +130,7 @@ impl Service {
     /// Where a live tenancy's strip stands: how many columns lie before it. All strips are parted.
     pub fn offset(&self, id: u32) -> Option<u32>
         ensures value { result ≡ offset_of self.now.plan.strips id }
+        ensures laid_out { IsLaidOut self.now.plan }
         ensures parted { AreParted self.now.device self.now }
         ensures alone { AreAlone self.now }
     {

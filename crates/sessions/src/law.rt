@@ -10,6 +10,7 @@ ghost use Rattle.sessions.specs.declared.steps.StepOutcome.{StepOutcome};
 ghost use Rattle.sessions.specs.declared.steps.StepOutcome.TheVariants.{NoMemory, Unfit};
 ghost use Rattle.sessions.specs.declared.told.Answer.{Answer};
 ghost use Rattle.sessions.specs.EndToEnd.{LineIsToldAlone, alone_after};
+ghost use Rattle.sessions.specs.Fitting.{FitsOwnDevice};
 ghost use Rattle.sessions.specs.SessionAnswer.{IsAnswer};
 ghost use Rattle.sessions.specs.Steps.{Waits};
 ghost use Rattle.sessions.specs.WholeSession.{Turn, Turns, events_in, heard, session_text, written};
@@ -33,4 +34,10 @@ pub fn whole_session()
 /// job of the tenancy runs, its next step is out, the journal is full, or the tenancy isn't live.
 pub fn wait_ends()
     ensures { (old new : ServiceState) (id : ℕ) (steps : List Call) (last : StepOutcome) → Waits id steps last → Run old steps new → (last ≡ NoMemory) ⊎ ((last ≡ Unfit) ⊎ (takeable_in (live_of new.histories id) ≡ false)) }
+{}
+
+/// The device's own graph has a window for each job that the core gives out, where the strip of its tenancy stands then. Whatever
+/// calls were made of the core before.
+pub fn fits_own_device()
+    ensures { FitsOwnDevice }
 {}

@@ -1,7 +1,9 @@
-ghost use Rattle.std.specs.Prelude.{◌≡◌, IfSome, List};
+ghost use Rattle.std.specs.Prelude.{◌≡◌, ◌≢◌, IfSome, IsSome, List};
 ghost use Rattle.job_state.specs.JobValue.{basis_in};
-ghost use Rattle.service_core.specs.Calls.{IsOriginIn};
+ghost use Rattle.service_core.specs.Calls.{IsNextStep, IsOriginIn};
 ghost use Rattle.service_core.specs.Run.{Call, Run};
+ghost use Rattle.sessions.specs.declared.steps.StepOutcome.TheVariants.{Unfit};
+ghost use Rattle.sessions.specs.Fitting.{own_graph};
 ghost use Rattle.sessions.specs.Steps.{MakesStep, StepsAndPuts, Waits};
 
 use job_state::AnyJob;
@@ -27,9 +29,10 @@ pub enum StepOutcome {
 }
 
 /// Takes the next step of that tenancy's job, makes it on the device's graph, where the strip stands, and puts it. A job that the
-/// graph doesn't fit is given back.
+/// graph doesn't fit is given back; the device's own graph fits each.
 pub fn make_step(core: &mut Service, graph: &DeviceGraph, id: u32) -> StepOutcome
-    ensures { (calls : List Call) × MakesStep id calls result × Run core.old calls core.new }
+    ensures made { (calls : List Call) × MakesStep id calls result × Run core.old calls core.new }
+    ensures own { graph.now ≡ own_graph core.old.device → result ≢ Unfit }
 {
     match core.take(id) {
         Some(job) => match window_of(core, graph, &job) {
@@ -40,9 +43,11 @@ pub fn make_step(core: &mut Service, graph: &DeviceGraph, id: u32) -> StepOutcom
     }
 }
 
-/// The window for a job's step, where the strip of its tenancy stands now: none where it isn't live, or the graph doesn't fit.
+/// The window for a job's step, where the strip of its tenancy stands now: none where it isn't live, or the graph doesn't fit. The
+/// device's own graph has one for each job that its tenancy would take now.
 pub fn window_of<'g>(core: &Service, graph: &'g DeviceGraph, job: &AnyJob) -> Option<Window<'g>>
-    ensures { IfSome result (λ window. window ≡ basis_in job.now.step.sources) }
+    ensures fits { IfSome result (λ window. window ≡ basis_in job.now.step.sources) }
+    ensures own { graph.now ≡ own_graph core.now.device → IsNextStep core.now job.now.step → IsSome result }
 {
     match core.offset(job.id()) {
         Some(offset) => job.window(graph, offset),
@@ -62,7 +67,8 @@ fn unfit(core: &mut Service, job: AnyJob) -> StepOutcome
 /// given back.
 pub fn step_and_put(core: &mut Service, job: AnyJob, window: &Window<'_>) -> StepOutcome
     requires { window.now ≡ basis_in job.step.sources }
-    ensures { (calls : List Call) × StepsAndPuts job calls result × Run core.old calls core.new }
+    ensures put { (calls : List Call) × StepsAndPuts job calls result × Run core.old calls core.new }
+    ensures fits { result ≢ Unfit }
 {
     step_and_put_from(core, job, window, Origin::Unknown)
 }
@@ -76,7 +82,8 @@ fn step_and_put_from(
 ) -> StepOutcome
     requires origin { IsOriginIn core.old job.step origin }
     requires window { window.now ≡ basis_in job.step.sources }
-    ensures { (calls : List Call) × StepsAndPuts job calls result × Run core.old calls core.new }
+    ensures put { (calls : List Call) × StepsAndPuts job calls result × Run core.old calls core.new }
+    ensures fits { result ≢ Unfit }
 {
     match job.step(window) {
         Ok(done) => match core.put_from(done, origin) {
@@ -98,7 +105,8 @@ fn step_and_put_from(
 /// Makes steps of that tenancy's job until there is none to take, or memory lacks. Tells what the last came to. Each that is
 /// recorded is an entry of the journal, so they end.
 pub(crate) fn run_steps(core: &mut Service, graph: &DeviceGraph, id: u32) -> StepOutcome
-    ensures { (calls : List Call) × Waits id calls result × Run core.old calls core.new }
+    ensures waits { (calls : List Call) × Waits id calls result × Run core.old calls core.new }
+    ensures own { graph.now ≡ own_graph core.old.device → result ≢ Unfit }
 {
     'steps: loop {
         match make_step(core, graph, id) {

@@ -1,5 +1,5 @@
-use Rattle.std.proofs.Common.{ℕ, ◌≡◌, [], ◌∷◌, ◌++◌, refl, sym, ap, subst, ◌∙◌}
-use Rattle.service_core.specs.Run.Call.{Evict as EvictCall, Move as MoveCall}
+use Rattle.std.proofs.Common.{ℕ, ◌≡◌, [], ◌∷◌, ◌++◌, None, refl, sym, ap, subst, ◌∙◌}
+use Rattle.service_core.specs.Run.Call.{Evict as EvictCall, Move as MoveCall, Take}
 use Rattle.operator.specs.OwnersText.{owners_text}
 use Rattle.operator.specs.OperatorText.{evicted_text, list_text, moved_text, outcome_text, taken_text}
 use Rattle.operator.proofs.OperatorLemmas.{on_ok, lengths-evicted, lengths-moved, evicts, moves}
@@ -16,7 +16,7 @@ returns-in-Evict c =
     (λ appended. (
       EvictCall c.last_id.result c.evict-answer.result ∷ [],
       evicted_text c.evict-answer.result,
-      evicts c.args.self.now c.args.jobs.now c.args.core.now c.evict-answer.new.self c.in-Evict.name.now c.last_id.result c.evict-answer.result c.last_id.ensures c.evict-answer.ensures,
+      evicts c.args.self.now c.args.jobs.now c.args.graph.now c.args.core.now c.evict-answer.new.self c.in-Evict.name.now c.last_id.result c.evict-answer.result c.last_id.ensures c.evict-answer.ensures,
       appended,
       c.requires ∙ lengths-evicted c.args.core.now c.evict-answer.new.self c.last_id.result c.evict-answer.result c.evict-answer.ensures,
     ))
@@ -29,7 +29,7 @@ returns-in-Move c =
     (λ appended. (
       MoveCall c.last_id-in-Move.result c.in-Move.offset c.move_strip-answer.result ∷ [],
       moved_text c.in-Move.offset c.move_strip-answer.result,
-      moves c.args.self.now c.args.jobs.now c.args.core.now c.move_strip-answer.new.self c.in-Move.name.now c.last_id-in-Move.result c.in-Move.offset c.move_strip-answer.result c.last_id-in-Move.ensures c.move_strip-answer.ensures,
+      moves c.args.self.now c.args.jobs.now c.args.graph.now c.args.core.now c.move_strip-answer.new.self c.in-Move.name.now c.last_id-in-Move.result c.in-Move.offset c.move_strip-answer.result c.last_id-in-Move.ensures c.move_strip-answer.ensures,
       appended,
       c.requires ∙ lengths-moved c.args.core.now c.move_strip-answer.new.self c.last_id-in-Move.result c.in-Move.offset c.move_strip-answer.result c.move_strip-answer.ensures,
     ))
@@ -56,7 +56,7 @@ returns-in_ok-owners-in-Owners c =
     c.push_owners.ensures)
 
 pub returns-in-Admit : goal.returns-in-Admit
-returns-in-Admit c = rw c.in-Admit.is (on_ok c.admit.result (λ admits. admits c.args.jobs.now) c.admit.ensures)
+returns-in-Admit c = rw c.in-Admit.is (on_ok c.admit.result (λ admits. admits c.args.jobs.now c.args.graph.now) c.admit.ensures)
 
 pub returns-in-Step : goal.returns-in-Step
 returns-in-Step c =
@@ -65,7 +65,7 @@ returns-in-Step c =
     (λ s. (
       tried_calls s.tried,
       tried_text s.tried,
-      (s.tried, s.counted, rw (← c.last_id-in-Step.ensures) s.makes, s.runs, refl, refl, refl, refl),
+      (s.tried, s.counted, rw (← c.last_id-in-Step.ensures) s.makes, s.runs, refl, refl, refl, refl, refl, s.fits),
       s.told,
       c.requires ∙ sym s.even,
     ))
@@ -79,7 +79,7 @@ returns-in-Put c =
     (λ appended. (
       put.0,
       outcome_text c.put-outcome.result,
-      (c.put-outcome.result, put.1, put.2, refl, c.put-outcome.ensures.jobs, refl),
+      (c.put-outcome.result, put.1, put.2, refl, c.put-outcome.ensures.jobs, refl, refl, c.put-outcome.ensures.fits),
       appended,
       c.requires ∙ lengths-run c.args.core.now c.put-outcome.new.core put.0 (steady_held _ put.0 c.put-outcome.result put.1) put.2,
     ))
@@ -94,7 +94,16 @@ returns-in_ok-number-in-Take c =
     (λ appended. (
       taken.1,
       taken_text c.in_ok-number-in-Take.number,
-      (taken.0, (let P : ℕ → Type 0 = λ n. Holds n taken.0 taken.1 in subst P c.last_id-in-Take.ensures taken.2), taken.3, refl, taken.4, ap taken_text taken.5),
+      (
+        taken.0,
+        (let P : ℕ → Type 0 = λ n. Holds n taken.0 taken.1 in subst P c.last_id-in-Take.ensures taken.2),
+        taken.3,
+        refl,
+        taken.4,
+        ap taken_text taken.5,
+        refl,
+        λ own none. taken.6 own none ∙ ap (λ n. Take n None ∷ []) c.last_id-in-Take.ensures,
+      ),
       appended,
       c.requires ∙ lengths-run c.args.core.now new taken.1 (steady_take c.last_id-in-Take.result taken.0 taken.1 taken.2) taken.3,
     ))
