@@ -1,5 +1,5 @@
 -- The device's own graph, and the window on it that a job has.
-use Rattle.std.specs.Prelude.{ℕ, ◌≡◌, List, Option, Some, true}
+use Rattle.std.specs.Prelude.{ℕ, ◌≡◌, List, Some, true}
 use Rattle.job_state.specs.declared.step.JobStep.{JobStep}
 use Rattle.job_state.specs.Job.{JobState}
 use Rattle.rr_graph.specs.Graph.{Basis}
