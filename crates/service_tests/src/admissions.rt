@@ -20,7 +20,14 @@ fn come_and_go(core: &mut Service) -> bool {
 }
 
 /// Whether a receipt tells the second tenancy's first command.
-fn is_told(core: &mut Service, text: SharedText) -> bool {
+fn is_told(alloc: Global, core: &mut Service) -> bool {
+    match text(alloc, AND) {
+        Some(text) => is_told_of(core, text),
+        None => false,
+    }
+}
+
+fn is_told_of(core: &mut Service, text: SharedText) -> bool {
     match core.tenant(2, Command::Upload(text)) {
         Ok(receipt) => is_first(receipt),
         Err(_) => false,
@@ -58,13 +65,13 @@ fn is_noted(refusal: NotServed) -> bool {
 }
 
 fn all_is_so(alloc: Global) -> bool {
-    match (new_core(alloc, 9), text(alloc, AND)) {
-        (Some(mut core), Some(text)) => {
-            let is_so = come_and_go(&mut core) && is_told(&mut core, text) && is_gone(&mut core);
+    match new_core(alloc, 9) {
+        Some(mut core) => {
+            let is_so = come_and_go(&mut core) && is_told(alloc, &mut core) && is_gone(&mut core);
             drop(core);
             is_so
         }
-        _ => false,
+        None => false,
     }
 }
 

@@ -116,10 +116,10 @@ fn put_elsewhere(
 fn is_answered(
     alloc: Global,
     graph: &DeviceGraph,
-    cores: (&mut Service, &mut Service),
+    core: &mut Service,
+    other: &mut Service,
     row: &(Begun, Begun, StepReply, StepReply),
 ) -> bool {
-    let (core, other) = cores;
     let (from, to, foreign, own) = *row;
     let answers = (
         Some(PutReply::Recorded(foreign)),
@@ -130,16 +130,32 @@ fn is_answered(
         && put_elsewhere(core, other, graph) == answers
 }
 
-/// The same with cores of its own.
-fn is_row(alloc: Global, graph: &DeviceGraph, row: &(Begun, Begun, StepReply, StepReply)) -> bool {
-    match (new_core(alloc, 1), new_core(alloc, 1)) {
-        (Some(mut core), Some(mut other)) => {
-            let is_so = is_answered(alloc, graph, (&mut core, &mut other), row);
-            drop(core);
+/// The same with another core of its own.
+fn is_answered_elsewhere(
+    alloc: Global,
+    graph: &DeviceGraph,
+    core: &mut Service,
+    row: &(Begun, Begun, StepReply, StepReply),
+) -> bool {
+    match new_core(alloc, 1) {
+        Some(mut other) => {
+            let is_so = is_answered(alloc, graph, core, &mut other, row);
             drop(other);
             is_so
         }
-        _ => false,
+        None => false,
+    }
+}
+
+/// The same with both cores of its own.
+fn is_row(alloc: Global, graph: &DeviceGraph, row: &(Begun, Begun, StepReply, StepReply)) -> bool {
+    match new_core(alloc, 1) {
+        Some(mut core) => {
+            let is_so = is_answered_elsewhere(alloc, graph, &mut core, row);
+            drop(core);
+            is_so
+        }
+        None => false,
     }
 }
 

@@ -93,7 +93,7 @@ fn is_first(id: u32, generation: u32, number: u32, sources: &Sources) -> bool {
 }
 
 /// Whether a job tells its step before it is made, after it, and given back.
-#[tactic(auto, using(crate::proofs::Taken::taken_so))]
+#[tactic(auto, using(crate::proofs::Taken::out_so))]
 fn tells_its_step(slot: &mut Slot, graph: &DeviceGraph) -> bool {
     match slot.take() {
         Some(job) => {
@@ -141,7 +141,7 @@ fn comes_back(slot: &mut Slot, done: Done) -> bool
 }
 
 /// Whether the job is finished by its next step.
-#[tactic(auto, using(crate::proofs::Taken::taken_so))]
+#[tactic(auto, using(crate::proofs::Taken::out_so))]
 fn is_finished(slot: &mut Slot, graph: &DeviceGraph) -> bool {
     match slot.take() {
         Some(job) => puts(slot, graph, job),

@@ -39,6 +39,25 @@ fn is_shown<
     }
 }
 
+/// The same, with a graph of its own.
+fn is_shown_on_graph<
+    C: Ledger + Send + Sync,
+    P: Ledger + Send + Sync,
+    R: Threads + Wait + AllocGlobal + Sync,
+>(rt: &R, core: Core<C, P>, shown: Shown) -> bool {
+    match new_graph(rt.alloc()) {
+        Some(graph) => {
+            let is_so = is_shown(rt, core, &graph, shown);
+            drop(graph);
+            is_so
+        }
+        None => {
+            drop(core);
+            false
+        }
+    }
+}
+
 /// The same, of a core with two ledgers.
 fn shows_on<
     C: Ledger + Send + Sync,
@@ -48,16 +67,9 @@ fn shows_on<
     requires commands { (commands.name ≡ C.name) × (commands.parts ≡ C.parts) × (commands.parts ≡ 65536) }
     requires puts { (puts.name ≡ P.name) × (puts.parts ≡ P.parts) × (puts.parts ≡ 17) }
 {
-    match (
-        new_graph(rt.alloc()),
-        new_core::<C, P>(rt.alloc(), commands, puts),
-    ) {
-        (Some(graph), Some(core)) => {
-            let is_so = is_shown(rt, core, &graph, shown);
-            drop(graph);
-            is_so
-        }
-        _ => false,
+    match new_core::<C, P>(rt.alloc(), commands, puts) {
+        Some(core) => is_shown_on_graph(rt, core, shown),
+        None => false,
     }
 }
 
