@@ -209,14 +209,20 @@ fn is_so_with(alloc: Global, graph: &DeviceGraph) -> bool {
     }
 }
 
+fn is_so_of(alloc: Global) -> bool {
+    match new_graph(alloc, 1) {
+        Some(graph) => {
+            let is_so = is_so_with(alloc, &graph);
+            drop(graph);
+            is_so
+        }
+        None => false,
+    }
+}
+
 #[test]
 fn a_job_tells_its_step(rt: HostRuntime) {
-    let alloc = rt.alloc();
-    let is_so = match new_graph(alloc, 1) {
-        Some(graph) => is_so_with(alloc, &graph),
-        None => false,
-    };
-    assert!(rt; is_so);
+    assert!(rt; is_so_of(rt.alloc()));
 }
 
 /// Whether sources are the same as their copy, and not as one with another effort.
