@@ -1,7 +1,7 @@
 //! What windows show of a device of five columns.
 ghost use Rattle.std.specs.Prelude.{◌≤◌};
 
-use crate::graphs::{NARROW, WIDE, node, pair_count};
+use crate::graphs::{NARROW, WIDE, pair_count};
 use arch_file::read_arch;
 use fixtures::ARCHITECTURE;
 use rr_graph::{Node, NodeKind, StripGraph};
@@ -67,8 +67,13 @@ fn window_counts(graph: &DeviceGraph) -> bool {
 
 /// Whether a node is moved to where a strip stands, and back.
 fn moves_nodes() -> bool {
-    let own = node(NodeKind::ChanX, 1, 0, 1);
-    let there = node(NodeKind::ChanX, 3, 0, 1);
+    let own = Node {
+        x: 1,
+        kind: NodeKind::ChanX,
+        y: 0,
+        n: 1,
+    };
+    let there = Node { x: 3, ..own };
     shift(2, own) == there && unshift(2, there) == Some(own) && unshift(4, there).is_none()
 }
 
