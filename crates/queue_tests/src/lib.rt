@@ -1,21 +1,13 @@
 //! Tests of the ready queue: what no contract says of it, which is that something happens.
 //!
-//! - `closing`: a queue that is closed.
-//! - `order`: which number is popped first.
+//! - `closing`: a queue that is closed, or full.
 //! - `meeting`: seats that push and pop on threads of their own.
-//! - `first_queue`: the same pushes and pops in a queue of one line.
-//! - `crew`, `numbers`: a queue with three seats and a pass, and many pushes and pops.
+//! - `seats`: the seats and passes of a queue, one at a time.
 #![tactic(auto)]
 
 #[cfg(test)]
 mod closing;
 #[cfg(test)]
-mod crew;
-#[cfg(test)]
-mod first_queue;
-#[cfg(test)]
 mod meeting;
 #[cfg(test)]
-mod numbers;
-#[cfg(test)]
-mod order;
+mod seats;

@@ -1,6 +1,7 @@
 //! A whole script.
-ghost use Rattle.std.specs.Prelude.{◌≡◌, ◌≤◌, List, ℕ, map, All, IfErr, IfOk};
+ghost use Rattle.std.specs.Prelude.{◌≡◌, ◌≤◌, [], List, ℕ, map, All, IfErr, IfOk};
 ghost use Rattle.arch_file.specs.Arch.{IsArch};
+ghost use Rattle.job_queue.specs.Balance.{log};
 ghost use Rattle.script_text.specs.Threaded.{Said, parts_of, said_by};
 ghost use Rattle.service_core.specs.History.{History};
 ghost use Rattle.script_threads.specs.Served.{IsServedOnThreads, IsUnserved, Ran, section_told};
@@ -150,8 +151,8 @@ fn prepare<'t, C: Ledger, P: Ledger>(
     operator: &Operator<'t>,
     sessions: Vec<SessionInput<'t>>,
 ) -> Result<Prepared<'t, C, P>, Unserved>
-    ensures seats { IfOk result (λ p. All (λ s. s.of ≡ p.ready) p.workers.0.items) }
-    ensures passes { IfOk result (λ p. All (λ s. s.of ≡ p.ready) p.sessions.0.items) }
+    ensures seats { IfOk result (λ p. All (λ s. s ≡ record { of = p.ready; log = log [] [] }) p.workers.0.items) }
+    ensures passes { IfOk result (λ p. All (λ s. s ≡ record { of = p.ready; log = log [] [] }) p.sessions.0.items) }
     ensures seated { IfOk result (λ p. p.sessions.1.items ≡ map (asked_of operator.now core.old.service.histories) (map said_by sessions.entry.items)) }
     ensures unserved { IfErr result IsUnserved }
 {
@@ -177,8 +178,8 @@ fn run_prepared<
     core: Core<C, P>,
     prepared: Prepared<'t, C, P>,
 ) -> Result<(Service, Vec<Section<'t>>), Unserved>
-    requires seats { All (λ s. s.of ≡ prepared.ready) prepared.workers.0.items }
-    requires passes { All (λ s. s.of ≡ prepared.ready) prepared.sessions.0.items }
+    requires seats { All (λ s. s ≡ record { of = prepared.ready; log = log [] [] }) prepared.workers.0.items }
+    requires passes { All (λ s. s ≡ record { of = prepared.ready; log = log [] [] }) prepared.sessions.0.items }
     ensures ok { (names : List (List ℕ)) (histories : List History) (sessions : List Said) → prepared.entry.sessions.1.items ≡ map (asked_of names histories) sessions → IfOk result (λ r. Ran names histories sessions (map section_told r.1.items) r.0) }
     ensures unserved { IfErr result IsUnserved }
 {
