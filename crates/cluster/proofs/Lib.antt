@@ -16,6 +16,3 @@ mod Legal
 mod Partition
 mod BlockNetLaws
 mod PackingLaws
-pub mod Pairs
-pub mod Outputs
-pub mod Keys

@@ -11,7 +11,7 @@ use rr_graph::{Resource, ResourceKind};
 const MOST_PINS: u32 = 145;
 
 /// What the number of a wire, pin or pad counts.
-#[derive(Clone, Copy)]
+#[derive(Clone, Copy, Debug, PartialEq, Eq)]
 enum Counted {
     Tracks,
     Pins,

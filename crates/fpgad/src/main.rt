@@ -37,10 +37,11 @@ fn words(rt: &HostRuntime) -> io::Result<Vec<String>> {
 fn ended(rt: &HostRuntime, outcome: Outcome) -> ExitCode
     ensures { exit_status result ≡ status_of outcome }
 {
-    if outcome.status() != 0 {
+    let status = outcome.status();
+    if status != 0 {
         let _ = rt.eprintln(outcome);
     }
-    outcome.exit_code()
+    ExitCode::from(status)
 }
 
 /// Tells why the words are refused.

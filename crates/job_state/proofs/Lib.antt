@@ -16,4 +16,3 @@ pub mod RoutingSteps
 pub mod Sharing
 pub mod Beginnings
 pub mod Keeping
-pub mod Stages

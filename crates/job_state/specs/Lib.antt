@@ -7,4 +7,3 @@ pub mod Held
 pub mod Ends
 pub mod RoutedCircuits
 pub mod RoutedSet
-pub mod Stages

@@ -3,4 +3,3 @@ mod FinishLemmas
 mod LineLemmas
 mod OneOfList
 mod PartLemmas
-mod ServeLemmas

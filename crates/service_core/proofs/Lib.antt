@@ -8,7 +8,6 @@ pub mod Histories
 pub mod Keeps
 pub mod Slots
 pub mod Serving
-pub mod MovedStrips
 pub mod Effects
 pub mod Counting
 pub mod Alone
@@ -17,4 +16,3 @@ pub mod Owning
 pub mod Alike
 pub mod There
 pub mod Booking
-pub mod Moving

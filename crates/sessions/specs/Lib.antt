@@ -1,5 +1,4 @@
 pub mod EndToEnd
-pub mod Fitting
 pub mod Items
 pub mod Reading
 pub mod SessionAnswer

@@ -1,4 +1,0 @@
-pub mod Orders
-pub mod Entries
-pub mod Filling
-pub mod Sorting

@@ -1,4 +1,0 @@
-pub mod Kept
-pub mod Table
-pub mod Rows
-pub mod Shared

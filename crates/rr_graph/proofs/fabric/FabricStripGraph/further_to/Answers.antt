@@ -1,0 +1,12 @@
+use Rattle.std.proofs.Common.{ap, ◌∙◌}
+use Rattle.rr_graph.specs.Ways.{further_to}
+use Rattle.rr_graph.proofs.Fabrics.{fabric_columns, fabric_node}
+use Rattle.rr_graph.proofs.fabric.FabricStripGraph.further_to.Goals as goal
+
+pub node-requires-clause-within : goal.node-requires-clause-within
+node-requires-clause-within c = fabric_columns c.self.inside.nodes c.self.inside.table _ c.args.node c.self.invariant.0 c.self.view_is c.requires.node
+
+pub returns : goal.returns
+returns c =
+    let node = c.node.ensures ∙ fabric_node c.self.inside.nodes c.self.inside.table _ c.args.node c.self.invariant.0 c.self.view_is c.requires.node in
+    c.further_from.ensures ∙ ap (λ place. further_to c.args.self.now.arch c.args.self.now.strip c.args.sink place) node
