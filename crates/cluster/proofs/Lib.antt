@@ -16,3 +16,6 @@ mod Legal
 mod Partition
 mod BlockNetLaws
 mod PackingLaws
+pub mod Pairs
+pub mod Outputs
+pub mod Keys

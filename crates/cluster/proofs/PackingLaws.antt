@@ -1,8 +1,6 @@
 -- The laws of each packing.
-use Rattle.std.proofs.Common.{◌≡◌, ◌≢◌, ℕ, ◌<◌, ◌≤◌, List, ◌++◌, length, get_or, map, refl, sym, ap, subst, arith, length-append}
-use Rattle.std.specs.Prelude.{AllPairs}
+use Rattle.std.proofs.Common.{◌≡◌, ◌≢◌, ℕ, ◌≤◌, List, ◌++◌, length, map, refl, sym, ap, subst, arith}
 use Rattle.std.specs.List.{concat}
-use Rattle.std.proofs.lemmas.List.{get_or_append_left}
 use Rattle.arch_file.proofs.FewPins.{few_pins}
 use Rattle.blif.specs.declared.latches.Latch.{Latch}
 use Rattle.blif.specs.LookupTables.{LookupTable}
@@ -14,17 +12,11 @@ use Rattle.cluster.specs.PackingLaws.{IsLawfulPacking}
 use Rattle.cluster.proofs.BlockNetLaws.{apart, contained, few_nets, nets_lawful}
 use Rattle.cluster.proofs.FewBlocks.{few_clusters, few_distinct}
 use Rattle.cluster.proofs.Going.{fit_among}
+use Rattle.cluster.proofs.Keys.{keys_apart}
 use Rattle.cluster.proofs.Members.{few_driven}
+use Rattle.cluster.proofs.Pairs.{pairs_front}
 use Rattle.cluster.proofs.PackedLaws.{length-blocks_of}
 use Rattle.cluster.proofs.Partition.{ArePacked, all_in, all_packed}
-
--- the front of a list keeps what all its pairs keep
-pairs_front : (R : ℕ → ℕ → Type 0) (xs ys : List ℕ) → AllPairs R (xs ++ ys) → AllPairs R xs
-pairs_front R xs ys pairs i j d before small =
-    let whole : j < length (xs ++ ys) = omega (arith, small, length-append xs ys) in
-    let first : get_or (xs ++ ys) i d ≡ get_or xs i d = get_or_append_left xs ys d i (omega (arith, before, small)) in
-    let second : get_or (xs ++ ys) j d ≡ get_or xs j d = get_or_append_left xs ys d j small in
-    rw (← first, ← second) (pairs i j d before whole)
 
 -- each packed circuit keeps the laws
 pub packing_lawful : (packed : PackedCircuit) → IsPacked packed → IsLawfulPacking packed
@@ -46,6 +38,7 @@ packing_lawful packed lawful =
       nets = nets_lawful packed lawful;
       input_pads = pairs_front (λ net other. net ≢ other) circuit.inputs (map (λ (table : LookupTable). table.output) circuit.tables ++ map (λ (latch : Latch). latch.output) circuit.latches) lawful.circuit.driven_once;
       output_pads = lawful.circuit.shown_once;
+      keys = keys_apart packed lawful once (pairs_front (λ net other. net ≢ other) circuit.inputs (map (λ (table : LookupTable). table.output) circuit.tables ++ map (λ (latch : Latch). latch.output) circuit.latches) lawful.circuit.driven_once);
       few_blocks = omega (arith, driven, shown, clusters, lawful.circuit.few, length-blocks_of packed);
       few_nets = omega (arith, driven, members, few_nets packed);
       few_pins = few_pins packed.arch lawful.arch;

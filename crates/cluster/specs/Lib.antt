@@ -1,6 +1,7 @@
 pub use Rattle.ble_cluster.specs.Bles
 pub mod Clusters
 pub mod Blocks
+pub mod Keys
 pub mod Packing
 pub mod PackedTables
 pub mod UnderWay

@@ -7,6 +7,7 @@ use Rattle.ble_cluster.specs.Bles.{bles_of}
 use Rattle.ble_cluster.specs.Clusters.{elements_at, fits_in_cluster}
 use Rattle.cluster.specs.Clusters.{PackedCircuit}
 use Rattle.cluster.specs.Blocks.{BlockNet, block_nets, blocks_of}
+use Rattle.cluster.specs.Keys.{keys_of}
 
 -- the net controls a latch
 abbrev pub ControlsLatch : Circuit → ℕ → Type 0
@@ -23,7 +24,7 @@ pub record IsBlockNet (packed : PackedCircuit) (between : BlockNet) : Type 0 whe
   pub controls : IsTrue between.global ↔ ControlsLatch packed.circuit between.net
 
 -- Each BLE stands in one cluster, once, and what stands in a cluster fits there. Nets are few enough to be counted by the
--- circuit's, pads of a kind have nets of their own, and the bounds hold for all circuits and architectures.
+-- circuit's, pads of a kind have nets of their own, no two blocks are told by the same, and the bounds hold for all circuits and architectures.
 pub record IsLawfulPacking (packed : PackedCircuit) : Type 0 where
   pub whole : (number : ℕ) → number < length (bles_of packed.circuit) → Contains (concat packed.clusters) number
   pub once : AllPairs (λ number other. number ≢ other) (concat packed.clusters)
@@ -31,6 +32,7 @@ pub record IsLawfulPacking (packed : PackedCircuit) : Type 0 where
   pub nets : All (IsBlockNet packed) (block_nets packed)
   pub input_pads : AllPairs (λ net other. net ≢ other) packed.circuit.inputs
   pub output_pads : AllPairs (λ net other. net ≢ other) packed.circuit.outputs
+  pub keys : AllPairs (λ key other. key ≢ other) (keys_of packed)
   pub few_blocks : length (blocks_of packed) ≤ 16384
   pub few_nets : length (block_nets packed) ≤ 8192
   pub few_pins : length packed.arch.pins ≤ 145

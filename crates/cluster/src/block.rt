@@ -11,6 +11,25 @@ pub enum Block {
     Cluster(u32),
 }
 
+/// What kind of block it is.
+#[derive(Clone, Copy, Debug, PartialEq, Eq, PartialOrd, Ord)]
+pub enum BlockKind {
+    /// A pad by which a net comes in.
+    InputPad,
+    /// A pad by which a net goes out.
+    OutputPad,
+    /// A cluster.
+    Cluster,
+}
+
+/// What a block is told by, whatever its number: its kind and its name. No two blocks of a packed circuit have the same.
+#[derive(Clone, Copy, Debug, PartialEq, Eq, PartialOrd, Ord)]
+pub struct BlockKey<'a> {
+    pub kind: BlockKind,
+    /// The name; of an output pad without the `out:`, which the kind tells.
+    pub name: &'a [u8],
+}
+
 /// A net between blocks.
 #[derive(Clone, Copy, Debug)]
 pub struct BlockNet<'a> {

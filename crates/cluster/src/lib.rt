@@ -22,7 +22,7 @@ mod pin_ranks;
 mod shared;
 
 pub use ble_cluster::{Ble, Bles};
-pub use block::{Block, BlockNet};
+pub use block::{Block, BlockKey, BlockKind, BlockNet};
 pub use fault::{PackError, PackFault};
 pub use laws::laws_of_packing;
 pub use packed::Packed;

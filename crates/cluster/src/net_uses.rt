@@ -12,7 +12,7 @@ use std::alloc::{AllocError, Global};
 
 /// The nets that control latches, which are global, and for each net the blocks that have it on a pin other than one
 /// that drives it.
-#[derive(Debug, Drop)]
+#[derive(Drop)]
 pub(crate) struct NetUses {
     pub(crate) globals: NetSet,
     pub(crate) readers: Rows,
@@ -25,13 +25,13 @@ impl NetUses {
         ensures globals { IfOk result (λ uses. uses.globals ≡ record { count = length circuit.now.nets; nets = distinct (controls_of circuit.now.latches) }) }
         ensures readers { IfOk result (λ uses. uses.readers ≡ readers) }
     {
-        let mut globals = NetSet::new(alloc, circuit.nets.len())?;
-        for latch in circuit.latches.as_slice() {
-            if let Some(control) = latch.control {
-                globals.insert(control)?;
+        match globals_of(alloc, circuit) {
+            Ok(globals) => Ok(NetUses { globals, readers }),
+            Err(error) => {
+                drop(readers);
+                Err(error)
             }
         }
-        Ok(NetUses { globals, readers })
     }
 
     /// Whether the net is global.
@@ -58,6 +58,35 @@ impl NetUses {
     {
         self.is_global(net) || has_other(self.readers(net), driver)
     }
+}
+
+/// The nets that control latches.
+fn globals_of(alloc: Global, circuit: &Circuit) -> Result<NetSet, AllocError>
+    requires { IsCircuit circuit.now }
+    ensures { IfOk result (λ globals. globals ≡ record { count = length circuit.now.nets; nets = distinct (controls_of circuit.now.latches) }) }
+{
+    let mut globals = NetSet::new(alloc, circuit.nets.len())?;
+    match add_controls(&mut globals, circuit) {
+        Ok(()) => Ok(globals),
+        Err(error) => {
+            drop(globals);
+            Err(error)
+        }
+    }
+}
+
+/// Adds the nets that control latches to none.
+fn add_controls(globals: &mut NetSet, circuit: &Circuit) -> Result<(), AllocError>
+    requires circuit { IsCircuit circuit.now }
+    requires none { globals.old ≡ record { count = length circuit.now.nets; nets = [] } }
+    ensures { IfOk result (λ _. globals.new ≡ record { count = length circuit.now.nets; nets = distinct (controls_of circuit.now.latches) }) }
+{
+    for latch in circuit.latches.as_slice() {
+        if let Some(control) = latch.control {
+            globals.insert(control)?;
+        }
+    }
+    Ok(())
 }
 
 /// Whether one of the readers isn't the driver.

@@ -1,11 +1,12 @@
 //! A packed circuit.
 ghost use Rattle.std.specs.Prelude.{◌≡◌, ◌+◌, ◌<◌, length, slice_get, Some};
 ghost use Rattle.ble_cluster.specs.Bles.{bles_of};
-ghost use Rattle.cluster.specs.Blocks.{blocks_of, block_nets, pins_of, carried, nets_of_cluster};
+ghost use Rattle.cluster.specs.Blocks.{blocks_of, block_nets, carried, elements_in, net_name, nets_of_cluster, pins_of, seed_name};
+ghost use Rattle.cluster.specs.Keys.{keys_of};
 ghost use Rattle.cluster.specs.LawfulPackings.{IsPacked};
 ghost use Rattle.cluster.specs.PackedTables.{AreTablesOf};
 
-use crate::block::{Block, BlockNet};
+use crate::block::{Block, BlockKey, BlockKind, BlockNet};
 use crate::packed_tables::PackedTables;
 use arch_file::{Arch, PinClass, SharedArch};
 use ble_cluster::{Ble, Bles};
@@ -132,6 +133,46 @@ impl Packed {
         } else {
             Block::Cluster((number - inputs.len() - outputs.len()) as u32)
         }
+    }
+
+    /// What the block of that number is told by: its kind and its name.
+    pub fn key(&self, number: usize) -> BlockKey<'_>
+        requires { number < length (blocks_of self.now) }
+        ensures { slice_get (keys_of self.now) number ≡ Some (record { kind = result.kind; name = result.name.now }) }
+    {
+        let _ = self.circuit();
+        match self.block(number) {
+            Block::InputPad(net) => BlockKey {
+                kind: BlockKind::InputPad,
+                name: self.net_name(net),
+            },
+            Block::OutputPad(net) => BlockKey {
+                kind: BlockKind::OutputPad,
+                name: self.net_name(net),
+            },
+            Block::Cluster(cluster) => BlockKey {
+                kind: BlockKind::Cluster,
+                name: self.net_name(self.seed_output(cluster as usize)),
+            },
+        }
+    }
+
+    /// The name of a net.
+    fn net_name(&self, net: u32) -> &[u8]
+        requires { net < length self.now.circuit.nets }
+        ensures { result.now ≡ net_name self.now.circuit net }
+    {
+        self.circuit.circuit().nets.name(net as usize)
+    }
+
+    /// The net that a cluster's seed drives.
+    fn seed_output(&self, cluster: usize) -> u32
+        requires { cluster < length self.now.clusters }
+        ensures name { net_name self.now.circuit result ≡ seed_name self.now.circuit (elements_in self.now cluster) }
+        ensures named { result < length self.now.circuit.nets }
+    {
+        let seed = self.clusters.row(cluster)[0];
+        self.bles.ble(seed as usize).output
     }
 
     /// How many nets there are between blocks.

@@ -1,7 +1,10 @@
 //! What is kept beside a packed circuit, so that its pins and nets are told at once.
-ghost use Rattle.std.specs.Prelude.{◌≡◌, IfOk};
+ghost use Rattle.std.specs.Prelude.{◌≡◌, ◌+◌, ◌^◌, ◌<◌, ◌++◌, [], All, IfOk, length};
 ghost use Rattle.ble_cluster.specs.Bles.{bles_of};
+ghost use Rattle.ble_cluster.specs.Nets.{distinct};
+ghost use Rattle.cluster.specs.ClusterPins.{IsElementWithin, pin_ranks, readers_by_net};
 ghost use Rattle.cluster.specs.LawfulPackings.{IsPacked};
+ghost use Rattle.cluster.specs.NetUses.{cluster_nets, controls_of, input_nets};
 ghost use Rattle.cluster.specs.PackedTables.{AreTablesOf};
 
 use crate::block_nets::BlockNets;
@@ -44,17 +47,111 @@ impl PackedTables {
             clocks,
             readers,
         } = PinNets::new(alloc, circuit, bles, clusters)?;
-        let uses = NetUses::new(alloc, circuit, readers)?;
-        let mut nets = BlockNets::new(alloc);
-        add_input_nets(&mut nets, circuit, &uses)?;
-        add_cluster_nets(&mut nets, circuit, &uses, bles, clusters)?;
-        let ranks = ranks_of(alloc, arch.pins.as_slice())?;
-        Ok(PackedTables {
-            inputs,
-            clocks,
-            uses,
-            nets,
-            ranks,
-        })
+        match uses_of(alloc, circuit, arch, bles, clusters, readers) {
+            Ok((uses, nets, ranks)) => Ok(PackedTables {
+                inputs,
+                clocks,
+                uses,
+                nets,
+                ranks,
+            }),
+            Err(error) => {
+                drop(inputs);
+                drop(clocks);
+                Err(error)
+            }
+        }
+    }
+}
+
+/// Who uses which nets, the nets between blocks, and the ranks of pins.
+fn uses_of(
+    alloc: Global,
+    circuit: &Circuit,
+    arch: &Arch,
+    bles: &Bles,
+    clusters: &Rows,
+    readers: Rows,
+) -> Result<(NetUses, BlockNets, Vec<usize>), AllocError>
+    requires bles { bles.now ≡ bles_of circuit.now }
+    requires packed { IsPacked (record { circuit = circuit.now; arch = arch.now; clusters = clusters.now }) }
+    requires readers { readers ≡ readers_by_net circuit.now bles.now clusters.now }
+    ensures globals { IfOk result (λ made. made.0.globals ≡ record { count = length circuit.now.nets; nets = distinct (controls_of circuit.now.latches) }) }
+    ensures readers { IfOk result (λ made. made.0.readers ≡ readers_by_net circuit.now bles.now clusters.now) }
+    ensures nets { IfOk result (λ made. made.1 ≡ input_nets circuit.now made.0 (length circuit.now.inputs) ++ cluster_nets circuit.now made.0 bles.now clusters.now (length clusters.now)) }
+    ensures ranks { IfOk result (λ made. made.2.items ≡ pin_ranks arch.now.pins) }
+{
+    let uses = NetUses::new(alloc, circuit, readers)?;
+    match nets_of(alloc, circuit, arch, bles, clusters, &uses) {
+        Ok((nets, ranks)) => Ok((uses, nets, ranks)),
+        Err(error) => {
+            drop(uses);
+            Err(error)
+        }
+    }
+}
+
+/// The nets between blocks that use nets so, and the ranks of pins.
+fn nets_of(
+    alloc: Global,
+    circuit: &Circuit,
+    arch: &Arch,
+    bles: &Bles,
+    clusters: &Rows,
+    uses: &NetUses,
+) -> Result<(BlockNets, Vec<usize>), AllocError>
+    requires within { All (λ net. net < uses.now.globals.count) circuit.now.inputs }
+    requires elements { All (IsElementWithin uses.now.globals.count) bles.now }
+    requires same_count { length uses.now.readers ≡ uses.now.globals.count }
+    requires members { All (λ cluster. All (λ number. number < length bles.now) cluster) clusters.now }
+    requires few { length circuit.now.inputs + length circuit.now.outputs + length clusters.now < 2 ^ 32 }
+    ensures nets { IfOk result (λ made. made.0 ≡ input_nets circuit.now uses.now (length circuit.now.inputs) ++ cluster_nets circuit.now uses.now bles.now clusters.now (length clusters.now)) }
+    ensures ranks { IfOk result (λ made. made.1.items ≡ pin_ranks arch.now.pins) }
+{
+    let mut nets = BlockNets::new(alloc);
+    match add_nets(&mut nets, circuit, uses, bles, clusters) {
+        Ok(()) => with_ranks(alloc, arch, nets),
+        Err(error) => {
+            drop(nets);
+            Err(error)
+        }
+    }
+}
+
+/// Adds the nets that the input pads and the clusters drive to none.
+fn add_nets(
+    nets: &mut BlockNets,
+    circuit: &Circuit,
+    uses: &NetUses,
+    bles: &Bles,
+    clusters: &Rows,
+) -> Result<(), AllocError>
+    requires within { All (λ net. net < uses.now.globals.count) circuit.now.inputs }
+    requires elements { All (IsElementWithin uses.now.globals.count) bles.now }
+    requires same_count { length uses.now.readers ≡ uses.now.globals.count }
+    requires members { All (λ cluster. All (λ number. number < length bles.now) cluster) clusters.now }
+    requires few { length circuit.now.inputs + length circuit.now.outputs + length clusters.now < 2 ^ 32 }
+    requires none { nets.old ≡ [] }
+    ensures { IfOk result (λ _. nets.new ≡ input_nets circuit.now uses.now (length circuit.now.inputs) ++ cluster_nets circuit.now uses.now bles.now clusters.now (length clusters.now)) }
+{
+    add_input_nets(nets, circuit, uses)?;
+    add_cluster_nets(nets, circuit, uses, bles, clusters)
+}
+
+/// These nets with the ranks of pins.
+fn with_ranks(
+    alloc: Global,
+    arch: &Arch,
+    nets: BlockNets,
+) -> Result<(BlockNets, Vec<usize>), AllocError>
+    ensures nets { IfOk result (λ made. made.0 ≡ nets) }
+    ensures ranks { IfOk result (λ made. made.1.items ≡ pin_ranks arch.now.pins) }
+{
+    match ranks_of(alloc, arch.pins.as_slice()) {
+        Ok(ranks) => Ok((nets, ranks)),
+        Err(error) => {
+            drop(nets);
+            Err(error)
+        }
     }
 }

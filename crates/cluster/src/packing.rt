@@ -70,15 +70,20 @@ impl Packing {
     {
         let bles = Bles::new(alloc, circuit.circuit())?;
         let grower = FreeBles::new(alloc, bles, circuit.circuit().nets.len())?;
-        let clusters = Rows::new(alloc);
-        Ok(Packing {
-            alloc,
-            circuit: circuit.clone()?,
-            arch: arch.clone()?,
-            grower,
-            clusters,
-            made: 0,
-        })
+        match share(circuit, arch) {
+            Ok((circuit, arch)) => Ok(Packing {
+                alloc,
+                circuit,
+                arch,
+                grower,
+                clusters: Rows::new(alloc),
+                made: 0,
+            }),
+            Err(error) => {
+                drop(grower);
+                Err(error)
+            }
+        }
     }
 
     /// The circuit that is packed.
@@ -134,6 +139,23 @@ impl Packing {
                 self.clusters,
                 tables,
             ))),
+        }
+    }
+}
+
+/// The circuit and the architecture once more.
+fn share(
+    circuit: &SharedCircuit,
+    arch: &SharedArch,
+) -> Result<(SharedCircuit, SharedArch), AllocError>
+    ensures { IfOk result (λ shared. (shared.0 ≡ circuit.now) × (shared.1 ≡ arch.now)) }
+{
+    let circuit = circuit.clone()?;
+    match arch.clone() {
+        Ok(arch) => Ok((circuit, arch)),
+        Err(error) => {
+            drop(circuit);
+            Err(error)
         }
     }
 }

@@ -1,5 +1,5 @@
 //! The nets on the pins of all clusters, and the blocks that read each net.
-ghost use Rattle.std.specs.Prelude.{◌≡◌, ℕ, ◌+◌, ◌^◌, ◌<◌, List, ◌++◌, All, IfOk, length};
+ghost use Rattle.std.specs.Prelude.{◌≡◌, ℕ, ◌+◌, ◌^◌, ◌<◌, List, [], ◌++◌, All, IfOk, length};
 ghost use Rattle.blif.specs.LawfulCircuits.{IsCircuit};
 ghost use Rattle.ble_cluster.specs.Bles.{LogicElement};
 ghost use Rattle.cluster.specs.ClusterPins.{IsElementWithin, inputs_of_clusters, clocks_of_clusters, readers_by_net, TellReaders};
@@ -13,7 +13,7 @@ use std::alloc::{AllocError, Global};
 
 /// The outside inputs and the clocks of each cluster, and for each net of the circuit the blocks that have it on a pin
 /// other than one that drives it.
-#[derive(Debug, Drop)]
+#[derive(Drop)]
 pub(crate) struct PinNets {
     pub(crate) inputs: Rows,
     pub(crate) clocks: Rows,
@@ -35,25 +35,121 @@ impl PinNets {
         ensures clocks { IfOk result (λ nets. nets.clocks ≡ clocks_of_clusters bles.now clusters.now) }
         ensures readers { IfOk result (λ nets. nets.readers ≡ readers_by_net circuit.now bles.now clusters.now) }
     {
+        let mut gathered = Gathered::new(alloc, circuit)?;
+        match gathered.add_all(alloc, circuit, bles, clusters) {
+            Ok(readers) => Ok(gathered.into_nets(readers)),
+            Err(error) => {
+                drop(gathered);
+                Err(error)
+            }
+        }
+    }
+}
+
+/// The nets of the clusters so far, and each net with a block that reads it.
+#[derive(Drop)]
+struct Gathered {
+    inputs: Rows,
+    clocks: Rows,
+    pairs: Vec<Keyed>,
+}
+
+impl Gathered {
+    /// No cluster, and the pads of all outputs.
+    fn new(alloc: Global, circuit: &Circuit) -> Result<Self, AllocError>
+        requires circuit { IsCircuit circuit.now }
+        requires few { length circuit.now.inputs + length circuit.now.outputs < 2 ^ 32 }
+        ensures inputs { IfOk result (λ gathered. gathered.inputs ≡ []) }
+        ensures clocks { IfOk result (λ gathered. gathered.clocks ≡ []) }
+        ensures pairs { IfOk result (λ gathered. (elements : List LogicElement) (clusters : List (List ℕ)) → TellReaders circuit.now elements clusters (length circuit.now.outputs) 0 gathered.pairs.items) }
+    {
+        let pairs = pad_pairs(alloc, circuit)?;
+        Ok(Gathered {
+            inputs: Rows::new(alloc),
+            clocks: Rows::new(alloc),
+            pairs,
+        })
+    }
+
+    /// Adds all clusters to none. The readers of each net.
+    fn add_all(
+        &mut self,
+        alloc: Global,
+        circuit: &Circuit,
+        bles: &Bles,
+        clusters: &Rows,
+    ) -> Result<Rows, AllocError>
+        requires elements { All (IsElementWithin (length circuit.now.nets)) bles.now }
+        requires members { All (λ cluster. All (λ number. number < length bles.now) cluster) clusters.now }
+        requires few { length circuit.now.inputs + length circuit.now.outputs + length clusters.now < 2 ^ 32 }
+        requires inputs { self.old.inputs ≡ [] }
+        requires clocks { self.old.clocks ≡ [] }
+        requires pairs { TellReaders circuit.now bles.now clusters.now (length circuit.now.outputs) 0 self.old.pairs.items }
+        ensures inputs { IfOk result (λ _. self.new.inputs ≡ inputs_of_clusters bles.now clusters.now) }
+        ensures clocks { IfOk result (λ _. self.new.clocks ≡ clocks_of_clusters bles.now clusters.now) }
+        ensures readers { IfOk result (λ readers. readers ≡ readers_by_net circuit.now bles.now clusters.now) }
+    {
         let count = circuit.nets.len();
-        let first = circuit.inputs.as_slice().len() + circuit.outputs.as_slice().len();
         let mut sets = ClusterSets::new(alloc, count)?;
-        let mut inputs = Rows::new(alloc);
-        let mut clocks = Rows::new(alloc);
-        let mut pairs = pad_pairs(alloc, circuit)?;
+        let added = self.add_with(&mut sets, circuit, bles, clusters);
+        drop(sets);
+        added?;
+        Rows::by_key(alloc, count, self.pairs.as_slice())
+    }
+
+    /// The same over sets without a net.
+    fn add_with(
+        &mut self,
+        sets: &mut ClusterSets,
+        circuit: &Circuit,
+        bles: &Bles,
+        clusters: &Rows,
+    ) -> Result<(), AllocError>
+        requires elements { All (IsElementWithin (length circuit.now.nets)) bles.now }
+        requires members { All (λ cluster. All (λ number. number < length bles.now) cluster) clusters.now }
+        requires few { length circuit.now.inputs + length circuit.now.outputs + length clusters.now < 2 ^ 32 }
+        requires inputs { self.old.inputs ≡ [] }
+        requires clocks { self.old.clocks ≡ [] }
+        requires pairs { TellReaders circuit.now bles.now clusters.now (length circuit.now.outputs) 0 self.old.pairs.items }
+        requires input_nets { sets.old.inputs.count ≡ length circuit.now.nets }
+        requires output_nets { sets.old.outputs.count ≡ length circuit.now.nets }
+        requires clock_nets { sets.old.clocks.count ≡ length circuit.now.nets }
+        ensures inputs { IfOk result (λ _. self.new.inputs ≡ inputs_of_clusters bles.now clusters.now) }
+        ensures clocks { IfOk result (λ _. self.new.clocks ≡ clocks_of_clusters bles.now clusters.now) }
+        ensures pairs { IfOk result (λ _. TellReaders circuit.now bles.now clusters.now (length circuit.now.outputs) (length clusters.now) self.new.pairs.items) }
+    {
+        let first = circuit.inputs.as_slice().len() + circuit.outputs.as_slice().len();
         for cluster in 0..clusters.len() {
             sets.gather(bles, clusters.row(cluster))?;
-            inputs.push(sets.inputs.nets())?;
-            clocks.push(sets.clocks.nets())?;
+            self.inputs.push(sets.inputs.nets())?;
+            self.clocks.push(sets.clocks.nets())?;
             sets.inputs.insert_all(sets.clocks.nets())?;
-            add_pairs(&mut pairs, sets.inputs.nets(), (first + cluster) as u32)?;
+            add_pairs(
+                &mut self.pairs,
+                sets.inputs.nets(),
+                (first + cluster) as u32,
+            )?;
         }
-        let readers = Rows::by_key(alloc, count, pairs.as_slice())?;
-        Ok(PinNets {
+        Ok(())
+    }
+
+    /// The nets with these readers.
+    fn into_nets(self, readers: Rows) -> PinNets
+        ensures inputs { result.inputs ≡ self.inputs }
+        ensures clocks { result.clocks ≡ self.clocks }
+        ensures readers { result.readers ≡ readers }
+    {
+        let Gathered {
+            inputs,
+            clocks,
+            pairs,
+        } = self;
+        drop(pairs);
+        PinNets {
             inputs,
             clocks,
             readers,
-        })
+        }
     }
 }
 

@@ -1,5 +1,5 @@
 -- Who owns which resource of a device.
-use Rattle.std.specs.Prelude.{ℕ, ◌≡◌, ◌+◌, ◌*◌, ◌≤◌, List, length, replicate, All, Bool, true, ◌&&◌, nat_le, nat_lt, max, Option, Some, None, if◌then◌else◌, slice_index_or, AllPairs, Contains, ◌↔◌}
+use Rattle.std.specs.Prelude.{ℕ, ◌≡◌, ◌+◌, ◌*◌, ◌≤◌, ◌⊎◌, List, length, replicate, All, Bool, true, ◌&&◌, nat_le, nat_lt, max, Option, Some, None, if◌then◌else◌, slice_index_or, AllPairs, Contains, ◌↔◌}
 use Rattle.arch_file.specs.declared.arch.Arch.{Arch}
 use Rattle.rr_graph.specs.declared.resource.Resource.{Resource}
 use Rattle.rr_graph.specs.Resources.{IsEarlier, has, moved_resource, resource_rank}
@@ -53,6 +53,18 @@ Claims old id resources new = AreOwned old resources (Some id) new
 -- those and no others become nobody's
 abbrev pub Releases : Owners → List Resource → Owners → Type 0
 Releases old resources new = AreOwned old resources None new
+
+-- the tenancy owns those, and nothing else
+abbrev pub OwnsJust : Owners → ℕ → List Resource → Type 0
+OwnsJust book id resources = (resource : Resource) → (owner_of book resource ≡ Some id) ↔ (has resources resource ≡ true)
+
+-- nobody else owns the resource
+abbrev pub IsNoOneElses : Owners → ℕ → Resource → Type 0
+IsNoOneElses book id resource = (owner_of book resource ≡ None) ⊎ (owner_of book resource ≡ Some id)
+
+-- the tenancy leaves some resources and takes others, and nobody else's change
+abbrev pub Shifts : Owners → ℕ → List Resource → List Resource → Owners → Type 0
+Shifts old id left taken new = (new.extent ≡ old.extent) × ((resource : Resource) → owner_of new resource ≡ (if has taken resource then Some id else if has left resource then None else owner_of old resource))
 
 -- a list has each resource that is owned, with its owner, in node order, and nothing else
 pub record ListsOwners (book : Owners) (list : List Owned) : Type 0 where

@@ -1,7 +1,7 @@
 //! The book of owners.
 ghost use Rattle.std.specs.Prelude.{◌≡◌, ◌+◌, ◌<◌, ◌≤◌, ◌*◌, All, IfOk, None, Some, length, map, max, true};
 ghost use Rattle.arch_file.specs.Arch.{IsArch};
-ghost use Rattle.device_book.specs.Owners.{AreOwned, Claims, IsBook, IsExtent, IsFree, ListsOwners, Releases, StandIn, extent_of, in_book, nobody, number_of, owner_of, size_of};
+ghost use Rattle.device_book.specs.Owners.{AreOwned, Claims, IsBook, IsExtent, IsFree, IsNoOneElses, ListsOwners, OwnsJust, Releases, Shifts, StandIn, extent_of, in_book, nobody, number_of, owner_of, size_of};
 ghost use Rattle.rr_graph.specs.Resources.{moved_resource, resource_rank};
 
 use arch_file::Arch;
@@ -91,6 +91,18 @@ impl Book {
     {
         let extent = self.extent;
         write(&mut self.owners, extent, None, offset, resources);
+    }
+
+    /// Moves what a tenancy owns from one offset of its strip to another: these resources of the strip. Old and new ones may overlap.
+    pub fn shift(&mut self, id: u16, from: u32, to: u32, resources: &[Resource])
+        requires left { StandIn self.old.extent from resources.now }
+        requires taken { StandIn self.old.extent to resources.now }
+        requires owned { OwnsJust self.old id (map (moved_resource from) resources.now) }
+        requires free { All (IsNoOneElses self.old id) (map (moved_resource to) resources.now) }
+        ensures { Shifts self.old id (map (moved_resource from) resources.now) (map (moved_resource to) resources.now) self.new }
+    {
+        self.release(from, resources);
+        self.claim(id, to, resources);
     }
 }
 

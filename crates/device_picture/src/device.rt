@@ -7,7 +7,7 @@ use rr_graph::{Resource, ResourceKind};
 use std::alloc::Global;
 
 /// A wire, pin or pad of the device, and the id of the tenancy that owns it.
-#[derive(Clone, Copy, Debug)]
+#[derive(Clone, Copy)]
 pub struct Owned {
     pub node: Resource,
     pub owner: u32,
@@ -15,7 +15,7 @@ pub struct Owned {
 }
 
 /// The device: its size, the tenancies that live on it, and what they own, in node order.
-#[derive(Debug, Drop)]
+#[derive(Drop)]
 pub struct Device<'t> {
     pub size: DeviceSize,
     pub tenancies: Vec<Tenancy<'t>>,

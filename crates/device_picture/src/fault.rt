@@ -46,7 +46,7 @@ impl Fault {
 }
 
 /// The least line that is refused, counted from 1.
-#[derive(Clone, Copy, Debug, PartialEq, Eq)]
+#[derive(Clone, Copy, Debug)]
 pub struct InputFault {
     pub fault: Fault,
     pub line: usize,
@@ -61,7 +61,7 @@ impl fmt::Display for InputFault {
 }
 
 /// Why no device was read.
-#[derive(Clone, Copy, Debug, PartialEq, Eq)]
+#[derive(Clone, Copy, Debug)]
 pub enum ReadError {
     NoMemory,
     Fault(InputFault),

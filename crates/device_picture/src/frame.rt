@@ -18,7 +18,7 @@ const STYLES: &str = "<style>text{font-family:sans-serif;fill:#222}\
 .g{fill:url(#guard)}</style>\n";
 
 /// How things are laid out on the sheet, in the lengths of the device.
-#[derive(Clone, Copy, Debug)]
+#[derive(Clone, Copy)]
 pub(crate) struct Frame {
     pub(crate) geometry: Geometry,
     /// The size of letters.
@@ -237,9 +237,9 @@ impl Frame {
     fn step(&self) -> u32
         ensures { 1 ≤ result }
     {
-        for step in [1, 2, 5, 10, 20, 50] {
-            if step * self.geometry.pitch() >= 3 * self.font {
-                return step;
+        for step in [1, 2, 5, 10, 20, 50].iter() {
+            if *step * self.geometry.pitch() >= 3 * self.font {
+                return *step;
             }
         }
         100

@@ -8,7 +8,7 @@ ghost use Rattle.std.specs.Prelude.{◌+◌, ◌*◌, ◌≤◌};
 use crate::device::Device;
 
 /// Where things stand. Heights count upwards.
-#[derive(Clone, Copy, Debug)]
+#[derive(Clone, Copy)]
 pub(crate) struct Geometry {
     /// How long and high a block is.
     pub(crate) block: u32,

@@ -11,7 +11,7 @@ use text_parts::{Part, write_parts};
 pub(crate) const LONGEST_PATH: usize = 4096;
 
 /// A rectangle.
-#[derive(Clone, Copy, Debug)]
+#[derive(Clone, Copy)]
 struct Mark {
     x: u32,
     y: u32,

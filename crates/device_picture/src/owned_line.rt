@@ -11,7 +11,7 @@ use rr_graph::{Resource, ResourceKind};
 const MOST_PINS: u32 = 145;
 
 /// What the number of a wire, pin or pad counts.
-#[derive(Clone, Copy, Debug, PartialEq, Eq)]
+#[derive(Clone, Copy)]
 enum Counted {
     Tracks,
     Pins,

@@ -17,7 +17,7 @@ const OTHER_REPLIES: [&str; 9] = [
 ];
 
 /// Where in the input a line stands.
-#[derive(Clone, Copy, Debug, PartialEq, Eq)]
+#[derive(Clone, Copy, PartialEq, Eq)]
 enum Place {
     /// Before the operator's section.
     Before,
@@ -28,7 +28,7 @@ enum Place {
 }
 
 /// Why a line is not taken.
-#[derive(Clone, Copy, Debug)]
+#[derive(Clone, Copy)]
 enum Refusal {
     NoMemory,
     Fault(Fault),
@@ -57,7 +57,7 @@ impl Refusal {
 }
 
 /// What was read so far.
-#[derive(Debug, Drop)]
+#[derive(Drop)]
 struct Reader<'t> {
     device: Device<'t>,
     place: Place,

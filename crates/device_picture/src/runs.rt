@@ -4,7 +4,7 @@ ghost use Rattle.std.specs.Prelude.{◌+◌, ◌≤◌};
 use std::alloc::{AllocError, Global};
 
 /// Wires of one owner and track in one channel, each beside the next one.
-#[derive(Clone, Copy, Debug)]
+#[derive(Clone, Copy)]
 pub(crate) struct Run {
     /// The channel: its row if it is horizontal, else its column.
     pub(crate) channel: u32,
@@ -50,7 +50,7 @@ impl Run {
 }
 
 /// The runs that may still grow, by lane. A lane is a place where at most one grows at a time.
-#[derive(Debug, Drop)]
+#[derive(Drop)]
 pub(crate) struct Runs {
     open: Vec<Option<Run>>,
 }

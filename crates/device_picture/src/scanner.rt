@@ -3,7 +3,7 @@
 use line_text::decimal_u32;
 
 /// What is left of a line.
-#[derive(Clone, Copy, Debug)]
+#[derive(Clone, Copy)]
 pub(crate) struct Scanner<'t> {
     rest: &'t [u8],
 }

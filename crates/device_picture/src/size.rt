@@ -2,7 +2,7 @@
 ghost use Rattle.std.specs.Prelude.{◌≤◌, IfNone, IfSome};
 
 /// The size of the device, of its channels and of its ends of columns, within the service's limits.
-#[derive(Clone, Copy, Debug, PartialEq, Eq)]
+#[derive(Clone, Copy)]
 pub struct DeviceSize {
     /// Columns of the device, 1 to 256.
     pub columns: u32,

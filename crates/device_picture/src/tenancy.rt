@@ -9,7 +9,7 @@ use rr_graph::{Resource, ResourceKind};
 const LONGEST_NAME: usize = 32;
 
 /// A tenancy that lives on the device.
-#[derive(Clone, Copy, Debug)]
+#[derive(Clone, Copy)]
 pub struct Tenancy<'t> {
     pub id: u32,
     /// Letters, digits and `_`, 1 to 32 of them.

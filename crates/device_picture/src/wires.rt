@@ -9,7 +9,7 @@ use rr_graph::ResourceKind;
 use text_parts::{Part, write_parts};
 
 /// Which way a channel goes.
-#[derive(Clone, Copy, Debug, PartialEq, Eq)]
+#[derive(Clone, Copy)]
 pub(crate) enum Direction {
     Across,
     Upwards,

@@ -37,11 +37,10 @@ fn words(rt: &HostRuntime) -> io::Result<Vec<String>> {
 fn ended(rt: &HostRuntime, outcome: Outcome) -> ExitCode
     ensures { exit_status result ≡ status_of outcome }
 {
-    let status = outcome.status();
-    if status != 0 {
+    if outcome.status() != 0 {
         let _ = rt.eprintln(outcome);
     }
-    ExitCode::from(status)
+    outcome.exit_code()
 }
 
 /// Tells why the words are refused.

@@ -4,6 +4,7 @@ use Rattle.std.specs.Prelude.{map, IfOk, OnOk}
 use Rattle.std.specs.List.{flat_map}
 use Rattle.std.proofs.lemmas.Grind.{flat_map-append}
 use Rattle.std.proofs.lemmas.List.{map_push}
+use Rattle.rr_graph.specs.Graph.{Basis}
 use Rattle.service_core.specs.declared.device.Device.{Device}
 use Rattle.service_core.specs.Headline.{AreParted, EachIsAlone}
 use Rattle.service_core.specs.Owners.{IsExactBook}
@@ -15,7 +16,8 @@ use Rattle.script_text.specs.declared.act.Act.{Act}
 use Rattle.script_text.specs.declared.act.Act.TheVariants.{Operator, Session}
 use Rattle.operator.specs.OperatorText.{last_id}
 use Rattle.sessions.specs.declared.told.Answer.{Answer}
-use Rattle.sessions.specs.SessionAnswer.{Asks, IsAnswer}
+use Rattle.sessions.specs.Fitting.{own_graph}
+use Rattle.sessions.specs.SessionAnswer.{Asks, IsAnswer, LeavesNone}
 use Rattle.sessions.specs.EndToEnd.{LineIsToldAlone}
 use Rattle.fpgad_run.specs.EndToEnd.{AreToldAlone, IsToldAlone}
 use Rattle.sessions.specs.SessionText.{answer_text}
@@ -52,12 +54,14 @@ pub sections_after-push : (sections : List Section) (ts : List Telling) (t : Tel
 sections_after-push sections [] t = refl
 sections_after-push sections (x ∷ xs) t = sections_after-push (told_session sections x.act x.text) xs t
 
-pub progress_none : (core : ServiceState) (running : Running) → Begins core running → Progress (record { names = []; jobs = []; service = core }) running []
-progress_none core running b = record { tellings = []; all = refl; told = b.stage; operator_text = b.operator_text; sections = b.sections; even = b.even }
+pub progress_none : (graph : Basis) (core : ServiceState) (running : Running) → Begins graph core running → Progress (record { names = []; jobs = []; service = core; graph = graph }) running []
+progress_none graph core running b = record { tellings = []; all = refl; told = b.stage; operator_text = b.operator_text; sections = b.sections; even = b.even }
 
 -- a service that begins does so from its own core
-pub begins_own : (core : ServiceState) (running : Running) → Begins core running → Begins running.core running
-begins_own core running b = let P : ServiceState → Type 0 = λ s. Begins s running in subst P (sym (ap (λ (s : Stage). s.service) b.stage)) b
+pub begins_own : (graph : Basis) (core : ServiceState) (running : Running) → Begins graph core running → Begins running.graph.now running.core running
+begins_own graph core running b =
+    let P : Stage → Type 0 = λ s. Begins s.graph s.service running in
+    subst P (sym b.stage) b
 
 pub progress_more : (start : Stage) (old new : Running) (acts : List (Act (List ℕ))) (act : Act (List ℕ)) → Progress start old acts → Serves old act new → Progress start new (acts ++ act ∷ [])
 progress_more start old new acts act p s =
@@ -82,10 +86,13 @@ told_runs old [] new is = ap (λ (s : Stage). s.service) is
 told_runs old (t ∷ ts) new is = Run-append old.service t.calls (is.0).service (calls_of ts) new.service (answered_runs old t.act t.calls t.text is.0 is.1) (told_runs is.0 ts new is.2)
 
 -- a session's line is answered by the core
-pub session_answers : (names : List (List ℕ)) (jobs : HeldList) (old new : ServiceState) (name : List ℕ) (id : ℕ) (line : SessionLine) (answer : Answer) → id ≡ last_id names name → IsAnswer old id line answer new →
-    (calls : List Call) × IsAnswered (record { names = names; jobs = jobs; service = old }) (Session name line) calls (answer_text answer) (record { names = names; jobs = jobs; service = new })
-session_answers names jobs old new name id line answer at is =
-    (is.0, (answer, (let P : ℕ → Type 0 = λ n. Asks n line is.0 answer in subst P at is.1), is.2, refl, refl, refl))
+pub session_answers : (names : List (List ℕ)) (jobs : HeldList) (graph : Basis) (old new : ServiceState) (name : List ℕ) (id : ℕ) (line : SessionLine) (answer : Answer) → id ≡ last_id names name → IsAnswer old id line answer new →
+    (graph ≡ own_graph old.device → LeavesNone id line answer new) →
+    (calls : List Call) × IsAnswered (record { names = names; jobs = jobs; service = old; graph = graph }) (Session name line) calls (answer_text answer) (record { names = names; jobs = jobs; service = new; graph = graph })
+session_answers names jobs graph old new name id line answer at is leaves =
+    let P : ℕ → Type 0 = λ n. Asks n line is.0 answer in
+    let Q : ℕ → Type 0 = λ n. graph ≡ own_graph old.device → LeavesNone n line answer new in
+    (is.0, (answer, subst P at is.1, is.2, refl, refl, refl, refl, subst Q at leaves))
 
 -- it admits and evicts no one
 pub lengths-answered : (old new : ServiceState) (id : ℕ) (line : SessionLine) (answer : Answer) → IsAnswer old id line answer new → length old.histories ≡ length new.histories
@@ -125,11 +132,11 @@ tellings_alone headline device before old (t ∷ ts) last runs told = (
 
 -- all that was told is what is written
 pub replies_all : (options : Options) (arch : Arch) (all : List (Act (List ℕ))) (running : Running) (acts : List (Act (List ℕ))) (output : List ℕ) → IsHeadline →
-    Progress (record { names = []; jobs = []; service = empty (device_of options arch) }) running acts → acts ≡ all → output ≡ told_so_far running →
+    Progress (record { names = []; jobs = []; service = empty (device_of options arch); graph = own_graph (device_of options arch) }) running acts → acts ≡ all → output ≡ told_so_far running →
     IsReplies options (Ok (arch, all)) output
 replies_all options arch all running acts output headline p same is =
     let runs : Run (empty (device_of options arch)) (calls_of p.tellings) running.core =
-    told_runs (record { names = []; jobs = []; service = empty (device_of options arch) }) p.tellings (stage_of running) p.told in
+    told_runs (record { names = []; jobs = []; service = empty (device_of options arch); graph = own_graph (device_of options arch) }) p.tellings (stage_of running) p.told in
     record {
       arch = arch;
       acts = all;
@@ -138,7 +145,7 @@ replies_all options arch all running acts output headline p same is =
       last = stage_of running;
       all = p.all ∙ same;
       told = p.told;
-      each_alone = tellings_alone headline (device_of options arch) [] (record { names = []; jobs = []; service = empty (device_of options arch) }) p.tellings (stage_of running) refl p.told;
+      each_alone = tellings_alone headline (device_of options arch) [] (record { names = []; jobs = []; service = empty (device_of options arch); graph = own_graph (device_of options arch) }) p.tellings (stage_of running) refl p.told;
       runs = runs;
       alone = headline.alone _ _ _ runs;
       parted = headline.parted _ _ _ runs;

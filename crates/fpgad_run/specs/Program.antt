@@ -9,6 +9,7 @@ use Rattle.service_core.specs.Service.{empty}
 use Rattle.service_core.specs.Headline.{AreParted, EachIsAlone}
 use Rattle.service_core.specs.Owners.{IsExactBook}
 use Rattle.service_core.specs.Run.{Run}
+use Rattle.sessions.specs.Fitting.{own_graph}
 use Rattle.fpgad_run.specs.declared.options.Options.{Options}
 use Rattle.fpgad_run.specs.declared.outcome.Outcome.{Outcome}
 use Rattle.fpgad_run.specs.declared.outcome.Outcome.TheVariants.{Done, ArchUnreadable, ArchRefused, InputFailed, OutputFailed, ScriptFault, NoMemory, NotSettled}
@@ -45,7 +46,7 @@ start_of tracks architecture input = start_by (acts_from 1) tracks architecture 
 abbrev pub device_of : Options → Arch → Device
 device_of options arch = record { arch = arch; columns = options.columns; rows = options.rows }
 
--- the bytes are what a run of the acts from the empty device writes. Each session's line is told what its tenancy is told alone, by
+-- the bytes are what a run of the acts from the empty device writes, over the device's own graph. Each session's line is told what its tenancy is told alone, by
 -- the service for a single user; of the run's calls so is each tenancy, the strips are parted, and nothing has two owners
 pub record IsReplies (options : Options) (start : Start (List (Act (List ℕ)))) (output : List ℕ) : Type 0 where
   pub arch : Arch
@@ -54,8 +55,8 @@ pub record IsReplies (options : Options) (start : Start (List (Act (List ℕ))))
   pub tellings : List Telling
   pub last : Stage
   pub all : map (λ t. t.act) tellings ≡ acts
-  pub told : Tells (record { names = []; jobs = []; service = empty (device_of options arch) }) tellings last
-  pub each_alone : AreToldAlone (device_of options arch) (record { names = []; jobs = []; service = empty (device_of options arch) }) [] tellings
+  pub told : Tells (record { names = []; jobs = []; service = empty (device_of options arch); graph = own_graph (device_of options arch) }) tellings last
+  pub each_alone : AreToldAlone (device_of options arch) (record { names = []; jobs = []; service = empty (device_of options arch); graph = own_graph (device_of options arch) }) [] tellings
   pub runs : Run (empty (device_of options arch)) (calls_of tellings) last.service
   pub alone : EachIsAlone (device_of options arch) (calls_of tellings) last.service
   pub parted : AreParted (device_of options arch) last.service

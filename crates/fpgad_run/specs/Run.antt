@@ -4,19 +4,20 @@ use Rattle.std.specs.List.{flat_map}
 use Rattle.std.specs.Str.{bytes_eq}
 use Rattle.service_core.specs.Run.{Call, Run}
 use Rattle.sessions.specs.declared.told.Answer.{Answer}
-use Rattle.sessions.specs.SessionAnswer.{Asks}
+use Rattle.sessions.specs.SessionAnswer.{Asks, LeavesNone}
 use Rattle.sessions.specs.SessionText.{answer_text}
 use Rattle.script_text.specs.declared.act.Act.{Act}
 use Rattle.script_text.specs.declared.act.Act.TheVariants.{Operator, Session}
 use Rattle.operator.specs.OperatorText.{last_id}
-use Rattle.operator.specs.Serving.{Stage, IsServed}
+use Rattle.operator.specs.Serving.{HasOwnGraph, Stage, IsServed}
 
--- an act is answered with that text, after those calls of the core
+-- an act is answered with that text, after those calls of the core. Over the device's own graph a wait leaves no step to take
 abbrev pub IsAnswered : Stage → Act (List ℕ) → List Call → List ℕ → Stage → Type 0
 IsAnswered old (Operator line) calls text new = IsServed old line calls text new
 IsAnswered old (Session name line) calls text new = (answer : Answer)
     × Asks (last_id old.names name) line calls answer × Run old.service calls new.service × (new.names ≡ old.names)
     × (new.jobs ≡ old.jobs) × (text ≡ answer_text answer)
+    × (new.graph ≡ old.graph) × (HasOwnGraph old → LeavesNone (last_id old.names name) line answer new.service)
 
 -- an act with its calls and its text
 pub record Telling : Type 0 where

@@ -1,10 +1,12 @@
 -- Private: a script that runs, and what it has told so far.
 use Rattle.std.specs.Prelude.{ℕ, ◌≡◌, List, [], ◌++◌, length}
+use Rattle.rr_graph.specs.Graph.{Basis}
 use Rattle.service_core.specs.Run.{Call}
 use Rattle.service_core.specs.Service.{ServiceState}
 use Rattle.sessions.specs.declared.line.SessionLine.{SessionLine}
 use Rattle.sessions.specs.declared.told.Answer.{Answer}
-use Rattle.sessions.specs.SessionAnswer.{IsAnswer}
+use Rattle.sessions.specs.Fitting.{own_graph}
+use Rattle.sessions.specs.SessionAnswer.{IsAnswer, LeavesNone}
 use Rattle.sessions.specs.SessionText.{answer_text}
 use Rattle.fpgad_run.specs.declared.in_order.Running.{Running}
 use Rattle.fpgad_run.specs.declared.sections.Sections.{Sections}
@@ -15,7 +17,7 @@ use Rattle.fpgad_run.specs.Run.{Section, IsAnswered, output_of, told_operator, t
 use Rattle.fpgad_run.specs.Zipped.{zipped}
 
 abbrev pub stage_of : Running → Stage
-stage_of running = record { names = running.operator; jobs = running.jobs; service = running.core }
+stage_of running = record { names = running.operator; jobs = running.jobs; service = running.core; graph = running.graph.now }
 
 abbrev pub sections_in : Sections → List Section
 sections_in sections = zipped sections.names sections.texts.items
@@ -33,8 +35,8 @@ abbrev pub told_so_far : Running → List ℕ
 told_so_far running = output_of (held running.operator_text) (sections_of running)
 
 -- nothing is told yet
-pub record Begins (core : ServiceState) (running : Running) : Type 0 where
-  pub stage : stage_of running ≡ record { names = []; jobs = []; service = core }
+pub record Begins (graph : Basis) (core : ServiceState) (running : Running) : Type 0 where
+  pub stage : stage_of running ≡ record { names = []; jobs = []; service = core; graph = graph }
   pub operator_text : held running.operator_text ≡ []
   pub sections : sections_of running ≡ []
   pub even : IsEven running
@@ -48,8 +50,9 @@ pub record Serves (old : Running) (act : Act (List ℕ)) (new : Running) : Type 
   pub sections : sections_of new ≡ told_session (sections_of old) act text
   pub even : IsEven new
 
--- a line of a name's session is answered by the core, and the answer stands in the name's section
-abbrev pub AnswersSession : Sections → ServiceState → List ℕ → ℕ → SessionLine → Sections → ServiceState → Type 0
-AnswersSession old service name id line new new_service = (answer : Answer)
+-- a line of a name's session is answered by the core, over that graph, and the answer stands in the name's section
+abbrev pub AnswersSession : Basis → Sections → ServiceState → List ℕ → ℕ → SessionLine → Sections → ServiceState → Type 0
+AnswersSession graph old service name id line new new_service = (answer : Answer)
     × IsAnswer service id line answer new_service
     × (sections_in new ≡ with_text (sections_in old) name (answer_text answer)) × (length new.texts.items ≡ length new.names)
+    × (graph ≡ own_graph service.device → LeavesNone id line answer new_service)

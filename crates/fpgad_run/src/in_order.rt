@@ -14,8 +14,9 @@ use line_text::MemorySink;
 use operator::{HeldJobs, Operator};
 use script_text::{Act, Script, read_script};
 use service_core::{Service, headline};
-use sessions::end_to_end;
+use sessions::{device_graph, end_to_end};
 use std::alloc::{AllocError, Global};
+use strips::DeviceGraph;
 
 /// The bytes that the run of a script writes, or why it writes none.
 pub(crate) fn replies(
@@ -46,34 +47,39 @@ fn serve(
     requires { IsArch arch }
     ensures { IfOk result (λ output. IsReplies options.now (Ok (arch, script.entry)) output.items) }
 {
-    let core = Service::new(alloc, options.device(arch))?;
-    let mut running = Running::new(alloc, core);
+    let device = options.device(arch);
+    let graph = device_graph(alloc, &device)?;
+    let core = Service::new(alloc, device)?;
+    let mut running = Running::new(alloc, &graph, core);
     let output = running.serve_all(alloc, script);
     running.end();
     output
 }
 
-/// A script that runs: the core, the operator's names and jobs, and what was told so far.
-struct Running<'t> {
+/// A script that runs: the device's graph, the core, the operator's names and jobs, and what was told so far.
+struct Running<'t, 'g> {
+    graph: &'g DeviceGraph,
     core: Service,
     operator: Operator<'t>,
-    jobs: HeldJobs,
+    jobs: HeldJobs<'g>,
     operator_text: MemorySink,
     sections: Sections<'t>,
 }
 
-impl<'t> Running<'t> {
+impl<'t, 'g> Running<'t, 'g> {
     ghost use Rattle.arch_file.specs.declared.arch.Arch.{Arch};
     ghost use Rattle.service_core.specs.Service.{empty};
+    ghost use Rattle.sessions.specs.Fitting.{own_graph};
     ghost use Rattle.fpgad_run.specs.declared.options.Options.{Options};
     ghost use Rattle.fpgad_run.specs.Program.{device_of};
     ghost use Rattle.fpgad_run.specs.Told.{Begins, IsEven, Serves, told_so_far};
 
-    fn new(alloc: Global, core: Service) -> Self
+    fn new(alloc: Global, graph: &'g DeviceGraph, core: Service) -> Self
         requires { core.histories ≡ [] }
-        ensures { Begins core result }
+        ensures { Begins graph.now core result }
     {
         Running {
+            graph,
             core,
             operator: Operator::new(alloc),
             jobs: HeldJobs::new(alloc),
@@ -84,8 +90,8 @@ impl<'t> Running<'t> {
 
     /// Serves a script in order, and gives all that was told.
     fn serve_all(&mut self, alloc: Global, script: Script<'t>) -> Result<Vec<u8>, AllocError>
-        requires { Begins self.old.core self.old }
-        ensures { (options : Options) (arch : Arch) → self.old.core ≡ empty (device_of options arch) → IfOk result (λ output. IsReplies options (Ok (arch, script.entry)) output.items) }
+        requires { Begins self.old.graph.now self.old.core self.old }
+        ensures { (options : Options) (arch : Arch) → self.old.core ≡ empty (device_of options arch) → self.old.graph.now ≡ own_graph (device_of options arch) → IfOk result (λ output. IsReplies options (Ok (arch, script.entry)) output.items) }
     {
         for act in script.into_acts() {
             self.serve(act)?;
@@ -98,6 +104,7 @@ impl<'t> Running<'t> {
     /// Ends the service: jobs that are still held are given back.
     fn end(self) {
         let Running {
+            graph: _,
             mut core,
             operator,
             jobs,
@@ -120,6 +127,7 @@ impl<'t> Running<'t> {
             Act::Operator(line) => {
                 self.operator.serve(
                     &mut self.core,
+                    self.graph,
                     &mut self.jobs,
                     line,
                     &mut self.operator_text,
@@ -127,7 +135,8 @@ impl<'t> Running<'t> {
             }
             Act::Session(name, line) => {
                 let id = self.operator.last_id(name);
-                self.sections.answer(&mut self.core, name, id, line)
+                self.sections
+                    .answer(&mut self.core, self.graph, name, id, line)
             }
         }
     }

@@ -5,7 +5,7 @@ ghost use Rattle.fpgad_run.specs.Inputs.{AreTexts};
 use script_text::cut_text;
 
 /// Where the architecture's text is.
-#[derive(Clone, Copy, Debug)]
+#[derive(Clone, Copy)]
 pub enum Architecture<'a> {
     /// At the script's head, up to a line that is `.` alone.
     InScript,

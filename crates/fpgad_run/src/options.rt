@@ -1,22 +1,60 @@
 ghost use Rattle.std.specs.Prelude.{◌≡◌, ◌≤◌, IfSome, IfNone};
 
 use arch_file::Arch;
-use clap::error::ErrorKind;
-use clap::{Arg, ArgMatches, Command, Error, value_parser};
-use line_text::decimal_u32;
+use clap::Error;
+use option_words::{Given, OptionWord, Program, Takes, read_words, refusal};
 use service_core::Device;
-use std::alloc::{AllocError, Global};
+use std::alloc::Global;
 use std::convert::AsStr;
 
-const ABOUT: &str = "Place and route for one shared FPGA: serves the script on standard input";
+/// The program for its options.
+const PROGRAM: Program = Program {
+    name: "fpgad",
+    about: "Place and route for one shared FPGA: serves the script on standard input",
+    after_help: "Example: fpgad --arch my.arch --tracks 8 --columns 20 --rows 10 < my.script",
+    options: &[
+        OptionWord {
+            name: "arch",
+            value_name: "FILE",
+            help: "The architecture; without it the script's lines up to a line that is `.` alone",
+            takes: Takes::Text,
+            default: None,
+        },
+        OptionWord {
+            name: "tracks",
+            value_name: "W",
+            help: "Tracks of each channel, 1 to 64",
+            takes: Takes::Number(1, 64),
+            default: Some("2"),
+        },
+        OptionWord {
+            name: "columns",
+            value_name: "NX",
+            help: "Columns of the device, 1 to 256",
+            takes: Takes::Number(1, 256),
+            default: Some("9"),
+        },
+        OptionWord {
+            name: "rows",
+            value_name: "NY",
+            help: "Rows of the device, 1 to 64",
+            takes: Takes::Number(1, 64),
+            default: Some("1"),
+        },
+        OptionWord {
+            name: "workers",
+            value_name: "K",
+            help: "Threads that make the jobs' steps, 0 to 16",
+            takes: Takes::Number(0, 16),
+            default: Some("0"),
+        },
+    ],
+};
 
-const ARCH_HELP: &str =
-    "The architecture; without it the script's lines up to a line that is `.` alone";
-
-const EXAMPLE: &str = "Example: fpgad --arch my.arch --tracks 8 --columns 20 --rows 10 < my.script";
+const BEYOND: &str = "a number is beyond its limits";
 
 /// The size of the device and of its channels, and how many threads make the jobs' steps, within their limits.
-#[derive(Clone, Copy, Debug, PartialEq, Eq)]
+#[derive(Clone, Copy)]
 pub struct Options {
     /// Tracks of each channel, 1 to 64.
     pub tracks: u32,
@@ -68,7 +106,7 @@ impl Options {
 }
 
 /// A command line: the options, and the path of the architecture's file if it is in one.
-#[derive(Clone, Copy, Debug)]
+#[derive(Clone, Copy)]
 pub struct CommandLine<'a> {
     pub options: Options,
     pub arch: Option<&'a str>,
@@ -76,59 +114,23 @@ pub struct CommandLine<'a> {
 
 /// The options that these words give, the first being the program's name. An error is clap's, and a call for help is one.
 pub fn read_options<'a, S: AsStr>(alloc: Global, words: &'a [S]) -> Result<CommandLine<'a>, Error> {
-    let mut command = command(alloc)?;
-    let matches = command.try_get_matches_from_mut(words)?;
-    match options_in(&matches) {
-        Some(options) => Ok(CommandLine {
-            options,
-            arch: matches.get_str("arch"),
-        }),
-        None => Err(command.error(ErrorKind::ValueValidation, "a number has a sign")?),
+    let given = read_words(alloc, &PROGRAM, words)?;
+    let line = line_of(&given);
+    drop(given);
+    match line {
+        Ok(line) => Ok(line),
+        Err(why) => Err(refusal(alloc, &PROGRAM, words, why)),
     }
 }
 
-/// What the program takes.
-fn command<'a>(alloc: Global) -> Result<Command<'a>, AllocError> {
-    let arch = Arg::new(alloc, "arch")
-        .long("arch")
-        .value_name("FILE")
-        .help(ARCH_HELP);
-    let tracks = number(alloc, "tracks", "W", "2", 1, 64).help("Tracks of each channel, 1 to 64");
-    let columns = number(alloc, "columns", "NX", "9", 1, 256).help(
-        "Columns of the device, 1 to 256",
-    );
-    let rows = number(alloc, "rows", "NY", "1", 1, 64).help("Rows of the device, 1 to 64");
-    let workers = number(alloc, "workers", "K", "0", 0, 16).help(
-        "Threads that make the jobs' steps, 0 to 16",
-    );
-    let command = Command::new(alloc, "fpgad")
-        .about(ABOUT)
-        .after_help(EXAMPLE);
-    let command = command.arg(arch)?.arg(tracks)?.arg(columns)?;
-    command.arg(rows)?.arg(workers)
-}
-
-/// An option that is a number.
-fn number<'a>(
-    alloc: Global,
-    name: &'a str,
-    value: &'a str,
-    default: &'a str,
-    least: i64,
-    most: i64,
-) -> Arg<'a> {
-    Arg::new(alloc, name)
-        .long(name)
-        .value_name(value)
-        .value_parser(value_parser!(u32).range(least..=most))
-        .default_value(default)
-}
-
-/// The numbers, if none has a sign.
-fn options_in(matches: &ArgMatches<'_>) -> Option<Options> {
-    let tracks = decimal_u32(matches.get_str("tracks")?.as_bytes())?;
-    let columns = decimal_u32(matches.get_str("columns")?.as_bytes())?;
-    let rows = decimal_u32(matches.get_str("rows")?.as_bytes())?;
-    let workers = decimal_u32(matches.get_str("workers")?.as_bytes())?;
-    Options::new(tracks, columns, rows, workers)
+/// The command line that the options give, or why they are refused.
+fn line_of<'a>(given: &Given<'a>) -> Result<CommandLine<'a>, &'static str> {
+    let tracks = given.number("tracks")?;
+    let columns = given.number("columns")?;
+    let rows = given.number("rows")?;
+    let options = Options::new(tracks, columns, rows, given.number("workers")?).ok_or(BEYOND)?;
+    Ok(CommandLine {
+        options,
+        arch: given.text("arch"),
+    })
 }

@@ -1,4 +1,5 @@
 ghost use Rattle.std.specs.Prelude.{◌≡◌};
+ghost use Rattle.std.specs.Process.{exit_status};
 ghost use Rattle.fpgad_run.specs.Outcomes.{status_of};
 
 use arch_file::{ArchError, ArchFault};
@@ -6,6 +7,7 @@ use script_text::ScriptError;
 use script_threads::Unserved;
 use std::alloc::AllocError;
 use std::fmt;
+use std::process::ExitCode;
 
 /// How a run of a script ended.
 #[derive(Clone, Copy, Debug, PartialEq, Eq)]
@@ -40,6 +42,13 @@ impl Outcome {
             Outcome::NoMemory => 4,
             Outcome::NotSettled => 5,
         }
+    }
+
+    /// That status, as a program ends with it.
+    pub fn exit_code(&self) -> ExitCode
+        ensures { exit_status result ≡ status_of self.now }
+    {
+        ExitCode::from(self.status())
     }
 }
 

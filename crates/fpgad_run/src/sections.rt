@@ -7,6 +7,7 @@ use line_text::{Failed, MemorySink, NameSet};
 use service_core::Service;
 use sessions::{Answer, SessionLine, answer};
 use std::alloc::{AllocError, Global};
+use strips::DeviceGraph;
 
 /// What each session was told, by names in the order of their first lines.
 #[derive(Drop)]
@@ -35,19 +36,20 @@ impl<'t> Sections<'t> {
     pub(crate) fn answer(
         &mut self,
         core: &mut Service,
+        graph: &DeviceGraph,
         name: &'t [u8],
         id: u32,
         line: SessionLine,
     ) -> Result<(), AllocError>
         requires { length self.old.texts.items ≡ length self.old.names }
-        ensures { OnOk result (AnswersSession self.old core.old name.now id line self.new core.new) }
+        ensures { OnOk result (AnswersSession graph.now self.old core.old name.now id line self.new core.new) }
     {
         let number = self.names.add_numbered(name)?;
         if number < self.texts.len() {
-            return told(answer(core, id, line, &mut self.texts[number]));
+            return told(answer(core, graph, id, line, &mut self.texts[number]));
         }
         let mut first = MemorySink::new(self.alloc);
-        told(answer(core, id, line, &mut first))?;
+        told(answer(core, graph, id, line, &mut first))?;
         self.texts.push(first)?;
         Ok(())
     }

@@ -28,7 +28,7 @@ impl Kind {
 }
 
 /// A place of a strip.
-#[derive(Clone, Copy, Debug, PartialEq, Eq)]
+#[derive(Clone, Copy, Debug, PartialEq, Eq, PartialOrd, Ord)]
 pub struct Place {
     /// The column, from 1.
     pub x: u32,

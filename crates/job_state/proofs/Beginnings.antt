@@ -5,6 +5,8 @@ use Rattle.blif.specs.declared.circuit.Circuit.{Circuit}
 use Rattle.blif.specs.declared.fault.BlifFault.{BlifFault}
 use Rattle.cluster.specs.Clusters.{PackedCircuit, PackingUnderWay, packed_of, packing_steps}
 use Rattle.grid.specs.declared.Strip.{Strip}
+use Rattle.grid.specs.declared.place.Place.{Place}
+use Rattle.pathfinder.specs.Negotiation.{routed_after}
 use Rattle.pathfinder.specs.PlacedNets.{nets_to_route}
 use Rattle.pathfinder.specs.Routings.{RoutingState}
 use Rattle.rr_graph.specs.Graph.{Basis}
@@ -17,10 +19,9 @@ use Rattle.job_state.specs.declared.work.Work.TheVariants.{Packing, Packed, Plac
 use Rattle.job_state.specs.JobValue.{basis_in, circuit_in, end_value, step_count, is_last, is_whole, is_whole_value, job_value, nets_in, pads_in, packing_sources, pass_count, placing_at, placing_sources, routing_after, value_of, work_of}
 use Rattle.job_state.specs.declared.work.Work.{Work}
 use Rattle.job_state.specs.RoutedCircuits.{pads_of}
-use Rattle.job_state.specs.UnderWay.{GoesOn}
+use Rattle.job_state.specs.UnderWay.{begun_state}
 use Rattle.job_state.proofs.Ended.{packed_value, placing_whole}
 use Rattle.job_state.proofs.NextStep.{as_value}
-use Rattle.job_state.proofs.RoutingSteps.{goes_on}
 
 -- placings
 begun_work : (kind : JobKind) (sources : Sources) (circuit : Circuit) → kind ≡ PlacingJob → work_of kind sources circuit 0 ≡ Placing (placing_at sources circuit 0)
@@ -30,7 +31,7 @@ begun_work RoutingJob sources circuit k = absurd (cc)
 
 -- a placing of a packed circuit, with no pass made
 abbrev pub begun : Sources → PackedCircuit → PlacingUnderWay
-begun sources packed = record { packed = packed; strip = sources.strip; seed = sources.seed; effort = sources.effort; passes = 0 }
+begun sources packed = record { packed = packed; strip = sources.strip; kept = sources.kept; seed = sources.seed; effort = sources.effort; passes = 0 }
 
 begun_value : (sources : Sources) (circuit : Result Circuit BlifFault) (steps : ℕ) (packed : PackedCircuit) → sources.kind ≡ PlacingJob →
     value_of (packing_sources sources.arch sources.strip sources.text) circuit steps ≡ Ok (Packed packed) → value_of sources circuit 0 ≡ Ok (Placing (begun sources packed))
@@ -78,18 +79,23 @@ pads_are sources circuit placed from = ap (λ (other : PlacingUnderWay). pads_of
 abbrev goes_from : Basis → List Resource → RoutingState → Work
 goes_from basis pads state = Routing (record { basis = basis; pads = pads; state = state })
 
-routing_value : (sources : Sources) (circuit : Result Circuit BlifFault) (steps : ℕ) (placed : PlacingUnderWay) (basis : Basis) (pads : List Resource) (state : RoutingState) → sources.kind ≡ RoutingJob →
-    value_of (placing_sources sources.arch sources.strip sources.text sources.seed sources.effort) circuit steps ≡ Ok (Placed placed) →
+-- before the first iteration it goes on
+goes_first : (basis : Basis) (pads : List Resource) (packed : PackedCircuit) (places : List Place) → goes_from basis pads (begun_state basis packed places) ≡ routing_after basis pads (nets_to_route basis packed places) 0
+unfolding routed_after
+goes_first basis pads packed places = refl
+
+routing_value : (sources : Sources) (circuit : Result Circuit BlifFault) (steps : ℕ) (placed : PlacingUnderWay) (basis : Basis) (pads : List Resource) → sources.kind ≡ RoutingJob →
+    value_of (placing_sources sources.arch sources.strip sources.text sources.kept sources.seed sources.effort) circuit steps ≡ Ok (Placed placed) →
     IfOk circuit (λ circuit. placed ≡ placing_at sources circuit (pass_count sources.strip)) →
-    basis ≡ basis_in sources → pads ≡ pads_of placed.packed (places_by_block placed) → state.nets ≡ nets_to_route basis placed.packed (places_by_block placed) → state.iterations ≡ 0 → GoesOn basis state →
-    value_of sources circuit 0 ≡ Ok (Routing (record { basis = basis; pads = pads; state = state }))
-routing_value sources (Ok circuit) steps placed basis pads state kind is from on held nets count after =
-    let begins : Routing (record { basis = basis; pads = pads_in sources circuit; state = state }) ≡ routing_after basis (pads_in sources circuit) (nets_in sources circuit) 0 =
-    goes_on basis (pads_in sources circuit) (nets_in sources circuit) 0 state (nets ∙ nets_are sources circuit placed basis on from) count after in
+    basis ≡ basis_in sources → pads ≡ pads_of placed.packed (places_by_block placed) →
+    value_of sources circuit 0 ≡ Ok (goes_from basis pads (begun_state basis placed.packed (places_by_block placed)))
+routing_value sources (Ok circuit) steps placed basis pads kind is from on held =
     ap as_value
-    (routing_work sources.kind sources circuit kind ∙ ap (λ other. routing_after other (pads_in sources circuit) (nets_in sources circuit) 0) (sym on) ∙ sym begins
-    ∙ ap (λ other. goes_from basis other state) (sym (held ∙ pads_are sources circuit placed from)))
-routing_value sources (Err fault) steps placed basis pads state kind is from on held nets count after = absurd (cc)
+    (routing_work sources.kind sources circuit kind ∙ ap (λ other. routing_after other (pads_in sources circuit) (nets_in sources circuit) 0) (sym on)
+    ∙ ap (λ nets. routing_after basis (pads_in sources circuit) nets 0) (sym (nets_are sources circuit placed basis on from))
+    ∙ ap (λ other. routing_after basis other (nets_to_route basis placed.packed (places_by_block placed)) 0) (sym (held ∙ pads_are sources circuit placed from))
+    ∙ sym (goes_first basis pads placed.packed (places_by_block placed)))
+routing_value sources (Err fault) steps placed basis pads kind is from on held = absurd (cc)
 
 placed_on : (sources : Sources) (circuit : Result Circuit BlifFault) (steps : ℕ) (placed : PlacingUnderWay) → value_of sources circuit steps ≡ Ok (Placed placed) → IfOk circuit (λ circuit. placed ≡ placing_at sources circuit (pass_count sources.strip)) →
     (placed.packed.arch ≡ sources.arch) × (placed.strip ≡ sources.strip)
@@ -106,15 +112,16 @@ abbrev basis_on : Arch → Strip → Basis
 basis_on arch strip = record { arch = arch; strip = strip }
 
 -- a routing begins with the nets between the places of a whole placing
-pub routing_begins : (sources : Sources) (placed : PlacingUnderWay) (graph : Basis) (pads : List Resource) (state : RoutingState) → sources.kind ≡ RoutingJob →
-    end_value (placing_sources sources.arch sources.strip sources.text sources.seed sources.effort) ≡ Ok (Placed placed) →
+pub routing_begins : (sources : Sources) (placed : PlacingUnderWay) (graph : Basis) (pads : List Resource) (places : List Place) → sources.kind ≡ RoutingJob →
+    end_value (placing_sources sources.arch sources.strip sources.text sources.kept sources.seed sources.effort) ≡ Ok (Placed placed) →
     IfOk (circuit_in sources) (λ circuit. placed ≡ placing_at sources circuit (pass_count sources.strip)) →
-    graph.arch ≡ sources.arch → graph.strip ≡ sources.strip → pads ≡ pads_of placed.packed (places_by_block placed) → state.nets ≡ nets_to_route graph placed.packed (places_by_block placed) → state.iterations ≡ 0 → GoesOn graph state →
-    job_value sources 0 ≡ Ok (Routing (record { basis = graph; pads = pads; state = state }))
-routing_begins sources placed graph pads state kind is from arch strip held nets count after =
-    let steps = step_count (placing_sources sources.arch sources.strip sources.text sources.seed sources.effort) in
+    graph.arch ≡ sources.arch → graph.strip ≡ sources.strip → pads ≡ pads_of placed.packed (places_by_block placed) → places ≡ places_by_block placed →
+    job_value sources 0 ≡ Ok (goes_from graph pads (begun_state graph placed.packed places))
+routing_begins sources placed graph pads places kind is from arch strip held at =
+    let steps = step_count (placing_sources sources.arch sources.strip sources.text sources.kept sources.seed sources.effort) in
     let on : graph ≡ basis_in sources = ap (λ other. basis_on other graph.strip) arch ∙ ap (λ other. basis_on sources.arch other) strip in
-    routing_value sources (circuit_in sources) steps placed graph pads state kind is from on held nets count after
+    routing_value sources (circuit_in sources) steps placed graph pads kind is from on held
+    ∙ ap (λ other. as_value (goes_from graph pads (begun_state graph placed.packed other))) (sym at)
 
 -- packings
 begun_stands : (circuit : Circuit) (arch : Arch) (goes : Bool) → goes ≡ true →

@@ -16,3 +16,4 @@ pub mod RoutingSteps
 pub mod Sharing
 pub mod Beginnings
 pub mod Keeping
+pub mod Stages

@@ -1,5 +1,5 @@
 -- The value of a job: what it has made after so many of its steps, as a function of what it is computed from.
-use Rattle.std.specs.Prelude.{ℕ, Bool, true, false, List, Result, Ok, Err, nat_lt, if◌then◌else◌}
+use Rattle.std.specs.Prelude.{ℕ, Bool, true, false, List, [], Result, Ok, Err, nat_lt, if◌then◌else◌}
 use Rattle.std.specs.List.{position_or_len, range_with_len}
 use Rattle.arch_file.specs.declared.arch.Arch.{Arch}
 use Rattle.blif.specs.CircuitOf.{circuit_of}
@@ -7,6 +7,7 @@ use Rattle.blif.specs.declared.circuit.Circuit.{Circuit}
 use Rattle.blif.specs.declared.fault.BlifFault.{BlifFault}
 use Rattle.cluster.specs.Clusters.{packed_of, packing_steps}
 use Rattle.grid.specs.declared.Strip.{Strip}
+use Rattle.kept_places.specs.Kept.{KeptPlaces}
 use Rattle.pathfinder.specs.Negotiation.{Routed as RoutedTrees, Standing, More, Done, GaveUp as GivenUp, NoPath as WithoutPath, routed_after}
 use Rattle.pathfinder.specs.PlacedNets.{nets_to_route, wiring_of}
 use Rattle.pathfinder.specs.Routings.{told_by_node}
@@ -21,17 +22,17 @@ use Rattle.job_state.specs.declared.work.Work.{Work}
 use Rattle.job_state.specs.declared.work.Work.TheVariants.{Packing, Packed, Placing, Placed, Routing, Unlisted, Routed, GaveUp, NoPath}
 use Rattle.job_state.specs.RoutedCircuits.{pads_of}
 
--- what a packing is computed from: it has no seed and no effort
+-- what a packing is computed from: it has no kept places, no seed and no effort
 abbrev pub packing_sources : Arch → Strip → List ℕ → Sources
-packing_sources arch strip text = record { kind = PackingJob; arch = arch; strip = strip; text = text; seed = 0; effort = 0 }
+packing_sources arch strip text = record { kind = PackingJob; arch = arch; strip = strip; text = text; kept = []; seed = 0; effort = 0 }
 
 -- what a placing is computed from
-abbrev pub placing_sources : Arch → Strip → List ℕ → ℕ → ℕ → Sources
-placing_sources arch strip text seed effort = record { kind = PlacingJob; arch = arch; strip = strip; text = text; seed = seed; effort = effort }
+abbrev pub placing_sources : Arch → Strip → List ℕ → KeptPlaces → ℕ → ℕ → Sources
+placing_sources arch strip text kept seed effort = record { kind = PlacingJob; arch = arch; strip = strip; text = text; kept = kept; seed = seed; effort = effort }
 
--- what a routing is computed from: the seed and the effort are those of its placing
-abbrev pub routing_sources : Arch → Strip → List ℕ → ℕ → ℕ → Sources
-routing_sources arch strip text seed effort = record { kind = RoutingJob; arch = arch; strip = strip; text = text; seed = seed; effort = effort }
+-- what a routing is computed from: the kept places, the seed and the effort are those of its placing
+abbrev pub routing_sources : Arch → Strip → List ℕ → KeptPlaces → ℕ → ℕ → Sources
+routing_sources arch strip text kept seed effort = record { kind = RoutingJob; arch = arch; strip = strip; text = text; kept = kept; seed = seed; effort = effort }
 
 -- what the netlist says
 abbrev pub circuit_in : Sources → Result Circuit BlifFault
@@ -44,7 +45,7 @@ packing_after circuit arch steps =
 
 -- a placing makes a pass a step
 abbrev pub placing_at : Sources → Circuit → ℕ → PlacingUnderWay
-placing_at sources circuit passes = record { packed = packed_of circuit sources.arch; strip = sources.strip; seed = sources.seed; effort = sources.effort; passes = passes }
+placing_at sources circuit passes = record { packed = packed_of circuit sources.arch; strip = sources.strip; kept = sources.kept; seed = sources.seed; effort = sources.effort; passes = passes }
 
 -- after the pass at temperature 0 it is whole
 abbrev pub placing_stands : PlacingUnderWay → Work

@@ -7,3 +7,4 @@ pub mod Held
 pub mod Ends
 pub mod RoutedCircuits
 pub mod RoutedSet
+pub mod Stages

@@ -22,6 +22,10 @@ pub record RoutedCircuit : Type 0 where
   pub routes : List (List (List Node))
   pub pads : List Resource
 
+-- what the graph of a strip stands on
+abbrev pub on_strip : Arch → Strip → Basis
+on_strip arch strip = record { arch = arch; strip = strip }
+
 abbrev pub routed_on : Arch → Strip → List (List (List Node)) → List Resource → RoutedCircuit
 routed_on arch strip routes pads = record { basis = record { arch = arch; strip = strip }; routes = routes; pads = pads }
 

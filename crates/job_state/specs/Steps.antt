@@ -1,5 +1,6 @@
 -- Private: a work after one step more, and whose it is.
 use Rattle.std.specs.Prelude.{◌≡◌, ◌+◌}
+use Rattle.rr_graph.specs.Graph.{Basis}
 use Rattle.strip_place.specs.Anneal.{one_more}
 use Rattle.job_state.specs.declared.sources.JobKind.{JobKind}
 use Rattle.job_state.specs.declared.sources.JobKind.TheVariants.{Packing as PackingJob, Placing as PlacingJob, Routing as RoutingJob}
@@ -30,6 +31,11 @@ kind_of (Unlisted routed) = RoutingJob
 kind_of (Routed routes) = RoutingJob
 kind_of GaveUp = RoutingJob
 kind_of (NoPath net) = RoutingJob
+
+-- what the graph of its step stands on, where it asks for one
+abbrev pub graph_for : Basis → Work → Basis
+graph_for other (Routing routing) = routing.basis
+graph_for other work = other
 
 -- what a step without memory leaves: the work as it was, or with what its next step has found, which isn't listed yet
 abbrev pub IsLeft : Work → Work → Type 0

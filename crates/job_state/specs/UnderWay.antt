@@ -1,8 +1,11 @@
 -- A routing under way, as its job sees it.
-use Rattle.pathfinder.specs.Negotiation.{More}
-use Rattle.pathfinder.specs.PlacedNets.{wiring_of}
+use Rattle.cluster.specs.Clusters.{PackedCircuit}
+use Rattle.grid.specs.declared.place.Place.{Place}
+use Rattle.pathfinder.specs.Negotiation.{More, Routed, routed_after}
+use Rattle.pathfinder.specs.PlacedNets.{nets_to_route, wiring_of}
+use Rattle.pathfinder.specs.Wiring.{Net}
 use Rattle.pathfinder.specs.Routings.{RoutingState, IsAfter}
-use Rattle.std.specs.Prelude.{List}
+use Rattle.std.specs.Prelude.{ℕ, List}
 use Rattle.rr_graph.specs.Graph.{Basis}
 use Rattle.rr_graph.specs.declared.resource.Resource.{Resource}
 
@@ -11,6 +14,14 @@ pub record RoutingUnderWay : Type 0 where
   pub basis : Basis
   pub pads : List Resource
   pub state : RoutingState
+
+-- between blocks at these places, before the first iteration: there are the nets, and no paths
+abbrev pub begun_state : Basis → PackedCircuit → List Place → RoutingState
+begun_state basis packed places =
+    made_of (nets_to_route basis packed places) 0 (routed_after (wiring_of basis) (nets_to_route basis packed places) 0)
+  where
+    made_of : List Net → ℕ → Routed → RoutingState
+    made_of nets iterations routed = record { nets = nets; iterations = iterations; trees = routed.trees; history = routed.history }
 
 -- it goes on
 abbrev pub GoesOn : Basis → RoutingState → Type 0

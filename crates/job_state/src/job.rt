@@ -1,13 +1,16 @@
 //! A job that is out of its slot: before its step, after it, and without it.
-ghost use Rattle.std.specs.Prelude.{◌≡◌, true};
+ghost use Rattle.std.specs.Prelude.{◌≡◌, ◌↔◌, IfSome, IsTrue, is_some, true};
+ghost use Rattle.strips.specs.Windows.{is_on_device};
 ghost use Rattle.job_state.specs.Job.{Steps, next_step};
-ghost use Rattle.job_state.specs.JobValue.{is_last};
+ghost use Rattle.job_state.specs.JobValue.{basis_in, is_last};
 
 use crate::parked::Parked;
-use crate::sources::Sources;
+use crate::sources::{Sources, same_arch};
 use crate::step::JobStep;
 use crate::work::Work;
+use rr_graph::StripGraph;
 use std::marker::Model;
+use strips::{DeviceGraph, Window};
 
 /// A job with a step to make. It must be spent. Its value is the step, and whether it was made already, by a [`Done`] that
 /// couldn't be put.
@@ -87,9 +90,33 @@ impl AnyJob {
         &self.step.sources
     }
 
-    /// Makes the step. Without memory the job comes back as it was. A placing's step takes none, and one that was made already
-    /// is answered at once.
-    pub fn step(self) -> Result<Done, Back>
+    /// Whether the window is that of a strip of the job's size, on a device of its architecture. Takes no memory.
+    pub fn fits(&self, window: &Window<'_>) -> bool
+        ensures { IsTrue result ↔ (window.now ≡ basis_in self.now.step.sources) }
+    {
+        let sources = &self.step.sources;
+        sources.strip == window.strip() && same_arch(sources.arch.arch(), window.arch())
+    }
+
+    /// The window for its step, where its strip stands on the device with so many columns to the left of it: if the device is of
+    /// its architecture and has the strip there. Takes no memory.
+    pub fn window<'g>(&self, graph: &'g DeviceGraph, offset: u32) -> Option<Window<'g>>
+        ensures fits { IfSome result (λ window. window ≡ basis_in self.now.step.sources) }
+        ensures there { IsTrue (is_some result) ↔
+            ((graph.now.arch ≡ self.now.step.sources.arch) × (is_on_device graph.now.strip self.now.step.sources.strip offset ≡ true)) }
+    {
+        let window = Window::new(graph, offset, self.step.sources.strip)?;
+        if self.fits(&window) {
+            Some(window)
+        } else {
+            None
+        }
+    }
+
+    /// Makes the step; a routing's goes over its strip's graph, which it sees through the window. Without memory the job comes back
+    /// as it was. A placing's step takes none, and one that was made already is answered at once.
+    pub fn step(self, window: &Window<'_>) -> Result<Done, Back>
+        requires { window.now ≡ basis_in self.step.sources }
         ensures { Steps self result }
     {
         let AnyJob {
@@ -101,7 +128,7 @@ impl AnyJob {
             return Ok(Done { step, work });
         }
         let before = Box::replace(&mut work, Work::GaveUp);
-        match before.next() {
+        match before.next(window) {
             Ok(after) => {
                 drop(Box::replace(&mut work, after));
                 Ok(Done { step, work })

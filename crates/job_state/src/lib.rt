@@ -1,8 +1,9 @@
 //! Jobs: long work of a tenancy, which leaves its slot, is stepped anywhere, and comes back late, stale or never.
 //!
-//! - [`Sources`] are what a job is computed from: its kind, the architecture, the strip's size, the netlist, seed and effort.
-//! - [`AnyJob`] has a step to make. [`AnyJob::step`] makes it, without a lock and without its slot, and answers a [`Done`], or
-//!   without memory a [`Back`] with the job unchanged. Each tells its tenancy, generation, step number and sources.
+//! - [`Sources`] are what a job is computed from: its kind, the architecture, the strip's size, the netlist, the places that are
+//!   kept for blocks, seed and effort.
+//! - [`AnyJob`] has a step to make. [`AnyJob::step`] makes it, without a lock and without its slot, through a window of its strip's
+//!   size wherever that stands, and answers a [`Done`], or without memory a [`Back`] with the job unchanged. Each tells its tenancy, generation, step number and sources.
 //! - [`Parked`] is a job as its slot keeps it, running or finished; it alone may be dropped. The others must be spent: by a
 //!   step, by a call that takes them, or by `park`. A finished one tells what it has made, and a placing begins with a
 //!   finished packing, a routing with a finished placing, which are only lent.
@@ -21,6 +22,7 @@ mod routed;
 mod routing;
 mod shared_text;
 mod sources;
+mod stage;
 mod step;
 mod work;
 

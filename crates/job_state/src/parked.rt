@@ -10,6 +10,7 @@ ghost use Rattle.job_state.specs.Ends.{IsEndOf, IsOfNets};
 ghost use Rattle.job_state.specs.Held.{HasFewSteps};
 ghost use Rattle.job_state.specs.Job.{first_step, is_over};
 ghost use Rattle.job_state.specs.RoutedSet.{resources_of};
+ghost use Rattle.strip_place.specs.KeptSites.{AreKeptOn};
 ghost use Rattle.rr_graph.specs.declared.resource.Resource.{Resource};
 ghost use Rattle.rr_graph.specs.Resources.{IsEarlier, has, is_there};
 ghost use Rattle.job_state.specs.JobValue.{circuit_in, end_value, is_whole, job_value, packing_sources, pass_count, placing_at, placing_sources};
@@ -20,13 +21,14 @@ use crate::job::AnyJob;
 use crate::packing::PackingJob;
 use crate::routing::RoutingJob;
 use crate::sources::Sources;
+use crate::stage::{Begun, Stage};
 use crate::step::JobStep;
 use crate::work::Work;
 use arch_file::SharedArch;
 use blif::SharedCircuit;
 use cluster::{Packed, Packing, SharedPacked};
-use pathfinder::Routing;
-use rr_graph::{Fabric, Resource};
+use pathfinder::places_of;
+use rr_graph::Resource;
 use std::alloc::{AllocError, Global};
 use std::marker::Model;
 use strip_place::{Placing, laws_of_passes};
@@ -72,7 +74,8 @@ impl Parked {
         Parked::begin(alloc, id, generation, sources, work)
     }
 
-    /// A placing of what a finished packing of the same netlist has made, before its first pass.
+    /// A placing of what a finished packing of the same netlist has made, before its first pass: each block stands on the place
+    /// that the sources keep for it, or on the least of its kind that is free.
     pub fn place(
         alloc: Global,
         id: u32,
@@ -86,6 +89,7 @@ impl Parked {
         requires put { packing.now.made ≡ false }
         requires size { IsStripSize sources.strip }
         requires fit { (packed : PackedCircuit) → end_value packing.now.step.sources ≡ Ok (Work.Packed packed) → fit_of sources.strip packed ≡ Fits }
+        requires kept { AreKeptOn sources.strip sources.kept }
         requires effort { sources.effort ≤ 100 }
         ensures job { IfOk result (λ job. job ≡ first_step id generation sources) }
         ensures going { IfOk result (λ job. is_over job ≡ false) }
@@ -95,14 +99,15 @@ impl Parked {
             alloc,
             packing.shared_packed(),
             sources.strip,
+            &sources.kept,
             sources.seed,
             sources.effort,
         )?;
         Parked::begin(alloc, id, generation, sources, Work::Placing(placing))
     }
 
-    /// A routing of what a finished placing of the same seed and effort has made, on its strip's own graph, before its first
-    /// iteration.
+    /// A routing of what a finished placing of the same netlist, kept places, seed and effort has made, before its first
+    /// iteration. It builds no graph.
     pub fn route(
         alloc: Global,
         id: u32,
@@ -111,7 +116,7 @@ impl Parked {
         placing: &Parked,
     ) -> Result<Self, AllocError>
         requires kind { sources.kind ≡ JobKind.Routing }
-        requires from { placing.now.step.sources ≡ placing_sources sources.arch sources.strip sources.text sources.seed sources.effort }
+        requires from { placing.now.step.sources ≡ placing_sources sources.arch sources.strip sources.text sources.kept sources.seed sources.effort }
         requires over { is_over placing.now ≡ true }
         requires put { placing.now.made ≡ false }
         ensures job { IfOk result (λ job. job ≡ first_step id generation sources) }
@@ -120,9 +125,15 @@ impl Parked {
         let placing = placing.placing();
         let shared = sources.arch.clone()?;
         let pads = pads_of(alloc, placing)?;
-        let graph = Fabric::new(alloc, sources.arch.arch(), placing.strip())?;
-        let routing = Routing::start(alloc, &graph, placing)?;
-        let work = Work::Routing(RoutingJob::new(alloc, shared, graph, pads, routing));
+        let packed = placing.shared_packed().clone()?;
+        let places = places_of(alloc, placing)?;
+        let work = Work::Routing(RoutingJob::new(
+            alloc,
+            shared,
+            placing.strip(),
+            pads,
+            Stage::Begun(Begun { packed, places }),
+        ));
         Parked::begin(alloc, id, generation, sources, work)
     }
 

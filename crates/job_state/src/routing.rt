@@ -1,89 +1,107 @@
 //! A routing under way, as its job keeps it.
 ghost use Rattle.std.specs.Prelude.{◌≡◌, ◌+◌, IfErr, IfOk};
+ghost use Rattle.job_state.specs.declared.stage.Stage.{Stage};
 ghost use Rattle.job_state.specs.declared.work.Work.{Work};
 ghost use Rattle.job_state.specs.JobValue.{routing_after};
-ghost use Rattle.job_state.specs.RoutedCircuits.{AreThere, on_trees};
+ghost use Rattle.job_state.specs.RoutedCircuits.{AreThere, on_trees, on_strip};
+ghost use Rattle.job_state.specs.Stages.{IsOf, state_at};
 ghost use Rattle.job_state.specs.Steps.{IsLeft};
 ghost use Rattle.job_state.specs.UnderWay.{GoesOn};
 
 use crate::routed::Routed;
+use crate::stage::Stage;
 use crate::work::{Work, ended};
 use arch_file::SharedArch;
-use pathfinder::{IterEnd, Routes, Routing, strip_wiring};
-use rr_graph::{Fabric, Resource, StripGraph};
+use grid::Strip;
+use pathfinder::{IterEnd, Routes, strip_wiring};
+use rr_graph::{Resource, StripGraph};
 use std::alloc::Global;
 use std::marker::Model;
 
-/// A routing between two iterations, with the graph of its own strip and the pads of its blocks. Its value is the routing's, what
-/// the graph stands on, and the pads.
+/// A routing between two iterations, or before the first, with the pads of its blocks. It has no graph of its own: each iteration
+/// is lent one. Its value is what that graph stands on, the pads, and the routing's.
 #[derive(Drop)]
 pub(crate) struct RoutingJob {
     alloc: Global,
     arch: SharedArch,
-    graph: Fabric,
+    strip: Strip,
     pads: Vec<Resource>,
-    routing: Routing,
+    stage: Stage,
 }
 
 impl Model for RoutingJob {
-    ghost use Rattle.job_state.specs.RoutedCircuits.{AreThere};
-    ghost use Rattle.job_state.specs.UnderWay.{GoesOn, RoutingUnderWay};
-    ghost use Rattle.std.specs.Prelude.{◌≡◌};
+    ghost use Rattle.job_state.specs.RoutedCircuits.{AreThere, on_strip};
+    ghost use Rattle.job_state.specs.Stages.{IsOf, state_at};
+    ghost use Rattle.job_state.specs.UnderWay.{RoutingUnderWay};
 
     ghost Value = { RoutingUnderWay };
 
-    ghost view = { λ r. record { basis = r.graph; pads = r.pads.items; state = r.routing } };
+    ghost view = { λ r. record { basis = on_strip r.arch r.strip; pads = r.pads.items; state = state_at (on_strip r.arch r.strip) r.stage } };
 
-    ghost invariant = { λ r. (r.arch ≡ r.graph.arch) × AreThere r.graph r.pads.items × GoesOn r.graph r.routing };
+    ghost invariant = { λ r. AreThere (on_strip r.arch r.strip) r.pads.items × IsOf (on_strip r.arch r.strip) r.stage };
 }
 
 impl RoutingJob {
-    /// That routing, on that graph, of blocks with these pads.
+    /// That routing, on that strip, of blocks with these pads.
     pub(crate) fn new(
         alloc: Global,
         arch: SharedArch,
-        graph: Fabric,
+        strip: Strip,
         pads: Vec<Resource>,
-        routing: Routing,
+        stage: Stage,
     ) -> Self
-        requires arch { arch ≡ graph.arch }
-        requires pads { AreThere graph pads.items }
-        requires goes { GoesOn graph routing }
-        ensures { result ≡ record { basis = graph; pads = pads.items; state = routing } }
+        requires pads { AreThere (on_strip arch strip) pads.items }
+        requires stage { IsOf (on_strip arch strip) stage }
+        ensures { result ≡ record { basis = on_strip arch strip; pads = pads.items; state = state_at (on_strip arch strip) stage } }
     {
         RoutingJob {
             alloc,
             arch,
-            graph,
+            strip,
             pads,
-            routing,
+            stage,
         }
     }
 
-    /// Makes one iteration more. Without memory the routing comes back as it was, or with the routes that it has found, which
-    /// aren't listed yet.
-    pub(crate) fn next(self) -> Result<Work, Work>
+    /// Makes one iteration more, on its strip's graph. Without memory the routing comes back as it was, or with the routes that it
+    /// has found, which aren't listed yet.
+    pub(crate) fn next<G: StripGraph>(self, graph: &G) -> Result<Work, Work>
+        requires { G.basis graph.now ≡ self.basis }
         ensures made { IfOk result (λ work. work ≡ routing_after self.basis self.pads self.state.nets (self.state.iterations + 1)) }
         ensures back { IfErr result (λ back. IsLeft (Work.Routing self) back) }
     {
         let RoutingJob {
             alloc,
             arch,
-            graph,
+            strip,
             pads,
-            routing,
+            stage,
         } = self;
         let _count = graph.count();
         strip_wiring();
-        match routing.iteration(alloc, &graph) {
+        let routing = match stage.on(alloc, graph) {
+            Ok(routing) => routing,
+            Err(stage) => {
+                return Err(Work::Routing(RoutingJob::new(alloc, arch, strip, pads, stage)));
+            }
+        };
+        match routing.iteration(alloc, graph) {
             Ok(IterEnd::Again(routing)) => Ok(Work::Routing(RoutingJob::new(
-                alloc, arch, graph, pads, routing,
+                alloc,
+                arch,
+                strip,
+                pads,
+                Stage::Going(routing),
             ))),
-            Ok(IterEnd::Done(routes)) => ended(routed_on(alloc, arch, graph, pads, routes)),
+            Ok(IterEnd::Done(routes)) => ended(routed_on(alloc, arch, strip, pads, routes)),
             Ok(IterEnd::GaveUp(_)) => Ok(Work::GaveUp),
             Ok(IterEnd::NoPath(net)) => Ok(Work::NoPath(net as u32)),
             Err((routing, _)) => Err(Work::Routing(RoutingJob::new(
-                alloc, arch, graph, pads, routing,
+                alloc,
+                arch,
+                strip,
+                pads,
+                Stage::Going(routing),
             ))),
         }
     }
@@ -93,17 +111,14 @@ impl RoutingJob {
 fn routed_on(
     alloc: Global,
     arch: SharedArch,
-    graph: Fabric,
+    strip: Strip,
     pads: Vec<Resource>,
     routes: Routes,
 ) -> Routed
-    requires arch { arch ≡ graph.arch }
-    requires pads { AreThere graph pads.items }
-    requires routes { AreThere graph (on_trees routes) }
-    ensures { result ≡ record { basis = graph; routes = routes; pads = pads.items } }
+    requires pads { AreThere (on_strip arch strip) pads.items }
+    requires routes { AreThere (on_strip arch strip) (on_trees routes) }
+    ensures { result ≡ record { basis = on_strip arch strip; routes = routes; pads = pads.items } }
 {
-    let strip = graph.strip();
-    drop(graph);
     Routed {
         alloc,
         arch,

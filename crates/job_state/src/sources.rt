@@ -6,6 +6,7 @@ use crate::shared_text::SharedText;
 use arch_file::{Arch, Pin, SharedArch};
 use grid::Strip;
 use std::alloc::AllocError;
+use strip_place::Kept;
 
 /// What kind of work a job is.
 #[derive(Clone, Copy, Debug, PartialEq, Eq)]
@@ -26,6 +27,9 @@ pub struct Sources {
     pub strip: Strip,
     /// The netlist.
     pub text: SharedText,
+    /// The places that are kept for blocks at the start of a placing, and of the placing that a routing goes on from; none for a
+    /// packing.
+    pub kept: Kept,
     /// The seed of a placing, and of the placing that a routing goes on from; 0 for a packing.
     pub seed: u64,
     /// The effort of a placing, and of the placing that a routing goes on from; 0 for a packing.
@@ -42,46 +46,52 @@ impl Sources {
             arch: arch.clone()?,
             strip,
             text: text.clone()?,
+            kept: Kept::none(),
             seed: 0,
             effort: 0,
         })
     }
 
-    /// The sources of a placing. Shares the architecture and the netlist.
+    /// The sources of a placing. Shares the architecture, the netlist and the kept places.
     pub fn placing(
         arch: &SharedArch,
         strip: Strip,
         text: &SharedText,
+        kept: &Kept,
         seed: u64,
         effort: u32,
     ) -> Result<Self, AllocError>
-        ensures { IfOk result (λ sources. sources ≡ placing_sources arch.now strip text.now seed effort) }
+        ensures { IfOk result (λ sources. sources ≡ placing_sources arch.now strip text.now kept.now seed effort) }
     {
         Ok(Sources {
             kind: JobKind::Placing,
             arch: arch.clone()?,
             strip,
             text: text.clone()?,
+            kept: kept.clone()?,
             seed,
             effort,
         })
     }
 
-    /// The sources of a routing; the seed and the effort are those of its placing. Shares the architecture and the netlist.
+    /// The sources of a routing; the kept places, the seed and the effort are those of its placing. Shares the
+    /// architecture, the netlist and the kept places.
     pub fn routing(
         arch: &SharedArch,
         strip: Strip,
         text: &SharedText,
+        kept: &Kept,
         seed: u64,
         effort: u32,
     ) -> Result<Self, AllocError>
-        ensures { IfOk result (λ sources. sources ≡ routing_sources arch.now strip text.now seed effort) }
+        ensures { IfOk result (λ sources. sources ≡ routing_sources arch.now strip text.now kept.now seed effort) }
     {
         Ok(Sources {
             kind: JobKind::Routing,
             arch: arch.clone()?,
             strip,
             text: text.clone()?,
+            kept: kept.clone()?,
             seed,
             effort,
         })
@@ -96,6 +106,7 @@ impl Sources {
             && self.seed == other.seed
             && self.effort == other.effort
             && same_arch(self.arch.arch(), other.arch.arch())
+            && self.kept.same(&other.kept)
             && self.text.same(&other.text)
     }
 }
@@ -103,13 +114,14 @@ impl Sources {
 impl Clone for Sources {
     ghost is_clone = { λ sources copy. copy ≡ sources };
 
-    /// One more owner of the architecture and the netlist. Copies neither.
+    /// One more owner of the architecture, the netlist and the kept places. Copies none of them.
     fn clone(&self) -> Result<Self, AllocError> {
         Ok(Sources {
             kind: self.kind,
             arch: self.arch.clone()?,
             strip: self.strip,
             text: self.text.clone()?,
+            kept: self.kept.clone()?,
             seed: self.seed,
             effort: self.effort,
         })
@@ -117,7 +129,7 @@ impl Clone for Sources {
 }
 
 /// Whether both architectures have the same numbers and the same pins.
-fn same_arch(arch: &Arch, other: &Arch) -> bool
+pub(crate) fn same_arch(arch: &Arch, other: &Arch) -> bool
     ensures { IsTrue result ↔ (arch.now ≡ other.now) }
 {
     arch.io_rat == other.io_rat

@@ -3,13 +3,14 @@ ghost use Rattle.std.specs.Prelude.{◌≡◌, ◌≢◌, IfErr, IfOk, false};
 ghost use Rattle.job_state.specs.declared.sources.JobKind.{JobKind};
 ghost use Rattle.job_state.specs.JobValue.{is_whole, placing_stands};
 ghost use Rattle.job_state.specs.declared.work.Work.{Work};
-ghost use Rattle.job_state.specs.Steps.{IsLeft, kind_of, next_work};
+ghost use Rattle.job_state.specs.Steps.{IsLeft, graph_for, kind_of, next_work};
 ghost use Rattle.strip_place.specs.Anneal.{one_more};
 
 use crate::packing::PackingJob;
 use crate::routed::{Listed, Routed};
 use crate::routing::RoutingJob;
 use cluster::SharedPacked;
+use rr_graph::StripGraph;
 use strip_place::{PassEnd, Placing};
 
 /// What a job has made.
@@ -36,10 +37,11 @@ pub(crate) enum Work {
 }
 
 impl Work {
-    /// Makes one step more. Without memory the work comes back as it was, or with routes that aren't listed yet. A placing takes
-    /// none.
-    pub(crate) fn next(self) -> Result<Work, Work>
-        requires { is_whole self ≡ false }
+    /// Makes one step more; a routing's goes over its strip's graph. Without memory the work comes back as it was, or with routes
+    /// that aren't listed yet. A placing takes none.
+    pub(crate) fn next<G: StripGraph>(self, graph: &G) -> Result<Work, Work>
+        requires going { is_whole self ≡ false }
+        requires graph { graph_for (G.basis graph.now) self ≡ G.basis graph.now }
         ensures made { IfOk result (λ work. work ≡ next_work self) }
         ensures back { IfErr result (λ work. IsLeft self work) }
         ensures memory { IfErr result (λ work. kind_of self ≢ JobKind.Placing) }
@@ -50,7 +52,7 @@ impl Work {
                 Err(packing) => Err(Work::Packing(packing)),
             },
             Work::Placing(placing) => Ok(passed(placing)),
-            Work::Routing(routing) => routing.next(),
+            Work::Routing(routing) => routing.next(graph),
             Work::Unlisted(routed) => ended(routed),
             Work::Packed(_) | Work::Placed(_) | Work::Routed(_) | Work::GaveUp | Work::NoPath(_) =>
                 unreachable!(),

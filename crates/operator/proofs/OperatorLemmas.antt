@@ -6,16 +6,18 @@ use Rattle.std.specs.Map.{lookup}
 use Rattle.std.specs.Str.{bytes_eq}
 use Rattle.std.proofs.lemmas.Bool.{false≢true}
 use Rattle.std.proofs.lemmas.List.{map_push, reverse-append, length-reverse, length-map}
+use Rattle.rr_graph.specs.Graph.{Basis}
 use Rattle.tenant_slot.specs.declared.reply.StateName.{StateName}
 use Rattle.service_core.specs.declared.op_refusal.OpRefusal.{OpRefusal}
 use Rattle.service_core.specs.History.{History, closed, state_of}
 use Rattle.service_core.specs.Service.{ServiceState, modified}
-use Rattle.service_core.specs.Calls.{IsAdmitted, IsEvicted}
-use Rattle.service_core.specs.Run.Call.{Admit as AdmitCall, Evict as EvictCall}
-use Rattle.script_text.specs.declared.operator_line.OperatorLine.TheVariants.{Evict}
+use Rattle.service_core.specs.Calls.{IsAdmitted, IsEvicted, IsMoved}
+use Rattle.service_core.specs.Run.Call.{Admit as AdmitCall, Evict as EvictCall, Move as MoveCall}
+use Rattle.service_core.proofs.MovedStrips.{same_histories}
+use Rattle.script_text.specs.declared.operator_line.OperatorLine.TheVariants.{Evict, Move}
 use Rattle.line_text.specs.Words.{texts}
 use Rattle.operator.specs.Ids.{AreLastIds, newest_first}
-use Rattle.operator.specs.OperatorText.{admitted_text, evicted_text, last_id, list_text, listed, names_after, refused_text}
+use Rattle.operator.specs.OperatorText.{admitted_text, evicted_text, last_id, list_text, listed, moved_text, names_after, refused_text}
 use Rattle.operator.specs.HeldJobs.{HeldList}
 use Rattle.operator.specs.Serving.{Stage, IsAdmission, IsServed}
 
@@ -60,10 +62,10 @@ lengths-admitted old new width (Err refusal) names name same is = rw is.1 same
 
 -- a name that is not
 pub admits : (live : Option History) (state : Option StateName) (old new : Stage) (name : List ℕ) (width : ℕ) (answer : Result (ℕ × ℕ) OpRefusal) →
-    state ≡ option_map (λ h. (state_of h).name) live → false ≡ is_some state → IsAdmitted old.service width answer new.service → new.names ≡ names_after old.names name answer → new.jobs ≡ old.jobs →
+    state ≡ option_map (λ h. (state_of h).name) live → false ≡ is_some state → IsAdmitted old.service width answer new.service → new.names ≡ names_after old.names name answer → new.jobs ≡ old.jobs → new.graph ≡ old.graph →
     IsAdmission live old name width (AdmitCall width answer ∷ []) (admitted_text answer) new
-admits (Some h) state old new name width answer is none admitted names jobs = let some : is_some state ≡ true = ap is_some is in absurd (false≢true (none ∙ some))
-admits None state old new name width answer is none admitted names jobs = (answer, admitted, names, jobs, refl, refl)
+admits (Some h) state old new name width answer is none admitted names jobs graph = let some : is_some state ≡ true = ap is_some is in absurd (false≢true (none ∙ some))
+admits None state old new name width answer is none admitted names jobs graph = (answer, admitted, names, jobs, refl, refl, graph)
 
 pub length-modified : (histories : List History) (id : ℕ) (change : History → History) → length (modified histories id change) ≡ length histories
 length-modified [] id change = refl
@@ -76,6 +78,13 @@ pub lengths-evicted : (old new : ServiceState) (id : ℕ) (answer : Result (Unit
 lengths-evicted old new id (Ok nothing) is = rw is.1 (sym (length-modified old.histories id closed))
 lengths-evicted old new id (Err refusal) is = rw is.2 refl
 
-pub evicts : (names : List (List ℕ)) (jobs : HeldList) (old new : ServiceState) (name : List ℕ) (id : ℕ) (answer : Result (Unit {0}) OpRefusal) → id ≡ last_id names name → IsEvicted old id answer new →
-    IsServed (record { names = names; jobs = jobs; service = old }) (Evict name) (EvictCall id answer ∷ []) (evicted_text answer) (record { names = names; jobs = jobs; service = new })
-evicts names jobs old new name id answer is evicted = (answer, (let P : ℕ → Type 0 = λ n. IsEvicted old n answer new in subst P is evicted), refl, refl, ap (λ n. EvictCall n answer ∷ []) is, refl)
+pub evicts : (names : List (List ℕ)) (jobs : HeldList) (graph : Basis) (old new : ServiceState) (name : List ℕ) (id : ℕ) (answer : Result (Unit {0}) OpRefusal) → id ≡ last_id names name → IsEvicted old id answer new →
+    IsServed (record { names = names; jobs = jobs; service = old; graph = graph }) (Evict name) (EvictCall id answer ∷ []) (evicted_text answer) (record { names = names; jobs = jobs; service = new; graph = graph })
+evicts names jobs graph old new name id answer is evicted = (answer, (let P : ℕ → Type 0 = λ n. IsEvicted old n answer new in subst P is evicted), refl, refl, ap (λ n. EvictCall n answer ∷ []) is, refl, refl)
+
+pub lengths-moved : (old new : ServiceState) (id offset : ℕ) (answer : Result (Unit {0}) OpRefusal) → IsMoved old id offset answer new → length old.histories ≡ length new.histories
+lengths-moved old new id offset answer is = ap length (sym (same_histories old id offset answer new is))
+
+pub moves : (names : List (List ℕ)) (jobs : HeldList) (graph : Basis) (old new : ServiceState) (name : List ℕ) (id offset : ℕ) (answer : Result (Unit {0}) OpRefusal) → id ≡ last_id names name → IsMoved old id offset answer new →
+    IsServed (record { names = names; jobs = jobs; service = old; graph = graph }) (Move name offset) (MoveCall id offset answer ∷ []) (moved_text offset answer) (record { names = names; jobs = jobs; service = new; graph = graph })
+moves names jobs graph old new name id offset answer is moved = (answer, (let P : ℕ → Type 0 = λ n. IsMoved old n offset answer new in subst P is moved), refl, refl, ap (λ n. MoveCall n offset answer ∷ []) is, refl, refl)

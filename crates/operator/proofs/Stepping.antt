@@ -1,9 +1,10 @@
 -- Steps of a tenancy's job, one after another, and which calls admit no one.
 use Rattle.std.proofs.Common.{◌≡◌, ℕ, suc, ◌+◌, List, [], ◌∷◌, ◌++◌, length, Option, Some, None, Ok, Err, inl, inr, refl, sym, ap, ◌∙◌, subst, append_assoc, append-nil, length-append, arith}
-use Rattle.std.specs.Prelude.{All, ⊤}
+use Rattle.std.specs.Prelude.{◌≢◌, All, ⊤}
 use Rattle.std.specs.List.{flat_map}
 use Rattle.std.proofs.lemmas.Grind.{flat_map-append}
 use Rattle.std.proofs.lemmas.List.Elements.{All-push}
+use Rattle.rr_graph.specs.Graph.{Basis}
 use Rattle.job_state.specs.Job.{JobState}
 use Rattle.tenant_slot.specs.declared.command.Command.{Command as TenantCommand}
 use Rattle.service_core.specs.declared.not_served.NotServed.TheVariants.{JournalFull, NoMemory as NotServedNoMemory, NoSuchTenancy}
@@ -11,17 +12,19 @@ use Rattle.service_core.specs.declared.put_reply.PutReply.TheVariants.{Recorded 
 use Rattle.service_core.specs.Calls.{IsGivenBackTo}
 use Rattle.service_core.specs.History.{History}
 use Rattle.service_core.specs.Run.{Call, Happens, Run}
-use Rattle.service_core.specs.Run.Call.{Admit, Evict, Tenant, Take, Put, GiveBack}
+use Rattle.service_core.specs.Run.Call.{Admit, Evict, Move, Tenant, Take, Put, GiveBack}
 use Rattle.service_core.specs.Service.{ServiceState, live_of, modified}
 use Rattle.sessions.specs.declared.line.SessionLine.{SessionLine}
 use Rattle.sessions.specs.declared.line.SessionLine.TheVariants.{Blank, Command, Wait, Refused}
 use Rattle.sessions.specs.declared.steps.StepOutcome.{StepOutcome}
-use Rattle.sessions.specs.declared.steps.StepOutcome.TheVariants.{Recorded, Full, Gone, NoMemory, Nothing}
+use Rattle.sessions.specs.declared.steps.StepOutcome.TheVariants.{Recorded, Full, Gone, NoMemory, Nothing, Unfit}
 use Rattle.sessions.specs.declared.told.Answer.{Answer}
 use Rattle.sessions.specs.SessionAnswer.{Asks, AsksCommand, EndsWait}
 use Rattle.sessions.specs.Steps.{MadeStep, MakesStep, StepsAndPuts, Waits}
+use Rattle.sessions.specs.Fitting.{own_graph}
+use Rattle.sessions.proofs.Fitting.{own_after}
 use Rattle.sessions.proofs.StepLemmas.{Run-append}
-use Rattle.operator.specs.HeldJobs.{PutsHeld}
+use Rattle.operator.specs.HeldJobs.{Holds, PutsHeld}
 use Rattle.operator.specs.OperatorText.{outcome_text}
 use Rattle.operator.specs.Operators.{Steps}
 use Rattle.operator.specs.Serving.{tried_calls, tried_text}
@@ -31,6 +34,7 @@ use Rattle.operator.proofs.OperatorLemmas.{length-modified}
 abbrev pub Steady : Call → Type 0
 Steady (Admit width answer) = ⊥
 Steady (Evict id answer) = ⊥
+Steady (Move id offset answer) = ⊥
 Steady call = ⊤
 
 abbrev pub AreSteady : List Call → Type 0
@@ -54,6 +58,7 @@ given (Some h) old new job is = changed old new job.step.id _ is.2
 lengths-happens : (old new : ServiceState) (call : Call) → Steady call → Happens old call new → length old.histories ≡ length new.histories
 lengths-happens old new (Admit width answer) never is = absurd never
 lengths-happens old new (Evict id answer) never is = absurd never
+lengths-happens old new (Move id offset answer) never is = absurd never
 lengths-happens old new (Tenant id command (Ok r)) steady is = changed old new id _ is.1
 lengths-happens old new (Tenant id command (Err (JournalFull note))) steady is = same old new is.2
 lengths-happens old new (Tenant id command (Err (NoSuchTenancy note))) steady is = same old new is.2
@@ -81,6 +86,7 @@ steady_puts job calls Gone is = to_steady calls _ is.1 (tt, tt)
 steady_puts job calls NoMemory (inl is) = to_steady calls _ is (tt, tt)
 steady_puts job calls NoMemory (inr is) = to_steady calls _ is.2 (tt, (tt, tt))
 steady_puts job calls Nothing is = absurd is
+steady_puts job calls Unfit is = to_steady calls _ is (tt, tt)
 
 taking : (id : ℕ) (job : JobState) (calls more : List Call) (outcome : StepOutcome) → StepsAndPuts job more outcome → calls ≡ Take id (Some job) ∷ more → AreSteady calls
 taking id job calls more outcome puts is = to_steady calls _ is (tt, steady_puts job more outcome puts)
@@ -91,6 +97,7 @@ steady_step id calls Full is = taking id is.0 calls is.1 Full is.2 is.3
 steady_step id calls Gone is = taking id is.0 calls is.1 Gone is.2 is.3
 steady_step id calls NoMemory is = taking id is.0 calls is.1 NoMemory is.2 is.3
 steady_step id calls Nothing is = to_steady calls _ is (tt, tt)
+steady_step id calls Unfit is = taking id is.0 calls is.1 Unfit is.2 is.3
 
 steady_made : (id : ℕ) (made : List MadeStep) → All (λ (m : MadeStep). MakesStep id m.0 (Recorded m.1)) made → AreSteady (flat_map (λ (m : MadeStep). m.0) made)
 steady_made id [] all = tt
@@ -105,6 +112,7 @@ steady_end id Full calls answer is = steady_command id _ calls answer is
 steady_end id Gone calls answer is = steady_command id _ calls answer is
 steady_end id NoMemory calls answer is = to_steady calls [] is.0 tt
 steady_end id Nothing calls answer is = steady_command id _ calls answer is
+steady_end id Unfit calls answer is = steady_command id _ calls answer is
 
 steady_wait : (id : ℕ) (calls : List Call) (last : StepOutcome) → Waits id calls last → AreSteady calls
 steady_wait id calls last is = to_steady calls _ is.5 (steady-append _ is.1 (steady_made id is.0 is.2) (steady_step id is.1 last is.3))
@@ -120,14 +128,22 @@ pub steady_held : (job : Option JobState) (calls : List Call) (outcome : StepOut
 steady_held None calls outcome is = to_steady calls [] is.0 tt
 steady_held (Some job) calls outcome is = steady_puts job calls outcome is
 
+-- nor does the taking of a job
+pub steady_take : (id : ℕ) (job : Option JobState) (calls : List Call) → Holds id job calls → AreSteady calls
+steady_take id (Some job) calls is = to_steady calls _ is (tt, tt)
+steady_take id None calls (inl is) = to_steady calls _ is (tt, tt)
+steady_take id None calls (inr is) = to_steady calls _ is.1 (tt, (tt, tt))
+
 -- none is tried
-pub steps_none : (service : ServiceState) (id : ℕ) (before : List ℕ) → Steps service id 0 before before service
-steps_none service id before = record { tried = []; counted = refl; makes = λ k d within. absurd (omega arith); runs = refl; told = sym (append-nil before); even = refl }
+pub steps_none : (graph : Basis) (service : ServiceState) (id : ℕ) (before : List ℕ) → Steps graph service id 0 before before service
+steps_none graph service id before =
+    record { tried = []; counted = refl; makes = λ k d within. absurd (omega arith); runs = refl; told = sym (append-nil before); even = refl; fits = λ own k d within. absurd (omega arith) }
 
 -- one more
-pub steps_more : (old mid new : ServiceState) (id count : ℕ) (before middle after : List ℕ) (calls : List Call) (outcome : StepOutcome) →
-    Steps old id count before middle mid → MakesStep id calls outcome → Run mid calls new → after ≡ middle ++ outcome_text outcome → Steps old id (count + 1) before after new
-steps_more old mid new id count before middle after calls outcome s makes runs told =
+pub steps_more : (graph : Basis) (old mid new : ServiceState) (id count : ℕ) (before middle after : List ℕ) (calls : List Call) (outcome : StepOutcome) →
+    Steps graph old id count before middle mid → MakesStep id calls outcome → Run mid calls new → after ≡ middle ++ outcome_text outcome → (graph ≡ own_graph mid.device → outcome ≢ Unfit) →
+    Steps graph old id (count + 1) before after new
+steps_more graph old mid new id count before middle after calls outcome s makes runs told fits =
     let t : List Call × StepOutcome = (calls, outcome) in
     let flat : tried_calls (s.tried ++ t ∷ []) ≡ tried_calls s.tried ++ calls =
     flat_map-append (λ (t : List Call × StepOutcome). t.0) s.tried (t ∷ []) ∙ ap (λ cs. tried_calls s.tried ++ cs) (append-nil calls) in
@@ -140,4 +156,5 @@ steps_more old mid new id count before middle after calls outcome s makes runs t
       runs = (let P : List Call → Type 0 = λ cs. Run old cs new in subst P (sym flat) (Run-append old (tried_calls s.tried) mid calls new s.runs runs));
       told = told ∙ ap (λ line. line ++ outcome_text outcome) s.told ∙ append_assoc before (tried_text s.tried) (outcome_text outcome) ∙ ap (λ line. before ++ line) (sym text);
       even = sym (lengths-run mid new calls (steady_step id calls outcome makes) runs) ∙ s.even;
+      fits = λ own. All-push (λ (t : List Call × StepOutcome). t.1 ≢ Unfit) s.tried t (s.fits own) (fits (own_after old (tried_calls s.tried) mid graph s.runs own));
     }

@@ -1,9 +1,9 @@
 -- Jobs that the operator holds, numbered from 1 in the order in which they were taken; none stands where one was put.
-use Rattle.std.specs.Prelude.{ℕ, ◌≡◌, ◌-◌, List, [], ◌∷◌, ◌++◌, Option, Some, None, option_map, reverse, ◌==◌, if◌then◌else◌}
+use Rattle.std.specs.Prelude.{ℕ, ◌≡◌, ◌⊎◌, ◌-◌, List, [], ◌∷◌, ◌++◌, Option, Some, None, option_map, reverse, ◌==◌, if◌then◌else◌}
 use Rattle.job_state.specs.Job.{JobState}
 use Rattle.std.specs.List.{filter_map}
 use Rattle.service_core.specs.Run.{Call}
-use Rattle.service_core.specs.Run.Call.{GiveBack}
+use Rattle.service_core.specs.Run.Call.{Take, GiveBack}
 use Rattle.sessions.specs.declared.steps.StepOutcome.{StepOutcome}
 use Rattle.sessions.specs.declared.steps.StepOutcome.TheVariants.{Nothing}
 use Rattle.sessions.specs.Steps.{StepsAndPuts}
@@ -24,6 +24,12 @@ without_job (job ∷ jobs) number = if number == 1 then None ∷ jobs else job �
 abbrev pub with_job : HeldList → Option JobState → HeldList
 with_job jobs None = jobs
 with_job jobs (Some job) = jobs ++ Some job ∷ []
+
+-- the calls by which a job is taken to be held; where none is held, there was none to take, or one that the graph doesn't fit, which
+-- was given back
+abbrev pub Holds : ℕ → Option JobState → List Call → Type 0
+Holds id (Some job) calls = calls ≡ Take id (Some job) ∷ []
+Holds id None calls = (calls ≡ Take id None ∷ []) ⊎ ((job : JobState) × (calls ≡ Take id (Some job) ∷ GiveBack job ∷ []))
 
 -- the job is stepped and put, if it is held
 abbrev pub PutsHeld : Option JobState → List Call → StepOutcome → Type 0

@@ -2,7 +2,7 @@
 use Rattle.std.specs.Prelude.{ℕ, ◌+◌, List, [], ◌∷◌, ◌++◌, length, codes, decimal, Result, Ok, Err, Option, Some, None, unwrap_or, if◌then◌else◌}
 use Rattle.std.specs.Str.{bytes_eq}
 use Rattle.sessions.specs.declared.steps.StepOutcome.{StepOutcome}
-use Rattle.sessions.specs.declared.steps.StepOutcome.TheVariants.{Recorded, Full, Gone, NoMemory, Nothing}
+use Rattle.sessions.specs.declared.steps.StepOutcome.TheVariants.{Recorded, Full, Gone, NoMemory, Nothing, Unfit}
 use Rattle.tenant_slot.specs.Names.{state_text}
 use Rattle.strips.specs.Plan.{offset_of}
 use Rattle.service_core.specs.declared.op_refusal.OpRefusal.{OpRefusal}
@@ -23,6 +23,11 @@ abbrev pub evicted_text : Result (Unit {0}) OpRefusal → List ℕ
 evicted_text (Ok nothing) = codes "ok" ++ 10 ∷ []
 evicted_text (Err refusal) = refused_text (op_refusal_number refusal) (op_refusal_text refusal)
 
+-- a strip that has moved is told where it stands
+abbrev pub moved_text : ℕ → Result (Unit {0}) OpRefusal → List ℕ
+moved_text offset (Ok nothing) = codes "ok" ++ blank_word (decimal offset) ++ 10 ∷ []
+moved_text offset (Err refusal) = refused_text (op_refusal_number refusal) (op_refusal_text refusal)
+
 -- what the making of a step came to, as a word
 abbrev pub outcome_word : StepOutcome → List ℕ
 outcome_word (Recorded reply) = step_text reply
@@ -30,6 +35,7 @@ outcome_word Full = codes "full"
 outcome_word Gone = codes "gone"
 outcome_word NoMemory = codes "nomemory"
 outcome_word Nothing = codes "none"
+outcome_word Unfit = codes "none"
 
 -- and as a line
 abbrev pub outcome_text : StepOutcome → List ℕ

@@ -1,35 +1,44 @@
 -- What the lines of the operator are answered.
-use Rattle.std.specs.Prelude.{ℕ, ◌≡◌, ◌+◌, All, option_map, List, [], ◌∷◌, length, codes, Result, Option, Some, None}
+use Rattle.std.specs.Prelude.{ℕ, ◌≡◌, ◌≢◌, ◌+◌, All, option_map, List, [], ◌∷◌, length, codes, Result, Option, Some, None}
 use Rattle.std.specs.List.{flat_map}
+use Rattle.rr_graph.specs.Graph.{Basis}
 use Rattle.job_state.specs.Job.{JobState}
 use Rattle.service_core.specs.declared.op_refusal.OpRefusal.{OpRefusal}
 use Rattle.service_core.specs.History.{History}
 use Rattle.service_core.specs.Run.{Call, Run}
-use Rattle.service_core.specs.Run.Call.{Admit as AdmitCall, Evict as EvictCall, Take as TakeCall}
-use Rattle.service_core.specs.Calls.{IsAdmitted, IsEvicted, IsTaken}
+use Rattle.service_core.specs.Run.Call.{Admit as AdmitCall, Evict as EvictCall, Move as MoveCall, Take as TakeCall}
+use Rattle.service_core.specs.Calls.{IsAdmitted, IsEvicted, IsMoved}
 use Rattle.service_core.specs.Service.{ServiceState, live_of}
 use Rattle.script_text.specs.declared.operator_line.OperatorLine.{OperatorLine}
-use Rattle.script_text.specs.declared.operator_line.OperatorLine.TheVariants.{Admit, Evict, List as ListAll, Owners, Step, Take, Put}
+use Rattle.script_text.specs.declared.operator_line.OperatorLine.TheVariants.{Admit, Evict, Move, List as ListAll, Owners, Step, Take, Put}
 use Rattle.sessions.specs.declared.steps.StepOutcome.{StepOutcome}
+use Rattle.sessions.specs.declared.steps.StepOutcome.TheVariants.{Unfit}
+use Rattle.sessions.specs.Fitting.{own_graph}
 use Rattle.sessions.specs.Steps.{MakesStep}
 use Rattle.device_book.specs.declared.book.Owned.{Owned}
 use Rattle.service_core.specs.Owners.{ListsOwnersOf}
 use Rattle.operator.specs.OwnersText.{owners_text}
-use Rattle.operator.specs.HeldJobs.{HeldList, PutsHeld, job_at, with_job, without_job}
-use Rattle.operator.specs.OperatorText.{admitted_text, evicted_text, last_id, list_text, names_after, outcome_text, refused_text, taken_text}
+use Rattle.operator.specs.HeldJobs.{HeldList, Holds, PutsHeld, job_at, with_job, without_job}
+use Rattle.operator.specs.OperatorText.{admitted_text, evicted_text, last_id, list_text, moved_text, names_after, outcome_text, refused_text, taken_text}
 
--- the core's state, the names of all ids, the newest first, and the jobs that the operator took
+-- the core's state, the names of all ids, the newest first, the jobs that the operator took, and what the graph stands on that steps are
+-- made on
 pub record Stage : Type 0 where
   pub names : List (List ℕ)
   pub jobs : HeldList
   pub service : ServiceState
+  pub graph : Basis
+
+-- the graph is the device's own
+abbrev pub HasOwnGraph : Stage → Type 0
+HasOwnGraph stage = stage.graph ≡ own_graph stage.service.device
 
 -- an admission under a name that is in use is refused without a call of the core
 abbrev pub IsAdmission : Option History → Stage → List ℕ → ℕ → List Call → List ℕ → Stage → Type 0
 IsAdmission (Some h) old name width calls text new = (calls ≡ []) × (text ≡ refused_text 7 (codes "NameInUse")) × (new ≡ old)
 IsAdmission None old name width calls text new = (answer : Result (ℕ × ℕ) OpRefusal)
     × IsAdmitted old.service width answer new.service × (new.names ≡ names_after old.names name answer) × (new.jobs ≡ old.jobs)
-    × (calls ≡ AdmitCall width answer ∷ []) × (text ≡ admitted_text answer)
+    × (calls ≡ AdmitCall width answer ∷ []) × (text ≡ admitted_text answer) × (new.graph ≡ old.graph)
 
 -- steps that were tried: the calls of the core that each comes to, and what came of it
 abbrev pub Tried : Type 0
@@ -42,21 +51,27 @@ tried_calls tried = flat_map (λ t. t.0) tried
 abbrev pub tried_text : Tried → List ℕ
 tried_text tried = flat_map (λ t. outcome_text t.1) tried
 
--- a line of the operator is answered with that text, after those calls of the core
+-- a line of the operator is answered with that text, after those calls of the core. The device's own graph fits each job
 abbrev pub IsServed : Stage → OperatorLine (List ℕ) → List Call → List ℕ → Stage → Type 0
 IsServed old (Admit name width) calls text new = IsAdmission (live_of old.service.histories (last_id old.names name)) old name width calls text new
 IsServed old (Evict name) calls text new = (answer : Result (Unit {0}) OpRefusal)
     × IsEvicted old.service (last_id old.names name) answer new.service × (new.names ≡ old.names) × (new.jobs ≡ old.jobs)
-    × (calls ≡ EvictCall (last_id old.names name) answer ∷ []) × (text ≡ evicted_text answer)
+    × (calls ≡ EvictCall (last_id old.names name) answer ∷ []) × (text ≡ evicted_text answer) × (new.graph ≡ old.graph)
+IsServed old (Move name offset) calls text new = (answer : Result (Unit {0}) OpRefusal)
+    × IsMoved old.service (last_id old.names name) offset answer new.service × (new.names ≡ old.names) × (new.jobs ≡ old.jobs)
+    × (calls ≡ MoveCall (last_id old.names name) offset answer ∷ []) × (text ≡ moved_text offset answer) × (new.graph ≡ old.graph)
 IsServed old (Step name count) calls text new = (tried : Tried)
     × (length tried ≡ count) × All (λ t. MakesStep (last_id old.names name) t.0 t.1) tried × Run old.service calls new.service
     × (new.names ≡ old.names) × (new.jobs ≡ old.jobs) × (calls ≡ tried_calls tried) × (text ≡ tried_text tried)
+    × (new.graph ≡ old.graph) × (HasOwnGraph old → All (λ t. t.1 ≢ Unfit) tried)
 IsServed old (Take name) calls text new = (job : Option JobState)
-    × IsTaken old.service (last_id old.names name) job new.service × (new.names ≡ old.names) × (new.jobs ≡ with_job old.jobs job)
-    × (calls ≡ TakeCall (last_id old.names name) job ∷ []) × (text ≡ taken_text (option_map (λ j. length old.jobs + 1) job))
+    × Holds (last_id old.names name) job calls × Run old.service calls new.service
+    × (new.names ≡ old.names) × (new.jobs ≡ with_job old.jobs job) × (text ≡ taken_text (option_map (λ j. length old.jobs + 1) job))
+    × (new.graph ≡ old.graph) × (HasOwnGraph old → job ≡ None → calls ≡ TakeCall (last_id old.names name) None ∷ [])
 IsServed old (Put number) calls text new = (outcome : StepOutcome)
     × PutsHeld (job_at old.jobs number) calls outcome × Run old.service calls new.service
     × (new.names ≡ old.names) × (new.jobs ≡ without_job old.jobs number) × (text ≡ outcome_text outcome)
+    × (new.graph ≡ old.graph) × (outcome ≢ Unfit)
 IsServed old ListAll calls text new = (calls ≡ []) × (text ≡ list_text old.service old.names) × (new ≡ old)
 IsServed old Owners calls text new = (owners : List Owned)
     × ListsOwnersOf old.service owners × (calls ≡ []) × (text ≡ owners_text old.service.device.rows owners) × (new ≡ old)

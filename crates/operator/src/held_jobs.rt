@@ -1,22 +1,26 @@
-ghost use Rattle.std.specs.Prelude.{◌≡◌, ◌+◌, [], List, length, option_map, IfOk, Option};
+ghost use Rattle.std.specs.Prelude.{◌≡◌, ◌≢◌, ◌+◌, ◌∷◌, [], List, None, length, option_map, IfOk, Option};
 ghost use Rattle.job_state.specs.Job.{JobState};
-ghost use Rattle.service_core.specs.Calls.{IsTaken};
 ghost use Rattle.service_core.specs.Run.{Call, Run};
-ghost use Rattle.operator.specs.HeldJobs.{PutsHeld, give_backs, job_at, with_job, without_job};
+ghost use Rattle.service_core.specs.Run.Call.{Take};
+ghost use Rattle.sessions.specs.declared.steps.StepOutcome.TheVariants.{Unfit};
+ghost use Rattle.sessions.specs.Fitting.{own_graph};
+ghost use Rattle.sessions.specs.Steps.{StepsAndPuts};
+ghost use Rattle.operator.specs.HeldJobs.{Holds, PutsHeld, give_backs, job_at, with_job, without_job};
 
-use job_state::AnyJob;
+use crate::held_job::HeldJob;
 use service_core::Service;
-use sessions::{StepOutcome, step_and_put};
+use sessions::{StepOutcome, step_and_put, window_of};
 use std::alloc::{AllocError, Global};
 use std::marker::Model;
+use strips::DeviceGraph;
 
-/// Jobs that the operator took, numbered from 1 in the order in which they were taken. Its value is their list, with none
-/// where a job was put.
-pub struct HeldJobs {
-    jobs: Vec<Option<AnyJob>>,
+/// Jobs that the operator took, numbered from 1 in the order in which they were taken, each with its window on the device's graph.
+/// Its value is the list of the jobs, with none where one was put.
+pub struct HeldJobs<'g> {
+    jobs: Vec<Option<HeldJob<'g>>>,
 }
 
-impl Model for HeldJobs {
+impl<'g> Model for HeldJobs<'g> {
     ghost use Rattle.operator.specs.HeldJobs.{HeldList};
 
     ghost Value = { HeldList };
@@ -24,7 +28,7 @@ impl Model for HeldJobs {
     ghost view = { λ h. h.jobs.items };
 }
 
-impl HeldJobs {
+impl<'g> HeldJobs<'g> {
     pub fn new(alloc: Global) -> Self
         ensures { result ≡ [] }
     {
@@ -33,34 +37,47 @@ impl HeldJobs {
         }
     }
 
-    /// Takes the next step of that tenancy's job, if there is one to take, and tells its number.
-    pub fn take(&mut self, core: &mut Service, id: u32) -> Result<Option<usize>, AllocError>
-        ensures { IfOk result (λ number. (job : Option JobState) × IsTaken core.old id job core.new × (self.new ≡ with_job self.old job) × (number ≡ option_map (λ _. length self.old + 1) job)) }
+    /// Takes the next step of that tenancy's job, if there is one to take, and tells its number. One that the graph doesn't fit is
+    /// given back; the device's own graph fits each.
+    pub fn take(
+        &mut self,
+        core: &mut Service,
+        graph: &'g DeviceGraph,
+        id: u32,
+    ) -> Result<Option<usize>, AllocError>
+        ensures { IfOk result (λ number. (job : Option JobState) × (calls : List Call) × Holds id job calls × Run core.old calls core.new × (self.new ≡ with_job self.old job) × (number ≡ option_map (λ _. length self.old + 1) job) × (graph.now ≡ own_graph core.old.device → job ≡ None → calls ≡ Take id None ∷ [])) }
     {
         self.jobs.reserve(1)?;
         match core.take(id) {
-            Some(job) => {
-                self.jobs.push(Some(job)).unwrap();
-                Ok(Some(self.jobs.len()))
-            }
+            Some(job) => match window_of(core, graph, &job) {
+                Some(window) => {
+                    self.jobs.push(Some(HeldJob::new(job, window))).unwrap();
+                    Ok(Some(self.jobs.len()))
+                }
+                None => {
+                    core.give_back(job.into_back());
+                    Ok(None)
+                }
+            },
             None => Ok(None),
         }
     }
 
-    /// Steps the job of that number and puts it, if it is held. It is held no longer.
+    /// Steps the job of that number through the window that it has, and puts it, if it is held. It is held no longer.
     pub fn put(&mut self, core: &mut Service, number: u32) -> StepOutcome
         ensures jobs { self.new ≡ without_job self.old number }
         ensures put { (calls : List Call) × PutsHeld (job_at self.old number) calls result × Run core.old calls core.new }
+        ensures fits { result ≢ Unfit }
     {
         match self.remove(number) {
-            Some(job) => step_and_put(core, job),
+            Some(held) => put_held(core, held),
             None => StepOutcome::Nothing,
         }
     }
 
     /// The job of that number, which is held no longer.
     #[tactic(auto, using(crate::proofs::HeldLemmas::by_number))]
-    fn remove(&mut self, number: u32) -> Option<AnyJob>
+    fn remove(&mut self, number: u32) -> Option<HeldJob<'g>>
         ensures job { result ≡ job_at self.old number }
         ensures jobs { self.new ≡ without_job self.old number }
     {
@@ -75,14 +92,23 @@ impl HeldJobs {
 
     /// Gives back all that are held, the last one first.
     pub fn give_back(self, core: &mut Service)
-        ensures { Run core.old (give_backs self) core.new }
+        ensures { Run core.old (give_backs self.entry) core.new }
     {
         let HeldJobs { mut jobs } = self;
         while let Some(held) = jobs.pop() {
             if let Some(job) = held {
-                core.give_back(job.into_back());
+                core.give_back(job.into_job().into_back());
             }
         }
         jobs.destroy_empty();
     }
+}
+
+/// Steps a job that was held, and puts it.
+fn put_held(core: &mut Service, held: HeldJob<'_>) -> StepOutcome
+    ensures put { (calls : List Call) × StepsAndPuts held.entry calls result × Run core.old calls core.new }
+    ensures fits { result ≢ Unfit }
+{
+    let HeldJob { job, window } = held;
+    step_and_put(core, job, &window)
 }

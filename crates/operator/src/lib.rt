@@ -6,6 +6,7 @@
 //!   answers are spelled.
 #![tactic(auto)]
 
+mod held_job;
 mod held_jobs;
 mod operator;
 mod owners;

@@ -2,7 +2,7 @@
 ghost use Rattle.std.specs.Prelude.{◌≡◌, ◌++◌, OnOk};
 ghost use Rattle.std.specs.List.{flat_map};
 ghost use Rattle.operator.specs.Held.{held};
-ghost use Rattle.operator.specs.OperatorText.{admitted_text, evicted_text, listed, outcome_text, outcome_word, refused_text, row_text, taken_text};
+ghost use Rattle.operator.specs.OperatorText.{admitted_text, evicted_text, listed, moved_text, outcome_text, outcome_word, refused_text, row_text, taken_text};
 
 use itoa::Buffer;
 use line_text::{MemorySink, write_parts};
@@ -69,6 +69,24 @@ pub(crate) fn push_admitted(
     }
 }
 
+/// Appends the line of what the move of a strip to that offset was answered.
+pub(crate) fn push_moved(
+    reply: &mut MemorySink,
+    offset: u32,
+    answer: &Result<(), OpRefusal>,
+) -> Result<(), AllocError>
+    ensures { OnOk result (held reply.new ≡ held reply.old ++ moved_text offset answer.now) }
+{
+    match answer {
+        Ok(()) => {
+            let mut offsets = Buffer::new();
+            let offset = offsets.format(offset).as_bytes();
+            push_parts(reply, &[b"ok ", offset, b"\n"])
+        }
+        Err(refusal) => push_refused(reply, refusal.number(), refusal.name()),
+    }
+}
+
 /// Appends the line of what an eviction was answered.
 pub(crate) fn push_evicted(
     reply: &mut MemorySink,
@@ -98,7 +116,7 @@ fn outcome_word(outcome: StepOutcome) -> &'static [u8]
         StepOutcome::Full => b"full",
         StepOutcome::Gone => b"gone",
         StepOutcome::NoMemory => b"nomemory",
-        StepOutcome::Nothing => b"none",
+        StepOutcome::Nothing | StepOutcome::Unfit => b"none",
     }
 }
 

@@ -45,7 +45,7 @@ impl Terminals {
 }
 
 /// The places of the blocks, by number.
-pub(crate) fn places_of(alloc: Global, placing: &Placing) -> Result<Vec<Place>, AllocError>
+pub fn places_of(alloc: Global, placing: &Placing) -> Result<Vec<Place>, AllocError>
     ensures placed { IfOk result (λ places. ArePlaced placing.now.strip placing.now.packed places.items) }
     ensures exact { IfOk result (λ places. places.items ≡ places_by_block placing.now) }
 {

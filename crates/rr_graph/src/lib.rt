@@ -10,7 +10,8 @@
 //! why that is right. An architecture and a strip determine the graph, which [`one_graph`] says, so any two are the same.
 //! [`Fabric`] implements it. All columns of blocks have the same nodes, so it keeps the nodes of one column in a table, and
 //! the edges of the columns that differ, all and the wires among them: column 0 with its vertical channel, the first of
-//! blocks, one for all between, and the last.
+//! blocks, and one for all others, each where a column follows and where none does. The tables don't ask how many columns
+//! there are: [`Fabric::part`] reads in them the graph of any narrower strip, and takes no memory.
 #![tactic(auto)]
 
 mod column;
@@ -23,6 +24,7 @@ mod laws;
 mod met;
 mod node;
 mod numbering;
+mod part;
 mod resource;
 mod table;
 mod ways;
@@ -33,5 +35,6 @@ pub use graph::{Ends, Numbers, StripGraph, one_graph};
 pub use joins::sides_at;
 pub use laws::{laws_of_geometry, laws_of_ways};
 pub use node::{Node, NodeKind};
+pub use part::Part;
 pub use resource::{Resource, ResourceKind};
 pub use ways::{across_of, point_from_sink, up_of};

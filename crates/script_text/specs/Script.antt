@@ -5,7 +5,7 @@ use Rattle.std.specs.Char.{is_ascii_alphanumeric}
 use Rattle.std.specs.List.{list_all, position_or_len, before_first, after_first}
 use Rattle.std.specs.Str.{bytes_eq}
 use Rattle.script_text.specs.declared.operator_line.OperatorLine.{OperatorLine}
-use Rattle.script_text.specs.declared.operator_line.OperatorLine.TheVariants.{Admit, Evict, List as ListAll, Owners, Step, Take, Put}
+use Rattle.script_text.specs.declared.operator_line.OperatorLine.TheVariants.{Admit, Evict, Move, List as ListAll, Owners, Step, Take, Put}
 use Rattle.script_text.specs.declared.act.Act.{Act}
 use Rattle.script_text.specs.declared.act.Act.TheVariants.{Operator, Session}
 use Rattle.sessions.specs.declared.line.LineForm.{LineForm}
@@ -39,6 +39,7 @@ operator_line (verb ∷ name ∷ []) =
     if bytes_eq verb (codes "put") then option_map Put (decimal_of 32 name) else None
 operator_line (verb ∷ name ∷ number ∷ []) =
     if bytes_eq verb (codes "admit") && is_name name then option_map (Admit name) (decimal_of 32 number) else
+    if bytes_eq verb (codes "move") && is_name name then option_map (Move name) (decimal_of 32 number) else
     if bytes_eq verb (codes "step") && is_name name then option_map (Step name) (decimal_of 32 number) else None
 operator_line words = None
 
@@ -109,6 +110,7 @@ Gives meant (Err NoMemory) = ⊤
 abbrev pub named_operator : OperatorLine (Bor (List ℕ)) → OperatorLine (List ℕ)
 named_operator (Admit name width) = Admit name.now width
 named_operator (Evict name) = Evict name.now
+named_operator (Move name offset) = Move name.now offset
 named_operator ListAll = ListAll
 named_operator Owners = Owners
 named_operator (Step name count) = Step name.now count

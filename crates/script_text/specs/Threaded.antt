@@ -9,7 +9,7 @@ use Rattle.script_text.specs.declared.act.Act.TheVariants.{Operator, Session}
 use Rattle.script_text.specs.declared.form.Form.{Form}
 use Rattle.script_text.specs.declared.form.Form.TheVariants.{Skipped, Faulty, Asks, Begins}
 use Rattle.script_text.specs.declared.operator_line.OperatorLine.{OperatorLine}
-use Rattle.script_text.specs.declared.operator_line.OperatorLine.TheVariants.{Admit, Evict, List as ListAll, Owners, Step, Take, Put}
+use Rattle.script_text.specs.declared.operator_line.OperatorLine.TheVariants.{Admit, Evict, Move, List as ListAll, Owners, Step, Take, Put}
 use Rattle.script_text.specs.declared.script.ScriptError.{ScriptError}
 use Rattle.script_text.specs.declared.script.ScriptError.TheVariants.{NoMemory, Fault}
 use Rattle.script_text.specs.declared.inputs.SessionInput.{SessionInput}
@@ -55,6 +55,7 @@ behind_word line = after_first is_blank (without_blanks line)
 abbrev pub is_by_hand : OperatorLine (List ℕ) → Bool
 is_by_hand (Admit name width) = false
 is_by_hand (Evict name) = false
+is_by_hand (Move name offset) = false
 is_by_hand ListAll = false
 is_by_hand Owners = false
 is_by_hand (Step name count) = true

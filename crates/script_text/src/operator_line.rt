@@ -4,12 +4,14 @@ ghost use Rattle.script_text.specs.Script.{named_operator, operator_line};
 
 use crate::name::is_name;
 use line_text::{decimal_u32, is_word};
+use std::alloc::AllocError;
 
 /// What the operator asks, of a tenancy by its name.
-#[derive(Clone, Copy, Debug, PartialEq, Eq)]
 pub enum OperatorLine<N> {
     Admit(N, u32),
     Evict(N),
+    /// Its strip moves to that offset.
+    Move(N, u32),
     List,
     /// Who owns which pin, wire and pad.
     Owners,
@@ -20,6 +22,20 @@ pub enum OperatorLine<N> {
     /// The job of that number is stepped and put.
     Put(u32),
 }
+
+impl<N: Copy> Clone for OperatorLine<N> {
+    ghost use Rattle.std.specs.Prelude.{◌≡◌};
+
+    ghost is_clone = { λ line copy. copy ≡ line };
+
+    ghost is_infallible = { λ _. Unit {0} };
+
+    fn clone(&self) -> Result<Self, AllocError> {
+        Ok(*self)
+    }
+}
+
+impl<N: Copy> Copy for OperatorLine<N> {}
 
 /// What the words after `op` ask, if they ask something.
 pub(crate) fn operator_line<'t>(words: &[&'t [u8]]) -> Option<OperatorLine<&'t [u8]>>
@@ -49,6 +65,8 @@ pub(crate) fn operator_line<'t>(words: &[&'t [u8]]) -> Option<OperatorLine<&'t [
         [verb, name, number] => {
             if is_word(*verb, "admit") && is_name(*name) {
                 Some(OperatorLine::Admit(*name, decimal_u32(*number)?))
+            } else if is_word(*verb, "move") && is_name(*name) {
+                Some(OperatorLine::Move(*name, decimal_u32(*number)?))
             } else if is_word(*verb, "step") && is_name(*name) {
                 Some(OperatorLine::Step(*name, decimal_u32(*number)?))
             } else {

@@ -12,7 +12,7 @@ use std::marker::Model;
 use tenant_slot::SharedText;
 
 /// Why a script has no acts.
-#[derive(Clone, Copy, Debug, PartialEq, Eq)]
+#[derive(Clone, Copy, Debug)]
 pub enum ScriptError {
     NoMemory,
     /// The number of the least line of no form.

@@ -3,3 +3,4 @@ mod FinishLemmas
 mod LineLemmas
 mod OneOfList
 mod PartLemmas
+mod ServeLemmas

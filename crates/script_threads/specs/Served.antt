@@ -1,19 +1,22 @@
 -- What a script is answered whose sessions run on threads.
 use Rattle.std.specs.Prelude.{ℕ, ◌≡◌, ⊤, List, [], ◌++◌, map, All}
+use Rattle.rr_graph.specs.Graph.{Basis}
 use Rattle.service_core.specs.declared.device.Device.{Device}
 use Rattle.service_core.specs.Headline.{AreParted}
 use Rattle.service_core.specs.History.{History}
 use Rattle.service_core.specs.Service.{AreAlone, ServiceState, empty}
+use Rattle.sessions.specs.Fitting.{own_graph}
 use Rattle.shared_core.specs.CoreState.{CoreState, ShareState}
 use Rattle.settling.specs.declared.not_settled.Cause.TheVariants.{Missing, Mismatch}
 use Rattle.settling.specs.Settling.{IsCause, IsSettled}
 use Rattle.transcripts.specs.Transcripts.{TranscriptState}
+use Rattle.script_text.specs.declared.operator_line.OperatorLine.{OperatorLine}
 use Rattle.script_text.specs.Threaded.{Parts as Script, Said}
 use Rattle.script_threads.specs.declared.answered.Answered.{Answered}
 use Rattle.script_threads.specs.declared.answered.Section.{Section}
 use Rattle.script_threads.specs.declared.answered.Unserved.{Unserved}
 use Rattle.script_threads.specs.declared.answered.Unserved.TheVariants.{NoMemory, NotSettled}
-use Rattle.script_threads.specs.Lines.{Serves}
+use Rattle.script_threads.specs.Lines.{Replies, Serves}
 use Rattle.script_threads.specs.Sessions.{PartState, IsTold, asked_in, asked_of, transcripts_of}
 
 -- a name and what its session was told
@@ -41,20 +44,36 @@ pub record Ran (names : List (List ℕ)) (histories : List History) (sessions : 
   pub alone : AreAlone service
   pub parted : AreParted service.device service
 
--- the operator's lines ahead are served from the empty device; then the sessions run; and then the operator's other lines are served by the
--- settled service. The operator's text is that of all these lines
-pub record IsServedOnThreads (device : Device) (script : Script) (answered : Answered) : Type 0 where
+-- the operator's lines ahead are served from that state of the core, over that graph; then the sessions run; and then the operator's other
+-- lines are served by the settled service. The operator's text is that of all these lines
+pub record IsServedFrom (graph : Basis) (start : ServiceState) (script : Script) (sections : List Told) (text : List ℕ) : Type 0 where
   pub names : List (List ℕ)
   pub service : ServiceState
   pub ahead_text : List ℕ
-  pub ahead : Serves [] (empty device) script.ahead ahead_text names service
+  pub ahead : Serves graph [] start script.ahead ahead_text names service
   pub settled : ServiceState
-  pub ran : Ran names service.histories script.sessions (map section_told answered.sections.items) settled
+  pub ran : Ran names service.histories script.sessions sections settled
   pub last_names : List (List ℕ)
   pub last : ServiceState
   pub rest_text : List ℕ
-  pub rest : Serves names settled script.rest rest_text last_names last
-  pub operator_is : answered.operator.items ≡ ahead_text ++ rest_text
+  pub rest : Serves graph names settled script.rest rest_text last_names last
+  pub text_is : text ≡ ahead_text ++ rest_text
+
+-- from the empty device, over its own graph
+abbrev pub IsServedOnThreads : Device → Script → Answered → Type 0
+IsServedOnThreads device script answered = IsServedFrom (own_graph device) (empty device) script (map section_told answered.sections.items) answered.operator.items
+
+-- private: the operator's other lines are served by the settled service, and the reply has their text more
+pub record Ends (graph : Basis) (names : List (List ℕ)) (settled : ServiceState) (rest : List (OperatorLine (List ℕ))) (before after : List ℕ) : Type 0 where
+  pub last_names : List (List ℕ)
+  pub last : ServiceState
+  pub replies : Replies graph names settled rest before after last_names last
+
+-- private: the sessions run ahead of them
+pub record RunsOn (graph : Basis) (names : List (List ℕ)) (histories : List History) (sessions : List Said) (rest : List (OperatorLine (List ℕ))) (sections : List Told) (before after : List ℕ) : Type 0 where
+  pub settled : ServiceState
+  pub ran : Ran names histories sessions sections settled
+  pub ends : Ends graph names settled rest before after
 
 -- a receipt that isn't borne out is the first such
 abbrev pub IsUnserved : Unserved → Type 0

@@ -18,6 +18,7 @@ use std::sync::Wait;
 use std::sync::ledger::Ledger;
 use std::thread;
 use std::thread::{JoinHandle, Promise, PromisedHandle, Scope, Threads};
+use strips::DeviceGraph;
 use worker_pool::{Open, Shared, run_worker};
 
 /// A worker's thread.
@@ -53,6 +54,7 @@ pub(crate) fn run_crowd<
     rt: &R,
     shared: &Shared<C, P>,
     ready: &Ready,
+    graph: &DeviceGraph,
     benches: (Vec<Seat>, Vec<Share<P>>),
     sessions: (Vec<Pass>, Vec<Seated<'t, C>>),
 ) -> Option<(Vec<Part<'t, C>>, Vec<Share<P>>)>
@@ -67,7 +69,7 @@ pub(crate) fn run_crowd<
             requires seats { All (λ s. s ≡ record { of = ready.now; log = log [] [] }) benches.0.items }
             requires passes { All (λ p. p ≡ record { of = ready.now; log = log [] [] }) sessions.0.items }
             ensures { IfSome result (λ ended. map asked_in ended.0.items ≡ sessions.entry.1.items) }
-        { run_in(rt, scope, shared, ready, benches, sessions) },
+        { run_in(rt, scope, shared, ready, graph, benches, sessions) },
     )
 }
 
@@ -84,6 +86,7 @@ fn run_in<
     scope: &Scope<'s, E>,
     shared: &'s Shared<C, P>,
     ready: &'s Ready,
+    graph: &'s DeviceGraph,
     benches: (Vec<Seat>, Vec<Share<P>>),
     sessions: (Vec<Pass>, Vec<Seated<'t, C>>),
 ) -> Option<(Vec<Part<'t, C>>, Vec<Share<P>>)>
@@ -97,7 +100,7 @@ fn run_in<
     let mut started = Vec::with_capacity(rt.alloc(), seated.len()).ok()?;
     let parts = Vec::with_capacity(rt.alloc(), seated.len()).ok()?;
     let mut ended = Vec::with_capacity(rt.alloc(), shares.len()).ok()?;
-    let are_working = start_workers(rt, scope, shared, ready, seats, shares, &mut workers);
+    let are_working = start_workers(rt, scope, shared, ready, graph, seats, shares, &mut workers);
     let are_seated = are_working
         && start_sessions(rt, scope, shared, ready, passes, seated, &mut started);
     let parts = join_sessions(rt, started, parts);
@@ -121,6 +124,7 @@ fn start_workers<
     scope: &Scope<'s, E>,
     shared: &'s Shared<C, P>,
     ready: &'s Ready,
+    graph: &'s DeviceGraph,
     seats: Vec<Seat>,
     shares: Vec<Share<P>>,
     started: &mut Vec<Worker<P>>,
@@ -132,8 +136,9 @@ fn start_workers<
         let Some(seat) = a_seat(&mut seats, ready) else {
             return false;
         };
-        let Ok(worker) = scope.spawn(move || run_worker(rt, shared, ready, seat, share, &Open))
-        else {
+        let Ok(worker) = scope.spawn(move || run_worker(
+            rt, shared, ready, graph, seat, share, &Open,
+        )) else {
             return false;
         };
         if started.push(worker).is_err() {

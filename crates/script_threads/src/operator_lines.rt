@@ -9,37 +9,40 @@ use operator::{HeldJobs, Operator};
 use script_text::OperatorLine;
 use service_core::Service;
 use std::alloc::{AllocError, Global};
+use strips::DeviceGraph;
 
-/// Serves lines of the operator, one after another, and appends what they are told. Jobs that are held at their end are given back.
+/// Serves lines of the operator over a graph, one after another, and appends what they are told. Jobs that are held at their end are given back.
 pub(crate) fn serve_lines<'t>(
     alloc: Global,
+    graph: &DeviceGraph,
     operator: &mut Operator<'t>,
     core: &mut Service,
     lines: Vec<OperatorLine<&'t [u8]>>,
     reply: &mut MemorySink,
 ) -> Result<(), AllocError>
     requires { length operator.old ≡ length core.old.histories }
-    ensures { OnOk result (Replies operator.old core.old (map named_operator lines.entry.items) (held reply.old) (held reply.new) operator.new core.new) }
+    ensures { OnOk result (Replies graph.now operator.old core.old (map named_operator lines.entry.items) (held reply.old) (held reply.new) operator.new core.new) }
 {
     let mut jobs = HeldJobs::new(alloc);
-    let served = serve_each(operator, core, &mut jobs, lines, reply);
+    let served = serve_each(graph, operator, core, &mut jobs, lines, reply);
     jobs.give_back(core);
     served
 }
 
 /// Serves each of the lines.
-fn serve_each<'t>(
+fn serve_each<'t, 'g>(
+    graph: &'g DeviceGraph,
     operator: &mut Operator<'t>,
     core: &mut Service,
-    jobs: &mut HeldJobs,
+    jobs: &mut HeldJobs<'g>,
     lines: Vec<OperatorLine<&'t [u8]>>,
     reply: &mut MemorySink,
 ) -> Result<(), AllocError>
     requires { length operator.old ≡ length core.old.histories }
-    ensures { OnOk result (RepliesEach (stage operator.old jobs.old core.old) (map named_operator lines.entry.items) (held reply.old) (held reply.new) (stage operator.new jobs.new core.new)) }
+    ensures { OnOk result (RepliesEach (stage graph.now operator.old jobs.old core.old) (map named_operator lines.entry.items) (held reply.old) (held reply.new) (stage graph.now operator.new jobs.new core.new)) }
 {
     for line in lines {
-        operator.serve(core, jobs, line, reply)?;
+        operator.serve(core, graph, jobs, line, reply)?;
     }
     Ok(())
 }

@@ -17,13 +17,14 @@ use Rattle.service_core.specs.declared.put_reply.PutReply.TheVariants.{Recorded,
 use Rattle.service_core.specs.History.{History, closed, events_of, state_of, with_entry, with_out}
 use Rattle.service_core.specs.Service.{AreAlone, IsAloneOn, ServiceState, admitted, empty, entries_in, history_of, journal_of, live_of, modified, strip_on, with_entry_of, with_out_of, with_tenancy}
 use Rattle.service_core.specs.Calls.{IsGivenBackTo, IsStepOf, step_entry, step_event}
-use Rattle.service_core.specs.Run.{Call, Admit, Evict, GiveBack, Happens, Put, Run, Take, Tenant}
+use Rattle.service_core.proofs.MovedStrips.{same_histories}
+use Rattle.service_core.specs.Run.{Call, Admit, Evict, GiveBack, Happens, Move, Put, Run, Take, Tenant}
 use Rattle.service_core.specs.OwnEvents.{if_own, own_exchange, own_exchanges, own_events, own_replies}
 use Rattle.service_core.specs.Headline.{EachIsAlone}
 use Rattle.service_core.proofs.Lists.{history_of-past, history_of-modified, history_of-push, All-history_of}
 use Rattle.service_core.proofs.Histories.{state_after-push}
 use Rattle.service_core.proofs.Keeps.{IsService-empty}
-use Rattle.service_core.proofs.Effects.{Admitted, Effect, Entered, Evicted, IsNext, Kept, Nothing, Turned, effect, kept_after, of_live, run_device, run_keeps, served_entry, served_next}
+use Rattle.service_core.proofs.Effects.{Admitted, Effect, Entered, Evicted, IsNext, Kept, Moved, Nothing, Turned, effect, kept_after, of_live, run_device, run_keeps, served_entry, served_next}
 
 -- the journals after each call
 journal_of-with_tenancy : (s : ServiceState) (width offset id : ℕ) → journal_of (with_tenancy s width offset) id ≡ journal_of s id
@@ -134,6 +135,7 @@ exchanged first old (Admit width (Ok given)) new id happens alone_all has = same
 exchanged first old (Admit width (Err refusal)) new id happens alone_all has = unchanged first old new id happens.1
 exchanged first old (Evict t (Ok nothing)) new id happens alone_all has = same_journal first old new id (rw happens.1 (journal-kept old.histories t id closed (λ h. refl)))
 exchanged first old (Evict t (Err refusal)) new id happens alone_all has = unchanged first old new id happens.2
+exchanged first old (Move t offset answer) new id happens alone_all has = same_journal first old new id (ap (λ hs. entries_in (history_of hs id)) (same_histories old t offset answer new happens))
 exchanged first old (Tenant t command (Ok r)) new id happens alone_all has =
     let next : (h : History) × IsNext old t (served_entry command r) h = served_next old t command r happens.0 in
     own_next first old new t id next.0 (served_entry command r) next.1 happens.1 has
@@ -173,6 +175,7 @@ back : (first : State) (old new : ServiceState) (id : ℕ) → Effect old new �
 back first old new id (Nothing same) has = rw same at has
 back first old new id (Admitted width offset can fits is) has = pushed_back first old.histories (admitted old.device (length old.histories + 1) width) id (rw is at has)
 back first old new id (Evicted t is) has = modified_back first old.histories t id closed (λ h. refl) (rw is at has)
+back first old new id (Moved t offset parted is) has = rw is at has
 back first old new id (Entered t e h next is) has = modified_back first old.histories t id (with_entry e) (λ h. refl) (rw is at has)
 back first old new id (Turned t out is) has = modified_back first old.histories t id (with_out out) (λ h. refl) (rw is at has)
 

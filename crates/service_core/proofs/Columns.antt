@@ -34,6 +34,7 @@ use Rattle.pathfinder.specs.PlacedNets.{wiring_of}
 use Rattle.pathfinder.specs.Routings.{told_by_node}
 use Rattle.pathfinder.specs.Wiring.{Net}
 use Rattle.job_state.specs.declared.sources.Sources.{Sources}
+use Rattle.kept_places.specs.Kept.{KeptPlaces}
 use Rattle.job_state.specs.JobValue.{basis_in, circuit_in, nets_in, pads_in, pass_count, placing_at, routing_sources, routing_stands, step_count, value_of}
 use Rattle.job_state.specs.RoutedCircuits.{on_path, on_tree, on_trees, pad_of, pads_of}
 use Rattle.job_state.specs.RoutedSet.{held_at_end, resources_of}
@@ -134,17 +135,17 @@ module _ (strip : Strip) where
   standing_in arch pads nets steps routed GivenUp all = All-nil IsIn
   standing_in arch pads nets steps routed (WithoutPath net) all = All-nil IsIn
 
-  value_in : (arch : Arch) (text : List ℕ) (seed effort steps : ℕ) (circuit : Result Circuit BlifFault) → All IsIn (held_at_end (value_of (routing_sources arch strip text seed effort) circuit steps))
+  value_in : (arch : Arch) (text : List ℕ) (kept : KeptPlaces) (seed effort steps : ℕ) (circuit : Result Circuit BlifFault) → All IsIn (held_at_end (value_of (routing_sources arch strip text kept seed effort) circuit steps))
   unfolding pads_in
-  value_in arch text seed effort steps (Err fault) = All-nil IsIn
-  value_in arch text seed effort steps (Ok circuit) =
-      let sources : Sources = routing_sources arch strip text seed effort in
+  value_in arch text kept seed effort steps (Err fault) = All-nil IsIn
+  value_in arch text kept seed effort steps (Ok circuit) =
+      let sources : Sources = routing_sources arch strip text kept seed effort in
       let after = routed_after (wiring_of (basis_in sources)) (nets_in sources circuit) steps in
       standing_in arch (pads_in sources circuit) (nets_in sources circuit) steps after after.standing (pads_in_columns (packed_of circuit arch) (sites_by_block (placing_at sources circuit (pass_count strip))))
 
-  resources_in : (arch : Arch) (text : List ℕ) (seed effort : ℕ) → All IsIn (resources_of (routing_sources arch strip text seed effort))
+  resources_in : (arch : Arch) (text : List ℕ) (kept : KeptPlaces) (seed effort : ℕ) → All IsIn (resources_of (routing_sources arch strip text kept seed effort))
   unfolding resources_of
-  resources_in arch text seed effort = value_in arch text seed effort (step_count (routing_sources arch strip text seed effort)) (circuit_in (routing_sources arch strip text seed effort))
+  resources_in arch text kept seed effort = value_in arch text kept seed effort (step_count (routing_sources arch strip text kept seed effort)) (circuit_in (routing_sources arch strip text kept seed effort))
 
 in_columns : (name : StateName) (state : State) (resource : Resource) → has (held_in name state) resource ≡ true → resource.x ≤ state.strip.width
 in_columns Empty state resource is = absurd (false≢true is)
@@ -154,7 +155,7 @@ in_columns Packed state resource is = absurd (false≢true is)
 in_columns Placing state resource is = absurd (false≢true is)
 in_columns Placed state resource is = absurd (false≢true is)
 in_columns Routing state resource is = absurd (false≢true is)
-in_columns Routed state resource is = has_all (λ r. r.x ≤ state.strip.width) (resources_of (routing_sources state.arch state.strip state.text state.seed state.effort)) resource (resources_in state.strip state.arch state.text state.seed state.effort) is
+in_columns Routed state resource is = has_all (λ r. r.x ≤ state.strip.width) (resources_of (routing_sources state.arch state.strip state.text state.kept state.seed state.effort)) resource (resources_in state.strip state.arch state.text state.kept state.seed state.effort) is
 in_columns Unrouted state resource is = absurd (false≢true is)
 
 pub columns_of_routed : (state : State) (resource : Resource) → has (routed_set state) resource ≡ true → resource.x ≤ state.strip.width

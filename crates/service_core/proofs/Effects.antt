@@ -1,21 +1,23 @@
--- What a call makes of the state: one of five changes, whatever was called.
+-- What a call makes of the state: one of six changes, whatever was called.
 use Rattle.std.proofs.Common.{◌≡◌, ℕ, List, [], ◌∷◌, Bool, true, Option, Some, None, Ok, Err, refl, ap, ◌∙◌}
 use Rattle.std.specs.Prelude.{IsSomeAnd}
-use Rattle.strips.specs.Plan.{IsFirstFit}
+use Rattle.strips.specs.Plan.{IsFirstFit, IsParted, with_moved}
 use Rattle.tenant_slot.specs.declared.command.Command.{Command}
 use Rattle.tenant_slot.specs.declared.event.Event.TheVariants.{Command as Asked}
 use Rattle.tenant_slot.specs.SingleUser.{step}
 use Rattle.job_state.specs.Job.{JobState}
 use Rattle.service_core.specs.declared.entry.Entry.{Entry}
+use Rattle.service_core.specs.declared.op_refusal.OpRefusal.TheVariants.{NoMemory as OpNoMemory, NoRoom, TooManyStrips, BadWidth, NoSuchTenancy as OpNoSuchTenancy, IdsSpent}
 use Rattle.service_core.specs.declared.not_served.NotServed.TheVariants.{NoMemory, JournalFull, NoSuchTenancy}
 use Rattle.service_core.specs.declared.put_reply.PutReply.TheVariants.{Recorded, Full, Gone}
 use Rattle.service_core.specs.History.{History, state_of}
 use Rattle.service_core.specs.Receipt.{Receipted}
-use Rattle.service_core.specs.Service.{ServiceState, history_of, live_of, with_entry_of, with_out_of, with_tenancy, without_tenancy}
+use Rattle.service_core.specs.Service.{ServiceState, history_of, live_of, with_entry_of, with_offset_of, with_out_of, with_tenancy, without_tenancy}
 use Rattle.service_core.specs.Calls.{CanAdmit, IsGivenBackTo, IsReceipt, IsStepOf, step_entry}
-use Rattle.service_core.specs.Run.{Call, Admit, Evict, GiveBack, Happens, Put, Run, Take, Tenant}
+use Rattle.service_core.specs.Run.{Call, Admit, Evict, GiveBack, Happens, Move, Put, Run, Take, Tenant}
 use Rattle.service_core.specs.Kept.{IsService}
 use Rattle.service_core.proofs.Keeps.{IsService-admitted, IsService-entry, IsService-evicted, IsService-out, if_live_some}
+use Rattle.service_core.proofs.MovedStrips.{IsService-moved}
 
 -- an entry is the next one of a tenancy's journal
 pub record IsNext (old : ServiceState) (id : ℕ) (e : Entry) (h : History) : Type 0 where
@@ -26,6 +28,7 @@ pub data Effect (old new : ServiceState) : Type 0 where
   Nothing : new ≡ old → Effect old new
   Admitted : (width offset : ℕ) → CanAdmit old width → IsFirstFit old.plan width (Some offset) → new ≡ with_tenancy old width offset → Effect old new
   Evicted : (id : ℕ) → new ≡ without_tenancy old id → Effect old new
+  Moved : (id offset : ℕ) → IsParted (with_moved old.plan id offset) → new ≡ with_offset_of old id offset → Effect old new
   Entered : (id : ℕ) (e : Entry) (h : History) → IsNext old id e h → new ≡ with_entry_of old id e → Effect old new
   Turned : (id : ℕ) (out : Bool) → new ≡ with_out_of old id out → Effect old new
 
@@ -57,6 +60,13 @@ effect old (Admit width (Ok given)) new happens = Admitted width given.1 happens
 effect old (Admit width (Err refusal)) new happens = Nothing happens.1
 effect old (Evict id (Ok nothing)) new happens = Evicted id happens.1
 effect old (Evict id (Err refusal)) new happens = Nothing happens.2
+effect old (Move id offset (Ok nothing)) new happens = Moved id offset happens.1 happens.2
+effect old (Move id offset (Err OpNoSuchTenancy)) new happens = Nothing happens.1
+effect old (Move id offset (Err NoRoom)) new happens = Nothing happens.2
+effect old (Move id offset (Err OpNoMemory)) new never = absurd never
+effect old (Move id offset (Err TooManyStrips)) new never = absurd never
+effect old (Move id offset (Err BadWidth)) new never = absurd never
+effect old (Move id offset (Err IdsSpent)) new never = absurd never
 effect old (Tenant id command (Ok r)) new happens = let next : (h : History) × IsNext old id (served_entry command r) h = served_next old id command r happens.0 in Entered id (served_entry command r) next.0 next.1 happens.1
 effect old (Tenant id command (Err NoMemory)) new happens = Nothing happens.1
 effect old (Tenant id command (Err (JournalFull note))) new happens = Nothing happens.2
@@ -76,6 +86,7 @@ effect_device : (old new : ServiceState) → Effect old new → new.device ≡ o
 effect_device old new (Nothing same) = ap (λ (s : ServiceState). s.device) same
 effect_device old new (Admitted width offset can fits is) = ap (λ (s : ServiceState). s.device) is
 effect_device old new (Evicted id is) = ap (λ (s : ServiceState). s.device) is
+effect_device old new (Moved id offset parted is) = ap (λ (s : ServiceState). s.device) is
 effect_device old new (Entered id e h next is) = ap (λ (s : ServiceState). s.device) is
 effect_device old new (Turned id out is) = ap (λ (s : ServiceState). s.device) is
 
@@ -87,6 +98,7 @@ effect_keeps : (old new : ServiceState) → Effect old new → Kept old → Kept
 effect_keeps old new (Nothing same) was = rw same was
 effect_keeps old new (Admitted width offset can fits is) was = rw is (IsService-admitted old.device old.plan.strips old.histories width offset was can.ids_left)
 effect_keeps old new (Evicted id is) was = rw is (IsService-evicted old.device old.plan.strips old.histories id was)
+effect_keeps old new (Moved id offset parted is) was = rw is (IsService-moved old.device old.plan.strips old.histories id offset was)
 effect_keeps old new (Entered id e h next is) was = rw is (IsService-entry old.device old.plan.strips old.histories id h e was next.here next.told)
 effect_keeps old new (Turned id out is) was = rw is (IsService-out old.device old.plan.strips old.histories id out was)
 

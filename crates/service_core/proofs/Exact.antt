@@ -6,7 +6,7 @@ use Rattle.std.proofs.lemmas.Bool.{false≢true}
 use Rattle.std.proofs.lemmas.Option.{none-some, same_Some}
 use Rattle.rr_graph.specs.declared.resource.Resource.{Resource}
 use Rattle.rr_graph.specs.Resources.{has}
-use Rattle.device_book.specs.Owners.{AreOwned, Owners, owner_of}
+use Rattle.device_book.specs.Owners.{AreOwned, Owners, Shifts, owner_of}
 
 -- the book has just these owners, of what each has
 abbrev pub Exact : Owners → (ℕ → List Resource) → Type 0
@@ -61,4 +61,35 @@ exact_claimed book left old new id claimed nothing others free exact = λ r k. b
     by_id r k false e false h = (
       (λ some. ap (λ xs. has xs r) (others k (ids_differ id k e)) ∙ (exact r k).0 (sym (owner r false h) ∙ some)),
       (λ in_new. owner r false h ∙ (exact r k).1 (ap (λ xs. has xs r) (sym (others k (ids_differ id k e))) ∙ in_new)),
+    )
+
+-- what one has stands elsewhere, where nobody else has anything
+pub exact_shifted : (book left : Owners) (old new : ℕ → List Resource) (id : ℕ) → Shifts book id (old id) (new id) left → ((k : ℕ) → k ≢ id → new k ≡ old k) →
+    ((r : Resource) (k : ℕ) → k ≢ id → has (new id) r ≡ true → has (new k) r ≡ true → ⊥) → Exact book old → Exact left new
+exact_shifted book left old new id shifted others apart exact = λ r k. by_id r k (eqb k id) refl (has (new id) r) refl (has (old id) r) refl
+  where
+    owner : (r : Resource) (b a : Bool) → has (new id) r ≡ b → has (old id) r ≡ a → owner_of left r ≡ (if b then Some id else if a then None else owner_of book r)
+    owner r b a is was = shifted.1 r ∙ (ap (λ t. if t then Some id else if has (old id) r then None else owner_of book r) is ∙ ap (λ t. if b then Some id else if t then None else owner_of book r) was)
+
+    by_id : (r : Resource) (k : ℕ) (t : Bool) → eqb k id ≡ t → (b : Bool) → has (new id) r ≡ b → (a : Bool) → has (old id) r ≡ a → (owner_of left r ≡ Some k) ↔ (has (new k) r ≡ true)
+    by_id r k true e true is a was = ((λ some. ap (λ n. has (new n) r) ((Decides-eqb k id).0 e) ∙ is), (λ in_new. owner r true a is was ∙ ap Some (sym ((Decides-eqb k id).0 e))))
+    by_id r k true e false is true was = (
+      (λ some. absurd (none-some k (sym (owner r false true is was) ∙ some))),
+      (λ in_new. absurd (false≢true (sym is ∙ (ap (λ n. has (new n) r) (sym ((Decides-eqb k id).0 e)) ∙ in_new)))),
+    )
+    by_id r k true e false is false was = (
+      (λ some. absurd (false≢true (sym was ∙ (exact r id).0 (sym (owner r false false is was) ∙ (some ∙ ap Some ((Decides-eqb k id).0 e)))))),
+      (λ in_new. absurd (false≢true (sym is ∙ (ap (λ n. has (new n) r) (sym ((Decides-eqb k id).0 e)) ∙ in_new)))),
+    )
+    by_id r k false e true is a was = (
+      (λ some. absurd (ids_differ id k e (same_Some _ _ (sym some ∙ owner r true a is was)))),
+      (λ in_new. absurd (apart r k (ids_differ id k e) is in_new)),
+    )
+    by_id r k false e false is true was = (
+      (λ some. absurd (none-some k (sym (owner r false true is was) ∙ some))),
+      (λ in_new. absurd (ids_differ id k e (same_Some _ _ (sym ((exact r k).1 (ap (λ xs. has xs r) (sym (others k (ids_differ id k e))) ∙ in_new)) ∙ (exact r id).1 was)))),
+    )
+    by_id r k false e false is false was = (
+      (λ some. ap (λ xs. has xs r) (others k (ids_differ id k e)) ∙ (exact r k).0 (sym (owner r false false is was) ∙ some)),
+      (λ in_new. owner r false false is was ∙ (exact r k).1 (ap (λ xs. has xs r) (sym (others k (ids_differ id k e))) ∙ in_new)),
     )

@@ -29,7 +29,7 @@ use Rattle.tenant_slot.specs.declared.reply.StepReply.{StepReply}
 use Rattle.tenant_slot.specs.declared.reply.StepReply.TheVariants.{Advanced, Finished, Stale}
 use Rattle.tenant_slot.specs.Results.{failure_of}
 use Rattle.tenant_slot.specs.RoutedSet.{held_in, routed_set}
-use Rattle.tenant_slot.specs.SingleUser.{State, advance, advanced, after, answer_to, at_rest, begun, begun_placing, circuit_in, emptied, finished, go_on, is_lawful, is_next, load, loaded, misfit_of, net, pack, pack_unless, place, place_unless, risen, routed_unless, running, serve, sources_of, start, state_after, step, stopped}
+use Rattle.tenant_slot.specs.SingleUser.{State, advance, advanced, after, answer_to, at_rest, begun, begun_placing, circuit_in, emptied, finished, go_on, is_lawful, is_next, keeping, load, loaded, misfit_of, net, pack, pack_unless, place, place_unless, risen, routed_unless, running, serve, sources_of, start, state_after, step, stopped}
 use Rattle.tenant_slot.proofs.Runs.{step-room, step-served}
 
 -- the state of that name holds nothing
@@ -128,7 +128,7 @@ net_changes state (Err fault) = tt
 
 serve_changes : (state : State) (command : Command) → is_lawful state.name command ≡ true → Answered state (serve state command)
 serve_changes state (Upload text) lawful = load_changes state state text (circuit_of text state.arch.lut_size) refl refl
-serve_changes state (Change text) lawful = load_changes state (risen state) text (circuit_of text state.arch.lut_size) refl refl
+serve_changes state (Change text) lawful = load_changes state (keeping (risen state)) text (circuit_of text state.arch.lut_size) refl refl
 serve_changes state Pack lawful = pack_changes state (circuit_in state)
 serve_changes state (Place seed effort) lawful = place_changes state seed effort (circuit_in state)
 serve_changes state Route lawful = (record { arch_is = refl; strip_is = refl }, nothing_in (begun state Routing) Routing refl refl)

@@ -8,6 +8,7 @@ pub mod Histories
 pub mod Keeps
 pub mod Slots
 pub mod Serving
+pub mod MovedStrips
 pub mod Effects
 pub mod Counting
 pub mod Alone
@@ -16,3 +17,4 @@ pub mod Owning
 pub mod Alike
 pub mod There
 pub mod Booking
+pub mod Moving

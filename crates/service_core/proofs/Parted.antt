@@ -10,7 +10,7 @@ use Rattle.service_core.specs.Service.{ServiceState, empty}
 use Rattle.service_core.specs.Run.{Call, Run}
 use Rattle.service_core.specs.Headline.{AreParted}
 use Rattle.service_core.proofs.Keeps.{IsService-empty}
-use Rattle.service_core.proofs.Effects.{Admitted, Effect, Entered, Evicted, Kept, Nothing, Turned, effect, run_keeps}
+use Rattle.service_core.proofs.Effects.{Admitted, Effect, Entered, Evicted, Kept, Moved, Nothing, Turned, effect, run_keeps}
 
 IsParted-without : (plan : Plan) (id : ℕ) → IsParted plan → IsParted (record plan { strips = without plan.strips id })
 IsParted-without plan id parted =
@@ -32,6 +32,7 @@ parted_after columns old new (Admitted width offset can fits is) was =
     let with_it : IsParted _ = fits.0.parted in
     rw is (record { same = was.same; parted = IsParted-with old.plan _ was.parted (IsParted-with-inside old.plan nameless with_it) (IsParted-with-apart old.plan nameless with_it) })
 parted_after columns old new (Evicted id is) was = rw is (record { same = was.same; parted = IsParted-without old.plan id was.parted })
+parted_after columns old new (Moved id offset parted is) was = rw is (record { same = was.same; parted = parted })
 parted_after columns old new (Entered id e h next is) was = rw is (record { same = was.same; parted = was.parted })
 parted_after columns old new (Turned id out is) was = rw is (record { same = was.same; parted = was.parted })
 

@@ -1,7 +1,7 @@
 -- What each call may answer, with the states before and after it. A refused call changes nothing.
 use Rattle.std.specs.Prelude.{ℕ, ◌≡◌, ◌+◌, ◌<◌, length, Bool, true, false, Option, Some, None, IsSome, IsSomeAnd, Result, Ok, Err, ⊤}
 use Rattle.std.specs.declared.alloc.AllocError.{AllocError}
-use Rattle.strips.specs.Plan.{IsFirstFit, is_bad_width}
+use Rattle.strips.specs.Plan.{IsFirstFit, IsParted, is_bad_width, with_moved}
 use Rattle.job_state.specs.declared.step.JobStep.{JobStep}
 use Rattle.job_state.specs.Job.{JobState}
 use Rattle.tenant_slot.specs.declared.command.Command.{Command}
@@ -23,7 +23,7 @@ use Rattle.service_core.specs.declared.put_reply.PutReply.{PutReply}
 use Rattle.service_core.specs.declared.put_reply.PutReply.TheVariants.{Recorded, Full, Gone}
 use Rattle.service_core.specs.History.{History, slot_of, state_of, with_out}
 use Rattle.service_core.specs.Receipt.{Receipted}
-use Rattle.service_core.specs.Service.{ServiceState, live_of, with_entry_of, with_out_of, with_tenancy, without_tenancy}
+use Rattle.service_core.specs.Service.{ServiceState, live_of, with_entry_of, with_offset_of, with_out_of, with_tenancy, without_tenancy}
 
 -- a tenancy of that width is admitted, if there is room and memory
 pub record CanAdmit (state : ServiceState) (width : ℕ) : Type 0 where
@@ -50,6 +50,13 @@ IsAdmitted old width (Err refusal) new = RefusesAdmission old width refusal × (
 abbrev pub IsEvicted : ServiceState → ℕ → Result (Unit {0}) OpRefusal → ServiceState → Type 0
 IsEvicted old id (Ok nothing) new = IsSome (live_of old.histories id) × (new ≡ without_tenancy old id)
 IsEvicted old id (Err refusal) new = (refusal ≡ NoSuchTenancy) × (live_of old.histories id ≡ None) × (new ≡ old)
+
+-- a strip moves just where its tenancy is live and the strips are parted with it at that offset; the columns that it leaves don't count
+abbrev pub IsMoved : ServiceState → ℕ → ℕ → Result (Unit {0}) OpRefusal → ServiceState → Type 0
+IsMoved old id offset (Ok nothing) new = IsSome (live_of old.histories id) × IsParted (with_moved old.plan id offset) × (new ≡ with_offset_of old id offset)
+IsMoved old id offset (Err NoSuchTenancy) new = (live_of old.histories id ≡ None) × (new ≡ old)
+IsMoved old id offset (Err NoRoom) new = IsSome (live_of old.histories id) × (IsParted (with_moved old.plan id offset) → ⊥) × (new ≡ old)
+IsMoved old id offset (Err refusal) new = ⊥
 
 -- a live tenancy's receipt has the place of the next entry, and the reply that the tenancy gets alone
 abbrev pub IsReceipt : Option History → ℕ → Command → Receipted → Type 0

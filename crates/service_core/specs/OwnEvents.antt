@@ -9,7 +9,7 @@ use Rattle.service_core.specs.declared.not_served.NotServed.TheVariants.{NoMemor
 use Rattle.service_core.specs.declared.put_reply.PutReply.TheVariants.{Recorded, Full, Gone}
 use Rattle.service_core.specs.Calls.{step_event}
 use Rattle.service_core.specs.Run.{Call}
-use Rattle.service_core.specs.Run.Call.{Admit, Evict, Tenant, Take, Put, GiveBack}
+use Rattle.service_core.specs.Run.Call.{Admit, Evict, Move, Tenant, Take, Put, GiveBack}
 
 -- an event of the tenancy `t` with its reply, where that is the one of `id`
 abbrev pub if_own : ℕ → ℕ → Event → Option Reply → List (Event × Option Reply)
@@ -28,6 +28,7 @@ own_exchange id (Put done foreign (Ok Gone)) = []
 own_exchange id (Put done foreign (Err back)) = []
 own_exchange id (Admit width answer) = []
 own_exchange id (Evict t answer) = []
+own_exchange id (Move t offset answer) = []
 own_exchange id (Take t answer) = []
 own_exchange id (GiveBack job) = []
 

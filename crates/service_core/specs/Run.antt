@@ -9,12 +9,13 @@ use Rattle.service_core.specs.declared.not_served.NotServed.{NotServed}
 use Rattle.service_core.specs.declared.put_reply.PutReply.{PutReply}
 use Rattle.service_core.specs.Receipt.{Receipted}
 use Rattle.service_core.specs.Service.{ServiceState}
-use Rattle.service_core.specs.Calls.{IsAdmitted, IsEvicted, IsGivenBack, IsPut, IsServed, IsTaken}
+use Rattle.service_core.specs.Calls.{IsAdmitted, IsEvicted, IsGivenBack, IsMoved, IsPut, IsServed, IsTaken}
 
 -- a call with its answer; a put with the flag of its event, which isn't told
 pub data Call : Type 0 where
   Admit : ℕ → Result (ℕ × ℕ) OpRefusal → Call
   Evict : ℕ → Result (Unit {0}) OpRefusal → Call
+  Move : ℕ → ℕ → Result (Unit {0}) OpRefusal → Call
   Tenant : ℕ → Command → Result Receipted NotServed → Call
   Take : ℕ → Option JobState → Call
   Put : JobStep → Bool → Result PutReply (JobStep × AllocError) → Call
@@ -24,6 +25,7 @@ pub data Call : Type 0 where
 abbrev pub Happens : ServiceState → Call → ServiceState → Type 0
 Happens old (Admit width answer) new = IsAdmitted old width answer new
 Happens old (Evict id answer) new = IsEvicted old id answer new
+Happens old (Move id offset answer) new = IsMoved old id offset answer new
 Happens old (Tenant id command answer) new = IsServed old id command answer new
 Happens old (Take id answer) new = IsTaken old id answer new
 Happens old (Put done foreign answer) new = IsPut old done foreign answer new

@@ -2,7 +2,7 @@
 use Rattle.std.specs.Prelude.{ℕ, ◌≡◌, ◌+◌, ◌-◌, List, [], ◌∷◌, ◌++◌, length, Bool, true, false, Option, Some, None, option_map, All, ◌==◌, if◌then◌else◌}
 use Rattle.grid.specs.declared.Strip.{Strip}
 use Rattle.strips.specs.declared.placed_strip.PlacedStrip.{PlacedStrip}
-use Rattle.strips.specs.Plan.{Plan, strip_of, with_strip, without}
+use Rattle.strips.specs.Plan.{Plan, strip_of, with_moved, with_strip, without}
 use Rattle.service_core.specs.declared.device.Device.{Device}
 use Rattle.service_core.specs.declared.entry.Entry.{Entry}
 use Rattle.service_core.specs.History.{History, IsReplayed, with_entry, with_out, closed}
@@ -64,6 +64,10 @@ without_tenancy state id = record state {
   plan = record state.plan { strips = without state.plan.strips id };
   histories = modified state.histories id closed;
 }
+
+-- that tenancy's strip at that offset
+abbrev pub with_offset_of : ServiceState → ℕ → ℕ → ServiceState
+with_offset_of state id offset = record state { plan = with_moved state.plan id offset }
 
 -- one entry more in that tenancy's journal
 abbrev pub with_entry_of : ServiceState → ℕ → Entry → ServiceState

@@ -3,7 +3,7 @@ ghost use Rattle.arch_file.specs.Arch.{IsArch};
 ghost use Rattle.strips.specs.Plan.{IsLaidOut, offset_of};
 ghost use Rattle.service_core.specs.History.{state_of};
 ghost use Rattle.service_core.specs.Service.{AreAlone, empty, journal_of, live_of};
-ghost use Rattle.service_core.specs.Calls.{IsAdmitted, IsEvicted, IsGivenBack, IsOriginIn, IsServed, IsTaken, Puts, takeable_in};
+ghost use Rattle.service_core.specs.Calls.{IsAdmitted, IsEvicted, IsGivenBack, IsMoved, IsOriginIn, IsServed, IsTaken, Puts, takeable_in};
 ghost use Rattle.service_core.specs.Kept.{AreFree, ChecksAdmission, IsLiveIn, IsPlaceOf, TakesUp};
 ghost use Rattle.service_core.specs.Owners.{IsExactBook, ListsOwnersOf};
 ghost use Rattle.service_core.specs.Tenancy.{StandsIn};
@@ -130,6 +130,7 @@ impl Service {
     /// Where a live tenancy's strip stands: how many columns lie before it. All strips are parted.
     pub fn offset(&self, id: u32) -> Option<u32>
         ensures value { result ≡ offset_of self.now.plan.strips id }
+        ensures laid_out { IsLaidOut self.now.plan }
         ensures parted { AreParted self.now.device self.now }
         ensures alone { AreAlone self.now }
     {
@@ -217,6 +218,23 @@ impl Service {
         self.book.release(offset, tenancy.routed());
         tenancy.close();
         self.layout.remove(id);
+        Ok(())
+    }
+
+    /// Moves a live tenancy's strip to that offset, with all that the tenancy owns. Refused as NoRoom exactly where the strips would not be
+    /// parted then. Jobs that are out go on. Takes no memory.
+    pub fn move_strip(&mut self, id: u32, offset: u32) -> Result<(), OpRefusal>
+        ensures { IsMoved self.old id offset result self.new }
+    {
+        if !is_live(&self.tenancies, id) {
+            return Err(OpRefusal::NoSuchTenancy);
+        }
+        let from = self.place_of(id);
+        if self.layout.move_to(id, offset).is_err() {
+            return Err(OpRefusal::NoRoom);
+        }
+        let tenancy = &self.tenancies[id as usize - 1];
+        self.book.shift(id as u16, from, offset, tenancy.routed());
         Ok(())
     }
 

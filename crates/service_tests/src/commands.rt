@@ -1,64 +1,87 @@
-//! What a tenant asks, and what its journal keeps.
-use crate::cores::{is_served, new_core, text};
+//! Commands and replies, with their copies.
+use crate::cores::text;
 use fixtures::AND;
-use service_core::{NotServed, Note, NoteCause, Service};
 use std::alloc::Global;
-use std::test::Fail;
-use tenant_slot::{Command, Event, Reply, StateName};
+use tenant_slot::{Command, Refusal, Reply, SharedText, StateName};
 
-/// A core with two tenancies.
-fn shared_core(alloc: Global) -> Option<Service> {
-    let mut core = new_core(alloc, 3)?;
-    core.admit(1).ok()?;
-    core.admit(1).ok()?;
-    Some(core)
+/// A table with three inputs and an output.
+const THREE_INPUTS: &str = "\
+.model m
+.inputs a b c
+.outputs f
+.names a b c f
+111 1
+";
+
+/// Whether a text is the same for each of its owners.
+fn is_shared(shared: &SharedText) -> bool {
+    match shared.clone() {
+        Ok(copy) => copy.as_bytes() == AND.as_bytes(),
+        Err(_) => false,
+    }
 }
 
-#[test]
-fn a_netlist_is_uploaded(rt: HostRuntime) -> Result<(), Fail> {
-    let mut core = shared_core(rt.alloc()).ok_or("no core")?;
-    assert!(rt; is_served(&mut core, 2, Command::Withdraw));
-    let upload = Command::Upload(text(rt.alloc(), AND).ok_or("no text")?);
-    let receipt = core.tenant(2, upload).ok().ok_or("not served")?;
-    assert_eq!(rt; receipt.id(), 2);
-    assert_eq!(rt; receipt.place(), 1);
-    assert!(rt; matches!(receipt.reply(), Reply::Accepted(StateName::Loaded)));
-    let Command::Upload(text) = receipt.command() else {
-        return Err("another command is told".into());
-    };
-    assert_eq!(rt; text.as_bytes(), AND.as_bytes());
-    Ok(())
+/// Whether an upload is the same as its copy alone.
+fn compares_commands(one: SharedText, other: SharedText, changed: SharedText) -> bool {
+    let upload = Command::Upload(one);
+    let another = Command::Upload(other);
+    let change = Command::Change(changed);
+    let is_so = is_copied(&upload) && !upload.same(&another) && !upload.same(&change);
+    drop(upload);
+    drop(another);
+    drop(change);
+    is_so
 }
 
-/// The note that a tenancy isn't live, with the refusal's number and name.
-fn gone(core: &mut Service, id: u32) -> Option<(Note, u32, &'static str)> {
-    let Err(refusal) = core.tenant(id, Command::Status) else {
-        return None;
-    };
-    let (number, name) = (refusal.number(), refusal.name());
-    match refusal {
-        NotServed::NoSuchTenancy(note) => Some((note, number, name)),
-        _ => None,
+fn is_copied(command: &Command) -> bool {
+    match command.clone() {
+        Ok(copy) => {
+            let is_so = command.same(&copy);
+            drop(copy);
+            is_so
+        }
+        Err(_) => false,
+    }
+}
+
+fn compares_texts(alloc: Global) -> bool {
+    match (
+        text(alloc, AND),
+        text(alloc, THREE_INPUTS),
+        text(alloc, AND),
+    ) {
+        (Some(one), Some(other), Some(changed)) => {
+            is_shared(&one) && compares_commands(one, other, changed)
+        }
+        _ => false,
+    }
+}
+
+/// Whether a refusal is the same as its copy alone.
+fn compares_replies() -> bool {
+    let reply = Reply::Refused(Refusal::WrongState(StateName::Packed));
+    let other = Reply::Refused(Refusal::WrongState(StateName::Empty));
+    let accepted = Reply::Accepted(StateName::Packed);
+    let is_so = is_same_as_copy(&reply) && !reply.same(&other) && !reply.same(&accepted);
+    drop(reply);
+    drop(other);
+    drop(accepted);
+    is_so
+}
+
+fn is_same_as_copy(reply: &Reply) -> bool {
+    match reply.clone() {
+        Ok(copy) => {
+            let is_so = reply.same(&copy);
+            drop(copy);
+            is_so
+        }
+        Err(_) => false,
     }
 }
 
 #[test]
-fn a_journal_is_kept_when_its_tenancy_ends(rt: HostRuntime) -> Result<(), Fail> {
-    let mut core = shared_core(rt.alloc()).ok_or("no core")?;
-    assert!(rt; is_served(&mut core, 2, Command::Status));
-    assert!(rt; core.evict(2).is_ok());
-    let (note, number, name) = gone(&mut core, 2).ok_or("it is served")?;
-    assert_eq!(rt; note.id(), 2);
-    assert_eq!(rt; note.cause(), NoteCause::NoSuchTenancy);
-    assert_eq!(rt; number, 5);
-    assert_eq!(rt; name, "NoSuchTenancy");
-    let entry = core.entry(2, 0).ok_or("the journal is lost")?;
-    assert!(rt; matches!(entry.event, Event::Command(Command::Status)));
-    let Reply::Status(status) = &entry.reply else {
-        return Err("another reply is kept".into());
-    };
-    assert_eq!(rt; status.state, StateName::Empty);
-    assert_eq!(rt; status.steps, 0);
-    assert!(rt; status.ending.is_none());
-    Ok(())
+fn commands_and_replies_are_compared(rt: HostRuntime) {
+    assert!(rt; compares_texts(rt.alloc()));
+    assert!(rt; compares_replies());
 }

@@ -1,30 +1,35 @@
-//! A core to test, and what it is asked.
-ghost use Rattle.std.specs.Prelude.{◌≤◌};
+//! A core to be tested, and what it is asked. No function holds a core where it can end early: one that may is lent the core, and
+//! its caller drops it by a call.
+ghost use Rattle.std.specs.Prelude.{◌≡◌, ◌≤◌, IfSome};
+ghost use Rattle.arch_file.specs.Arch.{IsArch};
+ghost use Rattle.job_state.specs.JobValue.{basis_in};
 
-use arch_file::read_arch;
+use arch_file::{Arch, read_arch};
 use fixtures::ARCHITECTURE;
-use job_state::AnyJob;
+use job_state::{AnyJob, Done};
 use line_text::Text;
-use service_core::{Device, PutReply, Service};
+use service_core::{Device, PutReply, Receipt, Service};
 use std::alloc::Global;
-use tenant_slot::{Command, SharedText};
+use strips::{DeviceGraph, Window};
+use tenant_slot::{Command, Reply, SharedText, StateName, StepReply};
 
-/// Two tables without inputs, which no cluster of one element holds: two steps pack it.
-pub(crate) const TWO_TABLES: &str = "\
-.model b
-.names f
-1
-.names g
-1
-";
+/// The smallest architecture, with two tracks.
+pub(crate) fn architecture(alloc: Global) -> Option<Arch>
+    ensures { IfSome result (λ arch. IsArch arch) }
+{
+    match read_arch(alloc, ARCHITECTURE.as_bytes(), 2) {
+        Ok(arch) => Some(arch),
+        Err(_) => None,
+    }
+}
 
-/// The core of a device of so many columns, one row and two tracks.
+/// The core of a device of so many columns and one row.
 pub(crate) fn new_core(alloc: Global, columns: u32) -> Option<Service>
     requires some { 1 ≤ columns }
     requires few { columns ≤ 256 }
 {
-    match read_arch(alloc, ARCHITECTURE.as_bytes(), 2) {
-        Ok(arch) => {
+    match architecture(alloc) {
+        Some(arch) => {
             let device = Device {
                 arch,
                 columns,
@@ -32,10 +37,26 @@ pub(crate) fn new_core(alloc: Global, columns: u32) -> Option<Service>
             };
             Service::new(alloc, device).ok()
         }
-        Err(_) => None,
+        None => None,
     }
 }
 
+/// The graph of that device.
+pub(crate) fn new_graph(alloc: Global, columns: u32) -> Option<DeviceGraph>
+    requires some { 1 ≤ columns }
+    requires few { columns ≤ 256 }
+{
+    match architecture(alloc) {
+        Some(arch) => {
+            let graph = DeviceGraph::new(alloc, &arch, columns, 1);
+            drop(arch);
+            graph.ok()
+        }
+        None => None,
+    }
+}
+
+/// A shared text of these characters.
 pub(crate) fn text(alloc: Global, netlist: &str) -> Option<SharedText> {
     match Text::from_slice(alloc, netlist.as_bytes()) {
         Ok(text) => SharedText::new(alloc, text).ok(),
@@ -43,38 +64,66 @@ pub(crate) fn text(alloc: Global, netlist: &str) -> Option<SharedText> {
     }
 }
 
-/// Whether a command is served.
-pub(crate) fn is_served(core: &mut Service, id: u32, command: Command) -> bool {
-    core.tenant(id, command).is_ok()
+/// Whether a command is accepted, and leads to that state.
+pub(crate) fn leads_to(core: &mut Service, id: u32, command: Command, state: StateName) -> bool {
+    match core.tenant(id, command) {
+        Ok(receipt) => accepts(receipt, state),
+        Err(_) => false,
+    }
 }
 
-/// Whether the netlist is uploaded, and its packing begins.
+fn accepts(receipt: Receipt, state: StateName) -> bool {
+    let is_so = matches!(receipt.reply(), Reply::Accepted(name) if *name == state);
+    drop(receipt);
+    is_so
+}
+
+/// Whether the tenancy uploads the netlist, and begins to pack it.
 pub(crate) fn begins_packing(alloc: Global, core: &mut Service, id: u32, netlist: &str) -> bool {
     match text(alloc, netlist) {
         Some(text) => {
-            is_served(core, id, Command::Upload(text)) && is_served(core, id, Command::Pack)
+            leads_to(core, id, Command::Upload(text), StateName::Loaded)
+                && leads_to(core, id, Command::Pack, StateName::Packing)
         }
         None => false,
     }
 }
 
-/// A core of one column, whose only tenancy packs two tables.
-pub(crate) fn packing_core(alloc: Global) -> Option<Service> {
-    let mut core = new_core(alloc, 1)?;
-    let begins = core.admit(1).is_ok() && begins_packing(alloc, &mut core, 1, TWO_TABLES);
-    begins.then_some(core)
+/// Takes the next step of the tenancy's job, makes it through the window at that offset, and puts it. A job whose step isn't made
+/// or put is given back.
+pub(crate) fn step(
+    core: &mut Service,
+    graph: &DeviceGraph,
+    id: u32,
+    offset: u32,
+) -> Option<PutReply> {
+    match core.take(id) {
+        Some(job) => step_at(core, graph, offset, job),
+        None => None,
+    }
 }
 
-/// Makes a job's step, and puts it. Without memory the job is given back, and there is no answer.
-pub(crate) fn step_and_put(core: &mut Service, job: AnyJob) -> Option<PutReply> {
-    match job.step() {
-        Ok(done) => match core.put(done) {
-            Ok(reply) => Some(reply),
-            Err((done, _)) => {
-                core.give_back(done.into_back());
-                None
-            }
-        },
+/// The same of a job that was taken.
+pub(crate) fn step_at(
+    core: &mut Service,
+    graph: &DeviceGraph,
+    offset: u32,
+    job: AnyJob,
+) -> Option<PutReply> {
+    match job.window(graph, offset) {
+        Some(window) => step_through(core, job, &window),
+        None => {
+            core.give_back(job.into_back());
+            None
+        }
+    }
+}
+
+fn step_through(core: &mut Service, job: AnyJob, window: &Window<'_>) -> Option<PutReply>
+    requires { window.now ≡ basis_in job.step.sources }
+{
+    match job.step(window) {
+        Ok(done) => put(core, done),
         Err(back) => {
             core.give_back(back);
             None
@@ -82,21 +131,27 @@ pub(crate) fn step_and_put(core: &mut Service, job: AnyJob) -> Option<PutReply> 
     }
 }
 
-/// Takes the running job's next step, makes it and puts it.
-pub(crate) fn step(core: &mut Service, id: u32) -> Option<PutReply> {
-    match core.take(id) {
-        Some(job) => step_and_put(core, job),
-        None => None,
+fn put(core: &mut Service, done: Done) -> Option<PutReply> {
+    match core.put(done) {
+        Ok(reply) => Some(reply),
+        Err((done, _)) => {
+            core.give_back(done.into_back());
+            None
+        }
     }
 }
 
-/// Whether there is a step to take. One that is taken is given back.
-pub(crate) fn has_step(core: &mut Service, id: u32) -> bool {
-    match core.take(id) {
-        Some(job) => {
-            core.give_back(job.into_back());
-            true
-        }
-        None => false,
+/// Whether the tenancy's job is finished by just so many steps, made through the window at that offset.
+pub(crate) fn finishes(
+    core: &mut Service,
+    graph: &DeviceGraph,
+    id: u32,
+    offset: u32,
+    steps: u32,
+) -> bool {
+    let mut last = None;
+    for _ in 0..steps {
+        last = step(core, graph, id, offset);
     }
+    last == Some(PutReply::Recorded(StepReply::Finished))
 }

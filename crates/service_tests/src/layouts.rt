@@ -1,6 +1,9 @@
-//! Where strips stand.
-use std::test::Fail;
-use strips::{Layout, PlacedStrip};
+//! Where strips stand, and who owns what.
+use crate::cores::architecture;
+use device_book::Book;
+use rr_graph::{Resource, ResourceKind};
+use std::alloc::Global;
+use strips::{Layout, NoRoom, PlacedStrip};
 
 /// Places a strip of that width at the least offset where it fits, and tells the offset.
 fn placed(layout: &mut Layout, id: u32, width: u32) -> Option<u32> {
@@ -12,15 +15,64 @@ fn placed(layout: &mut Layout, id: u32, width: u32) -> Option<u32> {
     Some(offset)
 }
 
-#[test]
-fn a_strip_takes_the_place_of_one_that_is_gone(rt: HostRuntime) -> Result<(), Fail> {
-    let mut layout = Layout::new(9);
-    assert_eq!(rt; placed(&mut layout, 1, 4), Some(0));
-    assert_eq!(rt; placed(&mut layout, 2, 4), Some(5));
-    assert_eq!(rt; placed(&mut layout, 3, 1), None);
+/// Whether a strip that there is moves to that offset, or finds no room there.
+fn moves(layout: &mut Layout, id: u32, offset: u32) -> Option<Result<(), NoRoom>> {
+    if layout.offset(id).is_some() {
+        Some(layout.move_to(id, offset))
+    } else {
+        None
+    }
+}
+
+/// Whether a strip takes the place of one that is gone, and the other moves next to it.
+fn takes_the_place(layout: &mut Layout) -> bool {
+    let is_placed = placed(layout, 1, 4) == Some(0)
+        && placed(layout, 2, 4) == Some(5)
+        && placed(layout, 3, 1) == None;
     layout.remove(1);
-    assert_eq!(rt; placed(&mut layout, 3, 3), Some(0));
-    assert_eq!(rt; layout.offset(2), Some(5));
-    assert!(rt; layout.is_bad_width(10));
-    Ok(())
+    is_placed
+        && placed(layout, 3, 3) == Some(0)
+        && layout.offset(2) == Some(5)
+        && layout.is_bad_width(10)
+        && moves(layout, 2, 3) == Some(Err(NoRoom))
+        && moves(layout, 2, 4) == Some(Ok(()))
+        && layout.offset(2) == Some(4)
+}
+
+#[test]
+fn a_strip_takes_the_place_of_one_that_is_gone(rt: HostRuntime) {
+    let mut layout = Layout::new(9);
+    let is_so = takes_the_place(&mut layout);
+    drop(layout);
+    assert!(rt; is_so);
+}
+
+/// Whether nobody owns a pad of a new device.
+fn is_nobodys(alloc: Global) -> bool {
+    match architecture(alloc) {
+        Some(arch) => {
+            let book = Book::new(alloc, &arch, 1, 1);
+            drop(arch);
+            match book {
+                Ok(book) => is_free(&book),
+                Err(_) => false,
+            }
+        }
+        None => false,
+    }
+}
+
+fn is_free(book: &Book) -> bool {
+    let pad = Resource {
+        x: 1,
+        kind: ResourceKind::Pad,
+        y: 0,
+        n: 0,
+    };
+    book.owner(pad) == None
+}
+
+#[test]
+fn a_new_device_is_nobodys(rt: HostRuntime) {
+    assert!(rt; is_nobodys(rt.alloc()));
 }

@@ -1,14 +1,15 @@
-//! Tests of the service's core and of the strips under it, by subject. Each calls public functions on their happy path, with ample
-//! memory; what the clauses say exactly isn't tested again.
+//! Tests of one tenancy's machine, of the core of all tenancies, and of the strips and the book under it: what no clause says, and
+//! each public function once that no program calls, with ample memory. A fact is told as `bool`; what lacks memory is told as
+//! `None` or `false`.
 //!
-//! - `layouts`: where strips stand.
+//! - `names`: the names and numbers that replies are printed with.
+//! - `commands`: commands and replies, with their copies.
+//! - `slots`: a slot to be tested, and a job that leaves it and comes back.
+//! - `cores`: a core to be tested, and what it is asked.
 //! - `admissions`: tenancies that come and go.
-//! - `commands`: what a tenant asks, and what its journal keeps.
-//! - `jobs`: jobs that leave the core and come back.
-//! - `late_jobs`: what happens to a tenancy while a step of it is out.
-//! - `pairs_of_acts`: two of these things, at any two points of a step.
-//! - `owners`: what routed netlists own of the device.
-//! - `full_journals`: a journal that fills while a step is out.
+//! - `other_cores`: jobs of another core.
+//! - `windows`: steps through windows that stand elsewhere.
+//! - `layouts`: where strips stand, and who owns what.
 #![tactic(auto)]
 
 #[cfg(test)]
@@ -18,14 +19,12 @@ mod commands;
 #[cfg(test)]
 mod cores;
 #[cfg(test)]
-mod full_journals;
-#[cfg(test)]
-mod jobs;
-#[cfg(test)]
-mod late_jobs;
-#[cfg(test)]
 mod layouts;
 #[cfg(test)]
-mod owners;
+mod names;
 #[cfg(test)]
-mod pairs_of_acts;
+mod other_cores;
+#[cfg(test)]
+mod slots;
+#[cfg(test)]
+mod windows;

@@ -24,7 +24,7 @@ use Rattle.service_core.proofs.Lists.{All-history_of}
 use Rattle.sessions.specs.declared.line.SessionLine.{SessionLine}
 use Rattle.sessions.specs.declared.line.SessionLine.TheVariants.{Blank, Command, Wait, Refused}
 use Rattle.sessions.specs.declared.steps.StepOutcome.{StepOutcome}
-use Rattle.sessions.specs.declared.steps.StepOutcome.TheVariants.{Recorded, Full, Gone, NoMemory as StepNoMemory, Nothing}
+use Rattle.sessions.specs.declared.steps.StepOutcome.TheVariants.{Recorded, Full, Gone, NoMemory as StepNoMemory, Nothing, Unfit}
 use Rattle.sessions.specs.declared.told.Answer.{Answer}
 use Rattle.sessions.specs.declared.told.Answer.TheVariants.{Served}
 use Rattle.sessions.specs.EndToEnd.{IsToldAlone, LineIsToldAlone, alone_after, alone_text, told_text}
@@ -92,6 +92,7 @@ end_told device before calls old new id Full answer runs ends next = asked_told 
 end_told device before calls old new id Gone answer runs ends next = asked_told device before calls old new id Status answer runs ends next
 end_told device before calls old new id StepNoMemory answer runs ends next = inl ends.1
 end_told device before calls old new id Nothing answer runs ends next = asked_told device before calls old new id Status answer runs ends next
+end_told device before calls old new id Unfit answer runs ends next = asked_told device before calls old new id Status answer runs ends next
 
 pub split : (old : ServiceState) (xs ys : List Call) (new : ServiceState) → Run old (xs ++ ys) new → (mid : ServiceState) × Run old xs mid × Run mid ys new
 split old [] ys new runs = (old, refl, runs)

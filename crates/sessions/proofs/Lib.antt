@@ -2,6 +2,7 @@ mod CommandLemmas
 mod Counted
 mod EndToEndLemmas
 mod Examples
+pub mod Fitting
 pub mod KeptLemmas
 pub mod ReadingLemmas
 pub mod StepLemmas

@@ -14,7 +14,7 @@ use Rattle.service_core.specs.Run.{Call, Run}
 use Rattle.service_core.specs.Run.Call.{Take, Put, GiveBack}
 use Rattle.service_core.specs.Service.{ServiceState}
 use Rattle.sessions.specs.declared.steps.StepOutcome.{StepOutcome}
-use Rattle.sessions.specs.declared.steps.StepOutcome.TheVariants.{Recorded, Full, Gone, NoMemory, Nothing}
+use Rattle.sessions.specs.declared.steps.StepOutcome.TheVariants.{Recorded, Full, Gone, NoMemory, Nothing, Unfit}
 use Rattle.tenant_slot.specs.declared.command.Command.TheVariants.{Status}
 use Rattle.sessions.specs.declared.line.SessionLine.{SessionLine}
 use Rattle.sessions.specs.declared.line.SessionLine.TheVariants.{Wait}
@@ -63,6 +63,7 @@ taken id job more Full s = (job, more, s, refl)
 taken id job more Gone s = (job, more, s, refl)
 taken id job more NoMemory s = (job, more, s, refl)
 taken id job more Nothing s = absurd s
+taken id job more Unfit s = (job, more, s, refl)
 
 pub take_happens : (old new : ServiceState) (id : ℕ) (result : Option JobState) (job : JobState) → result ≡ Some job → IsTaken old id result new → IsTaken old id (Some job) new
 take_happens old new id result job same is = let P : Option JobState → Type 0 = λ j. IsTaken old id j new in subst P same is
@@ -97,6 +98,7 @@ ends_unrecorded Full not = tt
 ends_unrecorded Gone not = tt
 ends_unrecorded NoMemory not = tt
 ends_unrecorded Nothing not = tt
+ends_unrecorded Unfit not = tt
 
 -- what a wait is answered
 pub wait_asks : (old mid new : ServiceState) (id : ℕ) (line : SessionLine) (last : StepOutcome) (steps more : List Call) (answer : Answer) → line ≡ Wait → Waits id steps last → Run old steps mid →
@@ -109,6 +111,7 @@ ends_as_status id Full calls answer not asks = asks
 ends_as_status id Gone calls answer not asks = asks
 ends_as_status id NoMemory calls answer not asks = absurd (not refl)
 ends_as_status id Nothing calls answer not asks = asks
+ends_as_status id Unfit calls answer not asks = asks
 
 pub ends_without_memory : (id : ℕ) (last : StepOutcome) → last ≡ NoMemory → EndsWait id last [] (Served (Err NotServedNoMemory))
 ends_without_memory id last is = rw is (refl, refl)

@@ -22,13 +22,14 @@ use Rattle.service_core.specs.History.{History, closed, with_entry, with_out}
 use Rattle.service_core.specs.OwnEvents.{if_own, own_events, own_exchange, own_exchanges}
 use Rattle.service_core.specs.Receipt.{Receipted}
 use Rattle.service_core.specs.Run.{Call, Happens, Run}
-use Rattle.service_core.specs.Run.Call.{Admit, Evict, Tenant, Take, Put, GiveBack}
+use Rattle.service_core.specs.Run.Call.{Admit, Evict, Move, Tenant, Take, Put, GiveBack}
 use Rattle.service_core.specs.Service.{ServiceState, empty, history_of, if_live, live_of, live_width, modified, strip_on, with_tenancy}
+use Rattle.service_core.proofs.MovedStrips.{same_histories}
 use Rattle.service_core.proofs.Lists.{history_of-modified, history_of-past, history_of-push}
 use Rattle.sessions.specs.declared.line.SessionLine.{SessionLine}
 use Rattle.sessions.specs.declared.line.SessionLine.TheVariants.{Blank, Command, Wait, Refused as RefusedLine}
 use Rattle.sessions.specs.declared.steps.StepOutcome.{StepOutcome}
-use Rattle.sessions.specs.declared.steps.StepOutcome.TheVariants.{Recorded, Full, Gone, NoMemory as StepNoMemory, Nothing}
+use Rattle.sessions.specs.declared.steps.StepOutcome.TheVariants.{Recorded, Full, Gone, NoMemory as StepNoMemory, Nothing, Unfit}
 use Rattle.sessions.specs.declared.told.Answer.{Answer}
 use Rattle.sessions.specs.declared.told.Answer.TheVariants.{Served}
 use Rattle.sessions.specs.EndToEnd.{alone_after, alone_text, told_text}
@@ -84,6 +85,7 @@ others_steps id (Put done foreign (Ok PutGone)) is = tt
 others_steps id (Put done foreign (Err back)) is = tt
 others_steps id (Admit width answer) is = tt
 others_steps id (Evict t answer) is = tt
+others_steps id (Move t offset answer) is = tt
 others_steps id (Take t answer) is = tt
 others_steps id (GiveBack job) is = tt
 
@@ -113,6 +115,7 @@ puts_others id job calls Gone is = to_others id calls _ is.1 (tt, tt)
 puts_others id job calls StepNoMemory (inl is) = to_others id calls _ is (tt, tt)
 puts_others id job calls StepNoMemory (inr is) = to_others id calls _ is.2 (tt, (tt, tt))
 puts_others id job calls Nothing is = absurd is
+puts_others id job calls Unfit is = to_others id calls _ is (tt, tt)
 
 taking : (id : ℕ) (job : JobState) (calls more : List Call) (outcome : StepOutcome) → StepsAndPuts job more outcome → calls ≡ Take id (Some job) ∷ more → AreOthers id calls
 taking id job calls more outcome puts is = to_others id calls _ is (tt, puts_others id job more outcome puts)
@@ -123,6 +126,7 @@ step_others id calls Full is = taking id is.0 calls is.1 Full is.2 is.3
 step_others id calls Gone is = taking id is.0 calls is.1 Gone is.2 is.3
 step_others id calls StepNoMemory is = taking id is.0 calls is.1 StepNoMemory is.2 is.3
 step_others id calls Nothing is = to_others id calls _ is (tt, tt)
+step_others id calls Unfit is = taking id is.0 calls is.1 Unfit is.2 is.3
 
 made_others : (id : ℕ) (made : List MadeStep) → All (λ (m : MadeStep). MakesStep id m.0 (Recorded m.1)) made → AreOthers id (flat_map (λ (m : MadeStep). m.0) made)
 made_others id [] all = tt
@@ -191,6 +195,7 @@ call_stays id width old (Admit w (Ok given)) new spares is was = let P : Service
 call_stays id width old (Admit w (Err refusal)) new spares is was = unchanged id width old new is.1 was
 call_stays id width old (Evict t (Ok nothing)) new spares is was = let P : ServiceState → Type 0 = λ s. Stays id width s in subst P (sym is.1) (width_of_other old.histories t id width spares was)
 call_stays id width old (Evict t (Err refusal)) new spares is was = unchanged id width old new is.2 was
+call_stays id width old (Move t offset answer) new spares is was = let P : List History → Type 0 = λ hs. live_width hs id ≡ Some width in subst P (sym (same_histories old t offset answer new is)) was
 call_stays id width old (Tenant t command (Ok r)) new spares is was = changed id width t old new (with_entry (record { event = Asked command; reply = r.reply })) (λ g. (refl, refl)) is.1 was
 call_stays id width old (Tenant t command (Err (JournalFull note))) new spares is was = unchanged id width old new is.2 was
 call_stays id width old (Tenant t command (Err (NoSuchTenancy note))) new spares is was = unchanged id width old new is.2 was
@@ -213,6 +218,7 @@ others_spare id (call ∷ calls) are = (one call are.0, others_spare id calls ar
   where
     one : (call : Call) → IsOthers id call → Spares id call
     one (Evict t answer) is = is
+    one (Move t offset answer) is = tt
     one (Tenant t command served) is = tt
     one (Admit width answer) is = tt
     one (Take t answer) is = tt
@@ -276,6 +282,7 @@ wait_ends device before calls old new id width Full answer runs stays ends next 
 wait_ends device before calls old new id width Gone answer runs stays ends next = asked_ends device before calls old new id width Status answer runs stays ends next
 wait_ends device before calls old new id width StepNoMemory answer runs stays ends next = rw (ends.0, ends.1) (λ rest. refl)
 wait_ends device before calls old new id width Nothing answer runs stays ends next = asked_ends device before calls old new id width Status answer runs stays ends next
+wait_ends device before calls old new id width Unfit answer runs stays ends next = asked_ends device before calls old new id width Status answer runs stays ends next
 
 -- steps of others, and then an end
 steps_then : (device : Device) (width id : ℕ) (before steps more : List Call) (answer : Answer) → AreOthers id steps → Ends device width id (before ++ steps) more answer → Ends device width id before (steps ++ more) answer
@@ -303,6 +310,7 @@ end_spares id Full calls answer ends = rw ends.1 (tt, tt)
 end_spares id Gone calls answer ends = rw ends.1 (tt, tt)
 end_spares id StepNoMemory calls answer ends = rw ends.0 tt
 end_spares id Nothing calls answer ends = rw ends.1 (tt, tt)
+end_spares id Unfit calls answer ends = rw ends.1 (tt, tt)
 
 -- an item
 item_ends : (device : Device) (before calls : List Call) (old new : ServiceState) (id width : ℕ) (line : SessionLine) (answer : Answer) → Run (empty device) before old → Stays id width old → Asks id line calls answer → Run old calls new →

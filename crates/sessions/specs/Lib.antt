@@ -1,4 +1,5 @@
 pub mod EndToEnd
+pub mod Fitting
 pub mod Items
 pub mod Reading
 pub mod SessionAnswer

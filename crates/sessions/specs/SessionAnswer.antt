@@ -1,13 +1,14 @@
 -- What a session's line asks of the core, and is answered.
-use Rattle.std.specs.Prelude.{ℕ, ◌≡◌, List, [], ◌∷◌, ◌++◌, Result, Err}
+use Rattle.std.specs.Prelude.{ℕ, ◌≡◌, ◌⊎◌, ⊤, List, [], ◌∷◌, ◌++◌, false, Result, Err}
 use Rattle.tenant_slot.specs.declared.command.Command.{Command as TenantCommand}
 use Rattle.tenant_slot.specs.declared.command.Command.TheVariants.{Status}
 use Rattle.service_core.specs.declared.not_served.NotServed.{NotServed}
 use Rattle.service_core.specs.declared.not_served.NotServed.TheVariants.{NoMemory}
+use Rattle.service_core.specs.Calls.{takeable_in}
 use Rattle.service_core.specs.Receipt.{Receipted}
 use Rattle.service_core.specs.Run.{Call, Run}
 use Rattle.service_core.specs.Run.Call.{Tenant}
-use Rattle.service_core.specs.Service.{ServiceState}
+use Rattle.service_core.specs.Service.{ServiceState, live_of}
 use Rattle.sessions.specs.declared.line.SessionLine.{SessionLine}
 use Rattle.sessions.specs.declared.line.SessionLine.TheVariants.{Blank, Command, Wait, Refused}
 use Rattle.sessions.specs.declared.steps.StepOutcome.{StepOutcome}
@@ -35,3 +36,8 @@ Asks id Wait calls answer = (last : StepOutcome) × (steps : List Call) × (more
 -- and the calls lead from one state of the core to the other
 abbrev pub IsAnswer : ServiceState → ℕ → SessionLine → Answer → ServiceState → Type 0
 IsAnswer old id line answer new = (calls : List Call) × Asks id line calls answer × Run old calls new
+
+-- behind a wait the tenancy of that id has no step to take, unless memory lacked
+abbrev pub LeavesNone : ℕ → SessionLine → Answer → ServiceState → Type 0
+LeavesNone id Wait answer new = (answer ≡ Served (Err NoMemory)) ⊎ (takeable_in (live_of new.histories id) ≡ false)
+LeavesNone id line answer new = ⊤

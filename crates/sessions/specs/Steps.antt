@@ -10,14 +10,14 @@ use Rattle.service_core.specs.declared.put_reply.PutReply.TheVariants.{Recorded 
 use Rattle.service_core.specs.Run.{Call}
 use Rattle.service_core.specs.Run.Call.{Take, Put, GiveBack}
 use Rattle.sessions.specs.declared.steps.StepOutcome.{StepOutcome}
-use Rattle.sessions.specs.declared.steps.StepOutcome.TheVariants.{Recorded, Full, Gone, NoMemory, Nothing}
+use Rattle.sessions.specs.declared.steps.StepOutcome.TheVariants.{Recorded, Full, Gone, NoMemory, Nothing, Unfit}
 
 -- the job's step is put, and answered so; the flag of its event isn't told
 abbrev pub IsOnePut : JobState → List Call → Result PutReply (JobStep × AllocError) → Type 0
 IsOnePut job calls answer = (foreign : Bool) × (calls ≡ Put job.step foreign answer ∷ [])
 
 -- the calls of the core that a job is stepped and put by, and what comes of it: without memory it is given back, unstepped, or with
--- its step made
+-- its step made; and unstepped where the graph isn't that of its device
 abbrev pub StepsAndPuts : JobState → List Call → StepOutcome → Type 0
 StepsAndPuts job calls (Recorded reply) = IsOnePut job calls (Ok (PutRecorded reply))
 StepsAndPuts job calls Full = IsOnePut job calls (Ok PutFull)
@@ -26,6 +26,7 @@ StepsAndPuts job calls NoMemory =
     (calls ≡ GiveBack job ∷ [])
     ⊎ ((foreign : Bool) × (back : JobStep × AllocError) × (calls ≡ Put job.step foreign (Err back) ∷ GiveBack (record { step = job.step; made = true }) ∷ []))
 StepsAndPuts job calls Nothing = ⊥
+StepsAndPuts job calls Unfit = calls ≡ GiveBack job ∷ []
 
 -- the same with the take before it
 abbrev pub MakesStep : ℕ → List Call → StepOutcome → Type 0

@@ -1,5 +1,7 @@
+ghost use Rattle.std.specs.Prelude.{◌≡◌};
 ghost use Rattle.line_text.specs.Writing.{Writes};
-ghost use Rattle.sessions.specs.SessionAnswer.{IsAnswer};
+ghost use Rattle.sessions.specs.Fitting.{own_graph};
+ghost use Rattle.sessions.specs.SessionAnswer.{IsAnswer, LeavesNone};
 ghost use Rattle.sessions.specs.SessionText.{answer_text};
 
 use crate::line::SessionLine;
@@ -7,33 +9,38 @@ use crate::steps::{StepOutcome, run_steps};
 use crate::told::{Answer, write_answer};
 use line_text::{Failed, Sink};
 use service_core::{NotServed, Service};
+use strips::DeviceGraph;
 use tenant_slot::Command;
 
 /// Asks the core what a session's line asks, for the tenancy of that id, and writes what the session is told. The answer
-/// stands also where the writer fails: it has then taken a beginning of the text.
+/// stands also where the writer fails: it has then taken a beginning of the text. Over the device's own graph a wait leaves no step
+/// to take, unless memory lacks.
 pub fn answer<W: Sink>(
     core: &mut Service,
+    graph: &DeviceGraph,
     id: u32,
     line: SessionLine,
     writer: &mut W,
 ) -> (Answer, Result<(), Failed>)
     ensures answered { IsAnswer core.old id line result.0 core.new }
+    ensures own { graph.now ≡ own_graph core.old.device → LeavesNone id line result.0 core.new }
     ensures written { Writes W.contents W.has_failed writer.old writer.new (answer_text result.0) result.1 }
 {
-    let answer = ask(core, id, line);
+    let answer = ask(core, graph, id, line);
     let written = write_answer(writer, &answer);
     (answer, written)
 }
 
 /// Asks the core.
-fn ask(core: &mut Service, id: u32, line: SessionLine) -> Answer
-    ensures { IsAnswer core.old id line result core.new }
+fn ask(core: &mut Service, graph: &DeviceGraph, id: u32, line: SessionLine) -> Answer
+    ensures answered { IsAnswer core.old id line result core.new }
+    ensures own { graph.now ≡ own_graph core.old.device → LeavesNone id line result core.new }
 {
     match line {
         SessionLine::Blank => Answer::Nothing,
         SessionLine::Refused(refusal) => Answer::Refused(refusal),
         SessionLine::Command(command) => Answer::Served(core.tenant(id, command)),
-        SessionLine::Wait => match run_steps(core, id) {
+        SessionLine::Wait => match run_steps(core, graph, id) {
             StepOutcome::NoMemory => Answer::Served(Err(NotServed::NoMemory)),
             _ => Answer::Served(core.tenant(id, Command::Status)),
         },

@@ -7,9 +7,10 @@ ghost use Rattle.service_core.specs.Run.Call.{Admit};
 ghost use Rattle.service_core.specs.Service.{ServiceState, empty, live_of, live_width, strip_on};
 ghost use Rattle.sessions.specs.declared.line.SessionLine.{SessionLine};
 ghost use Rattle.sessions.specs.declared.steps.StepOutcome.{StepOutcome};
-ghost use Rattle.sessions.specs.declared.steps.StepOutcome.TheVariants.{NoMemory};
+ghost use Rattle.sessions.specs.declared.steps.StepOutcome.TheVariants.{NoMemory, Unfit};
 ghost use Rattle.sessions.specs.declared.told.Answer.{Answer};
 ghost use Rattle.sessions.specs.EndToEnd.{LineIsToldAlone, alone_after};
+ghost use Rattle.sessions.specs.Fitting.{FitsOwnDevice};
 ghost use Rattle.sessions.specs.SessionAnswer.{IsAnswer};
 ghost use Rattle.sessions.specs.Steps.{Waits};
 ghost use Rattle.sessions.specs.WholeSession.{Turn, Turns, events_in, heard, session_text, written};
@@ -29,8 +30,14 @@ pub fn whole_session()
     ensures any { (device : Device) (before : List Call) (old new : ServiceState) (id width : ℕ) (turns : List Turn) → Run (empty device) before old → live_width old.histories id ≡ Some width → Turns id old turns new → written turns ≡ session_text (heard id turns) (replies_to (alone_after device width id before) (events_in (heard id turns))) }
 {}
 
-/// Where the steps of a wait end, if memory didn't lack: there is no step to take. So no job of the tenancy runs, its next step is
-/// out, the journal is full, or the tenancy isn't live.
+/// Where the steps of a wait end, if memory didn't lack and the graph is that of the job's device: there is no step to take. So no
+/// job of the tenancy runs, its next step is out, the journal is full, or the tenancy isn't live.
 pub fn wait_ends()
-    ensures { (old new : ServiceState) (id : ℕ) (steps : List Call) (last : StepOutcome) → Waits id steps last → Run old steps new → (last ≡ NoMemory) ⊎ (takeable_in (live_of new.histories id) ≡ false) }
+    ensures { (old new : ServiceState) (id : ℕ) (steps : List Call) (last : StepOutcome) → Waits id steps last → Run old steps new → (last ≡ NoMemory) ⊎ ((last ≡ Unfit) ⊎ (takeable_in (live_of new.histories id) ≡ false)) }
+{}
+
+/// The device's own graph has a window for each job that the core gives out, where the strip of its tenancy stands then. Whatever
+/// calls were made of the core before.
+pub fn fits_own_device()
+    ensures { FitsOwnDevice }
 {}

@@ -7,12 +7,15 @@
 //!   beginning of it where the sink fails. The entry stands then.
 //! - `end_to_end` is the law of a session: what a line is told is what the service for a single user tells. `whole_session` says it
 //!   of all bytes of a session, and `wait_ends` where the steps of a `wait` end.
-//! - `make_step` takes, steps and puts a tenancy's job; `step_and_put` does the last two of a job that was taken.
+//! - `device_graph` makes the device's own graph, that its jobs are stepped on.
+//! - `make_step` takes, steps and puts a tenancy's job; `step_and_put` does the last two of a job that was taken. `fits_own_device` is
+//!   the law that the device's own graph has a window for each job that the core gives out.
 //! - `write_reply`, `write_refused`, `write_session_refusal` and `step_word` are how answers are spelled.
 //! - In `specs/`, `SessionLines` says what a line asks, `Items` what an input does, and `SessionText` how answers are spelled.
 #![tactic(auto)]
 
 mod asking;
+mod graphs;
 mod law;
 mod line;
 mod pending_text;
@@ -23,11 +26,12 @@ mod text;
 mod told;
 
 pub use asking::answer;
-pub use law::{end_to_end, wait_ends, whole_session};
+pub use graphs::device_graph;
+pub use law::{end_to_end, fits_own_device, wait_ends, whole_session};
 pub use line::{LineForm, SessionLine, TextKind, line_form};
 pub use pending_text::{MAX_KEPT, PendingText, append_kept, is_point, without_cr};
 pub use reading::{SessionReader, read_items};
 pub use refusal::SessionRefusal;
-pub use steps::{StepOutcome, make_step, step_and_put};
+pub use steps::{StepOutcome, make_step, step_and_put, window_of};
 pub use text::{step_word, write_refused, write_reply, write_session_refusal};
 pub use told::Answer;

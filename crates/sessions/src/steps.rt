@@ -1,10 +1,14 @@
-ghost use Rattle.std.specs.Prelude.{List};
-ghost use Rattle.service_core.specs.Calls.{IsOriginIn};
+ghost use Rattle.std.specs.Prelude.{◌≡◌, ◌≢◌, IfSome, IsSome, List};
+ghost use Rattle.job_state.specs.JobValue.{basis_in};
+ghost use Rattle.service_core.specs.Calls.{IsNextStep, IsOriginIn};
 ghost use Rattle.service_core.specs.Run.{Call, Run};
+ghost use Rattle.sessions.specs.declared.steps.StepOutcome.TheVariants.{Unfit};
+ghost use Rattle.sessions.specs.Fitting.{own_graph};
 ghost use Rattle.sessions.specs.Steps.{MakesStep, StepsAndPuts, Waits};
 
 use job_state::AnyJob;
 use service_core::{PutReply, Service};
+use strips::{DeviceGraph, Window};
 use tenant_slot::{Origin, StepReply};
 
 /// What the making of a step of a tenancy's job came to.
@@ -20,31 +24,68 @@ pub enum StepOutcome {
     NoMemory,
     /// There was no job to take.
     Nothing,
+    /// The job was given back: the graph isn't that of its device.
+    Unfit,
 }
 
-/// Takes the next step of that tenancy's job, makes it and puts it.
-pub fn make_step(core: &mut Service, id: u32) -> StepOutcome
-    ensures { (calls : List Call) × MakesStep id calls result × Run core.old calls core.new }
+/// Takes the next step of that tenancy's job, makes it on the device's graph, where the strip stands, and puts it. A job that the
+/// graph doesn't fit is given back; the device's own graph fits each.
+pub fn make_step(core: &mut Service, graph: &DeviceGraph, id: u32) -> StepOutcome
+    ensures made { (calls : List Call) × MakesStep id calls result × Run core.old calls core.new }
+    ensures own { graph.now ≡ own_graph core.old.device → result ≢ Unfit }
 {
     match core.take(id) {
-        Some(job) => step_and_put_from(core, job, Origin::Running),
+        Some(job) => match window_of(core, graph, &job) {
+            Some(window) => step_and_put_from(core, job, &window, Origin::Running),
+            None => unfit(core, job),
+        },
         None => StepOutcome::Nothing,
     }
 }
 
-/// Makes the step of a job, and puts it. A job whose step finds no memory, or can't be put for want of it, is given back.
-pub fn step_and_put(core: &mut Service, job: AnyJob) -> StepOutcome
+/// The window for a job's step, where the strip of its tenancy stands now: none where it isn't live, or the graph doesn't fit. The
+/// device's own graph has one for each job that its tenancy would take now.
+pub fn window_of<'g>(core: &Service, graph: &'g DeviceGraph, job: &AnyJob) -> Option<Window<'g>>
+    ensures fits { IfSome result (λ window. window ≡ basis_in job.now.step.sources) }
+    ensures own { graph.now ≡ own_graph core.now.device → IsNextStep core.now job.now.step → IsSome result }
+{
+    match core.offset(job.id()) {
+        Some(offset) => job.window(graph, offset),
+        None => None,
+    }
+}
+
+/// Gives a job back that its graph doesn't fit.
+fn unfit(core: &mut Service, job: AnyJob) -> StepOutcome
     ensures { (calls : List Call) × StepsAndPuts job calls result × Run core.old calls core.new }
 {
-    step_and_put_from(core, job, Origin::Unknown)
+    core.give_back(job.into_back());
+    StepOutcome::Unfit
+}
+
+/// Makes the step of a job through its window, and puts it. A job whose step finds no memory, or can't be put for want of it, is
+/// given back.
+pub fn step_and_put(core: &mut Service, job: AnyJob, window: &Window<'_>) -> StepOutcome
+    requires { window.now ≡ basis_in job.step.sources }
+    ensures put { (calls : List Call) × StepsAndPuts job calls result × Run core.old calls core.new }
+    ensures fits { result ≢ Unfit }
+{
+    step_and_put_from(core, job, window, Origin::Unknown)
 }
 
 /// The same of a job of whose step that is known.
-fn step_and_put_from(core: &mut Service, job: AnyJob, origin: Origin) -> StepOutcome
-    requires { IsOriginIn core.old job.step origin }
-    ensures { (calls : List Call) × StepsAndPuts job calls result × Run core.old calls core.new }
+fn step_and_put_from(
+    core: &mut Service,
+    job: AnyJob,
+    window: &Window<'_>,
+    origin: Origin,
+) -> StepOutcome
+    requires origin { IsOriginIn core.old job.step origin }
+    requires window { window.now ≡ basis_in job.step.sources }
+    ensures put { (calls : List Call) × StepsAndPuts job calls result × Run core.old calls core.new }
+    ensures fits { result ≢ Unfit }
 {
-    match job.step() {
+    match job.step(window) {
         Ok(done) => match core.put_from(done, origin) {
             Ok(PutReply::Recorded(reply)) => StepOutcome::Recorded(reply),
             Ok(PutReply::Full) => StepOutcome::Full,
@@ -63,11 +104,12 @@ fn step_and_put_from(core: &mut Service, job: AnyJob, origin: Origin) -> StepOut
 
 /// Makes steps of that tenancy's job until there is none to take, or memory lacks. Tells what the last came to. Each that is
 /// recorded is an entry of the journal, so they end.
-pub(crate) fn run_steps(core: &mut Service, id: u32) -> StepOutcome
-    ensures { (calls : List Call) × Waits id calls result × Run core.old calls core.new }
+pub(crate) fn run_steps(core: &mut Service, graph: &DeviceGraph, id: u32) -> StepOutcome
+    ensures waits { (calls : List Call) × Waits id calls result × Run core.old calls core.new }
+    ensures own { graph.now ≡ own_graph core.old.device → result ≢ Unfit }
 {
     'steps: loop {
-        match make_step(core, id) {
+        match make_step(core, graph, id) {
             StepOutcome::Recorded(_) => {}
             outcome => return outcome,
         }

@@ -2,7 +2,7 @@
 ghost use Rattle.std.specs.Prelude.{◌≡◌, ◌+◌, ◌≤◌, IfErr, IfOk, Some, length, option_copied, option_map, slice_get, true, false};
 ghost use Rattle.arch_file.specs.Arch.{IsArch};
 ghost use Rattle.strips.specs.Plan.{offset_of};
-ghost use Rattle.service_core.specs.Calls.{IsAdmitted, IsEvicted, IsGivenBack, IsServed, IsTaken, Puts};
+ghost use Rattle.service_core.specs.Calls.{IsAdmitted, IsEvicted, IsGivenBack, IsMoved, IsServed, IsTaken, Puts};
 ghost use Rattle.service_core.specs.Headline.{AreParted};
 ghost use Rattle.service_core.specs.History.{state_of};
 ghost use Rattle.service_core.specs.Service.{AreAlone, empty, journal_of, live_of};
@@ -232,6 +232,14 @@ impl<C: Ledger, P: Ledger> Core<C, P> {
         self.service.evict(id)?;
         self.slots.hand(id, 0);
         Ok(())
+    }
+
+    /// Moves a live tenancy's strip to that offset, with all that the tenancy owns. Jobs that are out go on. Takes no memory.
+    pub fn move_strip(&mut self, id: u32, offset: u32) -> Result<(), OpRefusal>
+        ensures moved { IsMoved self.old.service id offset result self.new.service }
+        ensures rest { ChangesService self.old self.new }
+    {
+        self.service.move_strip(id, offset)
     }
 
     /// Serves a command of a live tenancy, as if it were alone. Its entry isn't marked.

@@ -18,7 +18,7 @@ use Rattle.strip_place.specs.Sites.{sites_of, first_site, place_of, IsSiteFor, A
 use Rattle.strip_place.specs.Placed.{ArePlaced, block_at}
 
 -- a site's place is the one of its kind by the number in that kind
-place_is : (strip : Strip) (kind : Kind) (site : ℕ) → IsSiteFor strip kind site → place_of strip site ≡ get_or (places_of strip kind) (site - first_site strip kind) (place_at 0 0 0)
+pub place_is : (strip : Strip) (kind : Kind) (site : ℕ) → IsSiteFor strip kind site → place_of strip site ≡ get_or (places_of strip kind) (site - first_site strip kind) (place_at 0 0 0)
 unfolding sites_of
 place_is strip Logic site is =
     get_or_append_left (places_of strip Logic) (places_of strip Pad) (place_at 0 0 0) site (omega (arith, is.below))
@@ -30,7 +30,7 @@ among strip kind site is =
     subst (Contains (places_of strip kind)) (sym (place_is strip kind site is)) (Contains-get_or (places_of strip kind) (site - first_site strip kind) (place_at 0 0 0) (omega (arith, is.from, is.below)))
 
 -- two sites of a kind have two places
-same_site : (strip : Strip) (kind : Kind) (site other : ℕ) → AllPairs (λ place next. place ≢ next) (places_of strip kind) → IsSiteFor strip kind site → IsSiteFor strip kind other → place_of strip site ≡ place_of strip other → site ≡ other
+pub same_site : (strip : Strip) (kind : Kind) (site other : ℕ) → AllPairs (λ place next. place ≢ next) (places_of strip kind) → IsSiteFor strip kind site → IsSiteFor strip kind other → place_of strip site ≡ place_of strip other → site ≡ other
 same_site strip kind site other apart is there same = by (cases_order site other)
   where
     places : get_or (places_of strip kind) (site - first_site strip kind) (place_at 0 0 0) ≡ get_or (places_of strip kind) (other - first_site strip kind) (place_at 0 0 0)

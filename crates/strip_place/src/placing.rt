@@ -8,12 +8,14 @@ ghost use Rattle.strip_place.specs.Task.{task_of};
 ghost use Rattle.strip_place.specs.Anneal.{one_more, end_of, after_words, draw_of, places_by_block, sites_by_block};
 ghost use Rattle.strip_place.specs.Sites.{AreOneToOne};
 ghost use Rattle.strip_place.specs.Placed.{ArePlaced};
+ghost use Rattle.strip_place.specs.KeptSites.{AreKeptOn, kept_of};
 ghost use Rattle.strip_place.specs.Pass.{pass_of};
 
 use crate::board::{Board, Words};
 use crate::start::start_board;
-use cluster::{Packed, SharedPacked};
+use cluster::{Packed, SharedPacked, laws_of_packing};
 use grid::{Place, Strip, laws_of_places};
+use kept_places::{Kept, KeptPlace};
 use rand_core::utils::NextWord;
 use rand_pcg::Pcg32;
 use std::alloc::{AllocError, Global};
@@ -32,6 +34,7 @@ pub enum PassEnd {
 #[derive(Drop)]
 pub struct Placing {
     packed: SharedPacked,
+    kept: Kept,
     board: Board,
     seed: u64,
     effort: u32,
@@ -47,29 +50,34 @@ impl Model for Placing {
 
     ghost Value = { PlacingUnderWay };
 
-    ghost view = { λ p. record { packed = p.packed; strip = p.board.strip; seed = p.seed; effort = p.effort; passes = p.passes } };
+    ghost view = { λ p. record { packed = p.packed; strip = p.board.strip; kept = p.kept; seed = p.seed; effort = p.effort; passes = p.passes } };
 
-    ghost invariant = { λ p. IsUnderWay p.packed p.board p.seed p.effort p.passes p.words p.temperature p.finished };
+    ghost invariant = { λ p. IsUnderWay p.packed p.kept p.board p.seed p.effort p.passes p.words p.temperature p.finished };
 }
 
 impl Placing {
-    /// The packed circuit with each block at the start: on the next place of its kind.
+    /// The packed circuit with each block at the start: on the place that is kept for it, or, block after block, on the least
+    /// of its kind that is free.
     pub fn start(
         alloc: Global,
         packed: &SharedPacked,
         strip: Strip,
+        kept: &Kept,
         seed: u64,
         effort: u32,
     ) -> Result<Self, AllocError>
         requires size { IsStripSize strip }
         requires fits { fit_of strip packed.now ≡ Fits }
+        requires kept { AreKeptOn strip kept.now }
         requires effort { effort ≤ 100 }
-        ensures { IfOk result (λ placing. placing ≡ record { packed = packed.now; strip = strip; seed = seed; effort = effort; passes = 0 }) }
+        ensures { IfOk result (λ placing. placing ≡ record { packed = packed.now; strip = strip; kept = kept.now; seed = seed; effort = effort; passes = 0 }) }
     {
-        let board = start_board(alloc, packed.packed(), strip)?;
+        let board = start_board(alloc, packed.packed(), strip, kept)?;
         let packed = packed.clone()?;
+        let kept = kept.clone()?;
         Ok(Placing {
             packed,
+            kept,
             board,
             seed,
             effort,
@@ -106,6 +114,13 @@ impl Placing {
         self.packed.packed()
     }
 
+    /// The same, as it is shared.
+    pub fn shared_packed(&self) -> &SharedPacked
+        ensures { result.now ≡ self.now.packed }
+    {
+        &self.packed
+    }
+
     /// The strip that they are placed on.
     pub fn strip(&self) -> Strip
         ensures value { result ≡ self.now.strip }
@@ -121,6 +136,25 @@ impl Placing {
         ensures one_to_one { AreOneToOne self.now.strip (task_of self.now.packed).kinds (sites_by_block self.now) }
     {
         self.board.place(block)
+    }
+
+    /// The places, to be kept: by what the blocks are told by.
+    pub fn kept(&self, alloc: Global) -> Result<Kept, AllocError>
+        ensures exact { IfOk result (λ kept. kept ≡ kept_of self.now.packed (places_by_block self.now)) }
+        ensures lawful { IfOk result (λ kept. AreKeptOn self.now.strip kept) }
+    {
+        self.laws();
+        laws_of_packing();
+        let packed = self.packed();
+        let _ = packed.circuit();
+        let mut entries = Vec::new(alloc);
+        for block in 0..packed.block_count() {
+            entries.push(KeptPlace {
+                key: packed.key(block),
+                place: self.place_of(block),
+            })?;
+        }
+        Kept::of(alloc, entries)
     }
 
     /// Each block has a place of its kind, and no two have the same. Computes nothing.

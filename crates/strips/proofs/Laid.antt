@@ -1,16 +1,17 @@
 -- What keeps strips laid out.
-use Rattle.std.proofs.Common.{◌≡◌, ◌≢◌, ℕ, ◌+◌, ◌<◌, ◌≤◌, List, [], ◌∷◌, ◌++◌, length, get_or, filter, Bool, true, false, not, eqb, Some, None, arith, length-append, zero, suc, refl, ap, sym, ◌∙◌, ◌⊎◌, inl, inr}
-use Rattle.std.specs.Prelude.{if◌then◌else◌, All}
+use Rattle.std.proofs.Common.{◌≡◌, ◌≢◌, ℕ, ◌+◌, ◌<◌, ◌≤◌, List, [], ◌∷◌, ◌++◌, length, get_or, filter, Bool, true, false, not, eqb, Option, Some, None, arith, length-append, zero, suc, refl, ap, sym, subst, ◌∙◌, ◌⊎◌, inl, inr}
+use Rattle.std.specs.Prelude.{if◌then◌else◌, option_map, All}
 use Rattle.std.proofs.Math.ListN.{get_or-append}
 use Rattle.std.proofs.Math.Seq.{get_or-append_seam}
 use Rattle.std.proofs.lemmas.Bool.Decides.{nat_tests, Decides-eqb}
-use Rattle.std.proofs.lemmas.Bool.{cases_lt}
+use Rattle.std.proofs.lemmas.List.{get_or-map, length-map}
+use Rattle.std.proofs.lemmas.Bool.{cases_lt, cases_order}
 use Rattle.std.proofs.lemmas.List.Elements.{All-filter, All-push}
 use Rattle.std.proofs.lemmas.List.Quantifiers.{all_pairs_push}
 use Rattle.std.proofs.lemmas.List.Kept.{AllPairs-filter}
 use Rattle.strips.specs.declared.placed_strip.PlacedStrip.{PlacedStrip}
 use Rattle.strips.specs.declared.layout.TheConstants.{MAX_STRIPS}
-use Rattle.strips.specs.Plan.{Plan, IsParted, IsLaidOut, AreApart, FitsAt, strip_of, offset_of, without, with_strip}
+use Rattle.strips.specs.Plan.{Plan, IsParted, IsLaidOut, AreApart, FitsAt, strip_of, moved_strip, offset_of, with_moved, without, with_strip}
 
 length_filter_le : (p : PlacedStrip → Bool) (xs : List PlacedStrip) → length (filter p xs) ≤ length xs
 length_filter_le p [] = omega arith
@@ -107,3 +108,122 @@ apart_of plan j k s t parted is_s is_t differ =
         by_equal : (e : Bool) → eqb p q ≡ e → AreApart s t
         by_equal true e = let same : p ≡ q = (Decides-eqb p q).0 e in let st : s ≡ t = sym (a.at s) ∙ (ap (λ n. get_or plan.strips n s) same ∙ b.at s) in absurd (differ (sym a.its_id ∙ (ap (λ (y : PlacedStrip). y.id) st ∙ b.its_id)))
         by_equal false e = let lt : q < p = grind (arith, nat_tests) in let w : p < length plan.strips = a.within in AreApart-turned t s (rw (b.at s, a.at s) at (parted.apart q p s lt w))
+
+-- all strips of an id are that one
+only_one : (plan : Plan) (id : ℕ) (s : PlacedStrip) → IsLaidOut plan → strip_of plan.strips id ≡ Some s → (k : ℕ) (d : PlacedStrip) → k < length plan.strips → (get_or plan.strips k d).id ≡ id → get_or plan.strips k d ≡ s
+only_one plan id s laid is k d lt same =
+    let a : (i : ℕ) × FoundAt plan.strips id s i = found_at plan.strips id s is in
+    by a.0 a.1 (cases_order k a.0)
+  where
+    by : (i : ℕ) → FoundAt plan.strips id s i → (k ≡ i) ⊎ ((k < i) ⊎ (i < k)) → get_or plan.strips k d ≡ s
+    by i at (inl e) = ap (λ n. get_or plan.strips n d) e ∙ at.at d
+    by i at (inr (inl less)) = absurd (laid.distinct k i d less at.within (same ∙ sym (ap (λ (y : PlacedStrip). y.id) (at.at d) ∙ at.its_id)))
+    by i at (inr (inr more)) = absurd (laid.distinct i k d more lt (ap (λ (y : PlacedStrip). y.id) (at.at d) ∙ (at.its_id ∙ sym same)))
+
+abbrev at_offset : PlacedStrip → ℕ → PlacedStrip
+at_offset s offset = record s { offset = offset }
+
+moved_yes : (id offset : ℕ) (s : PlacedStrip) → s.id ≡ id → moved_strip id offset s ≡ at_offset s offset
+moved_yes id offset s e = ap (λ (b : Bool). if b then at_offset s offset else s) ((Decides-eqb s.id id).1 e)
+
+moved_not : (id offset : ℕ) (s : PlacedStrip) → eqb s.id id ≡ false → moved_strip id offset s ≡ s
+moved_not id offset s e = ap (λ (b : Bool). if b then at_offset s offset else s) e
+
+-- the other strips are apart from that one
+abbrev pub AreOthersApart : List PlacedStrip → ℕ → PlacedStrip → Type 0
+AreOthersApart strips id strip = All (λ s. (s.id ≡ id) ⊎ AreApart s strip) strips
+
+module _ (plan : Plan) (id offset : ℕ) (s : PlacedStrip) (laid : IsLaidOut plan) (is : strip_of plan.strips id ≡ Some s) where
+  at_moved : (k : ℕ) (d : PlacedStrip) → k < length plan.strips → get_or (with_moved plan id offset).strips k d ≡ moved_strip id offset (get_or plan.strips k d)
+  at_moved k d lt = get_or-map (moved_strip id offset) plan.strips k d d lt
+
+  long : length (with_moved plan id offset).strips ≡ length plan.strips
+  long = length-map plan.strips (moved_strip id offset)
+
+  -- a strip after the move: that one, or another
+  each : (k : ℕ) (d : PlacedStrip) → k < length plan.strips → ((get_or plan.strips k d).id ≡ id × (get_or (with_moved plan id offset).strips k d ≡ at_offset s offset)) ⊎ ((eqb (get_or plan.strips k d).id id ≡ false) × (get_or (with_moved plan id offset).strips k d ≡ get_or plan.strips k d))
+  each k d lt = by (eqb (get_or plan.strips k d).id id) refl
+    where
+      by : (b : Bool) → eqb (get_or plan.strips k d).id id ≡ b → ((get_or plan.strips k d).id ≡ id × (get_or (with_moved plan id offset).strips k d ≡ at_offset s offset)) ⊎ ((eqb (get_or plan.strips k d).id id ≡ false) × (get_or (with_moved plan id offset).strips k d ≡ get_or plan.strips k d))
+      by true e =
+          let same : (get_or plan.strips k d).id ≡ id = (Decides-eqb (get_or plan.strips k d).id id).0 e in
+          inl (same, at_moved k d lt ∙ (moved_yes id offset (get_or plan.strips k d) same ∙ ap (λ (y : PlacedStrip). at_offset y offset) (only_one plan id s laid is k d lt same)))
+      by false e = inr (e, at_moved k d lt ∙ moved_not id offset (get_or plan.strips k d) e)
+
+  not_itself : (t : PlacedStrip) → eqb t.id id ≡ false → (t.id ≡ id) ⊎ AreApart t (at_offset s offset) → AreApart t (at_offset s offset)
+  not_itself t other (inl same) = absurd (let wrong = sym other ∙ (Decides-eqb t.id id).1 same in cc)
+  not_itself t other (inr apart) = apart
+
+  pub parted_moved : offset + s.width ≤ plan.columns → AreOthersApart plan.strips id (at_offset s offset) → IsParted (with_moved plan id offset)
+  parted_moved inside apart = record {
+    inside = λ k d lt.
+        (let small : k < length plan.strips = omega (arith, lt, long) in
+        elim (each k d small) [
+          | inl that ↦ rw that.1 inside
+          | inr other ↦ rw other.1 (laid.parted.inside k d small)
+        ]);
+    apart = λ i j d before lt.
+        (let second : j < length plan.strips = omega (arith, lt, long) in
+        let first : i < length plan.strips = omega (arith, before, second) in
+        elim (each i d first) [
+          | inl this ↦ elim (each j d second) [
+            | inl that ↦ absurd (laid.distinct i j d before second (this.0 ∙ sym that.0))
+            | inr other ↦ rw (this.1, other.1) (AreApart-turned (get_or plan.strips j d) (at_offset s offset) (not_itself (get_or plan.strips j d) other.0 (apart j d second)))
+          ]
+          | inr one ↦ elim (each j d second) [
+            | inl that ↦ rw (one.1, that.1) (not_itself (get_or plan.strips i d) one.0 (apart i d first))
+            | inr other ↦ rw (one.1, other.1) (laid.parted.apart i j d before second)
+          ]
+        ]);
+  }
+
+  module _ (parted : IsParted (with_moved plan id offset)) where
+    here : (i : ℕ) × FoundAt plan.strips id s i
+    here = found_at plan.strips id s is
+
+    stands : (d : PlacedStrip) → get_or (with_moved plan id offset).strips here.0 d ≡ at_offset s offset
+    stands d = at_moved here.0 d here.1.within ∙ (ap (moved_strip id offset) (here.1.at d) ∙ moved_yes id offset s here.1.its_id)
+
+    pub moved_inside : offset + s.width ≤ plan.columns
+    moved_inside = rw (stands s) at (parted.inside here.0 s (omega (arith, here.1.within, long)))
+
+    pub moved_apart : AreOthersApart plan.strips id (at_offset s offset)
+    moved_apart k d lt = elim (each k d lt) [
+      | inl that ↦ inl that.0
+      | inr other ↦ elim (cases_order k here.0) [
+        | inl e ↦ inl (ap (λ (y : PlacedStrip). y.id) (ap (λ n. get_or plan.strips n d) e ∙ here.1.at d) ∙ here.1.its_id)
+        | inr unlike ↦ elim unlike [
+          | inl less ↦ inr (rw (other.1, stands d) at (parted.apart k here.0 d less (omega (arith, here.1.within, long))))
+          | inr more ↦ inr (AreApart-turned (at_offset s offset) (get_or plan.strips k d) (rw (stands d, other.1) at (parted.apart here.0 k d more (omega (arith, lt, long)))))
+        ]
+      ]
+    ]
+
+  pub laid_moved : IsParted (with_moved plan id offset) → IsLaidOut (with_moved plan id offset)
+  laid_moved parted = record {
+    few = omega (arith, laid.few, long);
+    wide = λ k d lt. (let small : k < length plan.strips = omega (arith, lt, long) in rw (at_moved k d small) (kept_width (get_or plan.strips k d) (laid.wide k d small)));
+    parted = parted;
+    distinct = λ i j d before lt same.
+        (let second : j < length plan.strips = omega (arith, lt, long) in
+        let first : i < length plan.strips = omega (arith, before, second) in
+        laid.distinct i j d before second (sym (kept_id (get_or plan.strips i d)) ∙ (sym (ap (λ (y : PlacedStrip). y.id) (at_moved i d first)) ∙ (same ∙ (ap (λ (y : PlacedStrip). y.id) (at_moved j d second) ∙ kept_id (get_or plan.strips j d))))));
+  }
+    where
+      kept_id : (t : PlacedStrip) → (moved_strip id offset t).id ≡ t.id
+      kept_id t = elim (eqb t.id id) as (λ b. (if b then at_offset t offset else t).id ≡ t.id) [ true ↦ refl | false ↦ refl ]
+
+      kept_width : (t : PlacedStrip) → 0 < t.width → 0 < (moved_strip id offset t).width
+      kept_width t wide = elim (eqb t.id id) as (λ b. 0 < (if b then at_offset t offset else t).width) [ true ↦ wide | false ↦ wide ]
+
+-- the strip that is found has the id
+pub found_id : (strips : List PlacedStrip) (id : ℕ) (s : PlacedStrip) → strip_of strips id ≡ Some s → s.id ≡ id
+found_id strips id s is = (found_at strips id s is).1.its_id
+
+pub others_by : (strips : List PlacedStrip) (id other : ℕ) (strip : PlacedStrip) → id ≡ other → AreOthersApart strips id strip → AreOthersApart strips other strip
+others_by strips id other strip same apart = subst (λ n. AreOthersApart strips n strip) same apart
+
+-- what is found, and told as it is
+pub found_is : (found : Option PlacedStrip) (s : PlacedStrip) → Some s ≡ option_map (λ (strip : PlacedStrip). strip) found → found ≡ Some s
+found_is None s is = absurd cc
+found_is (Some t) s is = sym is

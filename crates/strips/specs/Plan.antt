@@ -1,6 +1,7 @@
 -- Where strips stand on a device.
-use Rattle.std.specs.Prelude.{ℕ, ◌≢◌, ◌+◌, ◌<◌, ◌≤◌, ◌⊎◌, List, [], ◌∷◌, ◌++◌, length, filter, All, AllPairs, Bool, not, ◌||◌, ◌==◌, nat_lt, Option, Some, None, option_map, find}
+use Rattle.std.specs.Prelude.{ℕ, ◌≢◌, ◌+◌, ◌<◌, ◌≤◌, ◌⊎◌, List, [], ◌∷◌, ◌++◌, length, filter, map, if◌then◌else◌, ◌≡◌, Result, Ok, Err, All, AllPairs, Bool, not, ◌||◌, ◌==◌, nat_lt, Option, Some, None, option_map, find}
 use Rattle.strips.specs.declared.placed_strip.PlacedStrip.{PlacedStrip}
+use Rattle.strips.specs.declared.layout.NoRoom.{NoRoom}
 use Rattle.strips.specs.declared.layout.TheConstants.{MAX_STRIPS}
 
 -- a device of so many columns, and the strips on it
@@ -53,3 +54,16 @@ pub record IsLaidOut (plan : Plan) : Type 0 where
 -- no strip of that width can stand on that device
 abbrev pub is_bad_width : Plan → ℕ → Bool
 is_bad_width plan width = width == 0 || nat_lt plan.columns width
+
+-- that strip at that offset, and another one as it stands
+abbrev pub moved_strip : ℕ → ℕ → PlacedStrip → PlacedStrip
+moved_strip id offset strip = if strip.id == id then record strip { offset = offset } else strip
+
+-- the strips, of which that one stands at that offset
+abbrev pub with_moved : Plan → ℕ → ℕ → Plan
+with_moved plan id offset = record plan { strips = map (moved_strip id offset) plan.strips }
+
+-- a strip moves exactly where the strips are parted then; its own columns, which it leaves, don't count
+abbrev pub Moves : Plan → ℕ → ℕ → Result (Unit {0}) NoRoom → Plan → Type 0
+Moves old id offset (Ok u) new = IsParted (with_moved old id offset) × (new ≡ with_moved old id offset)
+Moves old id offset (Err refusal) new = (IsParted (with_moved old id offset) → ⊥) × (new ≡ old)

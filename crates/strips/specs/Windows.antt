@@ -1,11 +1,12 @@
 -- A strip's window on its device: which of the device's nodes are the strip's.
-use Rattle.std.specs.Prelude.{ℕ, ◌≡◌, ◌+◌, ◌-◌, ◌⊎◌, Bool, ◌&&◌, nat_le, Option, Some, None, if◌then◌else◌}
+use Rattle.std.specs.Prelude.{ℕ, ◌≡◌, ◌+◌, ◌-◌, ◌⊎◌, Bool, ◌&&◌, ◌==◌, true, nat_le, Option, Some, None, if◌then◌else◌}
 use Rattle.arch_file.specs.declared.arch.Arch.{Arch}
 use Rattle.grid.specs.declared.Strip.{Strip}
 use Rattle.rr_graph.specs.declared.node.NodeKind.{NodeKind}
 use Rattle.rr_graph.specs.declared.node.NodeKind.TheVariants.{Source, Sink, Opin, Ipin, ChanX, ChanY}
 use Rattle.rr_graph.specs.declared.node.Node.{Node}
-use Rattle.rr_graph.specs.Geometry.{is_node}
+use Rattle.rr_graph.specs.Geometry.{is_node, is_edge, moved}
+use Rattle.rr_graph.specs.Graph.{Basis}
 use Rattle.strips.specs.declared.placed_strip.PlacedStrip.{PlacedStrip}
 
 -- the device is a strip of all its columns; a strip on it has so many of them, and all rows
@@ -37,3 +38,17 @@ IsPinOrAcross ChanY = ⊥
 pub record IsBeside (strip : PlacedStrip) (node : Node) : Type 0 where
   pub kind : IsPinOrAcross node.kind
   pub column : (node.x ≡ strip.offset) ⊎ (node.x ≡ strip.offset + strip.width + 1)
+
+-- the device as a strip of all its columns
+abbrev pub device_strip : Arch → ℕ → ℕ → Strip
+device_strip arch columns rows = record { width = columns; rows = rows; io_rat = arch.io_rat }
+
+-- the device has the strip, of one column at least, with so many columns to the left of it
+abbrev pub is_on_device : Strip → Strip → ℕ → Bool
+is_on_device device strip offset =
+    nat_le 1 strip.width && ((strip.rows == device.rows) && ((strip.io_rat == device.io_rat) && nat_le (offset + strip.width) device.width))
+
+-- the strip's graph shows what the device's graph has in the strip's columns: two of its nodes are a pair just where they are one on the device
+abbrev pub Shows : Basis → ℕ → Basis → Type 0
+Shows device offset strip = (a b : Node) → is_node strip.arch strip.strip a ≡ true → is_node strip.arch strip.strip b ≡ true →
+    is_edge device.arch device.strip (moved offset a) (moved offset b) ≡ is_edge strip.arch strip.strip a b

@@ -1,7 +1,7 @@
 //! The strips on a device.
 
-ghost use Rattle.std.specs.Prelude.{◌≡◌, ◌↔◌, ◌<◌, ◌≤◌, ◌+◌, ◌^◌, ◌==◌, [], length, All, IsTrue, None};
-ghost use Rattle.strips.specs.Plan.{AreApart, FitsAt, IsFirstFit, IsLaidOut, is_bad_width, offset_of, with_strip, without};
+ghost use Rattle.std.specs.Prelude.{◌≡◌, ◌↔◌, ◌<◌, ◌≤◌, ◌+◌, ◌^◌, ◌==◌, ◌⊎◌, [], length, map, option_map, All, IsSome, IsTrue, None, Some};
+ghost use Rattle.strips.specs.Plan.{AreApart, FitsAt, IsFirstFit, IsLaidOut, Moves, is_bad_width, moved_strip, offset_of, strip_of, with_strip, without};
 
 use crate::placed_strip::PlacedStrip;
 use arrayvec::ArrayVec;
@@ -9,6 +9,10 @@ use std::marker::Model;
 
 /// The most strips that a layout holds.
 pub const MAX_STRIPS: usize = 64;
+
+/// There is no room for a strip at an offset.
+#[derive(Clone, Copy, Debug, PartialEq, Eq)]
+pub struct NoRoom;
 
 /// The strips on a device of so many columns, parted from one another.
 #[derive(Drop)]
@@ -94,6 +98,25 @@ impl Layout {
         self.strips.push(strip);
     }
 
+    /// Moves the strip of that id, which there is, to that offset, where it is parted from all others. Takes no memory.
+    pub fn move_to(&mut self, id: u32, offset: u32) -> Result<(), NoRoom>
+        requires { IsSome (strip_of self.old.strips id) }
+        ensures { Moves self.old id offset result self.new }
+    {
+        let Some(mut strip) = strip_of(&self.strips, id) else {
+            unreachable!()
+        };
+        if self.columns < strip.width || self.columns - strip.width < offset {
+            return Err(NoRoom);
+        }
+        strip.offset = offset;
+        if !is_apart_from_others(&self.strips, strip) {
+            return Err(NoRoom);
+        }
+        move_one(self.strips.as_mut_slice(), id, offset);
+        Ok(())
+    }
+
     /// Takes the strip of that id away, if there is one.
     pub fn remove(&mut self, id: u32)
         ensures { self.new ≡ record self.old { strips = without self.old.strips id } }
@@ -111,4 +134,47 @@ fn is_apart_from_all(strips: &[PlacedStrip], strip: PlacedStrip) -> bool
     strips.iter().all(|s| {
         s.offset + s.width < strip.offset || strip.offset + strip.width < s.offset
     })
+}
+
+/// Whether a column lies unused between the strip and each of those but the one of its own id.
+fn is_apart_from_others(strips: &[PlacedStrip], strip: PlacedStrip) -> bool
+    requires small { strip.offset + strip.width < 2 ^ 32 }
+    requires inside { All (λ s. s.offset + s.width < 2 ^ 32) strips.now }
+    ensures { IsTrue result ↔ All (λ s. (s.id ≡ strip.id) ⊎ AreApart s strip) strips.now }
+{
+    strips.iter().all(|s| {
+        s.id == strip.id
+            || s.offset + s.width < strip.offset
+            || strip.offset + strip.width < s.offset
+    })
+}
+
+/// The strip of that id.
+fn strip_of(strips: &[PlacedStrip], id: u32) -> Option<PlacedStrip>
+    ensures { result ≡ option_map (λ strip. strip) (strip_of strips.now id) }
+{
+    strips
+        .iter()
+        .find(|strip| strip.id == id)
+        .map(|strip| *strip)
+}
+
+/// Puts the strip of that id at that offset.
+fn move_one(strips: &mut [PlacedStrip], id: u32, offset: u32)
+    ensures { strips.new ≡ map (moved_strip id offset) strips.old }
+{
+    for place in 0..strips.len() {
+        strips[place] = moved_strip(strips[place], id, offset);
+    }
+}
+
+/// The strip, at that offset where it has that id.
+fn moved_strip(strip: PlacedStrip, id: u32, offset: u32) -> PlacedStrip
+    ensures { result ≡ moved_strip id offset strip }
+{
+    if strip.id == id {
+        PlacedStrip { offset, ..strip }
+    } else {
+        strip
+    }
 }

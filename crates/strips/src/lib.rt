@@ -4,13 +4,18 @@
 //! so that no wire of one strip reaches the pins of another. A strip fits at an offset where this still holds;
 //! `first_fit` finds the least such offset, or none where there is none.
 //!
+//! The device has one routing graph, the [`DeviceGraph`]. A strip reads it through its [`Window`], which shows the graph of
+//! the strip's own columns as if there were no others; [`laws_of_windows`] says how it lies in the device's.
+//!
 //! A [`Layout`] has room for [`MAX_STRIPS`] strips in itself: no call takes memory.
 #![tactic(auto)]
 
 mod layout;
 mod placed_strip;
+mod shifting;
 mod window;
 
-pub use layout::{Layout, MAX_STRIPS};
+pub use layout::{Layout, MAX_STRIPS, NoRoom};
 pub use placed_strip::PlacedStrip;
-pub use window::{laws_of_windows, shift, unshift};
+pub use shifting::{laws_of_windows, shift, unshift};
+pub use window::{DeviceGraph, Window};

@@ -1,58 +1,139 @@
-//! Where a strip's routing graph lies in its device's.
-ghost use Rattle.std.specs.Prelude.{◌≡◌, ◌+◌, ◌<◌, ◌≤◌, ◌^◌, true, false};
-ghost use Rattle.arch_file.specs.declared.arch.Arch.{Arch};
+//! The routing graph of the device, as the strips on it see it.
+ghost use Rattle.std.specs.Prelude.{◌≡◌, ◌≤◌, IfOk, IfSome, is_some};
+ghost use Rattle.arch_file.specs.Arch.{IsArch};
 ghost use Rattle.grid.specs.declared.Strip.{Strip};
-ghost use Rattle.rr_graph.specs.declared.node.Node.{Node};
-ghost use Rattle.rr_graph.specs.Geometry.{is_edge, is_node, moved};
-ghost use Rattle.strips.specs.declared.placed_strip.PlacedStrip.{PlacedStrip};
-ghost use Rattle.strips.specs.Plan.{AreApart};
-ghost use Rattle.strips.specs.Windows.{IsBeside, is_in_window, moved_back, strip_of_width, unshifted};
+ghost use Rattle.grid.specs.Sizes.{IsStripSize};
+ghost use Rattle.rr_graph.specs.Graph.{Basis};
+ghost use Rattle.strips.specs.Windows.{Shows, device_strip, is_on_device};
 
-use rr_graph::{Node, laws_of_geometry};
+use arch_file::Arch;
+use grid::Strip;
+use rr_graph::{Ends, Fabric, Node, NodeKind, Numbers, Part, StripGraph, laws_of_geometry};
+use std::alloc::{AllocError, Global};
+use std::marker::Model;
 
-/// A node of a strip's own columns where the strip stands: with so many columns to the left of it.
-pub fn shift(offset: u32, node: Node) -> Node
-    requires { offset + node.x < 2 ^ 32 }
-    ensures { result ≡ moved offset node }
-{
-    Node {
-        x: node.x + offset,
-        ..node
+/// The routing graph of a device, of all its columns. Its value is what it stands on.
+#[derive(Debug, Drop)]
+pub struct DeviceGraph {
+    fabric: Fabric,
+}
+
+impl Model for DeviceGraph {
+    ghost use Rattle.rr_graph.specs.Graph.{Basis};
+
+    ghost Value = { Basis };
+
+    ghost view = { λ g. g.fabric };
+}
+
+impl DeviceGraph {
+    /// The graph of a device of so many columns and rows. What is read through windows takes no memory.
+    pub fn new(alloc: Global, arch: &Arch, columns: u32, rows: u32) -> Result<Self, AllocError>
+        requires arch { IsArch arch.now }
+        requires size { IsStripSize (device_strip arch.now columns rows) }
+        ensures arch { IfOk result (λ graph. graph.arch ≡ arch.now) }
+        ensures strip { IfOk result (λ graph. graph.strip ≡ device_strip arch.now columns rows) }
+    {
+        let strip = Strip {
+            width: columns,
+            rows,
+            io_rat: arch.io_rat,
+        };
+        let fabric = Fabric::new(alloc, arch, strip)?;
+        Ok(DeviceGraph { fabric })
     }
 }
 
-/// A node of the device in the columns of a strip that stands there, or none where it lies to the left of them.
-pub fn unshift(offset: u32, node: Node) -> Option<Node>
-    ensures { result ≡ unshifted offset node }
-{
-    if node.x < offset {
-        return None;
-    }
-    Some(Node {
-        x: node.x - offset,
-        ..node
-    })
+/// A strip's window on the device's graph: the strip's own routing graph, in its own columns, read in the device's tables.
+/// All columns have the same nodes and the same pairs beside them, so where the strip stands only decides whether there is
+/// a window. Its value is what the strip's graph stands on.
+#[derive(Debug, Drop)]
+pub struct Window<'a> {
+    part: Part<'a>,
 }
 
-/// Laws of windows. The device is a strip of all its columns; a strip on it sees the nodes in its window as those of a
-/// device of its own width, and what leaves the window meets no other strip's.
-pub fn laws_of_windows()
-    // A node of a strip stands in its window, and goes back to where it was.
-    ensures there { (arch : Arch) (device : Strip) (strip : PlacedStrip) (node : Node) → is_node arch (strip_of_width device strip.width) node ≡ true →
-        (is_in_window arch device strip (moved strip.offset node) ≡ true) × (moved_back strip.offset (moved strip.offset node) ≡ node) }
-    // A pair of the device's graph with both ends in a strip's window is a pair of the strip's graph, moved there, and each of these is there.
-    ensures pairs { (arch : Arch) (device : Strip) (strip : PlacedStrip) (a b : Node) → strip.offset + strip.width ≤ device.width →
-        is_in_window arch device strip a ≡ true → is_in_window arch device strip b ≡ true →
-        is_edge arch device a b ≡ is_edge arch (strip_of_width device strip.width) (moved_back strip.offset a) (moved_back strip.offset b) }
-    // A pair that leaves a window ends in a pin, or a wire above a row, of a column beside the strip.
-    ensures leaving { (arch : Arch) (device : Strip) (strip : PlacedStrip) (a b : Node) → is_edge arch device a b ≡ true →
-        is_in_window arch device strip a ≡ true → is_in_window arch device strip b ≡ false → IsBeside strip b }
-    // These are in the window of no strip that is apart from it.
-    ensures beside { (arch : Arch) (device : Strip) (strip other : PlacedStrip) (node : Node) → AreApart strip other → IsBeside strip node →
-        is_in_window arch device other node ≡ false }
-    // No node is in the windows of two strips that are apart.
-    ensures apart { (arch : Arch) (device : Strip) (strip other : PlacedStrip) (node : Node) → AreApart strip other →
-        is_in_window arch device strip node ≡ true → is_in_window arch device other node ≡ false }
-{
-    laws_of_geometry();
+impl<'a> Model for Window<'a> {
+    ghost use Rattle.rr_graph.specs.Graph.{Basis};
+
+    ghost Value = { Basis };
+
+    ghost view = { λ w. w.part };
+}
+
+impl<'a> Window<'a> {
+    /// The window of a strip with so many columns to the left of it, if the device has it there: all its columns, one at least,
+    /// and just its rows and pads. Takes no memory.
+    pub fn new(graph: &'a DeviceGraph, offset: u32, strip: Strip) -> Option<Self>
+        ensures there { is_some result ≡ is_on_device graph.now.strip strip offset }
+        ensures arch { IfSome result (λ window. window.arch ≡ graph.now.arch) }
+        ensures strip { IfSome result (λ window. window.strip ≡ strip) }
+        ensures shown { IfSome result (Shows graph.now offset) }
+    {
+        let device = graph.fabric.strip();
+        laws_of_geometry();
+        if strip.rows != device.rows || strip.io_rat != device.io_rat {
+            return None;
+        }
+        if strip.width == 0 || device.width < strip.width || device.width - strip.width < offset {
+            return None;
+        }
+        Some(Window {
+            part: graph.fabric.part(strip.width),
+        })
+    }
+}
+
+impl<'a> StripGraph for Window<'a> {
+    ghost basis = { λ window. window };
+
+    fn count(&self) -> usize {
+        self.part.count()
+    }
+
+    fn node(&self, node: usize) -> Node {
+        self.part.node(node)
+    }
+
+    fn number(&self, node: Node) -> Option<usize> {
+        self.part.number(node)
+    }
+
+    fn numbers_at(&self, kind: NodeKind, x: u32, y: u32) -> Numbers {
+        self.part.numbers_at(kind, x, y)
+    }
+
+    #[inline(always)]
+    fn ends(&self, node: usize) -> Ends<'_> {
+        self.part.ends(node)
+    }
+
+    #[inline(always)]
+    fn ends_towards(&self, node: usize, place: Node, sink: Node) -> Ends<'_> {
+        self.part.ends_towards(node, place, sink)
+    }
+
+    fn further_to(&self, node: usize, sink: Node) -> Option<u64> {
+        self.part.further_to(node, sink)
+    }
+
+    #[inline(always)]
+    fn further_from(&self, node: Node, sink: Node) -> Option<u64> {
+        self.part.further_from(node, sink)
+    }
+
+    fn met_tracks(&self, sink: Node) -> &[bool] {
+        self.part.met_tracks(sink)
+    }
+
+    fn capacity(&self, node: usize) -> u32 {
+        self.part.capacity(node)
+    }
+
+    fn arch(&self) -> &Arch {
+        self.part.arch()
+    }
+
+    fn strip(&self) -> Strip {
+        self.part.strip()
+    }
 }

@@ -1,5 +1,5 @@
 -- What a slot carries along after an accepted command.
-use Rattle.std.proofs.Common.{◌≡◌, ℕ, ◌+◌, ◌<◌, true, Option, Some, None, refl, sym, ap, subst, ◌∙◌, arith}
+use Rattle.std.proofs.Common.{◌≡◌, ℕ, ◌+◌, ◌<◌, true, Option, Some, None, [], refl, sym, ap, subst, ◌∙◌, arith}
 use Rattle.std.specs.Prelude.{is_some, IfSome}
 use Rattle.arch_file.specs.declared.arch.Arch.{Arch}
 use Rattle.grid.specs.declared.Strip.{Strip}
@@ -7,6 +7,8 @@ use Rattle.job_state.specs.declared.sources.JobKind.{JobKind}
 use Rattle.job_state.specs.declared.sources.JobKind.TheVariants.{Packing as PackingJob, Placing as PlacingJob, Routing as RoutingJob}
 use Rattle.job_state.specs.declared.sources.Sources.{Sources}
 use Rattle.job_state.specs.Job.{JobState, first_step}
+use Rattle.kept_places.specs.Kept.{KeptPlaces}
+use Rattle.strip_place.specs.KeptSites.{AreKeptOn}
 use Rattle.tenant_slot.specs.declared.content.Content.{Content}
 use Rattle.tenant_slot.specs.declared.content.Content.TheVariants.{Empty, Loaded, Packed, Placed, Routed, Unrouted}
 use Rattle.tenant_slot.specs.declared.reply.StateName.TheVariants.{Packed as PackedName}
@@ -38,9 +40,13 @@ rest_name : (content : Content) (job : Option Running) (kind : JobKind) → name
 rest_name content None kind is = is
 rest_name content (Some job) kind is = absurd (never_before job.sources.kind kind is)
 
+-- where nothing is kept
+none_kept : (strip : Strip) → AreKeptOn strip []
+none_kept strip = record { by_kind = λ key place is. absurd cc; one_to_one = λ key other place is also. absurd cc }
+
 -- what is left without places and routes
-module _ (arch : Arch) (strip : Strip) (seed effort seed' effort' : ℕ) where
-  cut_has : (content : Content) → HasContent arch strip seed effort content → HasContent arch strip seed' effort' (cut_back content)
+module _ (arch : Arch) (strip : Strip) (kept : KeptPlaces) (seed effort seed' effort' : ℕ) where
+  cut_has : (content : Content) → HasContent arch strip kept seed effort content → HasContent arch strip kept seed' effort' (cut_back content)
   cut_has Empty has = has
   cut_has (Loaded netlist) has = has
   cut_has (Packed netlist packing) has = has
@@ -69,23 +75,25 @@ ready_first : (ready : Option JobState) (id generation : ℕ) (sources : Sources
     IfSome ready (λ job. job.step ≡ record { id = id; generation = generation; number = 1; sources = sources })
 ready_first ready id generation sources is = rw is refl
 
-module _ (id : ℕ) (arch : Arch) (strip : Strip) (content : Content) (job : Option Running) (seed effort generation steps entries lut_size : ℕ)
-    (slot : IsSlot id arch strip (standing_of content job seed effort generation steps) entries) (same : lut_size ≡ arch.lut_size) (room : entries < 65536) where
+module _ (id : ℕ) (arch : Arch) (strip : Strip) (content : Content) (job : Option Running) (kept : KeptPlaces) (seed effort generation steps entries lut_size : ℕ)
+    (slot : IsSlot id arch strip (standing_of content job kept seed effort generation steps) entries) (same : lut_size ≡ arch.lut_size) (room : entries < 65536) where
   abbrev its_standing : Standing
-  its_standing = standing_of content job seed effort generation steps
+  its_standing = standing_of content job kept seed effort generation steps
 
   accept_change : (change : Option Change) → Begins (seen id arch strip its_standing entries) change → IsChange lut_size change → IsSlot id arch strip (accepted_in its_standing change) (entries + 1)
   accept_change None begins is = IsSlot-more id arch strip its_standing entries slot room
   accept_change (Some (Load netlist)) begins is = record {
     size = slot.size;
+    kept = slot.kept;
     content = subst (λ n. IsNetlist n netlist) same is;
     job = tt;
     generation_small = omega (arith, slot.generation_small);
     steps_small = omega (arith, slot.steps_small);
     entries_small = omega arith;
   }
-  accept_change (Some (Replace netlist)) begins is = record {
+  accept_change (Some (Replace netlist keeps)) begins is = record {
     size = slot.size;
+    kept = begins.1;
     content = subst (λ n. IsNetlist n netlist) same is;
     job = tt;
     generation_small = omega (arith, slot.generation_small);
@@ -94,6 +102,7 @@ module _ (id : ℕ) (arch : Arch) (strip : Strip) (content : Content) (job : Opt
   }
   accept_change (Some (Begin begun)) begins is = record {
     size = slot.size;
+    kept = slot.kept;
     content = slot.content;
     job = record {
       name = rest_name content job begun.sources.kind begins.0;
@@ -109,10 +118,11 @@ module _ (id : ℕ) (arch : Arch) (strip : Strip) (content : Content) (job : Opt
       let packing : is_some (packing_in content) ≡ true = (at_packing content job begun.sources.seed begun.sources.effort begins.0).0 in
       record {
         size = slot.size;
-        content = cut_has arch strip seed effort begun.sources.seed begun.sources.effort content slot.content;
+        kept = slot.kept;
+        content = cut_has arch strip kept seed effort begun.sources.seed begun.sources.effort content slot.content;
         job = record {
           name = cut_name content packing ∙ sym (ap before begins.1);
-          sources = begins.2.sources ∙ ap (λ text. sources_from arch strip text begun.sources.seed begun.sources.effort begun.sources.kind) (sym (cut_text content));
+          sources = begins.2.sources ∙ ap (λ text. sources_from arch strip text kept begun.sources.seed begun.sources.effort begun.sources.kind) (sym (cut_text content));
           going = is;
           ready = ready_first begun.ready id (generation + 1) begun.sources begins.2.ready;
         };
@@ -122,6 +132,7 @@ module _ (id : ℕ) (arch : Arch) (strip : Strip) (content : Content) (job : Opt
       }
   accept_change (Some Stop) begins is = record {
     size = slot.size;
+    kept = slot.kept;
     content = slot.content;
     job = tt;
     generation_small = omega (arith, slot.generation_small);
@@ -130,6 +141,7 @@ module _ (id : ℕ) (arch : Arch) (strip : Strip) (content : Content) (job : Opt
   }
   accept_change (Some EmptyAll) begins is = record {
     size = slot.size;
+    kept = none_kept strip;
     content = tt;
     job = tt;
     generation_small = omega (arith, slot.generation_small);
@@ -141,4 +153,4 @@ module _ (id : ℕ) (arch : Arch) (strip : Strip) (content : Content) (job : Opt
 pub accept_slot : (id : ℕ) (arch : Arch) (strip : Strip) (standing : Standing) (entries : ℕ) (answer : Outcome) → IsSlot id arch strip standing entries → IsAnswerTo (seen id arch strip standing entries) answer →
     IsChange answer.lut_size answer.change → IsSlot id arch strip (accepted_in standing answer.change) (entries + 1)
 accept_slot id arch strip standing entries answer slot fits is =
-    accept_change id arch strip standing.content standing.running standing.seed standing.effort standing.generation standing.steps entries answer.lut_size slot fits.lut_size fits.room answer.change fits.begins is
+    accept_change id arch strip standing.content standing.running standing.kept standing.seed standing.effort standing.generation standing.steps entries answer.lut_size slot fits.lut_size fits.room answer.change fits.begins is

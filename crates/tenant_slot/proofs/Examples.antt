@@ -123,7 +123,7 @@ no_places arch strip text = refl
 
 -- its next step tells its seed and its effort
 placing_step : (arch : Arch) (strip : Strip) (text : List ℕ) →
-    (next_job (record { id = 7; state = record (placed arch strip text) { name = Placing; steps = 3 }; out = false })) ≡ Some (record { id = 7; generation = 4; number = 4; sources = placing_sources arch strip text 7 1 })
+    (next_job (record { id = 7; state = record (placed arch strip text) { name = Placing; steps = 3 }; out = false })) ≡ Some (record { id = 7; generation = 4; number = 4; sources = placing_sources arch strip text [] 7 1 })
 placing_step arch strip text = refl
 
 -- a routing begins where the netlist is placed, and where it is given up the places stay

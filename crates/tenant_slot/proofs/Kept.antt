@@ -5,6 +5,7 @@ use Rattle.arch_file.specs.declared.arch.Arch.{Arch}
 use Rattle.grid.specs.declared.Strip.{Strip}
 use Rattle.job_state.specs.declared.sources.JobKind.{JobKind}
 use Rattle.job_state.specs.declared.sources.JobKind.TheVariants.{Packing as PackingJob, Placing as PlacingJob, Routing as RoutingJob}
+use Rattle.kept_places.specs.Kept.{KeptPlaces}
 use Rattle.tenant_slot.specs.declared.command.Command.{Command}
 use Rattle.tenant_slot.specs.declared.command.Command.TheVariants.{Pack, Place}
 use Rattle.tenant_slot.specs.declared.content.Content.{Content}
@@ -45,8 +46,8 @@ at_packing (Loaded netlist) None seed effort lawful = absurd (cc)
 at_packing content (Some job) seed effort lawful = absurd (resting (Place seed effort) refl refl refl job.sources.kind lawful)
 
 -- what is carried along is what the text leads to
-module _ (arch : Arch) (strip : Strip) (seed effort : ℕ) where
-  pub netlist_kept : (content : Content) (netlist : Netlist) → netlist_in content ≡ Some netlist → HasContent arch strip seed effort content → (netlist.text ≡ text_of content) × IsNetlist arch.lut_size netlist
+module _ (arch : Arch) (strip : Strip) (keeps : KeptPlaces) (seed effort : ℕ) where
+  pub netlist_kept : (content : Content) (netlist : Netlist) → netlist_in content ≡ Some netlist → HasContent arch strip keeps seed effort content → (netlist.text ≡ text_of content) × IsNetlist arch.lut_size netlist
   netlist_kept Empty netlist is has = absurd (cc)
   netlist_kept (Loaded kept) netlist is has = let same : kept ≡ netlist = cc in rw (← same) (refl, has)
   netlist_kept (Packed kept packing) netlist is has = let same : kept ≡ netlist = cc in rw (← same) (refl, has.0)

@@ -5,6 +5,7 @@ use Rattle.std.proofs.lemmas.Bool.Decides.{Decides-eqb}
 use Rattle.arch_file.specs.declared.arch.Arch.{Arch}
 use Rattle.grid.specs.declared.Strip.{Strip}
 use Rattle.grid.specs.Sizes.{IsStripSize}
+use Rattle.kept_places.specs.Kept.{KeptPlaces}
 use Rattle.job_state.specs.declared.sources.JobKind.{JobKind}
 use Rattle.job_state.specs.declared.sources.JobKind.TheVariants.{Packing as PackingJob, Placing as PlacingJob, Routing as RoutingJob}
 use Rattle.job_state.specs.declared.sources.Sources.{Sources}
@@ -30,10 +31,11 @@ use Rattle.tenant_slot.specs.Results.{failure_of}
 use Rattle.tenant_slot.specs.SingleUser.{State, advance, advanced, after, answer_to, finished, go_on, is_next, routed_unless, running, sources_from, sources_of, step}
 use Rattle.tenant_slot.specs.Slot.{IsAdvanceOf, SlotState, after_event, out_after, running_sources}
 use Rattle.tenant_slot.specs.Standing.{IsSlot, put_in, put_reply, seen, seen_state}
+use Rattle.strip_place.specs.KeptSites.{AreKeptOn}
 use Rattle.tenant_slot.proofs.Runs.{step-room}
 
-abbrev pub standing_of : Content → Option Running → ℕ → ℕ → ℕ → ℕ → Standing
-standing_of content job seed effort generation steps = record { content = content; running = job; seed = seed; effort = effort; generation = generation; steps = steps }
+abbrev pub standing_of : Content → Option Running → KeptPlaces → ℕ → ℕ → ℕ → ℕ → Standing
+standing_of content job kept seed effort generation steps = record { content = content; running = job; kept = kept; seed = seed; effort = effort; generation = generation; steps = steps }
 
 -- a put of a slot of these parts leaves them lawful, and is the single user's step
 pub record IsPut (id : ℕ) (arch : Arch) (strip : Strip) (standing : Standing) (entries : ℕ) (done : JobStep) (made : Advance) (counts last : Bool) : Type 0 where
@@ -57,6 +59,7 @@ answered slot event change reply room is =
 pub IsSlot-more : (id : ℕ) (arch : Arch) (strip : Strip) (standing : Standing) (entries : ℕ) → IsSlot id arch strip standing entries → entries < 65536 → IsSlot id arch strip standing (entries + 1)
 IsSlot-more id arch strip standing entries slot room = record {
   size = slot.size;
+  kept = slot.kept;
   content = slot.content;
   job = slot.job;
   generation_small = omega (arith, slot.generation_small);
@@ -106,29 +109,30 @@ at_rest_none (Placed netlist packing placing) = refl
 at_rest_none (Routed netlist packing placing routing) = refl
 at_rest_none (Unrouted netlist packing placing failure) = refl
 
-none_put : (id : ℕ) (arch : Arch) (strip : Strip) (content : Content) (seed effort generation steps entries : ℕ) (done : JobStep) (made : Advance) (counts last : Bool) →
-    IsSlot id arch strip (standing_of content None seed effort generation steps) entries → entries < 65536 → IsAdvanceOf (seen_state arch strip (standing_of content None seed effort generation steps) entries) done made →
-    counts ≡ is_next (seen_state arch strip (standing_of content None seed effort generation steps) entries) made → IsPut id arch strip (standing_of content None seed effort generation steps) entries done made counts last
-none_put id arch strip content seed effort generation steps entries done made false last slot room said is =
-    stale id arch strip (standing_of content None seed effort generation steps) entries done made last slot room (ap (advance (seen_state arch strip (standing_of content None seed effort generation steps) entries) made) (at_rest_none content))
-none_put id arch strip content seed effort generation steps entries done made true last slot room said is =
-    let state : State = seen_state arch strip (standing_of content None seed effort generation steps) entries in
+none_put : (id : ℕ) (arch : Arch) (strip : Strip) (content : Content) (kept : KeptPlaces) (seed effort generation steps entries : ℕ) (done : JobStep) (made : Advance) (counts last : Bool) →
+    IsSlot id arch strip (standing_of content None kept seed effort generation steps) entries → entries < 65536 → IsAdvanceOf (seen_state arch strip (standing_of content None kept seed effort generation steps) entries) done made →
+    counts ≡ is_next (seen_state arch strip (standing_of content None kept seed effort generation steps) entries) made → IsPut id arch strip (standing_of content None kept seed effort generation steps) entries done made counts last
+none_put id arch strip content kept seed effort generation steps entries done made false last slot room said is =
+    stale id arch strip (standing_of content None kept seed effort generation steps) entries done made last slot room (ap (advance (seen_state arch strip (standing_of content None kept seed effort generation steps) entries) made) (at_rest_none content))
+none_put id arch strip content kept seed effort generation steps entries done made true last slot room said is =
+    let state : State = seen_state arch strip (standing_of content None kept seed effort generation steps) entries in
     let next = next_of state made (sym is) in
     let some : running_sources state ≡ Some done.sources = said.foreign.0 next.own in
     let none : running_sources state ≡ None = ap (option_map (sources_of state)) (at_rest_none content) in
     cc
 
 -- the running job goes on
-advanced_put : (id : ℕ) (arch : Arch) (strip : Strip) (content : Content) (job : Running) (seed effort generation steps entries : ℕ) (done : JobStep) (made : Advance) →
-    IsSlot id arch strip (standing_of content (Some job) seed effort generation steps) entries → entries < 65536 → done ≡ step_of id generation (steps + 1) job.sources → is_last job.sources (steps + 1) ≡ false →
-    answer_to (seen_state arch strip (standing_of content (Some job) seed effort generation steps) entries) (Stepped made) ≡ (Some (advanced (seen_state arch strip (standing_of content (Some job) seed effort generation steps) entries)), Step Advanced) →
-    IsPut id arch strip (standing_of content (Some job) seed effort generation steps) entries done made true false
-advanced_put id arch strip content job seed effort generation steps entries done made slot room done_is more is =
-    let state : State = seen_state arch strip (standing_of content (Some job) seed effort generation steps) entries in
-    let said = answered (seen id arch strip (standing_of content (Some job) seed effort generation steps) entries) (Stepped made) (Some (advanced state)) (Step Advanced) room is in
+advanced_put : (id : ℕ) (arch : Arch) (strip : Strip) (content : Content) (job : Running) (kept : KeptPlaces) (seed effort generation steps entries : ℕ) (done : JobStep) (made : Advance) →
+    IsSlot id arch strip (standing_of content (Some job) kept seed effort generation steps) entries → entries < 65536 → done ≡ step_of id generation (steps + 1) job.sources → is_last job.sources (steps + 1) ≡ false →
+    answer_to (seen_state arch strip (standing_of content (Some job) kept seed effort generation steps) entries) (Stepped made) ≡ (Some (advanced (seen_state arch strip (standing_of content (Some job) kept seed effort generation steps) entries)), Step Advanced) →
+    IsPut id arch strip (standing_of content (Some job) kept seed effort generation steps) entries done made true false
+advanced_put id arch strip content job kept seed effort generation steps entries done made slot room done_is more is =
+    let state : State = seen_state arch strip (standing_of content (Some job) kept seed effort generation steps) entries in
+    let said = answered (seen id arch strip (standing_of content (Some job) kept seed effort generation steps) entries) (Stepped made) (Some (advanced state)) (Step Advanced) room is in
     record {
       lawful = record {
         size = slot.size;
+        kept = slot.kept;
         content = slot.content;
         job = record {
           name = slot.job.name;
@@ -188,20 +192,22 @@ made_of id generation steps job done sources done_is over from =
     }
 
 -- a routing ends with routes, or without
-routed_lawful : (id : ℕ) (arch : Arch) (strip : Strip) (netlist : Netlist) (packing placing routing : JobState) (seed effort generation entries : ℕ) (failure : Option RoutingFailure) →
-    IsStripSize strip → HasContent arch strip seed effort (Placed netlist packing placing) → IsMadeOf (routing_sources arch strip netlist.text seed effort) routing →
-    failure_of (end_value (routing_sources arch strip netlist.text seed effort)) ≡ failure → generation ≤ entries → entries < 65536 →
-    IsSlot id arch strip (standing_of (routed_with netlist packing placing routing failure) None seed effort generation 0) (entries + 1)
-routed_lawful id arch strip netlist packing placing routing seed effort generation entries None size content made ends few room = record {
+routed_lawful : (id : ℕ) (arch : Arch) (strip : Strip) (netlist : Netlist) (packing placing routing : JobState) (kept : KeptPlaces) (seed effort generation entries : ℕ) (failure : Option RoutingFailure) →
+    IsStripSize strip → AreKeptOn strip kept → HasContent arch strip kept seed effort (Placed netlist packing placing) → IsMadeOf (routing_sources arch strip netlist.text kept seed effort) routing →
+    failure_of (end_value (routing_sources arch strip netlist.text kept seed effort)) ≡ failure → generation ≤ entries → entries < 65536 →
+    IsSlot id arch strip (standing_of (routed_with netlist packing placing routing failure) None kept seed effort generation 0) (entries + 1)
+routed_lawful id arch strip netlist packing placing routing kept seed effort generation entries None size stays content made ends few room = record {
   size = size;
+  kept = stays;
   content = (content.0, content.1, content.2, made, ends);
   job = tt;
   generation_small = omega arith;
   steps_small = omega arith;
   entries_small = omega arith;
 }
-routed_lawful id arch strip netlist packing placing routing seed effort generation entries (Some failure) size content made ends few room = record {
+routed_lawful id arch strip netlist packing placing routing kept seed effort generation entries (Some failure) size stays content made ends few room = record {
   size = size;
+  kept = stays;
   content = content;
   job = tt;
   generation_small = omega arith;
@@ -209,30 +215,31 @@ routed_lawful id arch strip netlist packing placing routing seed effort generati
   entries_small = omega arith;
 }
 
-routed_seen : (id : ℕ) (arch : Arch) (strip : Strip) (netlist : Netlist) (packing placing routing : JobState) (job : Running) (seed effort generation steps entries : ℕ) (failure : Option RoutingFailure) →
-    seen id arch strip (standing_of (routed_with netlist packing placing routing failure) None seed effort generation 0) (entries + 1)
-    ≡ answered_with (seen id arch strip (standing_of (Placed netlist packing placing) (Some job) seed effort generation steps) entries)
-    (Some (routed_unless (seen_state arch strip (standing_of (Placed netlist packing placing) (Some job) seed effort generation steps) entries) failure))
-routed_seen id arch strip netlist packing placing routing job seed effort generation steps entries None = refl
-routed_seen id arch strip netlist packing placing routing job seed effort generation steps entries (Some failure) = refl
+routed_seen : (id : ℕ) (arch : Arch) (strip : Strip) (netlist : Netlist) (packing placing routing : JobState) (job : Running) (kept : KeptPlaces) (seed effort generation steps entries : ℕ) (failure : Option RoutingFailure) →
+    seen id arch strip (standing_of (routed_with netlist packing placing routing failure) None kept seed effort generation 0) (entries + 1)
+    ≡ answered_with (seen id arch strip (standing_of (Placed netlist packing placing) (Some job) kept seed effort generation steps) entries)
+    (Some (routed_unless (seen_state arch strip (standing_of (Placed netlist packing placing) (Some job) kept seed effort generation steps) entries) failure))
+routed_seen id arch strip netlist packing placing routing job kept seed effort generation steps entries None = refl
+routed_seen id arch strip netlist packing placing routing job kept seed effort generation steps entries (Some failure) = refl
 
 -- it is over
-finished_put : (id : ℕ) (arch : Arch) (strip : Strip) (content : Content) (job : Running) (seed effort generation steps entries : ℕ) (done : JobStep) (made : Advance) →
-    IsSlot id arch strip (standing_of content (Some job) seed effort generation steps) entries → entries < 65536 → done ≡ step_of id generation (steps + 1) job.sources → is_last job.sources (steps + 1) ≡ true →
-    answer_to (seen_state arch strip (standing_of content (Some job) seed effort generation steps) entries) (Stepped made) ≡ (Some (finished (seen_state arch strip (standing_of content (Some job) seed effort generation steps) entries) job.sources.kind), Step Finished) →
-    IsPut id arch strip (standing_of content (Some job) seed effort generation steps) entries done made true true
-finished_put id arch strip Empty job seed effort generation steps entries done made slot room done_is over is = absurd (from_empty job.sources.kind slot.job.name)
-finished_put id arch strip (Routed netlist packing placing routing) job seed effort generation steps entries done made slot room done_is over is = absurd (from_routed job.sources.kind slot.job.name)
-finished_put id arch strip (Unrouted netlist packing placing failure) job seed effort generation steps entries done made slot room done_is over is = absurd (from_unrouted job.sources.kind slot.job.name)
-finished_put id arch strip (Loaded netlist) job seed effort generation steps entries done made slot room done_is over is =
-    let state : State = seen_state arch strip (standing_of (Loaded netlist) (Some job) seed effort generation steps) entries in
+finished_put : (id : ℕ) (arch : Arch) (strip : Strip) (content : Content) (job : Running) (kept : KeptPlaces) (seed effort generation steps entries : ℕ) (done : JobStep) (made : Advance) →
+    IsSlot id arch strip (standing_of content (Some job) kept seed effort generation steps) entries → entries < 65536 → done ≡ step_of id generation (steps + 1) job.sources → is_last job.sources (steps + 1) ≡ true →
+    answer_to (seen_state arch strip (standing_of content (Some job) kept seed effort generation steps) entries) (Stepped made) ≡ (Some (finished (seen_state arch strip (standing_of content (Some job) kept seed effort generation steps) entries) job.sources.kind), Step Finished) →
+    IsPut id arch strip (standing_of content (Some job) kept seed effort generation steps) entries done made true true
+finished_put id arch strip Empty job kept seed effort generation steps entries done made slot room done_is over is = absurd (from_empty job.sources.kind slot.job.name)
+finished_put id arch strip (Routed netlist packing placing routing) job kept seed effort generation steps entries done made slot room done_is over is = absurd (from_routed job.sources.kind slot.job.name)
+finished_put id arch strip (Unrouted netlist packing placing failure) job kept seed effort generation steps entries done made slot room done_is over is = absurd (from_unrouted job.sources.kind slot.job.name)
+finished_put id arch strip (Loaded netlist) job kept seed effort generation steps entries done made slot room done_is over is =
+    let state : State = seen_state arch strip (standing_of (Loaded netlist) (Some job) kept seed effort generation steps) entries in
     let kind : job.sources.kind ≡ PackingJob = from_loaded job.sources.kind slot.job.name in
-    let said = answered (seen id arch strip (standing_of (Loaded netlist) (Some job) seed effort generation steps) entries) (Stepped made) (Some (finished state PackingJob)) (Step Finished) room
+    let said = answered (seen id arch strip (standing_of (Loaded netlist) (Some job) kept seed effort generation steps) entries) (Stepped made) (Some (finished state PackingJob)) (Step Finished) room
     (is ∙ ap (λ (k : JobKind). (Some (finished state k), Step Finished)) kind) in
-    let whole = made_of id generation steps job done (packing_sources arch strip netlist.text) done_is over (slot.job.sources ∙ ap (sources_from arch strip netlist.text seed effort) kind) in
+    let whole = made_of id generation steps job done (packing_sources arch strip netlist.text) done_is over (slot.job.sources ∙ ap (sources_from arch strip netlist.text kept seed effort) kind) in
     record {
       lawful = record {
         size = slot.size;
+        kept = slot.kept;
         content = (slot.content, whole);
         job = tt;
         generation_small = omega (arith, slot.generation_small);
@@ -243,15 +250,16 @@ finished_put id arch strip (Loaded netlist) job seed effort generation steps ent
       after_it = said.1;
       begun = λ counts last. tt;
     }
-finished_put id arch strip (Packed netlist packing) job seed effort generation steps entries done made slot room done_is over is =
-    let state : State = seen_state arch strip (standing_of (Packed netlist packing) (Some job) seed effort generation steps) entries in
+finished_put id arch strip (Packed netlist packing) job kept seed effort generation steps entries done made slot room done_is over is =
+    let state : State = seen_state arch strip (standing_of (Packed netlist packing) (Some job) kept seed effort generation steps) entries in
     let kind : job.sources.kind ≡ PlacingJob = from_packed job.sources.kind slot.job.name in
-    let said = answered (seen id arch strip (standing_of (Packed netlist packing) (Some job) seed effort generation steps) entries) (Stepped made) (Some (finished state PlacingJob)) (Step Finished) room
+    let said = answered (seen id arch strip (standing_of (Packed netlist packing) (Some job) kept seed effort generation steps) entries) (Stepped made) (Some (finished state PlacingJob)) (Step Finished) room
     (is ∙ ap (λ (k : JobKind). (Some (finished state k), Step Finished)) kind) in
-    let whole = made_of id generation steps job done (placing_sources arch strip netlist.text seed effort) done_is over (slot.job.sources ∙ ap (sources_from arch strip netlist.text seed effort) kind) in
+    let whole = made_of id generation steps job done (placing_sources arch strip netlist.text kept seed effort) done_is over (slot.job.sources ∙ ap (sources_from arch strip netlist.text kept seed effort) kind) in
     record {
       lawful = record {
         size = slot.size;
+        kept = slot.kept;
         content = (slot.content.0, slot.content.1, whole);
         job = tt;
         generation_small = omega (arith, slot.generation_small);
@@ -262,17 +270,17 @@ finished_put id arch strip (Packed netlist packing) job seed effort generation s
       after_it = said.1;
       begun = λ counts last. tt;
     }
-finished_put id arch strip (Placed netlist packing placing) job seed effort generation steps entries done made slot room done_is over is =
-    let state : State = seen_state arch strip (standing_of (Placed netlist packing placing) (Some job) seed effort generation steps) entries in
+finished_put id arch strip (Placed netlist packing placing) job kept seed effort generation steps entries done made slot room done_is over is =
+    let state : State = seen_state arch strip (standing_of (Placed netlist packing placing) (Some job) kept seed effort generation steps) entries in
     let kind : job.sources.kind ≡ RoutingJob = from_placed job.sources.kind slot.job.name in
-    let whole = made_of id generation steps job done (routing_sources arch strip netlist.text seed effort) done_is over (slot.job.sources ∙ ap (sources_from arch strip netlist.text seed effort) kind) in
-    let ends : failure_of (end_value (routing_sources arch strip netlist.text seed effort)) ≡ failure_of (end_value done.sources) = ap (λ (s : Sources). failure_of (end_value s)) (sym whole.sources) in
-    let said = answered (seen id arch strip (standing_of (Placed netlist packing placing) (Some job) seed effort generation steps) entries) (Stepped made) (Some (routed_unless state (failure_of (end_value done.sources)))) (Step Finished) room
+    let whole = made_of id generation steps job done (routing_sources arch strip netlist.text kept seed effort) done_is over (slot.job.sources ∙ ap (sources_from arch strip netlist.text kept seed effort) kind) in
+    let ends : failure_of (end_value (routing_sources arch strip netlist.text kept seed effort)) ≡ failure_of (end_value done.sources) = ap (λ (s : Sources). failure_of (end_value s)) (sym whole.sources) in
+    let said = answered (seen id arch strip (standing_of (Placed netlist packing placing) (Some job) kept seed effort generation steps) entries) (Stepped made) (Some (routed_unless state (failure_of (end_value done.sources)))) (Step Finished) room
     (is ∙ ap (λ (k : JobKind). (Some (finished state k), Step Finished)) kind ∙ ap (λ (f : Option RoutingFailure). (Some (routed_unless state f), Step Finished)) ends) in
     record {
-      lawful = routed_lawful id arch strip netlist packing placing (next_step done) seed effort generation entries (failure_of (end_value done.sources)) slot.size slot.content whole ends slot.generation_small room;
+      lawful = routed_lawful id arch strip netlist packing placing (next_step done) kept seed effort generation entries (failure_of (end_value done.sources)) slot.size slot.kept slot.content whole ends slot.generation_small room;
       told = said.0;
-      after_it = routed_seen id arch strip netlist packing placing (next_step done) job seed effort generation steps entries (failure_of (end_value done.sources)) ∙ said.1;
+      after_it = routed_seen id arch strip netlist packing placing (next_step done) job kept seed effort generation steps entries (failure_of (end_value done.sources)) ∙ said.1;
       begun = λ counts last. record { kind = ap (λ (s : Sources). s.kind) whole.sources; over = whole.over; put = refl };
     }
 
@@ -285,11 +293,11 @@ running_during RoutingJob = refl
 pub some_same : (a b : Sources) → Some a ≡ Some b → a ≡ b
 some_same a b is = cc
 
-module _ (id : ℕ) (arch : Arch) (strip : Strip) (content : Content) (job : Running) (seed effort generation steps entries : ℕ) (done : JobStep) (made : Advance)
-    (slot : IsSlot id arch strip (standing_of content (Some job) seed effort generation steps) entries) (room : entries < 65536) (own : done.id ≡ id)
-    (said : IsAdvanceOf (seen_state arch strip (standing_of content (Some job) seed effort generation steps) entries) done made) where
+module _ (id : ℕ) (arch : Arch) (strip : Strip) (content : Content) (job : Running) (kept : KeptPlaces) (seed effort generation steps entries : ℕ) (done : JobStep) (made : Advance)
+    (slot : IsSlot id arch strip (standing_of content (Some job) kept seed effort generation steps) entries) (room : entries < 65536) (own : done.id ≡ id)
+    (said : IsAdvanceOf (seen_state arch strip (standing_of content (Some job) kept seed effort generation steps) entries) done made) where
   abbrev its_state : State
-  its_state = seen_state arch strip (standing_of content (Some job) seed effort generation steps) entries
+  its_state = seen_state arch strip (standing_of content (Some job) kept seed effort generation steps) entries
 
   its_running : running (during job.sources.kind) ≡ Some job.sources.kind
   its_running = running_during job.sources.kind
@@ -318,32 +326,32 @@ module _ (id : ℕ) (arch : Arch) (strip : Strip) (content : Content) (job : Run
       ∙ ap (λ (b : Bool). if b then go_on its_state job.sources.kind else (None, Step Stale)) counts
       ∙ ap (λ (b : Bool). if b then (Some (finished its_state job.sources.kind), Step Finished) else (Some (advanced its_state), Step Advanced)) there
 
-  pub some_put : (counts last : Bool) → counts ≡ is_next its_state made → last ≡ is_last done.sources done.number → IsPut id arch strip (standing_of content (Some job) seed effort generation steps) entries done made counts last
+  pub some_put : (counts last : Bool) → counts ≡ is_next its_state made → last ≡ is_last done.sources done.number → IsPut id arch strip (standing_of content (Some job) kept seed effort generation steps) entries done made counts last
   some_put false last is ends =
       let late : answer_to its_state (Stepped made) ≡ (None, Step Stale) = its_answer ∙ ap (λ (b : Bool). if b then go_on its_state job.sources.kind else (None, Step Stale)) (sym is) in
-      stale id arch strip (standing_of content (Some job) seed effort generation steps) entries done made last slot room late
+      stale id arch strip (standing_of content (Some job) kept seed effort generation steps) entries done made last slot room late
   some_put true false is ends =
       let next = next_of its_state made (sym is) in
       let more : is_last job.sources (steps + 1) ≡ false = its_end false next ends in
-      advanced_put id arch strip content job seed effort generation steps entries done made slot room (its_step next) more (goes false (sym is) more)
+      advanced_put id arch strip content job kept seed effort generation steps entries done made slot room (its_step next) more (goes false (sym is) more)
   some_put true true is ends =
       let next = next_of its_state made (sym is) in
       let over : is_last job.sources (steps + 1) ≡ true = its_end true next ends in
-      finished_put id arch strip content job seed effort generation steps entries done made slot room (its_step next) over (goes true (sym is) over)
+      finished_put id arch strip content job kept seed effort generation steps entries done made slot room (its_step next) over (goes true (sym is) over)
 
 -- a put of any slot
-either_put : (id : ℕ) (arch : Arch) (strip : Strip) (content : Content) (job : Option Running) (seed effort generation steps entries : ℕ) (done : JobStep) (made : Advance) (counts last : Bool) →
-    IsSlot id arch strip (standing_of content job seed effort generation steps) entries → entries < 65536 → done.id ≡ id → IsAdvanceOf (seen_state arch strip (standing_of content job seed effort generation steps) entries) done made →
-    counts ≡ is_next (seen_state arch strip (standing_of content job seed effort generation steps) entries) made → last ≡ is_last done.sources done.number →
-    IsPut id arch strip (standing_of content job seed effort generation steps) entries done made counts last
-either_put id arch strip content None seed effort generation steps entries done made counts last slot room own said is ends = none_put id arch strip content seed effort generation steps entries done made counts last slot room said is
-either_put id arch strip content (Some job) seed effort generation steps entries done made counts last slot room own said is ends = some_put id arch strip content job seed effort generation steps entries done made slot room own said counts last is ends
+either_put : (id : ℕ) (arch : Arch) (strip : Strip) (content : Content) (job : Option Running) (kept : KeptPlaces) (seed effort generation steps entries : ℕ) (done : JobStep) (made : Advance) (counts last : Bool) →
+    IsSlot id arch strip (standing_of content job kept seed effort generation steps) entries → entries < 65536 → done.id ≡ id → IsAdvanceOf (seen_state arch strip (standing_of content job kept seed effort generation steps) entries) done made →
+    counts ≡ is_next (seen_state arch strip (standing_of content job kept seed effort generation steps) entries) made → last ≡ is_last done.sources done.number →
+    IsPut id arch strip (standing_of content job kept seed effort generation steps) entries done made counts last
+either_put id arch strip content None kept seed effort generation steps entries done made counts last slot room own said is ends = none_put id arch strip content kept seed effort generation steps entries done made counts last slot room said is
+either_put id arch strip content (Some job) kept seed effort generation steps entries done made counts last slot room own said is ends = some_put id arch strip content job kept seed effort generation steps entries done made slot room own said counts last is ends
 
 is_put : (id : ℕ) (arch : Arch) (strip : Strip) (standing : Standing) (entries : ℕ) (done : JobStep) (made : Advance) (counts last : Bool) →
     IsSlot id arch strip standing entries → entries < 65536 → done.id ≡ id → IsAdvanceOf (seen_state arch strip standing entries) done made →
     counts ≡ is_next (seen_state arch strip standing entries) made → last ≡ is_last done.sources done.number → IsPut id arch strip standing entries done made counts last
 is_put id arch strip standing entries done made counts last slot room own said is ends =
-    either_put id arch strip standing.content standing.running standing.seed standing.effort standing.generation standing.steps entries done made counts last slot room own said is ends
+    either_put id arch strip standing.content standing.running standing.kept standing.seed standing.effort standing.generation standing.steps entries done made counts last slot room own said is ends
 
 -- the same, where the slot is seen so
 pub put_of : (id : ℕ) (arch : Arch) (strip : Strip) (standing : Standing) (entries : ℕ) (old : SlotState) (done : JobStep) (made : Advance) (counts last : Bool) → seen id arch strip standing entries ≡ old →

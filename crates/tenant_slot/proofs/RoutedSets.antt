@@ -33,9 +33,9 @@ unfolding routed_set
 routed_is id arch strip standing entries netlist packing placing routing is slot =
     let content = Routed netlist packing placing routing in
     let name : name_of standing.content standing.running ≡ RoutedName = ap (λ other. name_of other standing.running) is ∙ routed_name id arch strip standing content is refl standing.running slot.job in
-    let has : HasContent arch strip standing.seed standing.effort content = subst (HasContent arch strip standing.seed standing.effort) is slot.content in
+    let has : HasContent arch strip standing.kept standing.seed standing.effort content = subst (HasContent arch strip standing.kept standing.seed standing.effort) is slot.content in
     ap (λ other. held_in other (seen_state arch strip standing entries)) name
-    ∙ (ap (λ other. resources_of (routing_sources arch strip (text_of other) standing.seed standing.effort)) is ∙ ap resources_of (sym (has.3.sources)))
+    ∙ (ap (λ other. resources_of (routing_sources arch strip (text_of other) standing.kept standing.seed standing.effort)) is ∙ ap resources_of (sym (has.3.sources)))
 
 -- while a job runs
 none_during : (kind : JobKind) (state : State) → held_in (during kind) state ≡ []

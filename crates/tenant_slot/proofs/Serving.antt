@@ -1,24 +1,29 @@
 -- What `pack` and `place` are answered.
-use Rattle.std.proofs.Common.{◌≡◌, ℕ, ◌+◌, ◌<◌, Bool, true, false, Option, Some, None, Result, Ok, Err, refl, sym, ap, subst, ◌∙◌}
+use Rattle.std.proofs.Common.{◌≡◌, ℕ, ◌+◌, ◌<◌, Bool, true, false, List, Option, Some, None, Result, Ok, Err, refl, sym, ap, subst, ◌∙◌}
 use Rattle.std.specs.Prelude.{nat_lt, IfOk, IfErr, if◌then◌else◌}
 use Rattle.blif.specs.CircuitOf.{circuit_of}
+use Rattle.blif.specs.declared.circuit.Circuit.{Circuit}
+use Rattle.blif.specs.declared.fault.BlifFault.{BlifFault}
+use Rattle.kept_places.specs.Kept.{KeptPlaces}
+use Rattle.strip_place.specs.KeptSites.{AreKeptOn}
 use Rattle.cluster.specs.Clusters.{packed_of, unfit_of}
 use Rattle.grid.specs.Fits.{fit_of}
 use Rattle.job_state.specs.JobValue.{packing_sources, placing_sources}
 use Rattle.tenant_slot.specs.declared.command.Command.{Command}
-use Rattle.tenant_slot.specs.declared.command.Command.TheVariants.{Pack, Place}
+use Rattle.tenant_slot.specs.declared.command.Command.TheVariants.{Change, Pack, Place}
 use Rattle.tenant_slot.specs.declared.content.Netlist.{Netlist}
 use Rattle.tenant_slot.specs.declared.not_served.NotServed.{NotServed}
 use Rattle.tenant_slot.specs.declared.not_served.NotServed.TheVariants.{NoMemory}
 use Rattle.tenant_slot.specs.declared.reply.Misfit.{Misfit}
-use Rattle.tenant_slot.specs.declared.reply.Reply.TheVariants.{Refused}
+use Rattle.tenant_slot.specs.declared.reply.Reply.{Reply}
+use Rattle.tenant_slot.specs.declared.reply.Reply.TheVariants.{Accepted, Refused}
 use Rattle.tenant_slot.specs.declared.reply.Refusal.TheVariants.{WrongState, BadEffort}
 use Rattle.tenant_slot.specs.declared.reply.StateName.{StateName}
 use Rattle.tenant_slot.specs.declared.reply.StateName.TheVariants.{Empty as EmptyName, Loaded as LoadedName, Packing as PackingName, Packed as PackedName, Placing as PlacingName, Placed as PlacedName, Routing as RoutingName, Routed as RoutedName, Unrouted as UnroutedName}
 use Rattle.tenant_slot.specs.Answer.{Answers, Outcome}
 use Rattle.tenant_slot.specs.Content.{IsNetlist}
-use Rattle.tenant_slot.specs.Outcomes.{job_begun, pack_outcome, place_outcome}
-use Rattle.tenant_slot.specs.SingleUser.{is_lawful, misfit_of, pack, pack_unless, place, place_unless, serve}
+use Rattle.tenant_slot.specs.Outcomes.{job_begun, load_outcome, pack_outcome, place_outcome}
+use Rattle.tenant_slot.specs.SingleUser.{State, is_lawful, keeping, load, loaded, misfit_of, risen, pack, pack_unless, place, place_unless, serve}
 use Rattle.tenant_slot.specs.Slot.{SlotState}
 
 -- a call that answers so, or finds no memory
@@ -62,7 +67,7 @@ module _ (slot : SlotState) (netlist : Netlist) (text : netlist.text ≡ slot.st
   -- what `place` is answered, by whether the effort is too great and what there is too little of
   place_answers : (seed effort : ℕ) → is_lawful slot.state.name (Place seed effort) ≡ true → (great : Bool) → nat_lt 100 effort ≡ great → (misfit : Option Misfit) →
       misfit_of (fit_of slot.state.strip (packed_of netlist.circuit slot.state.arch)) ≡ misfit →
-      Answers slot (Place seed effort) (Ok (place_outcome slot.state.arch.lut_size (job_begun slot.id (slot.state.generation + 1) (placing_sources slot.state.arch slot.state.strip netlist.text seed effort)) great misfit))
+      Answers slot (Place seed effort) (Ok (place_outcome slot.state.arch.lut_size (job_begun slot.id (slot.state.generation + 1) (placing_sources slot.state.arch slot.state.strip netlist.text slot.state.kept seed effort)) great misfit))
   place_answers seed effort lawful true is_great misfit is =
       let asked = ap (λ b. if b then place slot.state seed effort (circuit_of slot.state.text slot.state.arch.lut_size) else (None, Refused (WrongState slot.state.name))) lawful in (
         record { lut_size = refl; room = room; begins = tt },
@@ -74,7 +79,7 @@ module _ (slot : SlotState) (netlist : Netlist) (text : netlist.text ≡ slot.st
         record {
           lut_size = refl;
           room = room;
-          begins = (lawful, refl, record { sources = ap (λ t. placing_sources slot.state.arch slot.state.strip t seed effort) text; ready = refl });
+          begins = (lawful, refl, record { sources = ap (λ t. placing_sources slot.state.arch slot.state.strip t slot.state.kept seed effort) text; ready = refl });
         },
         asked ∙ ap (place slot.state seed effort) its_circuit
             ∙ ap (λ b. if b then (None, Refused BadEffort) else place_unless slot.state seed effort (misfit_of (fit_of slot.state.strip (packed_of netlist.circuit slot.state.arch)))) is_great
@@ -97,11 +102,28 @@ module _ (slot : SlotState) (netlist : Netlist) (text : netlist.text ≡ slot.st
       room ok err (pack_answers (pack_loaded slot.state.name lawful) (unfit_of netlist.circuit slot.state.arch) refl)
 
   pub place_result : (seed effort : ℕ) (result : Result Outcome NotServed) → is_lawful slot.state.name (Place seed effort) ≡ true →
-      IfOk result (λ a. a ≡ place_outcome slot.state.arch.lut_size (job_begun slot.id (slot.state.generation + 1) (placing_sources slot.state.arch slot.state.strip netlist.text seed effort)) (nat_lt 100 effort)
+      IfOk result (λ a. a ≡ place_outcome slot.state.arch.lut_size (job_begun slot.id (slot.state.generation + 1) (placing_sources slot.state.arch slot.state.strip netlist.text slot.state.kept seed effort)) (nat_lt 100 effort)
       (misfit_of (fit_of slot.state.strip (packed_of netlist.circuit slot.state.arch)))) →
       IfErr result (λ e. e ≡ NoMemory) → Answers slot (Place seed effort) result
   place_result seed effort result lawful ok err =
       answers_so slot (Place seed effort) result
-      (place_outcome slot.state.arch.lut_size (job_begun slot.id (slot.state.generation + 1) (placing_sources slot.state.arch slot.state.strip netlist.text seed effort)) (nat_lt 100 effort)
+      (place_outcome slot.state.arch.lut_size (job_begun slot.id (slot.state.generation + 1) (placing_sources slot.state.arch slot.state.strip netlist.text slot.state.kept seed effort)) (nat_lt 100 effort)
       (misfit_of (fit_of slot.state.strip (packed_of netlist.circuit slot.state.arch))))
       room ok err (place_answers seed effort lawful (nat_lt 100 effort) refl (misfit_of (fit_of slot.state.strip (packed_of netlist.circuit slot.state.arch))) refl)
+
+-- a change keeps the places at that moment
+change_by : (slot : SlotState) (text : List ℕ) (kept : KeptPlaces) → is_lawful slot.state.name (Change text) ≡ true → slot.state.entries < 65536 → kept ≡ (keeping slot.state).kept → AreKeptOn slot.state.strip kept →
+    (said : Result Circuit BlifFault) → circuit_of text slot.state.arch.lut_size ≡ said → Answers slot (Change text) (Ok (load_outcome slot.state.arch.lut_size text (Some kept) said))
+change_by slot text kept lawful room same keeps (Ok circuit) is =
+    let asked = ap (λ b. if b then load (keeping (risen slot.state)) text (circuit_of text slot.state.arch.lut_size) else (None, Refused (WrongState slot.state.name))) lawful in (
+      record { lut_size = refl; room = room; begins = (same, keeps) },
+      asked ∙ (ap (load (keeping (risen slot.state)) text) is ∙ ap (λ (k : KeptPlaces). let answer : Option State × Reply = (Some (loaded (record (risen slot.state) { kept = k }) text), Accepted LoadedName) in answer) (sym same)),
+    )
+change_by slot text kept lawful room same keeps (Err fault) is =
+    let asked = ap (λ b. if b then load (keeping (risen slot.state)) text (circuit_of text slot.state.arch.lut_size) else (None, Refused (WrongState slot.state.name))) lawful in
+    (record { lut_size = refl; room = room; begins = tt }, asked ∙ ap (load (keeping (risen slot.state)) text) is)
+
+pub change_result : (slot : SlotState) (text : List ℕ) (kept : KeptPlaces) (result : Result Outcome NotServed) → is_lawful slot.state.name (Change text) ≡ true → slot.state.entries < 65536 → kept ≡ (keeping slot.state).kept → AreKeptOn slot.state.strip kept →
+    IfOk result (λ a. a ≡ load_outcome slot.state.arch.lut_size text (Some kept) (circuit_of text slot.state.arch.lut_size)) → IfErr result (λ e. e ≡ NoMemory) → Answers slot (Change text) result
+change_result slot text kept result lawful room same keeps ok err =
+    answers_so slot (Change text) result (load_outcome slot.state.arch.lut_size text (Some kept) (circuit_of text slot.state.arch.lut_size)) room ok err (change_by slot text kept lawful room same keeps (circuit_of text slot.state.arch.lut_size) refl)

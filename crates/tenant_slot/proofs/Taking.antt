@@ -4,6 +4,7 @@ use Rattle.std.specs.Prelude.{◌↔◌, ◌==◌, ◌&&◌, is_some, is_none, n
 use Rattle.std.proofs.lemmas.Bool.Decides.{Decides-eqb}
 use Rattle.arch_file.specs.declared.arch.Arch.{Arch}
 use Rattle.grid.specs.declared.Strip.{Strip}
+use Rattle.kept_places.specs.Kept.{KeptPlaces}
 use Rattle.job_state.specs.declared.sources.JobKind.{JobKind}
 use Rattle.job_state.specs.declared.sources.Sources.{Sources}
 use Rattle.job_state.specs.declared.step.JobStep.{JobStep}
@@ -55,10 +56,10 @@ pub record IsTaken (id : ℕ) (arch : Arch) (strip : Strip) (standing : Standing
 all_three : (a b c : Bool) → a ≡ true → b ≡ true → c ≡ false → (a && (b && not c)) ≡ true
 all_three a b c first second third = rw (first, second, third) refl
 
-module _ (id : ℕ) (arch : Arch) (strip : Strip) (content : Content) (job : Running) (seed effort generation steps entries : ℕ)
-    (slot : IsSlot id arch strip (standing_of content (Some job) seed effort generation steps) entries) where
+module _ (id : ℕ) (arch : Arch) (strip : Strip) (content : Content) (job : Running) (kept : KeptPlaces) (seed effort generation steps entries : ℕ)
+    (slot : IsSlot id arch strip (standing_of content (Some job) kept seed effort generation steps) entries) where
   abbrev its_slot : SlotState
-  its_slot = seen id arch strip (standing_of content (Some job) seed effort generation steps) entries
+  its_slot = seen id arch strip (standing_of content (Some job) kept seed effort generation steps) entries
 
   -- the running job's next step
   next_is : next_job its_slot ≡ Some (step_of id generation (steps + 1) job.sources)
@@ -66,7 +67,7 @@ module _ (id : ℕ) (arch : Arch) (strip : Strip) (content : Content) (job : Run
       ap (λ (k : Option JobKind). option_map (λ (sources : Sources). step_of id generation (steps + 1) sources) (option_map (sources_of its_slot.state) k)) (running_during job.sources.kind)
       ∙ ap (λ (s : Sources). Some (step_of id generation (steps + 1) s)) (sym slot.job.sources)
 
-  some_taken : (ready : JobState) → job.ready ≡ Some ready → IsTaken id arch strip (standing_of content (Some job) seed effort generation steps) entries ready
+  some_taken : (ready : JobState) → job.ready ≡ Some ready → IsTaken id arch strip (standing_of content (Some job) kept seed effort generation steps) entries ready
   some_taken ready is =
       let step : ready.step ≡ step_of id generation (steps + 1) job.sources = subst (λ (r : Option JobState). IfSome r (λ ready. ready.step ≡ step_of id generation (steps + 1) job.sources)) is slot.job.ready in
       let number : ready.step.number - 1 ≡ steps = ap (λ (s : JobStep). s.number - 1) step ∙ omega arith in
@@ -74,6 +75,7 @@ module _ (id : ℕ) (arch : Arch) (strip : Strip) (content : Content) (job : Run
         going = ap (λ (s : JobStep). is_last s.sources (ready.step.number - 1)) step ∙ ap (is_last job.sources) number ∙ slot.job.going;
         lawful = record {
           size = slot.size;
+          kept = slot.kept;
           content = slot.content;
           job = record { name = slot.job.name; sources = slot.job.sources; going = slot.job.going; ready = tt };
           generation_small = slot.generation_small;
@@ -89,11 +91,12 @@ module _ (id : ℕ) (arch : Arch) (strip : Strip) (content : Content) (job : Run
       }
 
   -- the running job's next step stands here again
-  some_stood : (back : JobState) → next_job its_slot ≡ Some back.step → IsSlot id arch strip (standing_of content (Some (ready_with back job)) seed effort generation steps) entries
+  some_stood : (back : JobState) → next_job its_slot ≡ Some back.step → IsSlot id arch strip (standing_of content (Some (ready_with back job)) kept seed effort generation steps) entries
   some_stood back is =
       let step : back.step ≡ step_of id generation (steps + 1) job.sources = same_step back.step (step_of id generation (steps + 1) job.sources) (sym is ∙ next_is) in
       record {
         size = slot.size;
+        kept = slot.kept;
         content = slot.content;
         job = record { name = slot.job.name; sources = slot.job.sources; going = slot.job.going; ready = step };
         generation_small = slot.generation_small;
@@ -123,63 +126,63 @@ module _ (id : ℕ) (arch : Arch) (strip : Strip) (content : Content) (job : Run
       let yes : is_next its_slot.state made ≡ true = all_three (made.generation == generation) (made.number == steps + 1) made.foreign first second own in
       cc
 
-none_next : (id : ℕ) (arch : Arch) (strip : Strip) (content : Content) (seed effort generation steps entries : ℕ) → next_job (seen id arch strip (standing_of content None seed effort generation steps) entries) ≡ None
-none_next id arch strip content seed effort generation steps entries =
-    let state : State = seen_state arch strip (standing_of content None seed effort generation steps) entries in
+none_next : (id : ℕ) (arch : Arch) (strip : Strip) (content : Content) (kept : KeptPlaces) (seed effort generation steps entries : ℕ) → next_job (seen id arch strip (standing_of content None kept seed effort generation steps) entries) ≡ None
+none_next id arch strip content kept seed effort generation steps entries =
+    let state : State = seen_state arch strip (standing_of content None kept seed effort generation steps) entries in
     ap (λ (k : Option JobKind). option_map (λ (sources : Sources). step_of id generation (steps + 1) sources) (option_map (sources_of state) k)) (at_rest_none content)
 
 -- the same of any slot
-either_taken : (id : ℕ) (arch : Arch) (strip : Strip) (content : Content) (job : Option Running) (seed effort generation steps entries : ℕ) (ready : JobState) →
-    IsSlot id arch strip (standing_of content job seed effort generation steps) entries → ready_of job ≡ Some ready → IsTaken id arch strip (standing_of content job seed effort generation steps) entries ready
-either_taken id arch strip content None seed effort generation steps entries ready slot is = absurd (cc)
-either_taken id arch strip content (Some job) seed effort generation steps entries ready slot is = some_taken id arch strip content job seed effort generation steps entries slot ready is
+either_taken : (id : ℕ) (arch : Arch) (strip : Strip) (content : Content) (job : Option Running) (kept : KeptPlaces) (seed effort generation steps entries : ℕ) (ready : JobState) →
+    IsSlot id arch strip (standing_of content job kept seed effort generation steps) entries → ready_of job ≡ Some ready → IsTaken id arch strip (standing_of content job kept seed effort generation steps) entries ready
+either_taken id arch strip content None kept seed effort generation steps entries ready slot is = absurd (cc)
+either_taken id arch strip content (Some job) kept seed effort generation steps entries ready slot is = some_taken id arch strip content job kept seed effort generation steps entries slot ready is
 
 pub is_taken : (id : ℕ) (arch : Arch) (strip : Strip) (standing : Standing) (entries : ℕ) (ready : JobState) → IsSlot id arch strip standing entries → ready_of standing.running ≡ Some ready → IsTaken id arch strip standing entries ready
-is_taken id arch strip standing entries ready slot is = either_taken id arch strip standing.content standing.running standing.seed standing.effort standing.generation standing.steps entries ready slot is
+is_taken id arch strip standing entries ready slot is = either_taken id arch strip standing.content standing.running standing.kept standing.seed standing.effort standing.generation standing.steps entries ready slot is
 
-either_stood : (id : ℕ) (arch : Arch) (strip : Strip) (content : Content) (job : Option Running) (seed effort generation steps entries : ℕ) (back : JobState) →
-    IsSlot id arch strip (standing_of content job seed effort generation steps) entries → next_job (seen id arch strip (standing_of content job seed effort generation steps) entries) ≡ Some back.step →
-    IsSlot id arch strip (standing_of content (option_map (ready_with back) job) seed effort generation steps) entries
-either_stood id arch strip content None seed effort generation steps entries back slot is = slot
-either_stood id arch strip content (Some job) seed effort generation steps entries back slot is = some_stood id arch strip content job seed effort generation steps entries slot back is
+either_stood : (id : ℕ) (arch : Arch) (strip : Strip) (content : Content) (job : Option Running) (kept : KeptPlaces) (seed effort generation steps entries : ℕ) (back : JobState) →
+    IsSlot id arch strip (standing_of content job kept seed effort generation steps) entries → next_job (seen id arch strip (standing_of content job kept seed effort generation steps) entries) ≡ Some back.step →
+    IsSlot id arch strip (standing_of content (option_map (ready_with back) job) kept seed effort generation steps) entries
+either_stood id arch strip content None kept seed effort generation steps entries back slot is = slot
+either_stood id arch strip content (Some job) kept seed effort generation steps entries back slot is = some_stood id arch strip content job kept seed effort generation steps entries slot back is
 
 pub is_stood : (id : ℕ) (arch : Arch) (strip : Strip) (standing : Standing) (entries : ℕ) (back : JobState) → IsSlot id arch strip standing entries → next_job (seen id arch strip standing entries) ≡ Some back.step →
     IsSlot id arch strip (record standing { running = option_map (ready_with back) standing.running }) entries
-is_stood id arch strip standing entries back slot is = either_stood id arch strip standing.content standing.running standing.seed standing.effort standing.generation standing.steps entries back slot is
+is_stood id arch strip standing entries back slot is = either_stood id arch strip standing.content standing.running standing.kept standing.seed standing.effort standing.generation standing.steps entries back slot is
 
-either_next : (id : ℕ) (arch : Arch) (strip : Strip) (content : Content) (job : Option Running) (seed effort generation steps entries : ℕ) (step : JobStep) (made : Advance) →
-    IsSlot id arch strip (standing_of content job seed effort generation steps) entries → step.id ≡ id → IsAdvanceOf (seen_state arch strip (standing_of content job seed effort generation steps) entries) step made →
-    is_next (seen_state arch strip (standing_of content job seed effort generation steps) entries) made ≡ true → next_job (seen id arch strip (standing_of content job seed effort generation steps) entries) ≡ Some step
-either_next id arch strip content None seed effort generation steps entries step made slot own said is =
-    let state : State = seen_state arch strip (standing_of content None seed effort generation steps) entries in
+either_next : (id : ℕ) (arch : Arch) (strip : Strip) (content : Content) (job : Option Running) (kept : KeptPlaces) (seed effort generation steps entries : ℕ) (step : JobStep) (made : Advance) →
+    IsSlot id arch strip (standing_of content job kept seed effort generation steps) entries → step.id ≡ id → IsAdvanceOf (seen_state arch strip (standing_of content job kept seed effort generation steps) entries) step made →
+    is_next (seen_state arch strip (standing_of content job kept seed effort generation steps) entries) made ≡ true → next_job (seen id arch strip (standing_of content job kept seed effort generation steps) entries) ≡ Some step
+either_next id arch strip content None kept seed effort generation steps entries step made slot own said is =
+    let state : State = seen_state arch strip (standing_of content None kept seed effort generation steps) entries in
     let some : running_sources state ≡ Some step.sources = said.foreign.0 (next_of state made is).own in
     let none : running_sources state ≡ None = ap (option_map (sources_of state)) (at_rest_none content) in
     absurd (cc)
-either_next id arch strip content (Some job) seed effort generation steps entries step made slot own said is = some_next id arch strip content job seed effort generation steps entries slot step made own said is
+either_next id arch strip content (Some job) kept seed effort generation steps entries step made slot own said is = some_next id arch strip content job kept seed effort generation steps entries slot step made own said is
 
 pub is_back : (id : ℕ) (arch : Arch) (strip : Strip) (standing : Standing) (entries : ℕ) (step : JobStep) (made : Advance) → IsSlot id arch strip standing entries → step.id ≡ id →
     IsAdvanceOf (seen_state arch strip standing entries) step made → is_next (seen_state arch strip standing entries) made ≡ true → next_job (seen id arch strip standing entries) ≡ Some step
 is_back id arch strip standing entries step made slot own said is =
-    either_next id arch strip standing.content standing.running standing.seed standing.effort standing.generation standing.steps entries step made slot own said is
+    either_next id arch strip standing.content standing.running standing.kept standing.seed standing.effort standing.generation standing.steps entries step made slot own said is
 
-either_other : (id : ℕ) (arch : Arch) (strip : Strip) (content : Content) (job : Option Running) (seed effort generation steps entries : ℕ) (step : JobStep) (made : Advance) →
-    IsSlot id arch strip (standing_of content job seed effort generation steps) entries → IsAdvanceOf (seen_state arch strip (standing_of content job seed effort generation steps) entries) step made →
-    is_next (seen_state arch strip (standing_of content job seed effort generation steps) entries) made ≡ false → next_job (seen id arch strip (standing_of content job seed effort generation steps) entries) ≡ Some step → ⊥
-either_other id arch strip content None seed effort generation steps entries step made slot said not_next is =
-    let none : next_job (seen id arch strip (standing_of content None seed effort generation steps) entries) ≡ None = none_next id arch strip content seed effort generation steps entries in
+either_other : (id : ℕ) (arch : Arch) (strip : Strip) (content : Content) (job : Option Running) (kept : KeptPlaces) (seed effort generation steps entries : ℕ) (step : JobStep) (made : Advance) →
+    IsSlot id arch strip (standing_of content job kept seed effort generation steps) entries → IsAdvanceOf (seen_state arch strip (standing_of content job kept seed effort generation steps) entries) step made →
+    is_next (seen_state arch strip (standing_of content job kept seed effort generation steps) entries) made ≡ false → next_job (seen id arch strip (standing_of content job kept seed effort generation steps) entries) ≡ Some step → ⊥
+either_other id arch strip content None kept seed effort generation steps entries step made slot said not_next is =
+    let none : next_job (seen id arch strip (standing_of content None kept seed effort generation steps) entries) ≡ None = none_next id arch strip content kept seed effort generation steps entries in
     cc
-either_other id arch strip content (Some job) seed effort generation steps entries step made slot said not_next is = some_other id arch strip content job seed effort generation steps entries slot step made said not_next is
+either_other id arch strip content (Some job) kept seed effort generation steps entries step made slot said not_next is = some_other id arch strip content job kept seed effort generation steps entries slot step made said not_next is
 
 pub is_not_back : (id : ℕ) (arch : Arch) (strip : Strip) (standing : Standing) (entries : ℕ) (step : JobStep) (made : Advance) → IsSlot id arch strip standing entries →
     IsAdvanceOf (seen_state arch strip standing entries) step made → is_next (seen_state arch strip standing entries) made ≡ false → next_job (seen id arch strip standing entries) ≡ Some step → ⊥
 is_not_back id arch strip standing entries step made slot said not_next is =
-    either_other id arch strip standing.content standing.running standing.seed standing.effort standing.generation standing.steps entries step made slot said not_next is
+    either_other id arch strip standing.content standing.running standing.kept standing.seed standing.effort standing.generation standing.steps entries step made slot said not_next is
 
 -- what is seen of a slot whose running job's next step stands there again
-stood_seen : (id : ℕ) (arch : Arch) (strip : Strip) (content : Content) (job : Option Running) (seed effort generation steps entries : ℕ) (back : JobState) →
-    seen id arch strip (standing_of content (option_map (ready_with back) job) seed effort generation steps) entries ≡ record (seen id arch strip (standing_of content job seed effort generation steps) entries) { out = false }
-stood_seen id arch strip content None seed effort generation steps entries back = refl
-stood_seen id arch strip content (Some job) seed effort generation steps entries back = refl
+stood_seen : (id : ℕ) (arch : Arch) (strip : Strip) (content : Content) (job : Option Running) (kept : KeptPlaces) (seed effort generation steps entries : ℕ) (back : JobState) →
+    seen id arch strip (standing_of content (option_map (ready_with back) job) kept seed effort generation steps) entries ≡ record (seen id arch strip (standing_of content job kept seed effort generation steps) entries) { out = false }
+stood_seen id arch strip content None kept seed effort generation steps entries back = refl
+stood_seen id arch strip content (Some job) kept seed effort generation steps entries back = refl
 
 gives_back : (old : SlotState) (back : JobState) → next_job old ≡ Some back.step → GivesBack old back (record old { out = false })
 gives_back old back is = record { only_out = refl; ready = λ next. refl; dropped = λ other. absurd (other is) }
@@ -188,5 +191,5 @@ pub is_given_back : (id : ℕ) (arch : Arch) (strip : Strip) (standing : Standin
     GivesBack old back (seen id arch strip (record standing { running = option_map (ready_with back) standing.running }) entries)
 is_given_back id arch strip standing entries old back seen_so is =
     let here : seen id arch strip (record standing { running = option_map (ready_with back) standing.running }) entries ≡ record old { out = false } =
-    stood_seen id arch strip standing.content standing.running standing.seed standing.effort standing.generation standing.steps entries back ∙ ap (λ (s : SlotState). record s { out = false }) seen_so in
+    stood_seen id arch strip standing.content standing.running standing.kept standing.seed standing.effort standing.generation standing.steps entries back ∙ ap (λ (s : SlotState). record s { out = false }) seen_so in
     subst (λ (s : SlotState). GivesBack old back s) (sym here) (gives_back old back (subst (λ (s : SlotState). next_job s ≡ Some back.step) seen_so is))

@@ -11,7 +11,8 @@ use Rattle.tenant_slot.specs.declared.event.Event.TheVariants.{Command as Asked}
 use Rattle.tenant_slot.specs.declared.reply.Reply.{Reply}
 use Rattle.tenant_slot.specs.declared.not_served.NotServed.{NotServed}
 use Rattle.tenant_slot.specs.declared.not_served.NotServed.TheVariants.{NoMemory, JournalFull}
-use Rattle.tenant_slot.specs.SingleUser.{State, after, answer_to, begun, begun_placing, emptied, is_lawful, loaded, risen, sources_of, stopped}
+use Rattle.tenant_slot.specs.SingleUser.{State, after, answer_to, begun, begun_placing, emptied, is_lawful, keeping, loaded, risen, sources_of, stopped}
+use Rattle.strip_place.specs.KeptSites.{AreKeptOn}
 use Rattle.tenant_slot.specs.Slot.{SlotState, out_after}
 use Rattle.tenant_slot.specs.JobNames.{before, during}
 
@@ -24,7 +25,7 @@ pub record Outcome : Type 0 where
 -- what a change makes of a state
 abbrev pub changed : State → Change → State
 changed state (Load netlist) = loaded state netlist.text
-changed state (Replace netlist) = loaded (risen state) netlist.text
+changed state (Replace netlist kept) = loaded (record (risen state) { kept = kept }) netlist.text
 changed state (Begin job) = begun state (during job.sources.kind)
 changed state (Place job) = begun_placing state job.sources.seed job.sources.effort
 changed state Stop = stopped state
@@ -40,6 +41,7 @@ abbrev pub Begins : SlotState → Option Change → Type 0
 Begins slot (Some (Begin job)) = (slot.state.name ≡ before job.sources.kind) × IsBegun slot.id (changed slot.state (Begin job)) job
 Begins slot (Some (Place job)) =
     (is_lawful slot.state.name (Asks job.sources.seed job.sources.effort) ≡ true) × (job.sources.kind ≡ PlacingJob) × IsBegun slot.id (changed slot.state (Place job)) job
+Begins slot (Some (Replace netlist kept)) = (kept ≡ (keeping slot.state).kept) × AreKeptOn slot.state.strip kept
 Begins slot change = ⊤
 
 -- the answer may be accepted in that state

@@ -14,6 +14,7 @@ use Rattle.tenant_slot.specs.declared.content.Netlist.{Netlist}
 use Rattle.tenant_slot.specs.declared.failure.RoutingFailure.{RoutingFailure}
 use Rattle.tenant_slot.specs.declared.reply.StateName.{StateName}
 use Rattle.tenant_slot.specs.declared.reply.StateName.TheVariants.{Empty as EmptyName, Loaded as LoadedName, Packed as PackedName, Placed as PlacedName, Routed as RoutedName, Unrouted as UnroutedName}
+use Rattle.kept_places.specs.Kept.{KeptPlaces}
 use Rattle.tenant_slot.specs.Results.{failure_of}
 
 -- the name of the state where no job runs
@@ -107,15 +108,15 @@ pub record IsMadeOf (from : Sources) (job : JobState) : Type 0 where
   pub over : is_over job ≡ true
   pub put : job.made ≡ false
 
--- what is carried along is what the text, the seed and the effort lead to
-abbrev pub HasContent : Arch → Strip → ℕ → ℕ → Content → Type 0
-HasContent arch strip seed effort Empty = ⊤
-HasContent arch strip seed effort (Loaded netlist) = IsNetlist arch.lut_size netlist
-HasContent arch strip seed effort (Packed netlist packing) = IsNetlist arch.lut_size netlist × IsMadeOf (packing_sources arch strip netlist.text) packing
-HasContent arch strip seed effort (Placed netlist packing placing) =
-    IsNetlist arch.lut_size netlist × IsMadeOf (packing_sources arch strip netlist.text) packing × IsMadeOf (placing_sources arch strip netlist.text seed effort) placing
-HasContent arch strip seed effort (Routed netlist packing placing routing) =
-    IsNetlist arch.lut_size netlist × IsMadeOf (packing_sources arch strip netlist.text) packing × IsMadeOf (placing_sources arch strip netlist.text seed effort) placing
-    × IsMadeOf (routing_sources arch strip netlist.text seed effort) routing × (failure_of (end_value (routing_sources arch strip netlist.text seed effort)) ≡ None)
-HasContent arch strip seed effort (Unrouted netlist packing placing failure) =
-    IsNetlist arch.lut_size netlist × IsMadeOf (packing_sources arch strip netlist.text) packing × IsMadeOf (placing_sources arch strip netlist.text seed effort) placing
+-- what is carried along is what the text, the kept places, the seed and the effort lead to
+abbrev pub HasContent : Arch → Strip → KeptPlaces → ℕ → ℕ → Content → Type 0
+HasContent arch strip kept seed effort Empty = ⊤
+HasContent arch strip kept seed effort (Loaded netlist) = IsNetlist arch.lut_size netlist
+HasContent arch strip kept seed effort (Packed netlist packing) = IsNetlist arch.lut_size netlist × IsMadeOf (packing_sources arch strip netlist.text) packing
+HasContent arch strip kept seed effort (Placed netlist packing placing) =
+    IsNetlist arch.lut_size netlist × IsMadeOf (packing_sources arch strip netlist.text) packing × IsMadeOf (placing_sources arch strip netlist.text kept seed effort) placing
+HasContent arch strip kept seed effort (Routed netlist packing placing routing) =
+    IsNetlist arch.lut_size netlist × IsMadeOf (packing_sources arch strip netlist.text) packing × IsMadeOf (placing_sources arch strip netlist.text kept seed effort) placing
+    × IsMadeOf (routing_sources arch strip netlist.text kept seed effort) routing × (failure_of (end_value (routing_sources arch strip netlist.text kept seed effort)) ≡ None)
+HasContent arch strip kept seed effort (Unrouted netlist packing placing failure) =
+    IsNetlist arch.lut_size netlist × IsMadeOf (packing_sources arch strip netlist.text) packing × IsMadeOf (placing_sources arch strip netlist.text kept seed effort) placing

@@ -14,6 +14,7 @@ use Rattle.tenant_slot.specs.declared.reply.Refusal.TheVariants.{BadBlif, Cannot
 use Rattle.tenant_slot.specs.declared.standing.Running.{Running}
 use Rattle.tenant_slot.specs.declared.standing.Change.{Change}
 use Rattle.tenant_slot.specs.declared.standing.Change.TheVariants.{Load, Replace, Begin, Place}
+use Rattle.kept_places.specs.Kept.{KeptPlaces}
 use Rattle.tenant_slot.specs.Answer.{Outcome}
 
 -- what changes nothing, and what does
@@ -23,14 +24,14 @@ told lut_size reply = record { lut_size = lut_size; change = None; reply = reply
 abbrev pub changing : ℕ → Change → Reply → Outcome
 changing lut_size change reply = record { lut_size = lut_size; change = Some change; reply = reply }
 
--- a netlist is loaded, or loaded in place of another
-abbrev pub loading : Netlist → Bool → Change
-loading netlist false = Load netlist
-loading netlist true = Replace netlist
+-- a netlist is loaded, or loaded in place of another, of which these places are kept
+abbrev pub loading : Netlist → Option KeptPlaces → Change
+loading netlist None = Load netlist
+loading netlist (Some kept) = Replace netlist kept
 
-abbrev pub load_outcome : ℕ → List ℕ → Bool → Result Circuit BlifFault → Outcome
-load_outcome lut_size text replaces (Ok circuit) = changing lut_size (loading (record { text = text; circuit = circuit }) replaces) (Accepted Loaded)
-load_outcome lut_size text replaces (Err fault) = told lut_size (Refused (BadBlif fault))
+abbrev pub load_outcome : ℕ → List ℕ → Option KeptPlaces → Result Circuit BlifFault → Outcome
+load_outcome lut_size text kept (Ok circuit) = changing lut_size (loading (record { text = text; circuit = circuit }) kept) (Accepted Loaded)
+load_outcome lut_size text kept (Err fault) = told lut_size (Refused (BadBlif fault))
 
 -- a job that begins
 abbrev pub job_begun : ℕ → ℕ → Sources → Running

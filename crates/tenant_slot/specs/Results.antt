@@ -8,7 +8,9 @@ use Rattle.cluster.specs.Blocks.{block_nets, net_name}
 use Rattle.cluster.specs.Clusters.{PackedCircuit, packed_of}
 use Rattle.job_state.specs.declared.work.Work.{Work}
 use Rattle.job_state.specs.declared.work.Work.TheVariants.{Placed, Routed, GaveUp as GivenUp, NoPath as WithoutPath}
+use Rattle.kept_places.specs.Kept.{KeptPlaces}
 use Rattle.strip_place.specs.Anneal.{places_by_block}
+use Rattle.strip_place.specs.KeptSites.{kept_of}
 use Rattle.tenant_slot.specs.declared.failure.RoutingFailure.{RoutingFailure}
 use Rattle.tenant_slot.specs.declared.failure.RoutingFailure.TheVariants.{GaveUp as FailedAll, NoPath as FailedNet}
 use Rattle.tenant_slot.specs.declared.reply.Ending.{Ending}
@@ -35,6 +37,11 @@ ending_of packed (FailedNet net) = NoPath (block_net_name packed net)
 abbrev pub ending_told : Result Circuit BlifFault → Arch → RoutingFailure → Option Ending
 ending_told (Ok circuit) arch failure = Some (ending_of (packed_of circuit arch) failure)
 ending_told (Err fault) arch failure = None
+
+-- the places of a whole placing, to be kept
+abbrev pub kept_at_end : Result Work BlifFault → KeptPlaces
+kept_at_end (Ok (Placed placing)) = kept_of placing.packed (places_by_block placing)
+kept_at_end value = []
 
 -- the `.place` file of a whole placing
 abbrev pub place_file_of : Result Work BlifFault → List ℕ

@@ -28,17 +28,19 @@ use Rattle.tenant_slot.specs.declared.reply.Refusal.TheVariants.{WrongState, Bad
 use Rattle.tenant_slot.specs.declared.reply.Misfit.{Misfit}
 use Rattle.tenant_slot.specs.declared.reply.Misfit.TheVariants.{Blocks, Pads}
 use Rattle.tenant_slot.specs.declared.failure.RoutingFailure.{RoutingFailure}
-use Rattle.tenant_slot.specs.Results.{ending_told, failure_of, place_file_of, route_file_of}
+use Rattle.kept_places.specs.Kept.{KeptPlaces}
+use Rattle.tenant_slot.specs.Results.{ending_told, kept_at_end, failure_of, place_file_of, route_file_of}
 use Rattle.vpr_files.specs.NetFile.{net_text_of}
 
--- what the tenancy is in, and no more: the circuit, its packing, its places and its routes are those of the text, the seed and the
--- effort, and aren't kept. Seed and effort are those of the last accepted `place`, 0 before the first. The steps are those that
--- the running job has made, 0 where none runs
+-- what the tenancy is in, and no more: the circuit, its packing, its places and its routes are those of the text, the kept places,
+-- the seed and the effort, and don't stand here. Seed and effort are those of the last accepted `place`, 0 before the first. The
+-- steps are those that the running job has made, 0 where none runs
 pub record State : Type 0 where
   pub arch : Arch
   pub strip : Strip
   pub name : StateName
   pub text : List ℕ
+  pub kept : KeptPlaces  -- where the next placing starts its blocks, by kind and name
   pub seed : ℕ
   pub effort : ℕ
   pub ending : Option RoutingFailure  -- how a routing ended without routes, in the state Unrouted
@@ -48,7 +50,7 @@ pub record State : Type 0 where
 
 -- a tenancy as it is admitted
 abbrev pub start : Arch → Strip → State
-start arch strip = record { arch = arch; strip = strip; name = Empty; text = []; seed = 0; effort = 0; ending = None; generation = 0; steps = 0; entries = 0 }
+start arch strip = record { arch = arch; strip = strip; name = Empty; text = []; kept = []; seed = 0; effort = 0; ending = None; generation = 0; steps = 0; entries = 0 }
 
 -- the kind of the job that runs in a state of that name, if one does
 abbrev pub running : StateName → Option JobKind
@@ -115,9 +117,9 @@ begun_placing state seed effort = record (begun state Placing) { seed = seed; ef
 abbrev pub stopped : State → State
 stopped state = record (risen state) { name = at_rest state.name }
 
--- all is given up
+-- all is given up, and no place is kept
 abbrev pub emptied : State → State
-emptied state = record (risen state) { name = Empty; text = []; ending = None }
+emptied state = record (risen state) { name = Empty; text = []; kept = []; ending = None }
 
 -- the running job goes on by a step
 abbrev pub advanced : State → State
@@ -129,13 +131,25 @@ routed_unless state None = record state { name = Routed; steps = 0 }
 routed_unless state (Some failure) = record state { name = Unrouted; ending = Some failure; steps = 0 }
 
 -- what a job of that kind is computed from
-abbrev pub sources_from : Arch → Strip → List ℕ → ℕ → ℕ → JobKind → Sources
-sources_from arch strip text seed effort PackingJob = packing_sources arch strip text
-sources_from arch strip text seed effort PlacingJob = placing_sources arch strip text seed effort
-sources_from arch strip text seed effort RoutingJob = routing_sources arch strip text seed effort
+abbrev pub sources_from : Arch → Strip → List ℕ → KeptPlaces → ℕ → ℕ → JobKind → Sources
+sources_from arch strip text kept seed effort PackingJob = packing_sources arch strip text
+sources_from arch strip text kept seed effort PlacingJob = placing_sources arch strip text kept seed effort
+sources_from arch strip text kept seed effort RoutingJob = routing_sources arch strip text kept seed effort
 
 abbrev pub sources_of : State → JobKind → Sources
-sources_of state kind = sources_from state.arch state.strip state.text state.seed state.effort kind
+sources_of state kind = sources_from state.arch state.strip state.text state.kept state.seed state.effort kind
+
+-- the state has places: those of a placing that has ended and wasn't given up
+abbrev pub has_places : StateName → Bool
+has_places Placed = true
+has_places Routing = true
+has_places Routed = true
+has_places Unrouted = true
+has_places name = false
+
+-- a change keeps the places at that moment; in a state without places what was kept before stays
+abbrev pub keeping : State → State
+keeping state = record state { kept = if has_places state.name then kept_at_end (end_value (sources_of state PlacingJob)) else state.kept }
 
 -- a job of that kind has made its last step
 abbrev pub finished : State → JobKind → State
@@ -193,7 +207,7 @@ routed_in state = route_file_of (end_value (sources_of state PlacingJob)) (end_v
 -- a lawful command: the new state, if it changes, and the reply
 abbrev pub serve : State → Command → Option State × Reply
 serve state (Upload text) = load state text (circuit_of text state.arch.lut_size)
-serve state (Change text) = load (risen state) text (circuit_of text state.arch.lut_size)
+serve state (Change text) = load (keeping (risen state)) text (circuit_of text state.arch.lut_size)
 serve state Pack = pack state (circuit_in state)
 serve state (Place seed effort) = place state seed effort (circuit_in state)
 serve state Route = (Some (begun state Routing), Accepted Routing)

@@ -1,5 +1,6 @@
 -- Private: what a slot carries along, what it is seen as, and what ties the two.
-use Rattle.std.specs.Prelude.{ℕ, ◌≡◌, ◌+◌, ◌≤◌, ⊤, Bool, true, false, is_none, is_some, Option, Some, None, option_map, IfSome}
+use Rattle.strip_place.specs.KeptSites.{AreKeptOn}
+use Rattle.std.specs.Prelude.{ℕ, ◌≡◌, ◌+◌, ◌≤◌, [], ⊤, Bool, true, false, is_none, is_some, Option, Some, None, option_map, IfSome}
 use Rattle.arch_file.specs.declared.arch.Arch.{Arch}
 use Rattle.grid.specs.declared.Strip.{Strip}
 use Rattle.grid.specs.Sizes.{IsStripSize}
@@ -36,6 +37,7 @@ seen_state arch strip standing entries = record {
   strip = strip;
   name = name_of standing.content standing.running;
   text = text_of standing.content;
+  kept = standing.kept;
   seed = standing.seed;
   effort = standing.effort;
   ending = failure_in standing.content;
@@ -50,13 +52,14 @@ seen id arch strip standing entries = record { id = id; state = seen_state arch 
 -- the running job is computed from what is carried along, and has a step to make, which is the next
 pub record IsRunning (id : ℕ) (arch : Arch) (strip : Strip) (standing : Standing) (job : Running) : Type 0 where
   pub name : name_at_rest standing.content ≡ before job.sources.kind
-  pub sources : job.sources ≡ sources_from arch strip (text_of standing.content) standing.seed standing.effort job.sources.kind
+  pub sources : job.sources ≡ sources_from arch strip (text_of standing.content) standing.kept standing.seed standing.effort job.sources.kind
   pub going : is_last job.sources standing.steps ≡ false
   pub ready : IfSome job.ready (λ ready. ready.step ≡ record { id = id; generation = standing.generation; number = standing.steps + 1; sources = job.sources })
 
 pub record IsSlot (id : ℕ) (arch : Arch) (strip : Strip) (standing : Standing) (entries : ℕ) : Type 0 where
   pub size : IsStripSize strip
-  pub content : HasContent arch strip standing.seed standing.effort standing.content
+  pub content : HasContent arch strip standing.kept standing.seed standing.effort standing.content
+  pub kept : AreKeptOn strip standing.kept
   pub job : IfSome standing.running (IsRunning id arch strip standing)
   pub generation_small : standing.generation ≤ entries
   pub steps_small : standing.steps ≤ entries
@@ -66,17 +69,17 @@ pub record IsSlot (id : ℕ) (arch : Arch) (strip : Strip) (standing : Standing)
 abbrev pub accepted_in : Standing → Option Change → Standing
 accepted_in standing None = standing
 accepted_in standing (Some (Load netlist)) = record standing { content = Loaded netlist; running = None }
-accepted_in standing (Some (Replace netlist)) = record standing { content = Loaded netlist; running = None; generation = standing.generation + 1; steps = 0 }
+accepted_in standing (Some (Replace netlist kept)) = record standing { content = Loaded netlist; kept = kept; running = None; generation = standing.generation + 1; steps = 0 }
 accepted_in standing (Some (Begin job)) = record standing { running = Some job; generation = standing.generation + 1; steps = 0 }
 accepted_in standing (Some (Place job)) =
     record standing { content = cut_back standing.content; running = Some job; seed = job.sources.seed; effort = job.sources.effort; generation = standing.generation + 1; steps = 0 }
 accepted_in standing (Some Stop) = record standing { running = None; generation = standing.generation + 1; steps = 0 }
-accepted_in standing (Some EmptyAll) = record standing { content = Empty; running = None; generation = standing.generation + 1; steps = 0 }
+accepted_in standing (Some EmptyAll) = record standing { content = Empty; kept = []; running = None; generation = standing.generation + 1; steps = 0 }
 
 -- an answer's change carries what it says, and a job that begins has a step to make
 abbrev pub IsChange : ℕ → Option Change → Type 0
 IsChange lut_size (Some (Load netlist)) = IsNetlist lut_size netlist
-IsChange lut_size (Some (Replace netlist)) = IsNetlist lut_size netlist
+IsChange lut_size (Some (Replace netlist kept)) = IsNetlist lut_size netlist
 IsChange lut_size (Some (Begin job)) = is_last job.sources 0 ≡ false
 IsChange lut_size (Some (Place job)) = is_last job.sources 0 ≡ false
 IsChange lut_size change = ⊤

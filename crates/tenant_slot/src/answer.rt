@@ -10,6 +10,7 @@ ghost use Rattle.strip_place.specs.Anneal.{places_by_block};
 ghost use Rattle.vpr_files.specs.NetFile.{net_text_of};
 ghost use Rattle.vpr_files.specs.PlaceFile.{place_text_of};
 ghost use Rattle.vpr_files.specs.RouteFile.{route_text_of};
+ghost use Rattle.strip_place.specs.KeptSites.{AreKeptOn};
 ghost use Rattle.tenant_slot.specs.Content.{IsMadeOf, IsNetlist};
 ghost use Rattle.tenant_slot.specs.Outcomes.{file_outcome, job_begun, load_outcome, loading, pack_outcome, place_outcome, route_outcome};
 ghost use Rattle.tenant_slot.specs.SingleUser.{misfit_of};
@@ -28,7 +29,7 @@ use line_text::{MemorySink, Sink, Text};
 use pathfinder::Routes;
 use std::alloc::Global;
 use std::marker::Model;
-use strip_place::Placing;
+use strip_place::{Kept, Placing};
 use vpr_files::{net_text, place_text, route_text};
 
 /// The greatest effort of a placing.
@@ -82,14 +83,15 @@ impl Answer {
         }
     }
 
-    /// The answer to a netlist that may be loaded, in place of another or not. Shares the text.
+    /// The answer to a netlist that may be loaded: as the first, or, where there are kept places, in place of another, of which
+    /// these are kept. Shares the text.
     pub(crate) fn load(
         alloc: Global,
         lut_size: u32,
         text: &SharedText,
-        replaces: bool,
+        kept: Option<Kept>,
     ) -> Result<Self, NotServed>
-        ensures ok { IfOk result (λ a. a ≡ load_outcome lut_size text.now replaces (circuit_of text.now lut_size)) }
+        ensures ok { IfOk result (λ a. a ≡ load_outcome lut_size text.now kept (circuit_of text.now lut_size)) }
         ensures err { IfErr result (λ e. e ≡ NotServed.NoMemory) }
     {
         match read_blif(alloc, text.as_bytes(), lut_size) {
@@ -100,7 +102,7 @@ impl Answer {
                 let text = text.clone()?;
                 Ok(Answer {
                     lut_size,
-                    change: Some(loading(Netlist { text, circuit }, replaces)),
+                    change: Some(loading(Netlist { text, circuit }, kept)),
                     reply: Reply::Accepted(StateName::Loaded),
                 })
             }
@@ -143,7 +145,8 @@ impl Answer {
         requires netlist { IsNetlist job.now.arch.now.lut_size job.now.netlist.now }
         requires packing { IsMadeOf (packing_sources job.now.arch.now job.now.strip job.now.netlist.now.text) packing.now }
         requires size { IsStripSize job.now.strip }
-        ensures ok { IfOk result (λ a. a ≡ place_outcome job.now.arch.now.lut_size (job_begun job.now.id job.now.generation (placing_sources job.now.arch.now job.now.strip job.now.netlist.now.text seed effort)) (nat_lt 100 effort) (misfit_of (fit_of job.now.strip (packed_of job.now.netlist.now.circuit job.now.arch.now)))) }
+        requires kept { AreKeptOn job.now.strip job.now.kept.now }
+        ensures ok { IfOk result (λ a. a ≡ place_outcome job.now.arch.now.lut_size (job_begun job.now.id job.now.generation (placing_sources job.now.arch.now job.now.strip job.now.netlist.now.text job.now.kept.now seed effort)) (nat_lt 100 effort) (misfit_of (fit_of job.now.strip (packed_of job.now.netlist.now.circuit job.now.arch.now)))) }
         ensures err { IfErr result (λ e. e ≡ NotServed.NoMemory) }
     {
         let lut_size = job.arch.arch().lut_size;
@@ -172,8 +175,8 @@ impl Answer {
         effort: u32,
     ) -> Result<Self, NotServed>
         requires netlist { IsNetlist job.now.arch.now.lut_size job.now.netlist.now }
-        requires placing { IsMadeOf (placing_sources job.now.arch.now job.now.strip job.now.netlist.now.text seed effort) placing.now }
-        ensures ok { IfOk result (λ a. a ≡ route_outcome job.now.arch.now.lut_size (job_begun job.now.id job.now.generation (routing_sources job.now.arch.now job.now.strip job.now.netlist.now.text seed effort))) }
+        requires placing { IsMadeOf (placing_sources job.now.arch.now job.now.strip job.now.netlist.now.text job.now.kept.now seed effort) placing.now }
+        ensures ok { IfOk result (λ a. a ≡ route_outcome job.now.arch.now.lut_size (job_begun job.now.id job.now.generation (routing_sources job.now.arch.now job.now.strip job.now.netlist.now.text job.now.kept.now seed effort))) }
         ensures err { IfErr result (λ e. e ≡ NotServed.NoMemory) }
     {
         let lut_size = job.arch.arch().lut_size;
@@ -245,14 +248,14 @@ impl Answer {
     }
 }
 
-/// How a netlist is loaded.
-fn loading(netlist: Netlist, replaces: bool) -> Change
-    ensures { result ≡ loading netlist replaces }
+/// What a netlist that is loaded changes: it is the first, or, where there are kept places, stands in place of another, of which
+/// these are kept.
+fn loading(netlist: Netlist, kept: Option<Kept>) -> Change
+    ensures { result ≡ loading netlist kept }
 {
-    if replaces {
-        Change::Replace(netlist)
-    } else {
-        Change::Load(netlist)
+    match kept {
+        None => Change::Load(netlist),
+        Some(kept) => Change::Replace(netlist, kept),
     }
 }
 

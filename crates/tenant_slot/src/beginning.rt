@@ -5,6 +5,7 @@ ghost use Rattle.grid.specs.declared.fit.Fit.TheVariants.{Fits};
 ghost use Rattle.grid.specs.Fits.{fit_of};
 ghost use Rattle.grid.specs.Sizes.{IsStripSize};
 ghost use Rattle.job_state.specs.JobValue.{is_last, packing_sources, placing_sources, routing_sources};
+ghost use Rattle.strip_place.specs.KeptSites.{AreKeptOn};
 ghost use Rattle.tenant_slot.specs.Content.{IsMadeOf, IsNetlist};
 ghost use Rattle.tenant_slot.specs.Outcomes.{job_begun};
 
@@ -14,6 +15,7 @@ use arch_file::SharedArch;
 use grid::Strip;
 use job_state::{Parked, Sources};
 use std::alloc::{AllocError, Global};
+use strip_place::Kept;
 
 /// A job before it begins: the tenancy's id, the generation that begins with it, and what it is computed from.
 #[derive(Clone, Copy)]
@@ -24,6 +26,7 @@ pub(crate) struct Beginning<'a> {
     pub(crate) arch: &'a SharedArch,
     pub(crate) strip: Strip,
     pub(crate) netlist: &'a Netlist,
+    pub(crate) kept: &'a Kept,
 }
 
 impl Beginning<'_> {
@@ -55,12 +58,13 @@ impl Beginning<'_> {
         requires packing { IsMadeOf (packing_sources self.now.arch.now self.now.strip self.now.netlist.now.text) packing.now }
         requires size { IsStripSize self.now.strip }
         requires fit { fit_of self.now.strip (packed_of self.now.netlist.now.circuit self.now.arch.now) ≡ Fits }
+        requires kept { AreKeptOn self.now.strip self.now.kept.now }
         requires effort { effort ≤ 100 }
-        ensures job { IfOk result (λ job. job ≡ job_begun self.now.id self.now.generation (placing_sources self.now.arch.now self.now.strip self.now.netlist.now.text seed effort)) }
+        ensures job { IfOk result (λ job. job ≡ job_begun self.now.id self.now.generation (placing_sources self.now.arch.now self.now.strip self.now.netlist.now.text self.now.kept.now seed effort)) }
         ensures going { IfOk result (λ job. is_last job.sources 0 ≡ false) }
     {
         let text = &self.netlist.text;
-        let sources = Sources::placing(self.arch, self.strip, text, seed, effort)?;
+        let sources = Sources::placing(self.arch, self.strip, text, self.kept, seed, effort)?;
         let copy = sources.clone()?;
         let ready = Parked::place(self.alloc, self.id, self.generation, copy, packing)?;
         Ok(Running {
@@ -77,12 +81,12 @@ impl Beginning<'_> {
         effort: u32,
     ) -> Result<Running, AllocError>
         requires netlist { IsNetlist self.now.arch.now.lut_size self.now.netlist.now }
-        requires placing { IsMadeOf (placing_sources self.now.arch.now self.now.strip self.now.netlist.now.text seed effort) placing.now }
-        ensures job { IfOk result (λ job. job ≡ job_begun self.now.id self.now.generation (routing_sources self.now.arch.now self.now.strip self.now.netlist.now.text seed effort)) }
+        requires placing { IsMadeOf (placing_sources self.now.arch.now self.now.strip self.now.netlist.now.text self.now.kept.now seed effort) placing.now }
+        ensures job { IfOk result (λ job. job ≡ job_begun self.now.id self.now.generation (routing_sources self.now.arch.now self.now.strip self.now.netlist.now.text self.now.kept.now seed effort)) }
         ensures going { IfOk result (λ job. is_last job.sources 0 ≡ false) }
     {
         let text = &self.netlist.text;
-        let sources = Sources::routing(self.arch, self.strip, text, seed, effort)?;
+        let sources = Sources::routing(self.arch, self.strip, text, self.kept, seed, effort)?;
         let copy = sources.clone()?;
         let ready = Parked::route(self.alloc, self.id, self.generation, copy, placing)?;
         Ok(Running {

@@ -2,7 +2,8 @@
 //! single user would, on a device of the strip's size.
 //!
 //! - `Slot` is the machine, `Command` what it is asked, `Reply` what it answers, `Refusal` why not. A netlist is loaded,
-//!   packed, placed and routed, each by a command of its own, and each result is told as a file.
+//!   packed, placed and routed, each by a command of its own, and each result is told as a file. A netlist that is changed
+//!   keeps the places of the blocks that stay.
 //! - A job is long work that a command begins. Its next step leaves the slot by `Slot::take`, and comes back by `Slot::put`
 //!   once it is made, or by `Slot::give_back`. `Slot::put_from` compares nothing where the step is known to be the next one.
 //! - `SingleUser` in `specs/` is the definition: `State`, `step` and its fold `run`. `Slot` there says what each call does.

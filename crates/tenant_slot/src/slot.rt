@@ -5,7 +5,8 @@ ghost use Rattle.rr_graph.specs.declared.resource.Resource.{Resource};
 ghost use Rattle.rr_graph.specs.Resources.{IsEarlier, has, is_there};
 ghost use Rattle.tenant_slot.specs.Results.{ending_told};
 ghost use Rattle.tenant_slot.specs.RoutedSet.{routed_set};
-ghost use Rattle.tenant_slot.specs.SingleUser.{circuit_in, is_lawful, is_next, start};
+ghost use Rattle.tenant_slot.specs.SingleUser.{circuit_in, is_lawful, is_next, keeping, start};
+ghost use Rattle.strip_place.specs.KeptSites.{AreKeptOn};
 ghost use Rattle.tenant_slot.specs.Answer.{Answers, IsAnswerTo, accepted};
 ghost use Rattle.tenant_slot.specs.Slot.{GivesBack, IsAdvanceOf, IsOrigin, Puts, Serves, Takes, is_takeable};
 
@@ -21,10 +22,11 @@ use crate::reply::{Ending, Refusal, Reply, StateName, Status, StepReply};
 use crate::standing::{Change, Standing};
 use arch_file::SharedArch;
 use grid::Strip;
-use job_state::{AnyJob, Back, Done, RoutingEnd, Sources};
+use job_state::{AnyJob, Back, Done, RoutingEnd, SharedText, Sources};
 use rr_graph::Resource;
 use std::alloc::{AllocError, Global};
 use std::marker::Model;
+use strip_place::Kept;
 
 /// The most entries of one tenancy's journal.
 pub const MAX_ENTRIES: u32 = 65_536;
@@ -66,6 +68,7 @@ impl Slot {
             standing: Standing {
                 content: Content::Empty,
                 running: None,
+                kept: Kept::none(),
                 seed: 0,
                 effort: 0,
                 generation: 0,
@@ -118,8 +121,8 @@ impl Slot {
     {
         let lut_size = self.arch.arch().lut_size;
         match command {
-            Command::Upload(text) => Answer::load(self.alloc, lut_size, text, false),
-            Command::Change(text) => Answer::load(self.alloc, lut_size, text, true),
+            Command::Upload(text) => Answer::load(self.alloc, lut_size, text, None),
+            Command::Change(text) => self.change(text),
             Command::Pack => self.pack(),
             Command::Place { seed, effort } => self.place(*seed, *effort),
             Command::Route => self.route(),
@@ -138,6 +141,30 @@ impl Slot {
         }
     }
 
+    /// The answer to `change`.
+    fn change(&self, text: &SharedText) -> Result<Answer, NotServed>
+        requires lawful { is_lawful self.now.state.name (Command.Change text.now) ≡ true }
+        requires room { self.now.state.entries < 65536 }
+        ensures { Answers self.now (Command.Change text.now) result }
+    {
+        let lut_size = self.arch.arch().lut_size;
+        let kept = self.kept_next()?;
+        Answer::load(self.alloc, lut_size, text, Some(kept))
+    }
+
+    /// The places that a change keeps: those at this moment, and where there are none those that were kept before.
+    fn kept_next(&self) -> Result<Kept, AllocError>
+        ensures exact { IfOk result (λ kept. kept ≡ (keeping self.now.state).kept) }
+        ensures lawful { IfOk result (λ kept. AreKeptOn self.now.state.strip kept) }
+    {
+        match &self.standing.content {
+            Content::Placed(_, _, placing) => placing.placing().kept(self.alloc),
+            Content::Routed(_, _, placing, _) => placing.placing().kept(self.alloc),
+            Content::Unrouted(_, _, placing, _) => placing.placing().kept(self.alloc),
+            Content::Empty | Content::Loaded(_) | Content::Packed(..) => self.standing.kept.clone(),
+        }
+    }
+
     /// The answer to `pack`.
     fn pack(&self) -> Result<Answer, NotServed>
         requires lawful { is_lawful self.now.state.name Command.Pack ≡ true }
@@ -151,6 +178,7 @@ impl Slot {
             arch: &self.arch,
             strip: self.strip,
             netlist: self.standing.content.netlist(),
+            kept: &self.standing.kept,
         };
         Answer::pack(&job)
     }
@@ -168,6 +196,7 @@ impl Slot {
             arch: &self.arch,
             strip: self.strip,
             netlist: self.standing.content.netlist(),
+            kept: &self.standing.kept,
         };
         let packing = self.standing.content.packing();
         Answer::place(&job, packing, seed, effort)
@@ -186,6 +215,7 @@ impl Slot {
             arch: &self.arch,
             strip: self.strip,
             netlist: self.standing.content.netlist(),
+            kept: &self.standing.kept,
         };
         let placing = self.standing.content.placing();
         let (seed, effort) = (self.standing.seed, self.standing.effort);

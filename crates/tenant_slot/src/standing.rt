@@ -8,6 +8,7 @@ use crate::content::{Content, Netlist};
 use crate::reply::{StateName, StepReply};
 use job_state::{JobKind, Parked, Sources};
 use std::mem;
+use strip_place::Kept;
 
 /// The running job: what it is computed from, and its next step where that isn't out.
 #[derive(Drop)]
@@ -21,6 +22,8 @@ pub(crate) struct Running {
 pub(crate) struct Standing {
     pub(crate) content: Content,
     pub(crate) running: Option<Running>,
+    /// Where the next placing starts its blocks, by kind and name.
+    pub(crate) kept: Kept,
     /// The seed of the last accepted placing, 0 before the first.
     pub(crate) seed: u64,
     /// The effort of the last accepted placing, 0 before the first.
@@ -35,8 +38,8 @@ pub(crate) struct Standing {
 pub(crate) enum Change {
     /// A first netlist.
     Load(Netlist),
-    /// Another netlist.
-    Replace(Netlist),
+    /// Another netlist, and the places that are kept of the old one.
+    Replace(Netlist, Kept),
     /// A packing or a routing goes on from what is there.
     Begin(Running),
     /// A placing goes on from the packing, and what came behind that is given up.
@@ -76,9 +79,10 @@ impl Standing {
         match change {
             None => {}
             Some(Change::Load(netlist)) => self.rest_with(Content::Loaded(netlist)),
-            Some(Change::Replace(netlist)) => {
+            Some(Change::Replace(netlist, kept)) => {
                 self.rise();
                 self.rest_with(Content::Loaded(netlist));
+                self.keep(kept);
             }
             Some(Change::Begin(job)) => {
                 self.rise();
@@ -95,8 +99,16 @@ impl Standing {
             Some(Change::Empty) => {
                 self.rise();
                 self.rest_with(Content::Empty);
+                self.keep(Kept::none());
             }
         }
+    }
+
+    /// These places are kept, and none of the old ones.
+    fn keep(&mut self, kept: Kept)
+        ensures { self.new ≡ record self.old { kept = kept } }
+    {
+        drop(mem::replace(&mut self.kept, kept));
     }
 
     /// A generation begins.
@@ -119,8 +131,15 @@ impl Standing {
     fn rest_with(&mut self, content: Content)
         ensures { self.new ≡ record self.old { content = content; running = None } }
     {
-        drop(mem::replace(&mut self.content, content));
+        self.stand(content);
         self.run(None);
+    }
+
+    /// That stands in the place of what there is.
+    fn stand(&mut self, content: Content)
+        ensures { self.new ≡ record self.old { content = content } }
+    {
+        drop(mem::replace(&mut self.content, content));
     }
 
     /// A placing runs, and places and routes are given up.
@@ -130,7 +149,7 @@ impl Standing {
         self.seed = job.sources.seed;
         self.effort = job.sources.effort;
         let content = mem::replace(&mut self.content, Content::Empty);
-        self.content = content.cut_back();
+        self.stand(content.cut_back());
         self.run(Some(job));
     }
 
@@ -204,6 +223,6 @@ impl Standing {
         self.steps = 0;
         self.run(None);
         let content = mem::replace(&mut self.content, Content::Empty);
-        self.content = content.finished_with(job);
+        self.stand(content.finished_with(job));
     }
 }

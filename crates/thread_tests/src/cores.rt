@@ -1,89 +1,137 @@
-//! A core to be shared.
-ghost use Rattle.std.specs.Prelude.{◌≡◌, ◌≤◌, IfSome};
+//! A core to be shared, and the graph of its device.
+ghost use Rattle.std.specs.Prelude.{◌≡◌, IfSome};
 ghost use Rattle.arch_file.specs.Arch.{IsArch};
+ghost use Rattle.job_state.specs.JobValue.{basis_in};
 
-use arch_file::read_arch;
-use fixtures::ARCHITECTURE;
+use arch_file::{Arch, read_arch};
+use fixtures::{AND, ARCHITECTURE};
+use job_state::{AnyJob, Done};
 use line_text::Text;
 use service_core::Device;
 use shared_core::Core;
 use std::alloc::Global;
 use std::sync::ledger::{Blank, Ledger};
+use strips::{DeviceGraph, Window};
 use tenant_slot::{Command, SharedText};
 
-/// The device of so many columns, one row and two tracks.
-pub(crate) fn device(alloc: Global, columns: u32) -> Option<Device>
-    ensures arch { IfSome result (λ device. IsArch device.arch) }
-    ensures columns { IfSome result (λ device. device.columns ≡ columns) }
-    ensures rows { IfSome result (λ device. device.rows ≡ 1) }
+/// The device has so many columns, one row and two tracks.
+const COLUMNS: u32 = 3;
+
+/// The smallest architecture, with two tracks.
+fn architecture(alloc: Global) -> Option<Arch>
+    ensures { IfSome result (λ arch. IsArch arch) }
 {
     match read_arch(alloc, ARCHITECTURE.as_bytes(), 2) {
-        Ok(arch) => Some(Device {
-            arch,
-            columns,
-            rows: 1,
-        }),
+        Ok(arch) => Some(arch),
         Err(_) => None,
     }
 }
 
-/// The core of that device, without tenancies.
+/// The core of the device, without tenancies.
 pub(crate) fn new_core<C: Ledger, P: Ledger>(
     alloc: Global,
-    columns: u32,
     commands: Blank,
     puts: Blank,
 ) -> Option<Core<C, P>>
-    requires some { 1 ≤ columns }
-    requires few { columns ≤ 256 }
     requires commands { (commands.name ≡ C.name) × (commands.parts ≡ C.parts) × (commands.parts ≡ 65536) }
     requires puts { (puts.name ≡ P.name) × (puts.parts ≡ P.parts) × (puts.parts ≡ 17) }
 {
-    match device(alloc, columns) {
-        Some(device) => Core::<C, P>::new(alloc, device, commands, puts).ok(),
+    match architecture(alloc) {
+        Some(arch) => {
+            let device = Device {
+                arch,
+                columns: COLUMNS,
+                rows: 1,
+            };
+            Core::<C, P>::new(alloc, device, commands, puts).ok()
+        }
         None => None,
     }
 }
 
-fn text(alloc: Global, netlist: &str) -> Option<SharedText> {
-    match Text::from_slice(alloc, netlist.as_bytes()) {
+/// The graph of the device.
+pub(crate) fn new_graph(alloc: Global) -> Option<DeviceGraph> {
+    match architecture(alloc) {
+        Some(arch) => {
+            let graph = DeviceGraph::new(alloc, &arch, COLUMNS, 1);
+            drop(arch);
+            graph.ok()
+        }
+        None => None,
+    }
+}
+
+fn text(alloc: Global) -> Option<SharedText> {
+    match Text::from_slice(alloc, AND.as_bytes()) {
         Ok(text) => SharedText::new(alloc, text).ok(),
         Err(_) => None,
     }
 }
 
-/// Uploads the netlist, packs it and begins to place it. Tells the slot's number, which is marked.
+/// Admits a tenancy, uploads a netlist, packs it by one step and begins to place it. Tells the slot's number, which is marked.
 pub(crate) fn begin_placing<C: Ledger, P: Ledger>(
     alloc: Global,
     core: &mut Core<C, P>,
+    graph: &DeviceGraph,
     id: u32,
-    netlist: &str,
 ) -> Option<u32> {
-    let text = text(alloc, netlist)?;
-    core.tenant(id, Command::Upload(text)).ok()?;
-    core.tenant(id, Command::Pack).ok()?;
-    step(core, id)?;
-    let command = Command::Place { seed: 7, effort: 0 };
-    core.tenant(id, command).ok()?;
-    core.mark_ready(id)
+    match text(alloc) {
+        Some(text) => {
+            let begins = core.admit(1).is_ok()
+                && is_served(core, id, Command::Upload(text))
+                && is_served(core, id, Command::Pack)
+                && is_stepped(core, graph, id)
+                && is_served(core, id, Command::Place { seed: 7, effort: 0 });
+            if begins { core.mark_ready(id) } else { None }
+        }
+        None => None,
+    }
 }
 
-/// Makes the next step.
-fn step<C: Ledger, P: Ledger>(core: &mut Core<C, P>, id: u32) -> Option<()> {
-    let Some(job) = core.take(id) else {
-        return None;
-    };
-    match job.step() {
-        Ok(done) => match core.put(done) {
-            Ok(_) => Some(()),
-            Err((done, _)) => {
-                core.give_back(done.into_back());
-                None
-            }
-        },
+fn is_served<C: Ledger, P: Ledger>(core: &mut Core<C, P>, id: u32, command: Command) -> bool {
+    core.tenant(id, command).is_ok()
+}
+
+/// Makes the next step, which the core counts as its own.
+fn is_stepped<C: Ledger, P: Ledger>(core: &mut Core<C, P>, graph: &DeviceGraph, id: u32) -> bool {
+    match core.take(id) {
+        Some(job) => is_made(core, graph, job),
+        None => false,
+    }
+}
+
+fn is_made<C: Ledger, P: Ledger>(core: &mut Core<C, P>, graph: &DeviceGraph, job: AnyJob) -> bool {
+    match job.window(graph, 0) {
+        Some(window) => is_made_through(core, &window, job),
+        None => {
+            core.give_back(job.into_back());
+            false
+        }
+    }
+}
+
+fn is_made_through<C: Ledger, P: Ledger>(
+    core: &mut Core<C, P>,
+    window: &Window<'_>,
+    job: AnyJob,
+) -> bool
+    requires { window.now ≡ basis_in job.step.sources }
+{
+    match job.step(window) {
+        Ok(done) => is_put(core, done),
         Err(back) => {
             core.give_back(back);
-            None
+            false
+        }
+    }
+}
+
+fn is_put<C: Ledger, P: Ledger>(core: &mut Core<C, P>, done: Done) -> bool {
+    match core.put(done) {
+        Ok(_) => true,
+        Err((done, _)) => {
+            core.give_back(done.into_back());
+            false
         }
     }
 }

@@ -1,22 +1,21 @@
-//! Tests of threads round the core: workers, and sessions beside them. Each shows what no contract says: that something happens, or
-//! that two things happen at once.
+//! Tests of threads round the core: workers, and a session beside one. Each shows what no contract says: that something happens, or
+//! that two things happen at once. With ample memory: what lacks it is told as `None` or `false`.
 //!
+//! - `showing`: what is shown, each of a core of its own.
 //! - `workers`: a worker that drains a closed queue, two steps at once, and a step without the lock.
-//! - `same_told`: sessions beside workers are told what they are told alone, and `wait` waits.
-//! - `cores`, `crews`, `gates`, `running`, `seats`: what these share.
+//! - `waiting`: a session that waits for a worker, and what it is told.
+//! - `cores`, `gates`, `seats`: what these share.
 #![tactic(auto)]
 
 #[cfg(test)]
 mod cores;
 #[cfg(test)]
-mod crews;
-#[cfg(test)]
 mod gates;
 #[cfg(test)]
-mod running;
-#[cfg(test)]
-mod same_told;
-#[cfg(test)]
 mod seats;
+#[cfg(test)]
+mod showing;
+#[cfg(test)]
+mod waiting;
 #[cfg(test)]
 mod workers;

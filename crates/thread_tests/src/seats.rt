@@ -1,11 +1,13 @@
-//! Seats and passes, one at a time.
+//! Seats and passes, one at a time, and what workers and sessions hold.
 ghost use Rattle.std.specs.Prelude.{◌≡◌, All, IfSome, []};
 ghost use Rattle.job_queue.specs.Balance.{log};
 
 use job_queue::{Pass, Ready, Seat};
+use shared_core::{Core, Lease, Share};
+use std::sync::ledger::Ledger;
 
 /// One of the seats.
-pub(crate) fn a_seat(seats: &mut Vec<Seat>, ready: &Ready) -> Option<Seat>
+fn a_seat(seats: &mut Vec<Seat>, ready: &Ready) -> Option<Seat>
     requires { All (λ s. s ≡ record { of = ready.now; log = log [] [] }) seats.old.items }
     ensures rest { All (λ s. s ≡ record { of = ready.now; log = log [] [] }) seats.new.items }
     ensures taken { IfSome result (λ s. s ≡ record { of = ready.now; log = log [] [] }) }
@@ -20,4 +22,50 @@ pub(crate) fn a_pass(passes: &mut Vec<Pass>, ready: &Ready) -> Option<Pass>
     ensures taken { IfSome result (λ p. p ≡ record { of = ready.now; log = log [] [] }) }
 {
     passes.pop()
+}
+
+/// What a worker holds.
+#[derive(Drop)]
+pub(crate) struct Worker<P: Ledger> {
+    pub(crate) seat: Seat,
+    pub(crate) share: Share<P>,
+}
+
+/// A worker.
+pub(crate) fn a_worker<C: Ledger, P: Ledger>(
+    core: &mut Core<C, P>,
+    ready: &Ready,
+    seats: &mut Vec<Seat>,
+) -> Option<Worker<P>>
+    requires { All (λ s. s ≡ record { of = ready.now; log = log [] [] }) seats.old.items }
+    ensures rest { All (λ s. s ≡ record { of = ready.now; log = log [] [] }) seats.new.items }
+    ensures of { IfSome result (λ w. w.seat.of ≡ ready.now) }
+{
+    match (a_seat(seats, ready), core.share()) {
+        (Some(seat), Some(share)) => Some(Worker { seat, share }),
+        _ => None,
+    }
+}
+
+/// What a session holds.
+#[derive(Drop)]
+pub(crate) struct Speaker<C: Ledger> {
+    pub(crate) pass: Pass,
+    pub(crate) lease: Lease<C>,
+}
+
+/// The session of a tenancy.
+pub(crate) fn a_speaker<C: Ledger, P: Ledger>(
+    core: &mut Core<C, P>,
+    ready: &Ready,
+    passes: &mut Vec<Pass>,
+    id: u32,
+) -> Option<Speaker<C>>
+    requires { All (λ p. p ≡ record { of = ready.now; log = log [] [] }) passes.old.items }
+    ensures { IfSome result (λ s. (s.pass.of ≡ ready.now) × (s.lease.made ≡ 0)) }
+{
+    match (a_pass(passes, ready), core.lease(id)) {
+        (Some(pass), Some(lease)) => Some(Speaker { pass, lease }),
+        _ => None,
+    }
 }

@@ -1,88 +1,143 @@
-//! Workers.
-ghost use Rattle.std.specs.Prelude.{◌≡◌, IfSome};
+//! Workers in front of a closed queue with the numbers of two tenancies, each of which has begun to place.
+ghost use Rattle.std.specs.Prelude.{◌≡◌, All, IfSome, []};
+ghost use Rattle.job_queue.specs.Balance.{log};
 
-use crate::cores::{begin_placing, new_core};
-use crate::crews::{Worker, a_worker};
+use crate::cores::begin_placing;
 use crate::gates::{Meeting, Watched, is_raised};
-use crate::seats::a_pass;
-use fixtures::AND;
-use job_queue::{Pass, Ready};
+use crate::seats::{Worker, a_pass, a_worker};
+use crate::showing::Worked;
+use job_queue::{Pass, Ready, Seat};
 use shared_core::{Core, Share};
-use std::alloc::Global;
-use std::marker::Brand;
+use std::alloc::AllocGlobal;
 use std::sync::Wait;
 use std::sync::atomic::Ordering::SeqCst;
-use std::sync::ledger::{Blank, Ledger};
-use std::test::Fail;
+use std::sync::ledger::Ledger;
 use std::thread;
 use std::thread::Threads;
+use strips::DeviceGraph;
 use tenant_slot::StateName;
 use worker_pool::{Open, Shared, run_worker};
 
-/// What is shown of workers.
-#[derive(Clone, Copy)]
-enum Shown {
-    DrainsAClosedQueue,
-    TwoStepsAtOnce,
-    StepWithoutTheLock,
-}
-
-/// Two tenancies begin to place, their numbers are pushed, and the queue is closed.
-fn begin_both<C: Ledger, P: Ledger, R: Wait>(
+/// Whether a tenancy begins to place, and its number is pushed.
+fn is_pushed<C: Ledger, P: Ledger, R: Wait + AllocGlobal>(
     rt: &R,
-    alloc: Global,
     core: &mut Core<C, P>,
+    graph: &DeviceGraph,
     ready: &Ready,
     pass: &mut Pass,
-) -> Option<()>
+    id: u32,
+) -> bool
     requires { pass.old.of ≡ ready.now }
+    ensures { pass.new.of ≡ pass.old.of }
 {
-    core.admit(1).ok()?;
-    core.admit(1).ok()?;
-    let one = begin_placing(alloc, core, 1, AND)?;
-    let two = begin_placing(alloc, core, 2, AND)?;
-    ready.push(rt, pass, one).ok()?;
-    ready.push(rt, pass, two).ok()?;
-    ready.close();
-    Some(())
+    match begin_placing(rt.alloc(), core, graph, id) {
+        Some(slot) => ready.push(rt, pass, slot).is_ok(),
+        None => false,
+    }
 }
 
-/// Two workers, in front of a closed queue with two numbers.
-fn prepare<C: Ledger, P: Ledger, R: Wait>(
+/// Whether two tenancies begin to place, and the queue is closed with their numbers.
+fn both_begin<C: Ledger, P: Ledger, R: Wait + AllocGlobal>(
     rt: &R,
-    alloc: Global,
     core: &mut Core<C, P>,
-) -> Option<(Ready, Worker<P>, Worker<P>)>
-    ensures { IfSome result (λ r. (r.1.seat.of ≡ r.0) × (r.2.seat.of ≡ r.0)) }
+    graph: &DeviceGraph,
+    ready: &Ready,
+    passes: &mut Vec<Pass>,
+) -> bool
+    requires { All (λ p. p ≡ record { of = ready.now; log = log [] [] }) passes.old.items }
 {
-    let (ready, mut seats, mut passes) = Ready::new(alloc, 2, 1).ok()?;
-    let mut pass = a_pass(&mut passes, &ready)?;
-    begin_both(rt, alloc, core, &ready, &mut pass)?;
-    let one = a_worker(core, &ready, &mut seats)?;
-    let other = a_worker(core, &ready, &mut seats)?;
-    Some((ready, one, other))
+    match a_pass(passes, ready) {
+        Some(mut pass) => {
+            let are_pushed = is_pushed(rt, core, graph, ready, &mut pass, 1)
+                && is_pushed(rt, core, graph, ready, &mut pass, 2);
+            drop(pass);
+            ready.close();
+            are_pushed
+        }
+        None => false,
+    }
+}
+
+/// Two workers.
+fn two_workers<C: Ledger, P: Ledger>(
+    core: &mut Core<C, P>,
+    ready: &Ready,
+    seats: &mut Vec<Seat>,
+) -> Option<(Worker<P>, Worker<P>)>
+    requires { All (λ s. s ≡ record { of = ready.now; log = log [] [] }) seats.old.items }
+    ensures { IfSome result (λ both. (both.0.seat.of ≡ ready.now) × (both.1.seat.of ≡ ready.now)) }
+{
+    match (a_worker(core, ready, seats), a_worker(core, ready, seats)) {
+        (Some(one), Some(other)) => Some((one, other)),
+        _ => None,
+    }
+}
+
+/// Two workers, in front of the queue.
+fn prepared<C: Ledger, P: Ledger, R: Wait + AllocGlobal>(
+    rt: &R,
+    core: &mut Core<C, P>,
+    graph: &DeviceGraph,
+    ready: &Ready,
+    seats: &mut Vec<Seat>,
+    passes: &mut Vec<Pass>,
+) -> Option<(Worker<P>, Worker<P>)>
+    requires seats { All (λ s. s ≡ record { of = ready.now; log = log [] [] }) seats.old.items }
+    requires passes { All (λ p. p ≡ record { of = ready.now; log = log [] [] }) passes.old.items }
+    ensures { IfSome result (λ both. (both.0.seat.of ≡ ready.now) × (both.1.seat.of ≡ ready.now)) }
+{
+    if both_begin(rt, core, graph, ready, passes) {
+        two_workers(core, ready, seats)
+    } else {
+        None
+    }
+}
+
+/// Whether that is so of a core without tenancies.
+pub(crate) fn is_worked<
+    C: Ledger + Send + Sync,
+    P: Ledger + Send + Sync,
+    R: Threads + Wait + AllocGlobal + Sync,
+>(rt: &R, core: Core<C, P>, graph: &DeviceGraph, worked: Worked) -> bool {
+    let mut core = core;
+    match Ready::new(rt.alloc(), 2, 1) {
+        Ok((ready, mut seats, mut passes)) => {
+            match prepared(rt, &mut core, graph, &ready, &mut seats, &mut passes) {
+                Some((one, other)) => works(rt, core, graph, &ready, one, other, worked),
+                None => {
+                    drop(core);
+                    false
+                }
+            }
+        }
+        Err(_) => {
+            drop(core);
+            false
+        }
+    }
 }
 
 /// Whether that is so, and both tenancies are placed in the end.
-fn is_shown<C: Ledger + Send + Sync, P: Ledger + Send + Sync, R: Threads + Wait + Sync>(
+fn works<C: Ledger + Send + Sync, P: Ledger + Send + Sync, R: Threads + Wait + Sync>(
     rt: &R,
-    alloc: Global,
     core: Core<C, P>,
-    shown: Shown,
-) -> bool {
-    let mut core = core;
-    let Some((ready, one, other)) = prepare(rt, alloc, &mut core) else {
-        drop(core);
-        return false;
-    };
+    graph: &DeviceGraph,
+    ready: &Ready,
+    one: Worker<P>,
+    other: Worker<P>,
+    worked: Worked,
+) -> bool
+    requires one { one.seat.of ≡ ready.now }
+    requires other { other.seat.of ≡ ready.now }
+{
     let shared = Shared::new(core);
-    let is_so = match shown {
-        Shown::DrainsAClosedQueue => drains(rt, &shared, &ready, one, other),
-        Shown::TwoStepsAtOnce => two_at_once(rt, &shared, &ready, one, other),
-        Shown::StepWithoutTheLock => without_lock(rt, &shared, &ready, one, other),
+    let is_so = match worked {
+        Worked::DrainsAClosedQueue => drains(rt, &shared, graph, ready, one, other),
+        Worked::TwoStepsAtOnce => two_at_once(rt, &shared, graph, ready, one, other),
+        Worked::StepWithoutTheLock => without_lock(rt, &shared, graph, ready, one, other),
     };
-    let core = shared.into_core();
-    let are_placed = is_placed(&core, 1) && is_placed(&core, 2);
+    let mut core = shared.into_core();
+    let are_placed = is_placed(&core, 1) && is_placed(&core, 2) && core.evict(1) == Ok(());
     drop(core);
     is_so && are_placed
 }
@@ -98,6 +153,7 @@ fn is_placed<C: Ledger, P: Ledger>(core: &Core<C, P>, id: u32) -> bool {
 fn drains<C: Ledger, P: Ledger, R: Wait>(
     rt: &R,
     shared: &Shared<C, P>,
+    graph: &DeviceGraph,
     ready: &Ready,
     one: Worker<P>,
     other: Worker<P>,
@@ -105,7 +161,8 @@ fn drains<C: Ledger, P: Ledger, R: Wait>(
     requires { one.seat.of ≡ ready.now }
 {
     drop(other);
-    let _share = run_worker(rt, shared, ready, one.seat, one.share, &Open);
+    let share = run_worker(rt, shared, ready, graph, one.seat, one.share, &Open);
+    drop(share);
     true
 }
 
@@ -113,6 +170,7 @@ fn drains<C: Ledger, P: Ledger, R: Wait>(
 fn two_at_once<C: Ledger + Send + Sync, P: Ledger + Send + Sync, R: Threads + Wait + Sync>(
     rt: &R,
     shared: &Shared<C, P>,
+    graph: &DeviceGraph,
     ready: &Ready,
     one: Worker<P>,
     other: Worker<P>,
@@ -122,15 +180,16 @@ fn two_at_once<C: Ledger + Send + Sync, P: Ledger + Send + Sync, R: Threads + Wa
 {
     let meeting = Meeting::new();
     let gate = &meeting;
-    let _shares = thread::join(
+    let shares = thread::join(
         rt,
         move || -> Share<P>
             requires { one.seat.of ≡ ready.now }
-        { run_worker(rt, shared, ready, one.seat, one.share, gate) },
+        { run_worker(rt, shared, ready, graph, one.seat, one.share, gate) },
         move || -> Share<P>
             requires { other.seat.of ≡ ready.now }
-        { run_worker(rt, shared, ready, other.seat, other.share, gate) },
+        { run_worker(rt, shared, ready, graph, other.seat, other.share, gate) },
     );
+    drop(shares);
     meeting.took_place()
 }
 
@@ -138,6 +197,7 @@ fn two_at_once<C: Ledger + Send + Sync, P: Ledger + Send + Sync, R: Threads + Wa
 fn without_lock<C: Ledger + Send + Sync, P: Ledger + Send + Sync, R: Threads + Wait + Sync>(
     rt: &R,
     shared: &Shared<C, P>,
+    graph: &DeviceGraph,
     ready: &Ready,
     one: Worker<P>,
     other: Worker<P>,
@@ -147,13 +207,14 @@ fn without_lock<C: Ledger + Send + Sync, P: Ledger + Send + Sync, R: Threads + W
     drop(other);
     let watched = Watched::new();
     let gate = &watched;
-    let (_share, is_held) = thread::join(
+    let (share, is_held) = thread::join(
         rt,
         move || -> Share<P>
             requires { one.seat.of ≡ ready.now }
-        { run_worker(rt, shared, ready, one.seat, one.share, gate) },
+        { run_worker(rt, shared, ready, graph, one.seat, one.share, gate) },
         move || -> bool { holds_the_lock(rt, shared, gate) },
     );
+    drop(share);
     is_held && watched.was_unlocked()
 }
 
@@ -169,44 +230,4 @@ fn holds_the_lock<C: Ledger, P: Ledger, R: Wait>(
     let is_made = is_raised(&watched.is_made);
     drop(core);
     has_begun && is_made
-}
-
-/// The same, of a core with two ledgers.
-fn shows_on<C: Ledger + Send + Sync, P: Ledger + Send + Sync, R: Threads + Wait + Sync>(
-    rt: &R,
-    alloc: Global,
-    commands: Blank,
-    puts: Blank,
-    shown: Shown,
-) -> bool
-    requires commands { (commands.name ≡ C.name) × (commands.parts ≡ C.parts) × (commands.parts ≡ 65536) }
-    requires puts { (puts.name ≡ P.name) × (puts.parts ≡ P.parts) × (puts.parts ≡ 17) }
-{
-    match new_core::<C, P>(alloc, 3, commands, puts) {
-        Some(core) => is_shown(rt, alloc, core, shown),
-        None => false,
-    }
-}
-
-/// The same, of a core of its own.
-fn shows<R: Threads + Wait + Sync>(rt: &R, alloc: Global, shown: Shown) -> bool {
-    shows_on::<Brand, Brand, R>(rt, alloc, Blank::new(65_536), Blank::new(17), shown)
-}
-
-#[test]
-fn worker_drains_a_closed_queue(rt: HostRuntime) -> Result<(), Fail> {
-    assert!(rt; shows(&rt, rt.alloc(), Shown::DrainsAClosedQueue));
-    Ok(())
-}
-
-#[test]
-fn two_steps_run_at_once(rt: HostRuntime) -> Result<(), Fail> {
-    assert!(rt; shows(&rt, rt.alloc(), Shown::TwoStepsAtOnce));
-    Ok(())
-}
-
-#[test]
-fn a_step_is_made_without_the_lock(rt: HostRuntime) -> Result<(), Fail> {
-    assert!(rt; shows(&rt, rt.alloc(), Shown::StepWithoutTheLock));
-    Ok(())
 }

@@ -5,11 +5,11 @@ use Rattle.operator.proofs.Stepping.{steps_more, steps_none}
 use Rattle.operator.proofs.operator.step.Goals as goal
 
 pub loop-number-init : goal.loop-number-init
-loop-number-init c = steps_none c.args.core.now c.args.id (held c.args.reply.now)
+loop-number-init c = steps_none c.args.graph.now c.args.core.now c.args.id (held c.args.reply.now)
 
 pub loop-number-preserved : goal.loop-number-preserved
 loop-number-preserved c =
-    let step = c.make_step-outcome.ensures in
+    let step = c.make_step-outcome.ensures.made in
     let told : held c.push_outcome.new.reply ≡ held c.loop-number.reply ++ outcome_text c.make_step-outcome.result = search rules in
-    steps_more c.args.core.now c.loop-number.core c.make_step-outcome.new.core c.args.id c.loop-number.number (held c.args.reply.now) (held c.loop-number.reply) (held c.push_outcome.new.reply)
-    step.0 c.make_step-outcome.result c.loop-number.invariant step.1 step.2 told
+    steps_more c.args.graph.now c.args.core.now c.loop-number.core c.make_step-outcome.new.core c.args.id c.loop-number.number (held c.args.reply.now) (held c.loop-number.reply) (held c.push_outcome.new.reply)
+    step.0 c.make_step-outcome.result c.loop-number.invariant step.1 step.2 told c.make_step-outcome.ensures.own

@@ -4,4 +4,4 @@ use Rattle.operator.proofs.operator.step.Given as goal
 
 -- the steps so far
 abbrev pub invariant-loop-number : goal.invariant-loop-number
-invariant-loop-number l = Steps l.fn.core l.fn.id l.number (held l.fn.reply) (held l.reply) l.core
+invariant-loop-number l = Steps l.graph l.fn.core l.fn.id l.number (held l.fn.reply) (held l.reply) l.core

@@ -6,4 +6,4 @@ use Rattle.script_threads.proofs.operator_lines.serve_each.Given as goal
 
 -- the lines so far are served
 abbrev pub invariant-loop-line : goal.invariant-loop-line
-invariant-loop-line l = RepliesEach (stage l.fn.operator l.fn.jobs l.fn.core) (map named_operator l.yielded) (held l.fn.reply) (held l.reply) (stage l.operator l.jobs l.core)
+invariant-loop-line l = RepliesEach (stage l.graph l.fn.operator l.fn.jobs l.fn.core) (map named_operator l.yielded) (held l.fn.reply) (held l.reply) (stage l.graph l.operator l.jobs l.core)

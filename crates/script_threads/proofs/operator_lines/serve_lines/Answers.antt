@@ -10,8 +10,8 @@ use Rattle.script_threads.proofs.operator_lines.serve_lines.Goals as goal
 pub returns : goal.returns
 returns c =
     let each = c.serve_each-served in
-    let last = stage each.new.operator each.new.jobs each.new.core in
-    let P : HeldList → Type 0 = λ jobs. OnOk each.result (RepliesEach (stage c.args.operator.now jobs c.args.core.now) (map named_operator c.args.lines.items) (held c.args.reply.now) (held each.new.reply) last) in
+    let last = stage c.args.graph.now each.new.operator each.new.jobs each.new.core in
+    let P : HeldList → Type 0 = λ jobs. OnOk each.result (RepliesEach (stage c.args.graph.now c.args.operator.now jobs c.args.core.now) (map named_operator c.args.lines.items) (held c.args.reply.now) (held each.new.reply) last) in
     on_ok each.result
     (λ done. record {
       text = done.text;

@@ -16,4 +16,4 @@ pub invariant_of-result : goal.invariant_of-result
 invariant_of-result c =
     let same = c.in_ok-bles.ensures ∙ ap bles_of c.circuit.ensures.value in
     let grown = c.in_ok-grower.ensures in
-    rw (c.in_ok-clone.ensures.cases, c.in_ok-clone-2.ensures.cases, grown) (begins c.args.circuit.now c.args.arch.now _ c.new-clusters.result c.requires same (ap (λ es. range_with_len 0 (length es)) same) c.new-clusters.ensures)
+    rw (c.in-Ok.ensures.0, c.in-Ok.ensures.1, grown) (begins c.args.circuit.now c.args.arch.now _ c.new-in-Ok.result c.requires same (ap (λ es. range_with_len 0 (length es)) same) c.new-in-Ok.ensures)

@@ -1,19 +1,4 @@
-use Rattle.std.proofs.Common.{◌≡◌, ℕ, List, length, arith, ap, subst}
-use Rattle.cluster.specs.ClusterPins.{TellReaders}
-use Rattle.cluster.proofs.ReaderLists.{gathered_more, told_all}
 use Rattle.cluster.proofs.pin_nets.PinNets.new.Goals as goal
 
-pub loop-cluster-preserved : goal.loop-cluster-preserved
-loop-cluster-preserved c =
-    let inputs = ap (λ (nets : List ℕ). length nets) c.as_slice.ensures in
-    let outputs = ap (λ (nets : List ℕ). length nets) c.as_slice-2.ensures in
-    gathered_more c.args.circuit.now c.args.bles.now c.args.clusters.now c.loop-cluster.cluster _ _ _ _ _ _ _ _ c.gather.new.self _ (omega arith) c.row.ensures c.loop-cluster.invariant c.in_ok-gather.ensures.inputs c.in_ok-gather.ensures.clocks c.in_ok-gather.ensures.outputs_count
-    (cc (c.in_ok-push.ensures.added, c.nets.ensures.value)) (cc (c.in_ok-push-2.ensures.added, c.nets-in-loop-cluster.ensures.value))
-    (cc (c.in_ok-insert_all.ensures, c.nets-in-loop-cluster-2.ensures.value)) c.nets-in-loop-cluster-3.ensures.within (cc (c.in_ok-add_pairs.ensures, inputs, outputs, c.nets-in-loop-cluster-3.ensures.value))
-
-pub returns-clause-readers : goal.returns-clause-readers
-returns-clause-readers c =
-    let all : c.loop-cluster.cluster ≡ length c.args.clusters.now = omega (arith, c.len-cluster-end.ensures) in
-    let told = subst (λ (count : ℕ). TellReaders c.args.circuit.now c.args.bles.now c.args.clusters.now (length c.args.circuit.now.outputs) count c.loop-cluster.pairs.items) all c.loop-cluster.invariant.pairs_tell in
-    let is = told_all c.args.circuit.now c.args.bles.now c.args.clusters.now c.loop-cluster.pairs.items told in
-    cc (c.in_ok-readers.ensures, c.as_slice-3.ensures.value, c.len-count.ensures, is)
+pub add_all-requires-clause-pairs : goal.add_all-requires-clause-pairs
+add_all-requires-clause-pairs c = c.in_ok-gathered.ensures.pairs c.args.bles.now c.args.clusters.now

@@ -9,7 +9,7 @@ pub returns-in-Session : goal.returns-in-Session
 returns-in-Session c =
     rw c.in-Session.is
     (on_ok c.answer.result
-    (λ told. let answers = session_answers c.args.self.now.operator c.args.self.now.jobs c.args.self.now.core c.answer.new.core c.in-Session.name.now c.last_id-id.result c.in-Session.line told.0 c.last_id-id.ensures told.1 in record {
+    (λ told. let answers = session_answers c.args.self.now.operator c.args.self.now.jobs c.args.self.now.graph.now c.args.self.now.core c.answer.new.core c.in-Session.name.now c.last_id-id.result c.in-Session.line told.0 c.last_id-id.ensures told.1 told.4 in record {
       calls = answers.0;
       text = answer_text told.0;
       answered = answers.1;

@@ -3,25 +3,29 @@ use Rattle.std.specs.Prelude.{map}
 use Rattle.std.proofs.lemmas.Iterator.Adapters.{YieldsList-from_vec}
 use Rattle.std.proofs.lemmas.Iterator.Consumers.{YieldsList-end}
 use Rattle.std.proofs.lemmas.List.{map-id, map_push}
-use Rattle.service_core.specs.Service.{ServiceState}
+use Rattle.rr_graph.specs.Graph.{Basis}
+use Rattle.service_core.specs.Service.{ServiceState, empty}
 use Rattle.script_text.specs.declared.act.Act.{Act}
 use Rattle.operator.specs.Serving.{Stage}
 use Rattle.script_text.specs.Script.{named_act}
+use Rattle.fpgad_run.specs.Program.{device_of}
 use Rattle.fpgad_run.proofs.Telling.{Progress, progress_more, on_ok_value, replies_all}
 use Rattle.fpgad_run.proofs.in_order.Running.serve_all.Goals as goal
 
 pub loop-act-preserved : goal.loop-act-preserved
 loop-act-preserved c =
-    let start : Stage = record { names = []; jobs = []; service = c.args.self.now.core } in
+    let start : Stage = record { names = []; jobs = []; service = c.args.self.now.core; graph = c.args.self.now.graph.now } in
     let told = map named_act c.loop-act.yielded in
     let more = progress_more start c.loop-act.self c.serve.new.self told (named_act c.in-Some.act) c.loop-act.invariant c.in_ok-serve.ensures in
     let P : List (Act (List ℕ)) → Type 0 = λ acts. Progress start c.serve.new.self acts in
     subst P (sym (map_push named_act c.loop-act.yielded c.in-Some.act)) more
 
 pub returns : goal.returns
-returns c = λ options arch starts.
+returns c = λ options arch starts own.
     let end = YieldsList-end (YieldsList-from_vec {s = c.into_iter-act-iterator.result} c.into_acts-act-items.result.items (search rules) (search rules)) c.loop-act.yielded c.loop-act.act-iterator c.loop-act.yielded_by c.next.result c.next.new.self c.in-None.is c.next.ensures.steps in
     let yielded : c.loop-act.yielded ≡ c.into_acts-act-items.result.items = sym (map-id c.loop-act.yielded) ∙ end.0 in
     let all : map named_act c.loop-act.yielded ≡ c.args.script = ap (map named_act) yielded ∙ c.into_acts-act-items.ensures in
-    let progress = (let P : ServiceState → Type 0 = λ s. Progress (record { names = []; jobs = []; service = s }) c.loop-act.self (map named_act c.loop-act.yielded) in subst P starts c.loop-act.invariant) in
+    let P : ServiceState → Type 0 = λ s. Progress (record { names = []; jobs = []; service = s; graph = c.args.self.now.graph.now }) c.loop-act.self (map named_act c.loop-act.yielded) in
+    let Q : Basis → Type 0 = λ g. Progress (record { names = []; jobs = []; service = empty (device_of options arch); graph = g }) c.loop-act.self (map named_act c.loop-act.yielded) in
+    let progress = subst Q own (subst P starts c.loop-act.invariant) in
     on_ok_value c.output.result (λ output is. replies_all options arch c.args.script c.loop-act.self (map named_act c.loop-act.yielded) output.items (record { alone = c.headline.ensures.alone; parted = c.headline.ensures.parted; exact = c.headline.ensures.exact; line = c.end_to_end.ensures }) progress all is) c.output.ensures

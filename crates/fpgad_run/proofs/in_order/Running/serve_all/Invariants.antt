@@ -6,4 +6,4 @@ use Rattle.fpgad_run.proofs.in_order.Running.serve_all.Given as goal
 
 -- the acts so far are told
 abbrev pub invariant-loop-act : goal.invariant-loop-act
-invariant-loop-act l = Progress (record { names = []; jobs = []; service = l.fn.self.core }) l.self (map named_act l.yielded)
+invariant-loop-act l = Progress (record { names = []; jobs = []; service = l.fn.self.core; graph = l.fn.self.graph.now }) l.self (map named_act l.yielded)

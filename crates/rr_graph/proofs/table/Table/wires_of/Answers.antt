@@ -1,7 +1,8 @@
 use Rattle.std.proofs.Common.{◌≡◌, ◌+◌, ◌++◌, ◌∷◌, [], length, vec_len, subst, sym, ap, arith, rules}
 use Rattle.std.specs.Prelude.{filter}
 use Rattle.rr_graph.specs.Table.{IsWireTable, is_wire_of, row_of}
-use Rattle.rr_graph.proofs.Rows.{row_small}
+use Rattle.rr_graph.specs.Numbering.{node_of}
+use Rattle.rr_graph.proofs.Rows.{column_few, row_small}
 use Rattle.rr_graph.proofs.Tables.{table_push}
 use Rattle.rr_graph.proofs.table.Table.wires_of.Goals as goal
 
@@ -23,7 +24,8 @@ row-requires-clause-within c =
 pub add_wires-requires-clause-within : goal.add_wires-requires-clause-within
 add_wires-requires-clause-within c =
     let t = c.requires.table c.count_to-count.result c.count_to-count.ensures in
-    rw c.row.ensures (row_small c.args.nodes.now _ _ c.args.last c.requires.last (t.rows c.loop-i.i c.loop-i-test.true))
+    let few = column_few c.args.nodes.now c.loop-i.i 3 c.requires.lawful (omega (arith, c.loop-i-test.true, c.count_to-count.ensures)) in
+    rw c.row.ensures (row_small c.args.nodes.now _ _ ((node_of c.args.nodes.now c.loop-i.i).x + c.args.beside) (omega (arith, few, c.requires.beside)) (t.rows c.loop-i.i c.loop-i-test.true))
 
 pub loop-i-preserved : goal.loop-i-preserved
 loop-i-preserved c =

@@ -1,0 +1,8 @@
+use Rattle.pathfinder.specs.Negotiation.{More}
+use Rattle.pathfinder.specs.PlacedNets.{wiring_of}
+use Rattle.pathfinder.specs.Routings.{IsAfter}
+use Rattle.flow_tests.proofs.counted.finished.Given as goal
+
+-- the routing stands between iterations
+abbrev pub invariant-loop-turn : goal.invariant-loop-turn
+invariant-loop-turn g l = IsAfter (wiring_of (g.G.StripGraph.basis l.graph)) l.routing More

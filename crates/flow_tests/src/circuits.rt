@@ -1,0 +1,125 @@
+//! How a test packs a netlist, and places it.
+ghost use Rattle.std.specs.Prelude.{◌≡◌, ◌≤◌, IfSome};
+ghost use Rattle.grid.specs.Sizes.{IsStripSize};
+ghost use Rattle.strip_place.specs.KeptSites.{AreKeptOn};
+
+use arch_file::{SharedArch, read_arch};
+use blif::{SharedCircuit, read_blif};
+use cluster::{PackEnd, Packed, Packing, SharedPacked, check};
+use fixtures::ARCHITECTURE;
+use grid::{Fit, Strip};
+use std::alloc::Global;
+use strip_place::{Kept, Placing, laws_of_kept};
+
+/// The smallest architecture with two tracks.
+fn architecture(alloc: Global) -> Option<SharedArch> {
+    match read_arch(alloc, ARCHITECTURE.as_bytes(), 2) {
+        Ok(arch) => SharedArch::new(alloc, arch).ok(),
+        Err(_) => None,
+    }
+}
+
+/// The circuit of a netlist whose tables have at most two inputs.
+fn circuit(alloc: Global, netlist: &str) -> Option<SharedCircuit> {
+    match read_blif(alloc, netlist.as_bytes(), 2) {
+        Ok(circuit) => SharedCircuit::new(alloc, circuit).ok(),
+        Err(_) => None,
+    }
+}
+
+/// The packing of a circuit, with no step made.
+fn begun(alloc: Global, circuit: &SharedCircuit, arch: &SharedArch) -> Option<Packing> {
+    if check(alloc, circuit.circuit(), arch.arch()).is_err() {
+        return None;
+    }
+    Packing::start(alloc, circuit, arch).ok()
+}
+
+/// The packing of a circuit on the smallest architecture, with no step made.
+fn begun_on_smallest(alloc: Global, circuit: &SharedCircuit) -> Option<Packing> {
+    match architecture(alloc) {
+        Some(arch) => {
+            let packing = begun(alloc, circuit, &arch);
+            drop(arch);
+            packing
+        }
+        None => None,
+    }
+}
+
+/// The packing of a netlist on the smallest architecture, with no step made.
+pub(crate) fn started(alloc: Global, netlist: &str) -> Option<Packing> {
+    match circuit(alloc, netlist) {
+        Some(circuit) => {
+            let packing = begun_on_smallest(alloc, &circuit);
+            drop(circuit);
+            packing
+        }
+        None => None,
+    }
+}
+
+/// What a packing leads to, where it takes less than 100 steps.
+fn finished(packing: Packing) -> Option<Packed> {
+    let mut packing = packing;
+    for _ in 0..100 {
+        match packing.next() {
+            Ok(PackEnd::More(more)) => packing = more,
+            Ok(PackEnd::Last(packed)) => return Some(packed),
+            Err(_) => return None,
+        }
+    }
+    None
+}
+
+/// The packed circuit of a netlist on the smallest architecture.
+pub(crate) fn packed(alloc: Global, netlist: &str) -> Option<SharedPacked> {
+    match started(alloc, netlist) {
+        Some(packing) => match finished(packing) {
+            Some(packed) => SharedPacked::new(alloc, packed).ok(),
+            None => None,
+        },
+        None => None,
+    }
+}
+
+/// The placing of a packed circuit before its first pass, where it fits.
+pub(crate) fn placed(
+    alloc: Global,
+    packed: &SharedPacked,
+    strip: Strip,
+    kept: &Kept,
+    seed: u64,
+    effort: u32,
+) -> Option<Placing>
+    requires size { IsStripSize strip }
+    requires kept { AreKeptOn strip kept.now }
+    requires effort { effort ≤ 100 }
+    ensures packed { IfSome result (λ placing. placing.packed ≡ packed.now) }
+    ensures strip { IfSome result (λ placing. placing.strip ≡ strip) }
+{
+    if strip.fits(packed.packed()) != Fit::Fits {
+        return None;
+    }
+    Placing::start(alloc, packed, strip, kept, seed, effort).ok()
+}
+
+/// The same where no places are kept.
+pub(crate) fn placed_anew(
+    alloc: Global,
+    packed: &SharedPacked,
+    strip: Strip,
+    seed: u64,
+    effort: u32,
+) -> Option<Placing>
+    requires size { IsStripSize strip }
+    requires effort { effort ≤ 100 }
+    ensures packed { IfSome result (λ placing. placing.packed ≡ packed.now) }
+    ensures strip { IfSome result (λ placing. placing.strip ≡ strip) }
+{
+    laws_of_kept();
+    let none = Kept::none();
+    let placing = placed(alloc, packed, strip, &none, seed, effort);
+    drop(none);
+    placing
+}

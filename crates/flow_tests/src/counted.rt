@@ -1,0 +1,223 @@
+//! Routing over a window, whose reads are counted.
+ghost use Rattle.std.specs.Prelude.{◌≡◌, ◌<◌, ◌≤◌, length};
+ghost use Rattle.pathfinder.specs.Negotiation.{More};
+ghost use Rattle.pathfinder.specs.PlacedNets.{wiring_of};
+ghost use Rattle.pathfinder.specs.Routings.{IsAfter};
+
+use crate::circuits::{packed, placed_anew};
+use crate::graphs::NARROW;
+use arch_file::Arch;
+use cluster::SharedPacked;
+use fixtures::AND;
+use grid::Strip;
+use pathfinder::{IterEnd, Routes, Routing};
+use rr_graph::{Ends, Node, NodeKind, Numbers, StripGraph};
+use std::alloc::Global;
+use std::cell::Cell;
+use strip_place::Placing;
+use strips::{DeviceGraph, Window};
+
+/// A window, and how often the edges of its nodes were read: by `ends`, `ends_towards` and `edge` together, since a router asks for
+/// many at once.
+#[derive(Drop)]
+struct Counted<'a> {
+    window: &'a Window<'a>,
+    reads: &'a Cell<u64>,
+}
+
+impl Counted<'_> {
+    /// Counts a read.
+    fn note(&self) {
+        self.reads.set(self.reads.get().saturating_add(1));
+    }
+}
+
+impl StripGraph for Counted<'_> {
+    ghost basis = { λ counted. counted.window.now };
+
+    fn count(&self) -> usize {
+        self.window.count()
+    }
+
+    fn node(&self, node: usize) -> Node {
+        self.window.node(node)
+    }
+
+    fn number(&self, node: Node) -> Option<usize> {
+        self.window.number(node)
+    }
+
+    fn numbers_at(&self, kind: NodeKind, x: u32, y: u32) -> Numbers {
+        self.window.numbers_at(kind, x, y)
+    }
+
+    fn ends(&self, node: usize) -> Ends<'_> {
+        self.note();
+        self.window.ends(node)
+    }
+
+    fn edge(&self, node: usize, k: usize) -> Option<usize> {
+        self.note();
+        self.window.edge(node, k)
+    }
+
+    fn ends_towards(&self, node: usize, place: Node, sink: Node) -> Ends<'_> {
+        self.note();
+        self.window.ends_towards(node, place, sink)
+    }
+
+    fn further_to(&self, node: usize, sink: Node) -> Option<u64> {
+        self.window.further_to(node, sink)
+    }
+
+    fn further_from(&self, node: Node, sink: Node) -> Option<u64> {
+        self.window.further_from(node, sink)
+    }
+
+    fn met_tracks(&self, sink: Node) -> &[bool] {
+        self.window.met_tracks(sink)
+    }
+
+    fn capacity(&self, node: usize) -> u32 {
+        self.window.capacity(node)
+    }
+
+    fn arch(&self) -> &Arch {
+        self.window.arch()
+    }
+
+    fn strip(&self) -> Strip {
+        self.window.strip()
+    }
+}
+
+/// What a routing leads to, where it takes less than 40 iterations.
+fn finished<G: StripGraph>(alloc: Global, graph: &G, routing: Routing) -> Option<Routes>
+    requires { IsAfter (wiring_of (G.basis graph.now)) routing More }
+{
+    let mut routing = routing;
+    for _turn in 0..40u32 {
+        match routing.iteration(alloc, graph) {
+            Ok(IterEnd::Again(next)) => routing = next,
+            Ok(IterEnd::Done(routes)) => return Some(routes),
+            _ => return None,
+        }
+    }
+    None
+}
+
+/// The routes of placed blocks on a graph.
+fn routed<G: StripGraph>(alloc: Global, graph: &G, placing: &Placing) -> Option<Routes>
+    requires arch { placing.now.packed.arch ≡ (G.basis graph.now).arch }
+    requires strip { placing.now.strip ≡ (G.basis graph.now).strip }
+{
+    match Routing::start(alloc, graph, placing) {
+        Ok(routing) => finished(alloc, graph, routing),
+        Err(_) => None,
+    }
+}
+
+/// Whether a net has the same paths in both.
+fn has_same_paths(routes: &Routes, others: &Routes, net: usize) -> bool
+    requires one { net < length routes.now }
+    requires other { net < length others.now }
+{
+    let count = routes.path_count(net);
+    if others.path_count(net) != count {
+        return false;
+    }
+    for number in 0..count {
+        if routes.path(net, number) != others.path(net, number) {
+            return false;
+        }
+    }
+    true
+}
+
+/// Whether both are the same routes of three nets.
+fn are_same(routes: &Routes, others: &Routes) -> bool {
+    if routes.len() != 3 || others.len() != 3 {
+        return false;
+    }
+    for net in 0..3 {
+        if !has_same_paths(routes, others, net) {
+            return false;
+        }
+    }
+    true
+}
+
+/// Whether placed blocks have the same routes on a graph.
+fn routes_again<G: StripGraph>(alloc: Global, graph: &G, placing: &Placing, routes: &Routes) -> bool
+    requires arch { placing.now.packed.arch ≡ (G.basis graph.now).arch }
+    requires strip { placing.now.strip ≡ (G.basis graph.now).strip }
+{
+    match routed(alloc, graph, placing) {
+        Some(others) => {
+            let is_so = are_same(routes, &others);
+            drop(others);
+            is_so
+        }
+        None => false,
+    }
+}
+
+/// Whether a routing over a window reads the window's edges, and finds what a routing over the window finds.
+fn reads_the_window(alloc: Global, window: &Window<'_>, placing: &Placing) -> bool
+    requires arch { placing.now.packed.arch ≡ window.now.arch }
+    requires strip { placing.now.strip ≡ window.now.strip }
+{
+    let reads = Cell::new(0);
+    let counted = Counted {
+        window,
+        reads: &reads,
+    };
+    match routed(alloc, window, placing) {
+        Some(routes) => {
+            let is_so = routes_again(alloc, &counted, placing, &routes);
+            drop(routes);
+            is_so && reads.get() > 0
+        }
+        None => false,
+    }
+}
+
+/// The same on the third of five columns, for a circuit that is placed.
+fn reads_a_window(alloc: Global, placing: &Placing) -> bool {
+    match DeviceGraph::new(alloc, placing.packed().arch(), 5, 1) {
+        Ok(graph) => {
+            let is_so = match Window::new(&graph, 2, placing.strip()) {
+                Some(window) => reads_the_window(alloc, &window, placing),
+                None => false,
+            };
+            drop(graph);
+            is_so
+        }
+        Err(_) => false,
+    }
+}
+
+/// The same for a packed circuit.
+fn reads_when_placed(alloc: Global, packed: &SharedPacked) -> bool {
+    match placed_anew(alloc, packed, NARROW, 7, 0) {
+        Some(placing) => {
+            let is_so = reads_a_window(alloc, &placing);
+            drop(placing);
+            is_so
+        }
+        None => false,
+    }
+}
+
+#[test]
+fn routing_reads_its_window(rt: HostRuntime) {
+    let is_so = match packed(rt.alloc(), AND) {
+        Some(packed) => {
+            let is_so = reads_when_placed(rt.alloc(), &packed);
+            drop(packed);
+            is_so
+        }
+        None => false,
+    };
+    assert!(rt; is_so);
+}

@@ -1,0 +1,39 @@
+//! Tests of the readers of texts, and of the flow from a netlist to its routes.
+//!
+//! - `texts`, `devices`, `architectures`, `netlists`: what the readers answer, and how devices fail.
+//! - `circuits`: how a test packs a netlist, and places it.
+//! - `packings`, `places`, `kept`: BLEs, and where blocks stand, also where places are kept.
+//! - `graphs`, `windows`: nodes and pairs of strips, and what windows show of a device.
+//! - `tables`, `unit_roads`: least paths over graphs of a few nodes, and over a strip's.
+//! - `counted`: routing over a window whose reads are counted.
+//! - `sinks`: how a sink that fails is told.
+#![tactic(auto)]
+
+#[cfg(test)]
+mod architectures;
+#[cfg(test)]
+mod circuits;
+#[cfg(test)]
+mod counted;
+#[cfg(test)]
+mod devices;
+#[cfg(test)]
+mod graphs;
+#[cfg(test)]
+mod kept;
+#[cfg(test)]
+mod netlists;
+#[cfg(test)]
+mod packings;
+#[cfg(test)]
+mod places;
+#[cfg(test)]
+mod sinks;
+#[cfg(test)]
+mod tables;
+#[cfg(test)]
+mod texts;
+#[cfg(test)]
+mod unit_roads;
+#[cfg(test)]
+mod windows;

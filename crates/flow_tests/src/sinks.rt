@@ -1,0 +1,124 @@
+//! How a sink that fails is told.
+use crate::circuits::{packed, placed_anew};
+use crate::graphs::NARROW;
+use cluster::SharedPacked;
+use fixtures::{AND, ROUTED_AND};
+use line_text::{Failed, Sink};
+use std::alloc::Global;
+use strip_place::Placing;
+use vpr_files::{net_text, place_text};
+
+/// A device that takes so many bytes and then fails.
+#[derive(Drop)]
+struct Narrow {
+    bytes: Vec<u8>,
+    room: usize,
+    failed: bool,
+}
+
+impl Sink for Narrow {
+    ghost use Rattle.std.specs.Prelude.{Some};
+
+    ghost contents = { λ s. Some s.bytes.items };
+
+    ghost has_failed = { λ s. s.failed };
+
+    fn write(&mut self, bytes: &[u8]) -> Result<usize, Failed> {
+        let count = bytes.len().min(self.room);
+        if self.failed || (count == 0 && !bytes.is_empty()) {
+            self.failed = true;
+            return Err(Failed);
+        }
+        if self.bytes.extend_from_slice(&bytes[..count]).is_err() {
+            self.failed = true;
+            return Err(Failed);
+        }
+        self.room -= count;
+        Ok(count)
+    }
+}
+
+/// A device with so much room.
+fn with_room(alloc: Global, room: usize) -> Narrow {
+    Narrow {
+        bytes: Vec::new(alloc),
+        room,
+        failed: false,
+    }
+}
+
+/// Room for so many bytes, and whether a file goes in whole.
+const NET_ROOMS: [(usize, bool); 4] = [(0, false), (60, false), (118, false), (119, true)];
+
+const PLACE_ROOMS: [(usize, bool); 4] = [(0, false), (100, false), (202, false), (203, true)];
+
+/// Whether a sink took so much of a file, and failed where it has no room for all.
+fn took(sink: &Narrow, file: &str, room: usize, whole: bool) -> bool {
+    sink.bytes.len() == room
+        && file.as_bytes().starts_with(sink.bytes.as_slice())
+        && sink.failed != whole
+}
+
+/// Whether the `.net` file goes so far.
+fn net_goes(alloc: Global, placing: &Placing, room: usize, whole: bool) -> bool {
+    let mut sink = with_room(alloc, room);
+    let is_written = net_text(placing.packed(), &mut sink).is_ok();
+    let is_so = is_written == whole && took(&sink, ROUTED_AND.net, room, whole);
+    drop(sink);
+    is_so
+}
+
+/// Whether the `.place` file goes so far.
+fn places_go(alloc: Global, placing: &Placing, room: usize, whole: bool) -> bool {
+    let mut sink = with_room(alloc, room);
+    let is_written = place_text(placing, &mut sink).is_ok();
+    let is_so = is_written == whole && took(&sink, ROUTED_AND.places, room, whole);
+    drop(sink);
+    is_so
+}
+
+/// The first room of which the `.net` file is told otherwise.
+fn first_wrong_net(alloc: Global, placing: &Placing) -> Option<usize> {
+    for (room, whole) in NET_ROOMS.iter() {
+        if !net_goes(alloc, placing, *room, *whole) {
+            return Some(*room);
+        }
+    }
+    None
+}
+
+/// The first room of which the `.place` file is told otherwise.
+fn first_wrong_place(alloc: Global, placing: &Placing) -> Option<usize> {
+    for (room, whole) in PLACE_ROOMS.iter() {
+        if !places_go(alloc, placing, *room, *whole) {
+            return Some(*room);
+        }
+    }
+    None
+}
+
+/// Whether the files of a packed circuit go so far.
+fn files_go(alloc: Global, packed: &SharedPacked) -> bool {
+    match placed_anew(alloc, packed, NARROW, 7, 0) {
+        Some(placing) => {
+            let is_so = first_wrong_net(alloc, &placing).is_none()
+                && first_wrong_place(alloc, &placing).is_none();
+            drop(placing);
+            is_so
+        }
+        None => false,
+    }
+}
+
+#[test]
+fn sinks_that_fail(rt: HostRuntime) {
+    let is_so = match packed(rt.alloc(), AND) {
+        Some(packed) => {
+            let is_so = files_go(rt.alloc(), &packed);
+            drop(packed);
+            is_so
+        }
+        None => false,
+    };
+    assert!(rt; is_so);
+}

@@ -1,0 +1,4 @@
+pub mod Kept
+pub mod Table
+pub mod Rows
+pub mod Shared

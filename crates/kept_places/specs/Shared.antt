@@ -1,0 +1,9 @@
+-- Private: a table with many owners, or none.
+use Rattle.std.specs.Prelude.{[], Option, Some, None}
+use Rattle.std.specs.Arc.{arc_value}
+use Rattle.std.specs.declared.sync.Arc.{Arc}
+use Rattle.kept_places.specs.Kept.{KeptPlaces}
+
+abbrev pub shown : {A : Type 0} → Option (Arc KeptPlaces A) → KeptPlaces
+shown None = []
+shown (Some table) = arc_value table

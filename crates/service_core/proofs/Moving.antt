@@ -1,0 +1,127 @@
+-- A strip that moves, with what its tenancy owns, keeps the book exact.
+use Rattle.std.proofs.Common.{◌≡◌, ◌≢◌, inl, inr, ℕ, ◌+◌, ◌-◌, ◌≤◌, List, get_or, map, Bool, true, false, eqb, Option, Some, None, refl, sym, ap, ◌∙◌, subst, arith}
+use Rattle.std.proofs.Common.{Result, Ok, Err}
+use Rattle.std.specs.Prelude.{All, option_map, if◌then◌else◌}
+use Rattle.std.specs.Result.{is_err}
+use Rattle.std.proofs.lemmas.Bool.Decides.{Decides-eqb}
+use Rattle.std.proofs.lemmas.Bool.{false≢true}
+use Rattle.rr_graph.specs.declared.resource.Resource.{Resource}
+use Rattle.rr_graph.specs.Resources.{has, moved_resource}
+use Rattle.strips.specs.declared.placed_strip.PlacedStrip.{PlacedStrip}
+use Rattle.strips.specs.declared.layout.NoRoom.{NoRoom}
+use Rattle.strips.specs.Plan.{IsParted, Moves, Plan, moved_strip, offset_of, strip_of, with_moved}
+use Rattle.strips.proofs.Laid.{found_id}
+use Rattle.device_book.specs.Owners.{IsNoOneElses, Owners, OwnsJust, Shifts, extent_of, owner_of}
+use Rattle.tenant_slot.specs.RoutedSet.{routed_set}
+use Rattle.service_core.specs.declared.device.Device.{Device}
+use Rattle.service_core.specs.History.{History, state_of}
+use Rattle.service_core.specs.Kept.{IsLiveIn, IsSound, held_at}
+use Rattle.service_core.specs.Owners.{placed_at, routed_in}
+use Rattle.service_core.specs.Service.{live_of}
+use Rattle.service_core.specs.Tenancy.{StandsIn}
+use Rattle.service_core.proofs.Booking.{its_width, placed_strip, stands_there}
+use Rattle.service_core.proofs.Exact.{exact_shifted}
+use Rattle.service_core.proofs.Holdings.{all_had, moved_same}
+use Rattle.service_core.proofs.Keeps.{live_is}
+use Rattle.service_core.proofs.MovedStrips.{IsService-moved, placed_width-moved, strip_of-moved}
+use Rattle.service_core.proofs.Owning.{in_window, nobody_else, own_owned, owned_in}
+
+-- the other strips stand where they stood
+moved_not : (id offset k : ℕ) (o : Option PlacedStrip) → ((s : PlacedStrip) → o ≡ Some s → eqb s.id id ≡ false) → option_map (moved_strip id offset) o ≡ o
+moved_not id offset k None other = refl
+moved_not id offset k (Some s) other = ap (λ b. Some (if b then record s { offset = offset } else s)) (other s refl)
+
+differs : (k id : ℕ) → k ≢ id → (b : Bool) → eqb k id ≡ b → eqb k id ≡ false
+differs k id differ true e = absurd (differ ((Decides-eqb k id).0 e))
+differs k id differ false e = e
+
+pub other_stands : (strips : List PlacedStrip) (id offset k : ℕ) → k ≢ id → strip_of (map (moved_strip id offset) strips) k ≡ strip_of strips k
+other_stands strips id offset k differ =
+    strip_of-moved id offset strips k ∙ moved_not id offset k (strip_of strips k) (λ s is. ap (λ j. eqb j id) (found_id strips k s is) ∙ differs k id differ (eqb k id) refl)
+
+-- that one stands there now
+pub own_stands : (strips : List PlacedStrip) (id from offset : ℕ) → offset_of strips id ≡ Some from → offset_of (map (moved_strip id offset) strips) id ≡ Some offset
+own_stands strips id from offset at =
+    let place = placed_strip strips id from at in
+    ap (option_map (λ (s : PlacedStrip). s.offset)) (strip_of-moved id offset strips id ∙ ap (option_map (moved_strip id offset)) place.1)
+    ∙ ap (λ b. Some (if b then record place.0 { offset = offset } else place.0).offset) ((Decides-eqb place.0.id id).1 (found_id strips id place.0 place.1))
+
+other_owned : (strips : List PlacedStrip) (hs : List History) (id offset k : ℕ) → k ≢ id → owned_in (map (moved_strip id offset) strips) hs k ≡ owned_in strips hs k
+other_owned strips hs id offset k differ = ap (λ o. placed_at (option_map (λ (s : PlacedStrip). s.offset) o) (routed_in (live_of hs k))) (other_stands strips id offset k differ)
+
+-- the plan with the strip where it stands then, and a live tenancy of it
+module _ (book : Owners) (device : Device) (strips : List PlacedStrip) (hs : List History) (id from offset : ℕ) (h : History)
+    (was : IsSound book device strips hs) (live : IsLiveIn hs id) (is : h ≡ get_or hs (id - 1) h) (at : offset_of strips id ≡ Some from)
+    (parted : IsParted (record { columns = device.columns; strips = map (moved_strip id offset) strips })) where
+  abbrev pub moved : List PlacedStrip
+  moved = map (moved_strip id offset) strips
+
+  old_owned : owned_in strips hs id ≡ held_at from h
+  old_owned = own_owned strips hs id from h at (live_is hs id h live is)
+
+  new_owned : owned_in moved hs id ≡ held_at offset h
+  new_owned = own_owned moved hs id offset h (own_stands strips id from offset at) (live_is hs id h live is)
+
+  -- nobody else has anything where it stands then
+  others_apart : (r : Resource) (k : ℕ) → k ≢ id → has (held_at offset h) r ≡ true → has (owned_in moved hs k) r ≡ true → ⊥
+  others_apart r k differ its theirs =
+      let place = placed_strip moved id offset (own_stands strips id from offset at) in
+      let linked : (j : ℕ) → _ = λ j. placed_width-moved id offset strips j ∙ was.kept.linked j in
+      let width : place.0.width ≡ h.strip.width = its_width moved hs id place.0 h linked place.1 (live_is hs id h live is) in
+      let window : (offset ≤ r.x) × (r.x ≤ offset + h.strip.width) = in_window offset h r its in
+      let same_place : place.0.offset ≡ offset = place.2 in
+      nobody_else (record { columns = device.columns; strips = moved }) hs id k place.0 r parted linked place.1
+      (omega (arith, window.0, same_place)) (omega (arith, window.1, same_place, width)) theirs differ
+
+  -- it stands in the book
+  pub stands_moved : StandsIn (extent_of device.arch device.columns device.rows) offset h.arch h.strip
+  stands_moved = stands_there (record { device = device; plan = record { columns = device.columns; strips = moved }; histories = hs }) id offset h
+      (record { columns = refl; parted = parted; of_live = λ j. placed_width-moved id offset strips j ∙ was.kept.linked j }) was.kept.alone (own_stands strips id from offset at) (live_is hs id h live is)
+
+  pub owns_held : (resources : List Resource) → ((r : Resource) → has resources r ≡ has (routed_set (state_of h)) r) → OwnsJust book id (map (moved_resource from) resources)
+  owns_held resources same r =
+      let both = was.book.exact r id in
+      let listed : has (map (moved_resource from) resources) r ≡ has (owned_in strips hs id) r = moved_same from resources (routed_set (state_of h)) same r ∙ ap (λ xs. has xs r) (sym old_owned) in
+      ((λ owns. listed ∙ both.0 owns), (λ has_it. both.1 (sym listed ∙ has_it)))
+
+  pub no_one_elses : (resources : List Resource) → ((r : Resource) → has resources r ≡ has (routed_set (state_of h)) r) → All (IsNoOneElses book id) (map (moved_resource offset) resources)
+  no_one_elses resources same = all_had (IsNoOneElses book id) (map (moved_resource offset) resources) (λ r its. by_owner r (sym (moved_same offset resources (routed_set (state_of h)) same r) ∙ its) (owner_of book r) refl)
+    where
+      by_owner : (r : Resource) → has (held_at offset h) r ≡ true → (o : Option ℕ) → owner_of book r ≡ o → IsNoOneElses book id r
+      by_owner r its None e = inl e
+      by_owner r its (Some k) e = by_id (eqb k id) refl
+        where
+          by_id : (b : Bool) → eqb k id ≡ b → IsNoOneElses book id r
+          by_id true same = inr (e ∙ ap Some ((Decides-eqb k id).0 same))
+          by_id false differ =
+              let other : k ≢ id = λ same. false≢true (sym differ ∙ (Decides-eqb k id).1 same) in
+              absurd (others_apart r k other its (ap (λ xs. has xs r) (other_owned strips hs id offset k other) ∙ (was.book.exact r k).0 e))
+
+  pub sound_moved : (left : Owners) → Shifts book id (held_at from h) (held_at offset h) left → IsSound left device moved hs
+  sound_moved left shifted = record {
+    lawful = was.lawful;
+    kept = IsService-moved device strips hs id offset was.kept;
+    book = record {
+      extent = shifted.0 ∙ was.book.extent;
+      exact = exact_shifted book left (owned_in strips hs) (owned_in moved hs) id
+          (subst (λ xs. Shifts book id (owned_in strips hs id) xs left) (sym new_owned) (subst (λ xs. Shifts book id xs (held_at offset h) left) (sym old_owned) shifted))
+          (λ k differ. other_owned strips hs id offset k differ)
+          (λ r k differ its theirs. others_apart r k differ (ap (λ xs. has xs r) (sym new_owned) ∙ its) theirs)
+          was.book.exact;
+    };
+  }
+
+-- what shifts where a list has just what is held
+pub shifted_held : (book left : Owners) (id from offset : ℕ) (held resources : List Resource) → ((r : Resource) → has resources r ≡ has held r) →
+    Shifts book id (map (moved_resource from) resources) (map (moved_resource offset) resources) left → Shifts book id (map (moved_resource from) held) (map (moved_resource offset) held) left
+shifted_held book left id from offset held resources same shifted = (
+  shifted.0,
+  λ r. shifted.1 r
+      ∙ (ap (λ b. if b then Some id else if has (map (moved_resource from) resources) r then None else owner_of book r) (moved_same offset resources held same r)
+      ∙ ap (λ b. if has (map (moved_resource offset) held) r then Some id else if b then None else owner_of book r) (moved_same from resources held same r)),
+)
+
+-- a strip that has moved
+pub moved_there : (old : Plan) (id offset : ℕ) (answer : Result (Unit {0}) NoRoom) (new : Plan) → Moves old id offset answer new → is_err answer ≡ false → IsParted (with_moved old id offset) × (new ≡ with_moved old id offset)
+moved_there old id offset (Ok nothing) new moves ok = moves
+moved_there old id offset (Err refusal) new moves ok = absurd (false≢true (sym ok))

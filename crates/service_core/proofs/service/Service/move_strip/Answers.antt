@@ -1,0 +1,46 @@
+use Rattle.std.proofs.Common.{◌≡◌, ◌-◌, ◌∙◌, get_or, rules, sym, subst}
+use Rattle.strips.specs.Plan.{IsParted, Plan, with_moved}
+use Rattle.tenant_slot.specs.RoutedSet.{routed_set}
+use Rattle.service_core.specs.History.{History, state_of}
+use Rattle.service_core.specs.Kept.{IsLiveIn, IsPlaceOf, IsSound}
+use Rattle.service_core.proofs.Booking.{in_book_there, stand_in}
+use Rattle.service_core.proofs.Moving.{moved_there, no_one_elses, owns_held, shifted_held, sound_moved, stands_moved}
+use Rattle.service_core.proofs.service.Service.move_strip.Goals as goal
+
+pub shift-requires-clause-taken : goal.shift-requires-clause-taken
+shift-requires-clause-taken c =
+    let old : History = c.index-tenancy.result.now in
+    let live : IsLiveIn c.self.inside.tenancies.items c.args.id = search rules in
+    let is : old ≡ get_or c.self.inside.tenancies.items (c.args.id - 1) old = search rules in
+    let place : IsPlaceOf (record { device = record { arch = c.self.inside.arch; columns = c.self.inside.layout.columns; rows = c.self.inside.rows }; plan = c.self.inside.layout; histories = c.self.inside.tenancies.items }) c.args.id c.place_of-from.result = rw (← c.self.view_is) at c.place_of-from.ensures in
+    let moves : IsParted (with_moved c.self.inside.layout c.args.id c.args.offset) × (c.move_to.new.self ≡ with_moved c.self.inside.layout c.args.id c.args.offset) = moved_there c.self.inside.layout c.args.id c.args.offset c.move_to.result c.move_to.new.self c.move_to.ensures (sym c.is_err.ensures.value ∙ c.if-is_err.false) in
+    stand_in c.self.inside.book c.args.offset old.arch old.strip c.routed.result.now (in_book_there c.self.inside.book (record { arch = c.self.inside.arch; columns = c.self.inside.layout.columns; rows = c.self.inside.rows }) c.args.offset old c.self.invariant.book.extent (stands_moved c.self.inside.book (record { arch = c.self.inside.arch; columns = c.self.inside.layout.columns; rows = c.self.inside.rows }) c.self.inside.layout.strips c.self.inside.tenancies.items c.args.id c.place_of-from.result c.args.offset old c.self.invariant live is place.at moves.0)) c.routed.ensures.there
+
+pub shift-requires-clause-owned : goal.shift-requires-clause-owned
+shift-requires-clause-owned c =
+    let old : History = c.index-tenancy.result.now in
+    let live : IsLiveIn c.self.inside.tenancies.items c.args.id = search rules in
+    let is : old ≡ get_or c.self.inside.tenancies.items (c.args.id - 1) old = search rules in
+    let place : IsPlaceOf (record { device = record { arch = c.self.inside.arch; columns = c.self.inside.layout.columns; rows = c.self.inside.rows }; plan = c.self.inside.layout; histories = c.self.inside.tenancies.items }) c.args.id c.place_of-from.result = rw (← c.self.view_is) at c.place_of-from.ensures in
+    let moves : IsParted (with_moved c.self.inside.layout c.args.id c.args.offset) × (c.move_to.new.self ≡ with_moved c.self.inside.layout c.args.id c.args.offset) = moved_there c.self.inside.layout c.args.id c.args.offset c.move_to.result c.move_to.new.self c.move_to.ensures (sym c.is_err.ensures.value ∙ c.if-is_err.false) in
+    owns_held c.self.inside.book (record { arch = c.self.inside.arch; columns = c.self.inside.layout.columns; rows = c.self.inside.rows }) c.self.inside.layout.strips c.self.inside.tenancies.items c.args.id c.place_of-from.result c.args.offset old c.self.invariant live is place.at moves.0 c.routed.result.now c.routed.ensures.exact
+
+pub shift-requires-clause-free : goal.shift-requires-clause-free
+shift-requires-clause-free c =
+    let old : History = c.index-tenancy.result.now in
+    let live : IsLiveIn c.self.inside.tenancies.items c.args.id = search rules in
+    let is : old ≡ get_or c.self.inside.tenancies.items (c.args.id - 1) old = search rules in
+    let place : IsPlaceOf (record { device = record { arch = c.self.inside.arch; columns = c.self.inside.layout.columns; rows = c.self.inside.rows }; plan = c.self.inside.layout; histories = c.self.inside.tenancies.items }) c.args.id c.place_of-from.result = rw (← c.self.view_is) at c.place_of-from.ensures in
+    let moves : IsParted (with_moved c.self.inside.layout c.args.id c.args.offset) × (c.move_to.new.self ≡ with_moved c.self.inside.layout c.args.id c.args.offset) = moved_there c.self.inside.layout c.args.id c.args.offset c.move_to.result c.move_to.new.self c.move_to.ensures (sym c.is_err.ensures.value ∙ c.if-is_err.false) in
+    no_one_elses c.self.inside.book (record { arch = c.self.inside.arch; columns = c.self.inside.layout.columns; rows = c.self.inside.rows }) c.self.inside.layout.strips c.self.inside.tenancies.items c.args.id c.place_of-from.result c.args.offset old c.self.invariant live is place.at moves.0 c.routed.result.now c.routed.ensures.exact
+
+pub invariant_of-self-2 : goal.invariant_of-self-2
+invariant_of-self-2 c =
+    let old : History = c.index-tenancy.result.now in
+    let live : IsLiveIn c.self.inside.tenancies.items c.args.id = search rules in
+    let is : old ≡ get_or c.self.inside.tenancies.items (c.args.id - 1) old = search rules in
+    let place : IsPlaceOf (record { device = record { arch = c.self.inside.arch; columns = c.self.inside.layout.columns; rows = c.self.inside.rows }; plan = c.self.inside.layout; histories = c.self.inside.tenancies.items }) c.args.id c.place_of-from.result = rw (← c.self.view_is) at c.place_of-from.ensures in
+    let moves : IsParted (with_moved c.self.inside.layout c.args.id c.args.offset) × (c.move_to.new.self ≡ with_moved c.self.inside.layout c.args.id c.args.offset) = moved_there c.self.inside.layout c.args.id c.args.offset c.move_to.result c.move_to.new.self c.move_to.ensures (sym c.is_err.ensures.value ∙ c.if-is_err.false) in
+    subst (λ (p : Plan). IsSound c.shift.new.self (record { arch = c.self.inside.arch; columns = p.columns; rows = c.self.inside.rows }) p.strips c.self.inside.tenancies.items) (sym moves.1)
+    (sound_moved c.self.inside.book (record { arch = c.self.inside.arch; columns = c.self.inside.layout.columns; rows = c.self.inside.rows }) c.self.inside.layout.strips c.self.inside.tenancies.items c.args.id c.place_of-from.result c.args.offset old c.self.invariant live is place.at moves.0 c.shift.new.self
+    (shifted_held c.self.inside.book c.shift.new.self c.args.id c.place_of-from.result c.args.offset (routed_set (state_of old)) c.routed.result.now c.routed.ensures.exact c.shift.ensures))

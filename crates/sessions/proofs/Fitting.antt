@@ -1,0 +1,169 @@
+-- A job that the core gave out has a window on the device's own graph.
+use Rattle.std.proofs.Common.{◌≡◌, ◌∙◌, ℕ, ◌+◌, ◌<◌, ◌≤◌, List, [], ◌∷◌, ◌++◌, true, false, not, eqb, get_or, if◌then◌else◌, Option, Some, None, Result, Ok, Err, refl, sym, ap, subst, arith}
+use Rattle.std.specs.declared.alloc.AllocError.{AllocError}
+use Rattle.std.specs.Prelude.{◌&&◌, ◌==◌, All, IfOk, IsSome, nat_le, is_some, option_map}
+use Rattle.std.proofs.lemmas.Bool.{and_from, false≢true, le-leb}
+use Rattle.std.proofs.lemmas.Bool.Decides.{Decides-eqb}
+use Rattle.std.proofs.lemmas.List.Elements.{All-filter, All-head, All-map, All-nil, All-push, All-tail}
+use Rattle.std.proofs.lemmas.Option.{none-some, same_Some}
+use Rattle.arch_file.specs.declared.arch.Arch.{Arch}
+use Rattle.grid.specs.declared.Strip.{Strip}
+use Rattle.rr_graph.specs.Graph.{Basis}
+use Rattle.strips.specs.declared.placed_strip.PlacedStrip.{PlacedStrip}
+use Rattle.strips.specs.Plan.{moved_strip, offset_of, strip_of}
+use Rattle.strips.specs.Windows.{device_strip, is_on_device}
+use Rattle.job_state.specs.declared.sources.JobKind.{JobKind}
+use Rattle.job_state.specs.declared.sources.JobKind.TheVariants.{Packing, Placing, Routing}
+use Rattle.job_state.specs.declared.step.JobStep.{JobStep}
+use Rattle.job_state.specs.Job.{JobState}
+use Rattle.tenant_slot.specs.SingleUser.{State, running, sources_of, start}
+use Rattle.tenant_slot.specs.Slot.{SlotState, next_job}
+use Rattle.service_core.specs.declared.device.Device.{Device}
+use Rattle.service_core.specs.Calls.{IsNextStep, IsTaken}
+use Rattle.service_core.specs.Headline.{AreParted}
+use Rattle.service_core.specs.History.{History, events_of, slot_of, state_of}
+use Rattle.service_core.specs.Run.{Call, Run}
+use Rattle.service_core.specs.Run.Call.{Take}
+use Rattle.service_core.specs.Service.{AreAlone, IsAloneOn, ServiceState, empty, history_of, live_of, live_width, placed_width, strip_on}
+use Rattle.service_core.proofs.Booking.{has_offset, placed_strip}
+use Rattle.service_core.proofs.Effects.{Admitted, Effect, Entered, Evicted, Kept, Moved, Nothing, Turned, effect, run_device, run_keeps}
+use Rattle.service_core.proofs.Held.{IsOnStrip, events_stay}
+use Rattle.service_core.proofs.Keeps.{IsService-empty, if_live_some}
+use Rattle.service_core.proofs.Lists.{All-history_of}
+use Rattle.service_core.proofs.MovedStrips.{same_width}
+use Rattle.service_core.proofs.Parted.{are_parted}
+use Rattle.sessions.specs.Fitting.{HasWindow, own_graph}
+use Rattle.sessions.proofs.Counted.{some_and, taken_next}
+use Rattle.sessions.proofs.StepLemmas.{Run-append}
+
+-- no strip is empty
+abbrev pub AreWide : ServiceState → Type 0
+AreWide state = All (λ s. 0 < s.width) state.plan.strips
+
+wide_after : (old new : ServiceState) → Effect old new → AreWide old → AreWide new
+wide_after old new (Nothing same) was = rw same was
+wide_after old new (Admitted width offset can fits is) was = rw is (All-push (λ (s : PlacedStrip). 0 < s.width) old.plan.strips _ was fits.0.wide)
+wide_after old new (Evicted id is) was = rw is (All-filter (λ (s : PlacedStrip). not (eqb s.id id)) (λ (s : PlacedStrip). 0 < s.width) old.plan.strips was)
+wide_after old new (Moved id offset parted is) was = rw is (All-map (λ (s : PlacedStrip). 0 < s.width) (moved_strip id offset) old.plan.strips (λ k d lt. subst (λ w. 0 < w) (sym (same_width id offset (get_or old.plan.strips k d))) (was k d lt)))
+wide_after old new (Entered id e h next is) was = rw is was
+wide_after old new (Turned id out is) was = rw is was
+
+run_wide : (old : ServiceState) (calls : List Call) (new : ServiceState) → Run old calls new → AreWide old → AreWide new
+run_wide old [] new run was = rw run was
+run_wide old (call ∷ calls) new run was = run_wide run.0 calls new run.2 (wide_after old run.0 (effect old call run.0 run.1) was)
+
+strip_all : (P : PlacedStrip → Type 0) (strips : List PlacedStrip) (id : ℕ) (s : PlacedStrip) → strip_of strips id ≡ Some s → All P strips → P s
+strip_all P [] id s is all = absurd (none-some s is)
+strip_all P (t ∷ strips) id s is all =
+    elim (eqb t.id id) as (λ b. (if b then Some t else strip_of strips id) ≡ Some s → P s) [
+      | true ↦ λ same. subst P (same_Some _ _ same) (All-head P t strips all)
+      | false ↦ λ rest. strip_all P strips id s rest (All-tail P t strips all)
+    ] is
+
+-- a strip has its tenancy's width
+its_width : (strips : List PlacedStrip) (hs : List History) (id : ℕ) (s : PlacedStrip) (h : History) → ((j : ℕ) → placed_width strips j ≡ live_width hs j) → strip_of strips id ≡ Some s → live_of hs id ≡ Some h → s.width ≡ h.strip.width
+its_width strips hs id s h linked found live =
+    same_Some _ _ (sym (ap (option_map (λ (s : PlacedStrip). s.width)) found) ∙ (linked id ∙ ap (option_map (λ (g : History). g.strip.width)) live))
+
+-- a job is computed from its tenancy's architecture and strip
+sources_arch : (state : State) (kind : JobKind) → (sources_of state kind).arch ≡ state.arch
+sources_arch state Packing = refl
+sources_arch state Placing = refl
+sources_arch state Routing = refl
+
+sources_strip : (state : State) (kind : JobKind) → (sources_of state kind).strip ≡ state.strip
+sources_strip state Packing = refl
+sources_strip state Placing = refl
+sources_strip state Routing = refl
+
+record IsJobOf (state : State) (step : JobStep) : Type 0 where
+  arch : step.sources.arch ≡ state.arch
+  strip : step.sources.strip ≡ state.strip
+
+job_of : (slot : SlotState) (kind : Option JobKind) (step : JobStep) →
+    option_map (λ sources. record { id = slot.id; generation = slot.state.generation; number = slot.state.steps + 1; sources = sources }) (option_map (sources_of slot.state) kind) ≡ Some step → IsJobOf slot.state step
+job_of slot None step is = absurd (none-some step is)
+job_of slot (Some kind) step is =
+    let its : JobStep = record { id = slot.id; generation = slot.state.generation; number = slot.state.steps + 1; sources = sources_of slot.state kind } in
+    let e : its ≡ step = same_Some _ _ is in
+    record {
+      arch = ap (λ (s : JobStep). s.sources.arch) (sym e) ∙ sources_arch slot.state kind;
+      strip = ap (λ (s : JobStep). s.sources.strip) (sym e) ∙ sources_strip slot.state kind;
+    }
+
+same_number : (n : ℕ) → (n == n) ≡ true
+same_number n = (Decides-eqb n n).1 refl
+
+-- a strip within the columns is on its device
+on_device : (device : Device) (width offset : ℕ) → 0 < width → offset + width ≤ device.columns → is_on_device (own_graph device).strip (strip_on device width) offset ≡ true
+on_device device width offset wide inside =
+    and_from (nat_le 1 width) ((device.rows == device.rows) && ((device.arch.io_rat == device.arch.io_rat) && nat_le (offset + width) device.columns)) (le-leb 1 width (omega (arith, wide)))
+    (and_from (device.rows == device.rows) ((device.arch.io_rat == device.arch.io_rat) && nat_le (offset + width) device.columns) (same_number device.rows)
+    (and_from (device.arch.io_rat == device.arch.io_rat) (nat_le (offset + width) device.columns) (same_number device.arch.io_rat) (le-leb (offset + width) device.columns inside)))
+
+-- a live tenancy's next step has its window there
+pub window_there : (state : ServiceState) (step : JobStep) → AreWide state → AreParted state.device state → AreAlone state → IsNextStep state step → HasWindow (own_graph state.device) state step
+window_there state step wide parted all next =
+    let device : Device = state.device in
+    let was = some_and (λ h. next_job (slot_of h) ≡ Some step) (live_of state.histories step.id) next in
+    let h : History = was.0 in
+    let alone : IsAloneOn device h = All-history_of (IsAloneOn device) state.histories step.id h (if_live_some (history_of state.histories step.id) h was.1) all in
+    let on : IsOnStrip h.arch h.strip (state_of h) = events_stay (start h.arch h.strip) (events_of h.entries) in
+    let job : IsJobOf (state_of h) step = job_of (slot_of h) (running (state_of h).name) step was.2 in
+    let place = has_offset state.plan.strips state.histories step.id h parted.of_live was.1 in
+    let placed = placed_strip state.plan.strips step.id place.0 place.1 in
+    let width : placed.0.width ≡ h.strip.width = its_width state.plan.strips state.histories step.id placed.0 h parted.of_live placed.1 was.1 in
+    let filled : 0 < placed.0.width = strip_all (λ s. 0 < s.width) state.plan.strips step.id placed.0 placed.1 wide in
+    let inside : placed.0.offset + placed.0.width ≤ state.plan.columns = strip_all (λ s. s.offset + s.width ≤ state.plan.columns) state.plan.strips step.id placed.0 placed.1 parted.parted.inside in
+    let there : placed.0.offset ≡ place.0 = placed.2 in
+    let columns : state.plan.columns ≡ device.columns = parted.columns in
+    let stands : is_on_device (own_graph device).strip (strip_on device h.strip.width) place.0 ≡ true = on_device device h.strip.width place.0 (omega (arith, filled, width)) (omega (arith, inside, width, there, columns)) in
+    let strip : step.sources.strip ≡ strip_on device h.strip.width = job.strip ∙ on.strip_is ∙ alone.strip in
+    (place.0, place.1, sym (job.arch ∙ on.arch_is ∙ alone.arch), ap (λ (s : Strip). is_on_device (own_graph device).strip s place.0) strip ∙ stands)
+
+-- and so has one that was just taken
+pub taken_has_window : (device : Device) (before : List Call) (old new : ServiceState) (id : ℕ) (job : JobState) → Run (empty device) before old → IsTaken old id (Some job) new → HasWindow (own_graph device) new job.step
+taken_has_window device before old new id job runs takes =
+    let calls : List Call = before ++ Take id (Some job) ∷ [] in
+    let all : Run (empty device) calls new = Run-append (empty device) before old (Take id (Some job) ∷ []) new runs (new, takes, refl) in
+    let same : new.device ≡ device = run_device (empty device) calls new all in
+    let parted : AreParted new.device new = subst (λ d. AreParted d new) (sym same) (are_parted device calls new all) in
+    let kept : Kept new = run_keeps (empty device) calls new all (IsService-empty device) in
+    let wide : AreWide new = run_wide (empty device) calls new all (All-nil (λ (s : PlacedStrip). 0 < s.width)) in
+    subst (λ d. HasWindow (own_graph d) new job.step) same (window_there new job.step wide parted kept.alone (taken_next old new id job takes))
+
+-- the window that is made where the strip stands
+pub window_made : (state : ServiceState) (step : JobStep) (graph : Basis) (offset : ℕ) → AreWide state → AreParted state.device state → AreAlone state → offset_of state.plan.strips step.id ≡ Some offset →
+    graph ≡ own_graph state.device → IsNextStep state step → (graph.arch ≡ step.sources.arch) × (is_on_device graph.strip step.sources.strip offset ≡ true)
+window_made state step graph offset wide parted all at own next =
+    let has : HasWindow (own_graph state.device) state step = window_there state step wide parted all next in
+    let same : has.0 ≡ offset = same_Some _ _ (sym has.1 ∙ at) in
+    (ap (λ (g : Basis). g.arch) own ∙ has.2, ap (λ (g : Basis). is_on_device g.strip step.sources.strip offset) own ∙ ap (is_on_device (own_graph state.device).strip step.sources.strip) (sym same) ∙ has.3)
+
+-- the strip of a running job stands somewhere
+pub stands_somewhere : (state : ServiceState) (step : JobStep) → AreWide state → AreParted state.device state → AreAlone state → offset_of state.plan.strips step.id ≡ None → IsNextStep state step → ⊥
+stands_somewhere state step wide parted all none next =
+    let has : HasWindow (own_graph state.device) state step = window_there state step wide parted all next in
+    none-some has.0 (sym none ∙ has.1)
+
+-- so the device's own graph has a window for a job that was just taken
+pub taken_fits : {A : Type 0} (old mid : ServiceState) (id : ℕ) (job : JobState) (graph : Basis) (window : Option A) → IsTaken old id (Some job) mid →
+    (graph ≡ own_graph mid.device → IsNextStep mid job.step → IsSome window) → graph ≡ own_graph old.device → IsSome window
+taken_fits old mid id job graph window takes has own =
+    let device : mid.device ≡ old.device = ap (λ (s : ServiceState). s.device) takes.1 in
+    has (own ∙ ap own_graph (sym device)) (taken_next old mid id job takes)
+
+pub none_never : {A : Type 0} (o : Option A) → o ≡ None → IsSome o → ⊥
+none_never o none some = false≢true (sym (ap is_some none) ∙ some)
+
+-- a graph of its architecture and of all its columns is the device's own
+pub own_made : (device : Device) (made : Result Basis AllocError) → IfOk made (λ g. g.arch ≡ device.arch) → IfOk made (λ g. g.strip ≡ device_strip device.arch device.columns device.rows) → IfOk made (λ g. g ≡ own_graph device)
+own_made device (Ok graph) arch strip =
+    let with_arch : Arch → Basis = λ a. record { arch = a; strip = graph.strip } in
+    let with_strip : Strip → Basis = λ s. record { arch = device.arch; strip = s } in
+    ap with_arch arch ∙ ap with_strip strip
+own_made device (Err error) arch strip = tt
+
+-- and the device stays
+pub own_after : (old : ServiceState) (calls : List Call) (new : ServiceState) (graph : Basis) → Run old calls new → graph ≡ own_graph old.device → graph ≡ own_graph new.device
+own_after old calls new graph runs own = own ∙ ap own_graph (sym (run_device old calls new runs))

@@ -1,0 +1,200 @@
+-- The start, block by block, with marks on the sites that are taken.
+use Rattle.std.proofs.Common.{ℕ, zero, suc, ◌≡◌, ◌≢◌, ◌+◌, ◌-◌, ◌<◌, ◌≤◌, ◌⊎◌, inl, inr, Bool, true, false, List, [], ◌∷◌, ◌++◌, Option, Some, None, drop, length, get_or, set, refl, sym, ap, subst, ◌∙◌, arith}
+use Rattle.std.specs.Prelude.{replicate}
+use Rattle.std.specs.List.{zip}
+use Rattle.std.proofs.lemmas.Bool.{cases_eq, cases_lt}
+use Rattle.std.proofs.lemmas.List.{append-nil, append_assoc, drop_all, drop_more, get_or-set_same, get_or-set_other, length-set}
+use Rattle.std.proofs.lemmas.List.Sums.{prefix_len-drop_no, prefix_len-drop_yes}
+use Rattle.grid.specs.declared.Strip.{Strip}
+use Rattle.grid.specs.declared.place.Kind.{Kind}
+use Rattle.grid.specs.declared.place.Kind.TheVariants.{Logic, Pad}
+use Rattle.strip_place.specs.Sites.{IsSiteFor, first_site, is_among, kept_sites, least_free, seated_behind, site_count, site_for, start_of}
+use Rattle.strip_place.specs.Starting.{AreKeptSites}
+use Rattle.strip_place.specs.Vacancies.{Vacancies, all_free, first_from, lowest, mark_at, marked, without_lowest}
+use Rattle.strip_place.proofs.Vacant.{IsLeast, among_before, among_last, among_other}
+use Rattle.strip_place.proofs.Seatings.{Comer, HasRoom, least_seat, nobody, room_more}
+
+-- the marks are on the taken sites
+abbrev pub AreMarks : List ℕ → List Bool → Type 0
+AreMarks taken marks = (site : ℕ) → site < length marks → get_or marks site false ≡ is_among taken site
+
+marks_more : (taken : List ℕ) (marks : List Bool) (site : ℕ) → site < length marks → AreMarks taken marks → AreMarks (taken ++ site ∷ []) (set marks site true)
+marks_more taken marks site lt are other inside = elim (cases_eq other site) [
+  | inl same ↦ rw same (get_or-set_same marks site true false lt ∙ sym (among_last taken site))
+  | inr differs ↦ get_or-set_other marks site other true false differs ∙ (are other (omega (arith, inside, length-set marks site true)) ∙ sym (among_other taken site other differs))
+]
+
+pub length-marked : (marks : List Bool) (kept : List (Option ℕ)) → length (marked marks kept) ≡ length marks
+length-marked marks [] = refl
+length-marked marks (None ∷ kept) = length-marked marks kept
+length-marked marks (Some site ∷ kept) = length-marked (set marks site true) kept ∙ length-set marks site true
+
+marks_kept : (taken : List ℕ) (marks : List Bool) (kept : List (Option ℕ)) → ((block site : ℕ) → block < length kept → get_or kept block None ≡ Some site → site < length marks) → AreMarks taken marks → AreMarks (taken ++ kept_sites kept) (marked marks kept)
+marks_kept taken marks [] inside are = rw append-nil are
+marks_kept taken marks (None ∷ kept) inside are = marks_kept taken marks kept (λ b s lt is. inside (suc b) s (omega (arith, lt)) is) are
+marks_kept taken marks (Some site ∷ kept) inside are =
+    let here : site < length marks = inside 0 site (omega arith) refl in
+    let rest = marks_kept (taken ++ site ∷ []) (set marks site true) kept (λ b s lt is. omega (arith, inside (suc b) s (omega (arith, lt)) is, length-set marks site true)) (marks_more taken marks site here are) in
+    subst (λ (t : List ℕ). AreMarks t (marked (set marks site true) kept)) (append_assoc taken (site ∷ []) (kept_sites kept)) rest
+
+no_marks : (count : ℕ) → AreMarks [] (all_free count)
+no_marks zero site lt = refl
+no_marks (suc count) zero lt = refl
+no_marks (suc count) (suc site) lt = no_marks count site (omega (arith, lt))
+
+-- the first without a mark
+first_at : (marks : List Bool) (from gap : ℕ) → from + gap < length marks → ((site : ℕ) → from ≤ site → site < from + gap → get_or marks site false ≡ true) → get_or marks (from + gap) false ≡ false → first_from marks from ≡ from + gap
+first_at marks from zero lt before free =
+    let none = prefix_len-drop_no (λ (mark : Bool). mark) marks from false (omega (arith, lt)) (ap (λ s. get_or marks s false) (omega arith) ∙ free) in
+    omega (arith, none)
+first_at marks from (suc gap) lt before free =
+    let next = first_at marks (from + 1) gap (omega (arith, lt)) (λ site past less. before site (omega (arith, past)) (omega (arith, less))) (ap (λ s. get_or marks s false) (omega arith) ∙ free) in
+    let one = prefix_len-drop_yes (λ (mark : Bool). mark) marks from false (omega (arith, lt)) (before from (omega arith) (omega arith)) in
+    omega (arith, next, one)
+
+-- all of a kind below that one are taken
+pub record IsLow (strip : Strip) (taken : List ℕ) (kind : Kind) (low : ℕ) : Type 0 where
+  pub from : first_site strip kind ≤ low
+  pub below : (site : ℕ) → first_site strip kind ≤ site → site < low → is_among taken site ≡ true
+
+low_stays : (strip : Strip) (taken : List ℕ) (site : ℕ) (kind : Kind) (low : ℕ) → IsLow strip taken kind low → IsLow strip (taken ++ site ∷ []) kind low
+low_stays strip taken site kind low is = record { from = is.from; below = λ s past lt. among_before taken site s (is.below s past lt) }
+
+-- the sites of the first so many blocks, and what is known of the others
+pub record IsStarting (strip : Strip) (blocks : List Comer) (kept : List ℕ) (index : ℕ) (vacancies : Vacancies) (sites : List ℕ) : Type 0 where
+  pub all : seated_behind strip kept blocks ≡ sites ++ seated_behind strip (kept ++ sites) (drop index blocks)
+  pub room : HasRoom strip (kept ++ sites) (drop index blocks)
+  pub long : length vacancies.marks ≡ site_count strip Logic + site_count strip Pad
+  pub marks : AreMarks (kept ++ sites) vacancies.marks
+  pub logic : IsLow strip (kept ++ sites) Logic vacancies.logic
+  pub pads : IsLow strip (kept ++ sites) Pad vacancies.pads
+
+-- the lowest is the least that is free
+lowest_by : (strip : Strip) (taken : List ℕ) (kind : Kind) (marks : List Bool) (low : ℕ) → AreMarks taken marks → first_site strip kind + site_count strip kind ≤ length marks → IsLow strip taken kind low → IsLeast taken (first_site strip kind) (site_count strip kind) (least_free strip kind taken) → first_from marks low ≡ least_free strip kind taken
+lowest_by strip taken kind marks low are inside is least =
+    let site = least_free strip kind taken in
+    let past : low ≤ site = elim (cases_lt site low) [
+      | inl lt ↦ absurd (let wrong = sym least.free ∙ is.below site least.from lt in cc)
+      | inr ge ↦ ge
+    ] in
+    let gap : low + (site - low) ≡ site = omega (arith, past) in
+    let small : site < length marks = omega (arith, least.below, inside) in
+    first_at marks low (site - low) (omega (arith, gap, small))
+    (λ s after lt. are s (omega (arith, lt, gap, small)) ∙ least.least s (omega (arith, is.from, after)) (omega (arith, lt, gap)))
+    (ap (λ s. get_or marks s false) gap ∙ (are site small ∙ least.free))
+    ∙ gap
+
+module _ (strip : Strip) (blocks : List Comer) (kept : List ℕ) (index : ℕ) (vacancies : Vacancies) (sites : List ℕ) (so_far : IsStarting strip blocks kept index vacancies sites) where
+  abbrev taken : List ℕ
+  taken = kept ++ sites
+
+  module _ (block : Comer) (lt : index < length blocks) (here : get_or blocks index nobody ≡ block) where
+    next : drop index blocks ≡ block ∷ drop (index + 1) blocks
+    next = drop_more blocks index nobody lt ∙ ap (λ (b : Comer). b ∷ drop (index + 1) blocks) here
+
+    room_here : HasRoom strip taken (block ∷ drop (index + 1) blocks)
+    room_here = subst (λ (b : List Comer). HasRoom strip taken b) next so_far.room
+
+    joined : (site : ℕ) → kept ++ (sites ++ site ∷ []) ≡ taken ++ site ∷ []
+    joined site = sym (append_assoc kept sites (site ∷ []))
+
+    one_more : seated_behind strip kept blocks ≡ (sites ++ site_for strip taken block ∷ []) ++ seated_behind strip (kept ++ (sites ++ site_for strip taken block ∷ [])) (drop (index + 1) blocks)
+    one_more =
+        let site = site_for strip taken block in
+        so_far.all ∙ (ap (λ (b : List Comer). sites ++ seated_behind strip taken b) next
+        ∙ (sym (append_assoc sites (site ∷ []) (seated_behind strip (taken ++ site ∷ []) (drop (index + 1) blocks)))
+        ∙ ap (λ (t : List ℕ). (sites ++ site ∷ []) ++ seated_behind strip t (drop (index + 1) blocks)) (sym (joined site))))
+
+    room_then : HasRoom strip (kept ++ (sites ++ site_for strip taken block ∷ [])) (drop (index + 1) blocks)
+    room_then = subst (λ (t : List ℕ). HasRoom strip t (drop (index + 1) blocks)) (sym (joined (site_for strip taken block))) (room_more strip taken block (drop (index + 1) blocks) room_here)
+
+  -- a block that keeps its site
+  pub starting_kept : (kind : Kind) (site : ℕ) → index < length blocks → get_or blocks index nobody ≡ (kind, Some site) → IsStarting strip blocks kept (index + 1) vacancies (sites ++ site ∷ [])
+  starting_kept kind site lt here =
+      let block : Comer = (kind, Some site) in
+      let among : is_among taken site ≡ true = (room_here block lt here).kept 0 site (omega arith) refl in
+      let are : AreMarks (taken ++ site ∷ []) vacancies.marks = λ s inside. elim (cases_eq s site) [
+        | inl same ↦ so_far.marks s inside ∙ rw same (among ∙ sym (among_last taken site))
+        | inr differs ↦ so_far.marks s inside ∙ sym (among_other taken site s differs)
+      ] in
+      record {
+        all = one_more block lt here;
+        room = room_then block lt here;
+        long = so_far.long;
+        marks = subst (λ (t : List ℕ). AreMarks t vacancies.marks) (sym (joined block lt here site)) are;
+        logic = subst (λ (t : List ℕ). IsLow strip t Logic vacancies.logic) (sym (joined block lt here site)) (low_stays strip taken site Logic vacancies.logic so_far.logic);
+        pads = subst (λ (t : List ℕ). IsLow strip t Pad vacancies.pads) (sym (joined block lt here site)) (low_stays strip taken site Pad vacancies.pads so_far.pads);
+      }
+
+  -- a block that takes one
+  module _ (kind : Kind) (lt : index < length blocks) (here : get_or blocks index nobody ≡ (kind, None)) where
+    least : IsLeast taken (first_site strip kind) (site_count strip kind) (least_free strip kind taken)
+    least = least_seat strip kind taken (drop (index + 1) blocks) (room_here (kind, None) lt here)
+
+    inside : (k : Kind) → first_site strip k + site_count strip k ≤ length vacancies.marks
+    inside Logic = omega (arith, so_far.long)
+    inside Pad = omega (arith, so_far.long)
+
+    pub lowest_is : lowest vacancies kind ≡ least_free strip kind taken
+    lowest_is = by kind (inside kind) least
+      where
+        by : (kind : Kind) → first_site strip kind + site_count strip kind ≤ length vacancies.marks → IsLeast taken (first_site strip kind) (site_count strip kind) (least_free strip kind taken) → lowest vacancies kind ≡ least_free strip kind taken
+        by Logic within least = lowest_by strip taken Logic vacancies.marks vacancies.logic so_far.marks within so_far.logic least
+        by Pad within least = lowest_by strip taken Pad vacancies.marks vacancies.pads so_far.marks within so_far.pads least
+
+    pub lowest_inside : lowest vacancies kind < length vacancies.marks
+    lowest_inside = omega (arith, lowest_is, least.below, inside kind)
+
+    low_next : (site : ℕ) → site ≡ least_free strip kind taken → IsLow strip (taken ++ site ∷ []) kind site
+    low_next site is = record {
+      from = omega (arith, is, least.from);
+      below = λ s past less. among_before taken site s (least.least s past (omega (arith, is, less)));
+    }
+
+    after : (kind : Kind) (site : ℕ) → lowest vacancies kind ≡ site → IsLow strip (taken ++ site ∷ []) kind site → site < length vacancies.marks →
+        (length (without_lowest vacancies kind).marks ≡ length vacancies.marks) × AreMarks (taken ++ site ∷ []) (without_lowest vacancies kind).marks × IsLow strip (taken ++ site ∷ []) Logic (without_lowest vacancies kind).logic × IsLow strip (taken ++ site ∷ []) Pad (without_lowest vacancies kind).pads
+    after Logic site is low small = rw is (length-set vacancies.marks site true, marks_more taken vacancies.marks site small so_far.marks, low, low_stays strip taken site Pad vacancies.pads so_far.pads)
+    after Pad site is low small = rw is (length-set vacancies.marks site true, marks_more taken vacancies.marks site small so_far.marks, low_stays strip taken site Logic vacancies.logic so_far.logic, low)
+
+    pub starting_free : (site : ℕ) → site ≡ lowest vacancies kind → IsStarting strip blocks kept (index + 1) (without_lowest vacancies kind) (sites ++ site ∷ [])
+    starting_free site is =
+        let block : Comer = (kind, None) in
+        let free : least_free strip kind taken ≡ site = sym (is ∙ lowest_is) in
+        let then = after kind site (sym is) (low_next site (sym free)) (omega (arith, is, lowest_inside)) in
+        let same = sym (joined block lt here site) in
+        record {
+          all = subst (λ s. seated_behind strip kept blocks ≡ (sites ++ s ∷ []) ++ seated_behind strip (kept ++ (sites ++ s ∷ [])) (drop (index + 1) blocks)) free (one_more block lt here);
+          room = subst (λ s. HasRoom strip (kept ++ (sites ++ s ∷ [])) (drop (index + 1) blocks)) free (room_then block lt here);
+          long = then.0 ∙ so_far.long;
+          marks = subst (λ (t : List ℕ). AreMarks t (without_lowest vacancies kind).marks) same then.1;
+          logic = subst (λ (t : List ℕ). IsLow strip t Logic (without_lowest vacancies kind).logic) same then.2;
+          pads = subst (λ (t : List ℕ). IsLow strip t Pad (without_lowest vacancies kind).pads) same then.3;
+        }
+
+  pub starting_all : length blocks ≤ index → sites ≡ seated_behind strip kept blocks
+  starting_all past = sym (so_far.all ∙ (ap (λ (b : List Comer). sites ++ seated_behind strip taken b) (drop_all index blocks past) ∙ append-nil sites))
+
+pub starting_none : (strip : Strip) (blocks : List Comer) (kept : List (Option ℕ)) (total : ℕ) → HasRoom strip (kept_sites kept) blocks → total ≡ site_count strip Logic + site_count strip Pad → ((block site : ℕ) → block < length kept → get_or kept block None ≡ Some site → site < total) →
+    IsStarting strip blocks (kept_sites kept) 0 (record { marks = marked (all_free total) kept; logic = 0; pads = first_site strip Pad }) []
+starting_none strip blocks kept total room whole inside =
+    let nothing : kept_sites kept ++ [] ≡ kept_sites kept = append-nil (kept_sites kept) in
+    record {
+      all = ap (λ (t : List ℕ). seated_behind strip t blocks) (sym nothing);
+      room = rw nothing room;
+      long = length-marked (all_free total) kept ∙ (length_free total ∙ whole);
+      marks = rw nothing (marks_kept [] (all_free total) kept (λ b s lt is. omega (arith, inside b s lt is, length_free total)) (no_marks total));
+      logic = record { from = omega arith; below = λ s past lt. absurd (omega (arith, lt)) };
+      pads = record { from = omega arith; below = λ s past lt. absurd (omega (arith, past, lt)) };
+    }
+  where
+    length_free : (count : ℕ) → length (all_free count) ≡ count
+    length_free zero = refl
+    length_free (suc count) = ap suc (length_free count)
+
+-- what is kept is on the strip
+pub kept_inside : (strip : Strip) (kinds : List Kind) (kept : List (Option ℕ)) → AreKeptSites strip kinds kept → (block site : ℕ) → block < length kept → get_or kept block None ≡ Some site → site < site_count strip Logic + site_count strip Pad
+kept_inside strip kinds kept lawful block site lt is = by (get_or kinds block Logic) (lawful.by_kind block site (omega (arith, lt, lawful.long)) is)
+  where
+    by : (kind : Kind) → IsSiteFor strip kind site → site < site_count strip Logic + site_count strip Pad
+    by Logic here = omega (arith, here.below)
+    by Pad here = omega (arith, here.below)

@@ -1,0 +1,109 @@
+-- Sites that are free, among those of a kind.
+use Rattle.std.proofs.Common.{ℕ, zero, suc, ◌≡◌, ◌≢◌, ◌+◌, ◌<◌, ◌≤◌, ◌⊎◌, inl, inr, Bool, true, false, not, cond, ◌||◌, List, [], ◌∷◌, ◌++◌, Option, Some, None, eqb, nat_eq, find, refl, sym, ap, subst, ◌∙◌, arith}
+use Rattle.std.specs.List.{list_any, range_with_len}
+use Rattle.std.proofs.lemmas.Bool.{cases_eq, eqb-true, ne_eqb}
+use Rattle.std.proofs.lemmas.Bool.Decides.{nat_tests}
+use Rattle.std.proofs.lemmas.List.Folds.{list_any-append}
+use Rattle.strip_place.specs.Sites.{is_among}
+
+-- how many of so many sites from that one on are free
+abbrev pub free_count : List ℕ → ℕ → ℕ → ℕ
+free_count taken start zero = 0
+free_count taken start (suc count) = cond {A = ℕ} (is_among taken start) 0 1 + free_count taken (start + 1) count
+
+pub among_push : (taken : List ℕ) (site other : ℕ) → is_among (taken ++ site ∷ []) other ≡ (is_among taken other || (nat_eq other site || false))
+among_push taken site other = list_any-append (nat_eq other) taken (site ∷ [])
+
+pub among_last : (taken : List ℕ) (site : ℕ) → is_among (taken ++ site ∷ []) site ≡ true
+among_last taken site = grind (arith, nat_tests, among_push taken site site)
+
+pub among_before : (taken : List ℕ) (site other : ℕ) → is_among taken other ≡ true → is_among (taken ++ site ∷ []) other ≡ true
+among_before taken site other is = grind (arith, nat_tests, among_push taken site other, is)
+
+pub among_other : (taken : List ℕ) (site other : ℕ) → other ≢ site → is_among (taken ++ site ∷ []) other ≡ is_among taken other
+among_other taken site other differs = grind (arith, nat_tests, among_push taken site other, differs)
+
+pub among_either : (taken : List ℕ) (site other : ℕ) → is_among (taken ++ site ∷ []) other ≡ true → (other ≡ site) ⊎ (is_among taken other ≡ true)
+among_either taken site other is = elim (cases_eq other site) [ inl same ↦ inl same | inr differs ↦ inr (sym (among_other taken site other differs) ∙ is) ]
+
+-- a site that isn't one of these takes none of them
+pub free_past : (taken : List ℕ) (site start count : ℕ) → (site < start) ⊎ (start + count ≤ site) → free_count (taken ++ site ∷ []) start count ≡ free_count taken start count
+free_past taken site start zero outside = refl
+free_past taken site start (suc count) outside =
+    let other : start ≢ site = elim outside [ inl before ↦ omega (arith, before) | inr behind ↦ omega (arith, behind) ] in
+    let rest = free_past taken site (start + 1) count (elim outside [ inl before ↦ inl (omega (arith, before)) | inr behind ↦ inr (omega (arith, behind)) ]) in
+    let here = ap (λ (b : Bool). cond {A = ℕ} b 0 1) (among_other taken site start other) in
+    omega (arith, here, rest)
+
+-- one more that is taken takes at most one
+pub free_less : (taken : List ℕ) (site start count : ℕ) → free_count taken start count ≤ free_count (taken ++ site ∷ []) start count + 1
+free_less taken site start zero = omega arith
+free_less taken site start (suc count) = elim (cases_eq start site) [
+  | inl same ↦
+      let rest = free_past taken site (start + 1) count (inl (omega (arith, same))) in
+      let here : cond {A = ℕ} (is_among taken start) 0 1 ≤ 1 = at_most (is_among taken start) in
+      omega (arith, rest, here)
+  | inr other ↦
+      let rest = free_less taken site (start + 1) count in
+      let here = ap (λ (b : Bool). cond {A = ℕ} b 0 1) (among_other taken site start other) in
+      omega (arith, here, rest)
+]
+  where
+    at_most : (b : Bool) → cond {A = ℕ} b 0 1 ≤ 1
+    at_most true = omega arith
+    at_most false = omega arith
+
+-- one that was taken before takes none
+pub free_same : (taken : List ℕ) (site start count : ℕ) → is_among taken site ≡ true → free_count (taken ++ site ∷ []) start count ≡ free_count taken start count
+free_same taken site start zero is = refl
+free_same taken site start (suc count) is =
+    let same : is_among (taken ++ site ∷ []) start ≡ is_among taken start = elim (cases_eq start site) [
+      | inl e ↦ subst (λ s. is_among (taken ++ site ∷ []) s ≡ is_among taken s) (sym e) (among_last taken site ∙ sym is)
+      | inr other ↦ among_other taken site start other
+    ] in
+    let here = ap (λ (b : Bool). cond {A = ℕ} b 0 1) same in
+    omega (arith, here, free_same taken site (start + 1) count is)
+
+-- where some are free, the least of them is found
+pub record IsLeast (taken : List ℕ) (start count site : ℕ) : Type 0 where
+  pub found : find (λ s. not (is_among taken s)) (range_with_len start count) ≡ Some site
+  pub free : is_among taken site ≡ false
+  pub from : start ≤ site
+  pub below : site < start + count
+  pub least : (other : ℕ) → start ≤ other → other < site → is_among taken other ≡ true
+
+pub least_found : (taken : List ℕ) (start count : ℕ) → 1 ≤ free_count taken start count → (site : ℕ) × IsLeast taken start count site
+least_found taken start zero some = absurd (omega (arith, some))
+least_found taken start (suc count) some = by (is_among taken start) refl (least_found taken (start + 1) count)
+  where
+    by : (b : Bool) → is_among taken start ≡ b → (1 ≤ free_count taken (start + 1) count → (site : ℕ) × IsLeast taken (start + 1) count site) → (site : ℕ) × IsLeast taken start (suc count) site
+    by false is more = (
+      start,
+      record {
+        found = ap (λ (b : Bool). cond (not b) (Some start) (find (λ s. not (is_among taken s)) (range_with_len (start + 1) count))) is;
+        free = is;
+        from = omega arith;
+        below = omega arith;
+        least = λ other past lt. absurd (omega (arith, past, lt));
+      },
+    )
+    by true is more =
+        let here = ap (λ (b : Bool). cond {A = ℕ} b 0 1) is in
+        let rest = more (omega (arith, some, here)) in (
+          rest.0,
+          record {
+            found = ap (λ (b : Bool). cond (not b) (Some start) (find (λ s. not (is_among taken s)) (range_with_len (start + 1) count))) is ∙ rest.1.found;
+            free = rest.1.free;
+            from = omega (arith, rest.1.from);
+            below = omega (arith, rest.1.below);
+            least = λ other past lt. elim (cases_eq other start) [
+              | inl same ↦ subst (λ s. is_among taken s ≡ true) (sym same) is
+              | inr differs ↦ rest.1.least other (omega (arith, past, differs)) lt
+            ];
+          },
+        )
+
+-- where nothing is taken all are free
+pub all_free : (start count : ℕ) → free_count [] start count ≡ count
+all_free start zero = refl
+all_free start (suc count) = omega (arith, all_free (start + 1) count)

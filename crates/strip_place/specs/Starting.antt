@@ -1,0 +1,28 @@
+-- Private: what blocks need at the start.
+use Rattle.std.specs.Prelude.{ℕ, ◌≡◌, ◌+◌, ◌<◌, ◌≤◌, List, [], ◌∷◌, Option, Some, length, slice_index_or, None}
+use Rattle.grid.specs.declared.Strip.{Strip}
+use Rattle.grid.specs.declared.place.Kind.{Kind}
+use Rattle.grid.specs.declared.place.Kind.TheVariants.{Logic, Pad}
+use Rattle.strip_place.specs.Sites.{IsSiteFor, site_count}
+
+-- how many blocks take each kind of place
+abbrev pub logic_in : List Kind → ℕ
+logic_in [] = 0
+logic_in (Logic ∷ kinds) = logic_in kinds + 1
+logic_in (Pad ∷ kinds) = logic_in kinds
+
+abbrev pub pads_in : List Kind → ℕ
+pads_in [] = 0
+pads_in (Logic ∷ kinds) = pads_in kinds
+pads_in (Pad ∷ kinds) = pads_in kinds + 1
+
+-- there are sites for all
+pub record HaveRoom (strip : Strip) (kinds : List Kind) : Type 0 where
+  pub logic : logic_in kinds ≤ site_count strip Logic
+  pub pads : pads_in kinds ≤ site_count strip Pad
+
+-- some blocks keep a site of their kind, no two the same
+pub record AreKeptSites (strip : Strip) (kinds : List Kind) (kept : List (Option ℕ)) : Type 0 where
+  pub long : length kept ≡ length kinds
+  pub by_kind : (block site : ℕ) → block < length kinds → slice_index_or kept block None ≡ Some site → IsSiteFor strip (slice_index_or kinds block Logic) site
+  pub apart : (block other site : ℕ) → block < length kinds → other < length kinds → slice_index_or kept block None ≡ Some site → slice_index_or kept other None ≡ Some site → block ≡ other

@@ -1,0 +1,41 @@
+-- Private: which sites are taken.
+use Rattle.std.specs.Prelude.{ℕ, ◌+◌, ◌<◌, ◌≤◌, ◌^◌, Bool, true, false, List, [], ◌∷◌, Option, Some, None, drop, length, replicate, slice_set}
+use Rattle.std.specs.List.{prefix_len}
+use Rattle.grid.specs.declared.place.Kind.{Kind}
+use Rattle.grid.specs.declared.place.Kind.TheVariants.{Logic, Pad}
+
+-- a mark for each site, and from which on the free ones of each kind stand
+pub record Vacancies : Type 0 where
+  pub marks : List Bool
+  pub logic : ℕ
+  pub pads : ℕ
+
+pub record IsVacancies (marks : List Bool) (logic pads : ℕ) : Type 0 where
+  pub few : length marks < 2 ^ 32
+  pub logic_inside : logic ≤ length marks
+  pub pads_inside : pads ≤ length marks
+
+-- nothing is taken
+abbrev pub all_free : ℕ → List Bool
+all_free count = replicate {A = Bool} count false
+
+-- with marks at the sites that are kept
+abbrev pub mark_at : List Bool → Option ℕ → List Bool
+mark_at marks None = marks
+mark_at marks (Some site) = slice_set marks site true
+
+abbrev pub marked : List Bool → List (Option ℕ) → List Bool
+marked marks [] = marks
+marked marks (site ∷ kept) = marked (mark_at marks site) kept
+
+-- the first without a mark
+abbrev pub first_from : List Bool → ℕ → ℕ
+first_from marks from = from + prefix_len (λ (mark : Bool). mark) (drop from marks)
+
+abbrev pub lowest : Vacancies → Kind → ℕ
+lowest vacancies Logic = first_from vacancies.marks vacancies.logic
+lowest vacancies Pad = first_from vacancies.marks vacancies.pads
+
+abbrev pub without_lowest : Vacancies → Kind → Vacancies
+without_lowest vacancies Logic = record vacancies { marks = slice_set vacancies.marks (first_from vacancies.marks vacancies.logic) true; logic = first_from vacancies.marks vacancies.logic }
+without_lowest vacancies Pad = record vacancies { marks = slice_set vacancies.marks (first_from vacancies.marks vacancies.pads) true; pads = first_from vacancies.marks vacancies.pads }

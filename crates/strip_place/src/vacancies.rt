@@ -1,0 +1,96 @@
+//! Which sites are taken.
+ghost use Rattle.std.specs.Prelude.{◌≡◌, ◌+◌, ◌<◌, ◌≤◌, ◌^◌, All, Bool, drop, length, IfOk};
+ghost use Rattle.std.specs.List.{prefix_len};
+ghost use Rattle.std.specs.Option.{ForSome};
+ghost use Rattle.grid.specs.declared.place.Kind.TheVariants.{Logic, Pad};
+ghost use Rattle.strip_place.specs.Vacancies.{all_free, lowest, marked, without_lowest};
+
+use grid::Kind;
+use std::alloc::{AllocError, Global};
+use std::marker::Model;
+
+/// Which sites are taken, and from which on the free ones of each kind stand. Its value is a record of these.
+#[derive(Debug, Drop)]
+pub(crate) struct Vacancies {
+    marks: Vec<bool>,
+    logic: usize,
+    pads: usize,
+}
+
+impl Model for Vacancies {
+    ghost use Rattle.strip_place.specs.Vacancies.{IsVacancies, Vacancies};
+
+    ghost Value = { Vacancies };
+
+    ghost view = { λ v. record { marks = v.marks.items; logic = v.logic; pads = v.pads } };
+
+    ghost invariant = { λ v. IsVacancies v.marks.items v.logic v.pads };
+}
+
+impl Vacancies {
+    /// So many sites, from that one on for pads; those that blocks keep are taken.
+    pub(crate) fn new(
+        alloc: Global,
+        logic: usize,
+        pads: usize,
+        kept: &[Option<u32>],
+    ) -> Result<Self, AllocError>
+        requires few { logic + pads < 2 ^ 32 }
+        requires inside { All (λ site. ForSome site (λ number. number < logic + pads)) kept.now }
+        ensures { IfOk result (λ vacancies. vacancies ≡ record { marks = marked (all_free (logic + pads)) kept.now; logic = 0; pads = logic }) }
+    {
+        let mut marks = Vec::from_elem(alloc, false, logic + pads)?;
+        mark(marks.as_mut_slice(), kept);
+        Ok(Vacancies {
+            marks,
+            logic: 0,
+            pads: logic,
+        })
+    }
+
+    /// The least free site of a kind, which is taken then.
+    pub(crate) fn take(&mut self, kind: Kind) -> u32
+        requires { lowest self.old kind < length self.old.marks }
+        ensures site { result ≡ lowest self.old kind }
+        ensures taken { self.new ≡ without_lowest self.old kind }
+    {
+        match kind {
+            Kind::Logic => {
+                let site = first_free(self.marks.as_slice(), self.logic);
+                self.marks[site] = true;
+                self.logic = site;
+                site as u32
+            }
+            Kind::Pad => {
+                let site = first_free(self.marks.as_slice(), self.pads);
+                self.marks[site] = true;
+                self.pads = site;
+                site as u32
+            }
+        }
+    }
+}
+
+/// Marks those sites that are kept.
+fn mark(marks: &mut [bool], kept: &[Option<u32>])
+    requires { All (λ site. ForSome site (λ number. number < length marks.old)) kept.now }
+    ensures { marks.new ≡ marked marks.old kept.now }
+{
+    for site in kept {
+        if let Some(site) = site {
+            marks[*site as usize] = true;
+        }
+    }
+}
+
+/// The first site from that one on that isn't marked, or the number of sites.
+fn first_free(marks: &[bool], from: usize) -> usize
+    requires { from ≤ length marks.now }
+    ensures { result ≡ from + prefix_len (λ (mark : Bool). mark) (drop from marks.now) }
+{
+    let mut site = from;
+    while site < marks.len() && marks[site] {
+        site += 1;
+    }
+    site
+}

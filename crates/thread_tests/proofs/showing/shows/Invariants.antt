@@ -1,0 +1,7 @@
+use Rattle.thread_tests.proofs.showing.shows.Given as goal
+
+abbrev pub ghosts-shows_on-C-Ledger : goal.ghosts-shows_on-C-Ledger
+ghosts-shows_on-C-Ledger g a = record { name = a.commands.name; parts = a.commands.parts }
+
+abbrev pub ghosts-shows_on-P-Ledger : goal.ghosts-shows_on-P-Ledger
+ghosts-shows_on-P-Ledger g a = record { name = a.puts.name; parts = a.puts.parts }

@@ -1,0 +1,99 @@
+//! What is shown, each of a core of its own.
+ghost use Rattle.std.specs.Prelude.{◌≡◌};
+
+use crate::cores::{new_core, new_graph};
+use crate::waiting::waits;
+use crate::workers::is_worked;
+use shared_core::Core;
+use std::alloc::AllocGlobal;
+use std::marker::Brand;
+use std::sync::Wait;
+use std::sync::ledger::{Blank, Ledger};
+use std::thread::Threads;
+use strips::DeviceGraph;
+
+/// What is shown.
+#[derive(Clone, Copy)]
+enum Shown {
+    Worked(Worked),
+    WaitWaits,
+}
+
+/// What is shown of workers.
+#[derive(Clone, Copy)]
+pub(crate) enum Worked {
+    DrainsAClosedQueue,
+    TwoStepsAtOnce,
+    StepWithoutTheLock,
+}
+
+/// Whether that is so of a core without tenancies.
+fn is_shown<
+    C: Ledger + Send + Sync,
+    P: Ledger + Send + Sync,
+    R: Threads + Wait + AllocGlobal + Sync,
+>(rt: &R, core: Core<C, P>, graph: &DeviceGraph, shown: Shown) -> bool {
+    match shown {
+        Shown::Worked(worked) => is_worked(rt, core, graph, worked),
+        Shown::WaitWaits => waits(rt, core, graph),
+    }
+}
+
+/// The same, with a graph of its own.
+fn is_shown_on_graph<
+    C: Ledger + Send + Sync,
+    P: Ledger + Send + Sync,
+    R: Threads + Wait + AllocGlobal + Sync,
+>(rt: &R, core: Core<C, P>, shown: Shown) -> bool {
+    match new_graph(rt.alloc()) {
+        Some(graph) => {
+            let is_so = is_shown(rt, core, &graph, shown);
+            drop(graph);
+            is_so
+        }
+        None => {
+            drop(core);
+            false
+        }
+    }
+}
+
+/// The same, of a core with two ledgers.
+fn shows_on<
+    C: Ledger + Send + Sync,
+    P: Ledger + Send + Sync,
+    R: Threads + Wait + AllocGlobal + Sync,
+>(rt: &R, commands: Blank, puts: Blank, shown: Shown) -> bool
+    requires commands { (commands.name ≡ C.name) × (commands.parts ≡ C.parts) × (commands.parts ≡ 65536) }
+    requires puts { (puts.name ≡ P.name) × (puts.parts ≡ P.parts) × (puts.parts ≡ 17) }
+{
+    match new_core::<C, P>(rt.alloc(), commands, puts) {
+        Some(core) => is_shown_on_graph(rt, core, shown),
+        None => false,
+    }
+}
+
+/// The same, of a core of its own.
+fn shows<R: Threads + Wait + AllocGlobal + Sync>(rt: &R, shown: Shown) -> bool {
+    shows_on::<Brand, Brand, R>(rt, Blank::new(65_536), Blank::new(17), shown)
+}
+
+#[test]
+fn worker_drains_a_closed_queue(rt: HostRuntime) {
+    assert!(rt; shows(&rt, Shown::Worked(Worked::DrainsAClosedQueue)));
+}
+
+#[test]
+fn two_steps_run_at_once(rt: HostRuntime) {
+    assert!(rt; shows(&rt, Shown::Worked(Worked::TwoStepsAtOnce)));
+}
+
+#[test]
+fn a_step_is_made_without_the_lock(rt: HostRuntime) {
+    assert!(rt; shows(&rt, Shown::Worked(Worked::StepWithoutTheLock)));
+}
+
+#[test]
+fn a_session_waits_for_its_worker(rt: HostRuntime) {
+    assert!(rt; shows(&rt, Shown::WaitWaits));
+}

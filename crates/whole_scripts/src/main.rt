@@ -1,0 +1,58 @@
+//! The program: runs the worked scripts as the service's program does, and compares what each writes, tells and ends with.
+//!
+//! Standard input lists the runs, one a line: `NAME STATUS WORDS`, with the words behind the service's name. A run reads NAME.script; it is
+//! to end with that status, to write NAME.stdout and to tell NAME.stderr, byte for byte. A file that is not there has no bytes.
+//! Each line is printed with what came of it. The status is 0 where all agree, and 1 where one does not, or input or output failed.
+#![tactic(auto)]
+
+mod difference;
+mod row;
+mod run;
+mod verdict;
+
+use crate::row::row_in;
+use crate::run::verdict_on;
+use crate::verdict::Verdict;
+use std::alloc::AllocGlobal;
+use std::io;
+use std::io::{Input, Print};
+use std::process::ExitCode;
+use std::rt::Files;
+use std::sync::Wait;
+use std::thread::Threads;
+
+fn main(rt: HostRuntime) -> ExitCode {
+    match run_all(&rt) {
+        Ok(true) => ExitCode::SUCCESS,
+        _ => ExitCode::from(1),
+    }
+}
+
+/// Runs what standard input lists. Gives whether all agree.
+fn run_all<H: Input + Print + Files + Threads + Wait + AllocGlobal + Sync>(
+    rt: &H,
+) -> io::Result<bool> {
+    let mut runs = 0u64;
+    let mut agreeing = 0u64;
+    for line in rt.lines(rt.alloc()) {
+        runs = runs.saturating_add(1);
+        if tell(rt, line?.as_str())? {
+            agreeing = agreeing.saturating_add(1);
+        }
+    }
+    println!(rt; "{agreeing} of {runs} agree")?;
+    Ok(agreeing == runs)
+}
+
+/// Runs one line of the list, and prints it with what came of it. Gives whether that agrees.
+fn tell<H: Print + Files + Threads + Wait + AllocGlobal + Sync>(
+    rt: &H,
+    line: &str,
+) -> io::Result<bool> {
+    let verdict = match row_in(line) {
+        Some(row) => verdict_on(rt, row)?,
+        None => Verdict::NoRow,
+    };
+    println!(rt; "{line}: {verdict}")?;
+    Ok(verdict.agrees())
+}
