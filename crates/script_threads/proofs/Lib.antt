@@ -4,3 +4,4 @@ mod LineLemmas
 mod OneOfList
 mod PartLemmas
 mod ServeLemmas
+mod SettledLemmas

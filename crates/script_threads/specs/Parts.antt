@@ -1,13 +1,11 @@
 -- Private: sessions that are seated, started and have ended.
-use Rattle.std.specs.Prelude.{◌≡◌, List, [], ◌∷◌, ◌++◌, map, All}
+use Rattle.std.specs.Prelude.{◌≡◌, ◌≢◌, List, [], ◌∷◌, ◌++◌, map, All, AllPairs}
 use Rattle.service_core.specs.Headline.{AreParted}
 use Rattle.service_core.specs.Service.{AreAlone, ServiceState}
-use Rattle.shared_core.specs.CoreState.{CoreState, ShareState}
-use Rattle.settling.specs.Settling.{IsSettled}
 use Rattle.transcripts.specs.Transcripts.{TranscriptState}
 use Rattle.script_threads.specs.declared.crowd.Started.{Started}
 use Rattle.script_threads.specs.declared.crowd.Started.TheVariants.{Answered, Runs}
-use Rattle.script_threads.specs.Served.{Told, told_in}
+use Rattle.script_threads.specs.Served.{AreBorneOut, Told, told_in}
 use Rattle.script_threads.specs.Sessions.{Asked, PartState, IsTold, asked_in, transcripts_of}
 
 -- what a session asked that was answered, or that runs
@@ -27,12 +25,11 @@ pub record Adds (part : PartState) (sections : List Told) (transcripts : List Tr
   pub sections_are : new_sections ≡ sections ++ told_in part ∷ []
   pub transcripts_are : new_transcripts ≡ transcripts ++ transcripts_of (part ∷ [])
 
--- the parts are told and settled
-pub record Finishes (parts : List PartState) (core : CoreState) (sections : List Told) (service : ServiceState) : Type 0 where
+-- the parts are told, and borne out by the service that they left
+pub record Finishes (parts : List PartState) (sections : List Told) (service : ServiceState) : Type 0 where
   pub each : All IsTold parts
   pub sections_are : sections ≡ map told_in parts
-  pub shares : List ShareState
-  pub settled : IsSettled core (transcripts_of parts) shares
-  pub service_is : core.service ≡ service
+  pub apart : AllPairs (λ t u. t.id ≢ u.id) (transcripts_of parts)
+  pub borne_out : All (AreBorneOut service) (transcripts_of parts)
   pub alone : AreAlone service
   pub parted : AreParted service.device service

@@ -1,21 +1,17 @@
 -- What a script is answered whose sessions run on threads.
-use Rattle.std.specs.Prelude.{ℕ, ◌≡◌, ⊤, List, [], ◌++◌, map, All}
+use Rattle.std.specs.Prelude.{ℕ, ◌≡◌, ◌≢◌, ◌<◌, Some, List, [], ◌++◌, map, slice_get, All, AllPairs}
 use Rattle.rr_graph.specs.Graph.{Basis}
 use Rattle.service_core.specs.declared.device.Device.{Device}
 use Rattle.service_core.specs.Headline.{AreParted}
 use Rattle.service_core.specs.History.{History}
-use Rattle.service_core.specs.Service.{AreAlone, ServiceState, empty}
+use Rattle.service_core.specs.Service.{AreAlone, ServiceState, empty, journal_of}
 use Rattle.sessions.specs.Fitting.{own_graph}
-use Rattle.shared_core.specs.CoreState.{CoreState, ShareState}
-use Rattle.settling.specs.declared.not_settled.Cause.TheVariants.{Missing, Mismatch}
-use Rattle.settling.specs.Settling.{IsCause, IsSettled}
-use Rattle.transcripts.specs.Transcripts.{TranscriptState}
+use Rattle.settling.specs.Settling.{entry_of}
+use Rattle.transcripts.specs.Transcripts.{TranscriptState, receipts_of}
 use Rattle.script_text.specs.declared.operator_line.OperatorLine.{OperatorLine}
 use Rattle.script_text.specs.Threaded.{Parts as Script, Said}
 use Rattle.script_threads.specs.declared.answered.Answered.{Answered}
 use Rattle.script_threads.specs.declared.answered.Section.{Section}
-use Rattle.script_threads.specs.declared.answered.Unserved.{Unserved}
-use Rattle.script_threads.specs.declared.answered.Unserved.TheVariants.{NoMemory, NotSettled}
 use Rattle.script_threads.specs.Lines.{Replies, Serves}
 use Rattle.script_threads.specs.Sessions.{PartState, IsTold, asked_in, asked_of, transcripts_of}
 
@@ -30,17 +26,21 @@ told_in part = record { name = part.name; text = part.text }
 abbrev pub section_told : Section → Told
 section_told section = record { name = section.name.now; text = section.text.items }
 
--- each name's session was told that, just those of live tenancies having run. What they were told is settled with the core that they left:
--- its journals are those of their tenancies alone, and its strips are parted
+-- the receipts of a transcript are entries of its tenancy's journal, at rising places: each tells of the entry at its place
+pub record AreBorneOut (service : ServiceState) (t : TranscriptState) : Type 0 where
+  pub ids : All (λ r. r.id ≡ t.id) (receipts_of t.items)
+  pub rising : AllPairs (λ p q. p < q) (map (λ r. r.place) (receipts_of t.items))
+  pub entries : All (λ r. slice_get (journal_of service t.id) r.place ≡ Some (entry_of r)) (receipts_of t.items)
+
+-- each name's session was told that, just those of live tenancies having run, each of another tenancy. What they were told is borne out by the
+-- service that they left: its journals are those of their tenancies alone, and its strips are parted
 pub record Ran (names : List (List ℕ)) (histories : List History) (sessions : List Said) (sections : List Told) (service : ServiceState) : Type 0 where
   pub parts : List PartState
   pub asked : map asked_in parts ≡ map (asked_of names histories) sessions
   pub each : All IsTold parts
   pub sections_are : sections ≡ map told_in parts
-  pub core : CoreState
-  pub service_is : core.service ≡ service
-  pub shares : List ShareState
-  pub settled : IsSettled core (transcripts_of parts) shares
+  pub apart : AllPairs (λ t u. t.id ≢ u.id) (transcripts_of parts)
+  pub borne_out : All (AreBorneOut service) (transcripts_of parts)
   pub alone : AreAlone service
   pub parted : AreParted service.device service
 
@@ -74,9 +74,3 @@ pub record RunsOn (graph : Basis) (names : List (List ℕ)) (histories : List Hi
   pub settled : ServiceState
   pub ran : Ran names histories sessions sections settled
   pub ends : Ends graph names settled rest before after
-
--- a receipt that isn't borne out is the first such
-abbrev pub IsUnserved : Unserved → Type 0
-IsUnserved NoMemory = ⊤
-IsUnserved (NotSettled Missing) = ⊤
-IsUnserved (NotSettled (Mismatch id place)) = (core : CoreState) × (transcripts : List TranscriptState) × (shares : ℕ) × IsCause core transcripts shares (Mismatch id place)

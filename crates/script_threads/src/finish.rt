@@ -1,7 +1,7 @@
 //! What the sessions were told, once they and the workers have ended.
-ghost use Rattle.std.specs.Prelude.{[], map, IfErr, IfOk, OnOk};
+ghost use Rattle.std.specs.Prelude.{[], map, IfOk, OnOk};
 ghost use Rattle.script_threads.specs.Parts.{Adds, AreParts, Finishes};
-ghost use Rattle.script_threads.specs.Served.{IsUnserved, section_told};
+ghost use Rattle.script_threads.specs.Served.{section_told};
 
 use crate::answered::{Section, Unserved};
 use crate::part::Part;
@@ -27,8 +27,7 @@ pub(crate) fn finish<'t, C: Ledger, P: Ledger>(
     parts: Vec<Part<'t, C>>,
     shares: Vec<Share<P>>,
 ) -> Result<(Service, Vec<Section<'t>>), Unserved>
-    ensures ok { IfOk result (λ r. Finishes parts.entry.items core (map section_told r.1.items) r.0) }
-    ensures unserved { IfErr result IsUnserved }
+    ensures ok { IfOk result (λ r. Finishes parts.entry.items (map section_told r.1.items) r.0) }
 {
     let Parted {
         sections,

@@ -1,9 +1,9 @@
 //! The sessions of a script, run on threads beside the workers.
-ghost use Rattle.std.specs.Prelude.{◌≡◌, [], List, ℕ, map, All, IfErr, IfOk};
+ghost use Rattle.std.specs.Prelude.{◌≡◌, [], List, ℕ, map, All, IfOk};
 ghost use Rattle.job_queue.specs.Balance.{log};
 ghost use Rattle.script_text.specs.Threaded.{Said, said_by};
 ghost use Rattle.service_core.specs.History.{History};
-ghost use Rattle.script_threads.specs.Served.{IsUnserved, Ran, section_told};
+ghost use Rattle.script_threads.specs.Served.{Ran, section_told};
 ghost use Rattle.script_threads.specs.Sessions.{asked_of};
 
 use crate::answered::{Section, Unserved};
@@ -37,7 +37,6 @@ pub(crate) fn run_sessions<
     sessions: Vec<SessionInput<'t>>,
 ) -> Result<(Service, Vec<Section<'t>>), Unserved>
     ensures ok { IfOk result (λ r. Ran operator.now core.service.histories (map said_by sessions.entry.items) (map section_told r.1.items) r.0) }
-    ensures unserved { IfErr result IsUnserved }
 {
     let mut core = core;
     match prepare(rt.alloc(), workers, &mut core, operator, sessions) {
@@ -68,7 +67,6 @@ fn prepare<'t, C: Ledger, P: Ledger>(
     ensures seats { IfOk result (λ p. All (λ s. s ≡ record { of = p.ready; log = log [] [] }) p.workers.0.items) }
     ensures passes { IfOk result (λ p. All (λ s. s ≡ record { of = p.ready; log = log [] [] }) p.sessions.0.items) }
     ensures seated { IfOk result (λ p. p.sessions.1.items ≡ map (asked_of operator.now core.old.service.histories) (map said_by sessions.entry.items)) }
-    ensures unserved { IfErr result IsUnserved }
 {
     let shares = shares(alloc, core, workers)?;
     let (ready, seats, passes) = Ready::new(alloc, shares.len(), sessions.len())?;
@@ -95,7 +93,6 @@ fn run_prepared<
     requires seats { All (λ s. s ≡ record { of = prepared.ready; log = log [] [] }) prepared.workers.0.items }
     requires passes { All (λ s. s ≡ record { of = prepared.ready; log = log [] [] }) prepared.sessions.0.items }
     ensures ok { (names : List (List ℕ)) (histories : List History) (sessions : List Said) → prepared.entry.sessions.1.items ≡ map (asked_of names histories) sessions → IfOk result (λ r. Ran names histories sessions (map section_told r.1.items) r.0) }
-    ensures unserved { IfErr result IsUnserved }
 {
     let Prepared {
         ready,

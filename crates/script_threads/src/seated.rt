@@ -1,7 +1,6 @@
 //! Sessions, each with its tenancy's lease where that is live.
-ghost use Rattle.std.specs.Prelude.{◌≡◌, map, IfErr, IfOk};
+ghost use Rattle.std.specs.Prelude.{◌≡◌, map, IfOk};
 ghost use Rattle.script_text.specs.Threaded.{said_by};
-ghost use Rattle.script_threads.specs.Served.{IsUnserved};
 ghost use Rattle.script_threads.specs.Sessions.{asked_of};
 
 use crate::answered::Unserved;
@@ -42,7 +41,6 @@ pub(crate) fn seat_all<'t, C: Ledger, P: Ledger>(
 ) -> Result<Vec<Seated<'t, C>>, Unserved>
     ensures service { core.new.service ≡ core.old.service }
     ensures seats { IfOk result (λ seats. seats.items ≡ map (asked_of operator.now core.old.service.histories) (map said_by sessions.entry.items)) }
-    ensures unserved { IfErr result IsUnserved }
 {
     let mut seats = Vec::new(alloc);
     for said in sessions {
@@ -62,7 +60,6 @@ fn seat<'t, C: Ledger, P: Ledger>(
 ) -> Result<Seated<'t, C>, Unserved>
     ensures service { core.new.service ≡ core.old.service }
     ensures seat { IfOk result (λ seat. seat ≡ asked_of operator.now core.old.service.histories (said_by said.entry)) }
-    ensures unserved { IfErr result IsUnserved }
 {
     let id = operator.last_id(said.name);
     if core.state(id).is_none() {
@@ -89,7 +86,6 @@ pub(crate) fn shares<C: Ledger, P: Ledger>(
     workers: u32,
 ) -> Result<Vec<Share<P>>, Unserved>
     ensures service { core.new.service ≡ core.old.service }
-    ensures unserved { IfErr result IsUnserved }
 {
     let mut shares = Vec::new(alloc);
     for _worker in 0..workers {

@@ -1,11 +1,11 @@
 //! A whole script.
-ghost use Rattle.std.specs.Prelude.{◌≡◌, ◌≤◌, [], map, IfErr, IfOk, OnOk};
+ghost use Rattle.std.specs.Prelude.{◌≡◌, ◌≤◌, [], map, IfOk, OnOk};
 ghost use Rattle.arch_file.specs.Arch.{IsArch};
 ghost use Rattle.operator.specs.Held.{held};
 ghost use Rattle.script_text.specs.Script.{named_operator};
 ghost use Rattle.script_text.specs.Threaded.{parts_of, said_by};
 ghost use Rattle.sessions.specs.Fitting.{own_graph};
-ghost use Rattle.script_threads.specs.Served.{Ends, IsServedFrom, IsServedOnThreads, IsUnserved, RunsOn, section_told};
+ghost use Rattle.script_threads.specs.Served.{Ends, IsServedFrom, IsServedOnThreads, RunsOn, section_told};
 
 use crate::answered::{Answered, Section, Unserved};
 use crate::operator_lines::serve_lines;
@@ -37,7 +37,6 @@ pub fn serve_on_threads<'t, R: Threads + Wait + AllocGlobal + Sync>(
     requires has_rows { 1 ≤ device.rows }
     requires rows { device.rows ≤ 64 }
     ensures ok { IfOk result (λ answered. IsServedOnThreads device (parts_of script.entry) answered) }
-    ensures unserved { IfErr result IsUnserved }
 {
     let commands = Blank::new(65_536);
     let puts = Blank::new(17);
@@ -66,7 +65,6 @@ fn serve<
     requires commands { (commands.name ≡ C.name) × (commands.parts ≡ C.parts) × (commands.parts ≡ 65536) }
     requires puts { (puts.name ≡ P.name) × (puts.parts ≡ P.parts) × (puts.parts ≡ 17) }
     ensures ok { IfOk result (λ answered. IsServedOnThreads device (parts_of script.entry) answered) }
-    ensures unserved { IfErr result IsUnserved }
 {
     match device_graph(rt.alloc(), &device) {
         Ok(graph) => {
@@ -108,7 +106,6 @@ fn serve_over<
     requires commands { (commands.name ≡ C.name) × (commands.parts ≡ C.parts) × (commands.parts ≡ 65536) }
     requires puts { (puts.name ≡ P.name) × (puts.parts ≡ P.parts) × (puts.parts ≡ 17) }
     ensures ok { IfOk result (λ answered. IsServedOnThreads device (parts_of script.entry) answered) }
-    ensures unserved { IfErr result IsUnserved }
 {
     match Service::new(rt.alloc(), device) {
         Ok(service) => serve_script::<C, P, R>(rt, workers, graph, service, script, commands, puts),
@@ -138,7 +135,6 @@ fn serve_script<
     requires commands { (commands.name ≡ C.name) × (commands.parts ≡ C.parts) × (commands.parts ≡ 65536) }
     requires puts { (puts.name ≡ P.name) × (puts.parts ≡ P.parts) × (puts.parts ≡ 17) }
     ensures ok { IfOk result (λ answered. IsServedFrom graph.now service (parts_of script.entry) (map section_told answered.sections.items) answered.operator.items) }
-    ensures unserved { IfErr result IsUnserved }
 {
     let alloc = rt.alloc();
     let mut operator = Operator::new(alloc);
@@ -190,7 +186,6 @@ fn serve_parts<
     requires commands { (commands.name ≡ C.name) × (commands.parts ≡ C.parts) × (commands.parts ≡ 65536) }
     requires puts { (puts.name ≡ P.name) × (puts.parts ≡ P.parts) × (puts.parts ≡ 17) }
     ensures ok { IfOk result (λ sections. IsServedFrom graph.now service (parts_of script.entry) (map section_told sections.items) (held reply.new)) }
-    ensures unserved { IfErr result IsUnserved }
 {
     let ThreadedScript {
         ahead,
@@ -232,7 +227,6 @@ fn serve_sessions<
     requires commands { (commands.name ≡ C.name) × (commands.parts ≡ C.parts) × (commands.parts ≡ 65536) }
     requires puts { (puts.name ≡ P.name) × (puts.parts ≡ P.parts) × (puts.parts ≡ 17) }
     ensures ok { IfOk result (λ sections. RunsOn graph.now operator.old service.histories (map said_by sessions.entry.items) (map named_operator rest.entry.items) (map section_told sections.items) (held reply.old) (held reply.new)) }
-    ensures unserved { IfErr result IsUnserved }
 {
     match Core::<C, P>::over(rt.alloc(), service, commands, puts) {
         Ok(core) => match run_sessions(rt, graph, workers, core, operator, sessions) {
@@ -264,7 +258,6 @@ fn serve_rest<'t>(
     reply: &mut MemorySink,
 ) -> Result<Vec<Section<'t>>, Unserved>
     ensures ok { IfOk result (λ told. (told.items ≡ sections.entry.items) × Ends graph.now operator.old service (map named_operator rest.entry.items) (held reply.old) (held reply.new)) }
-    ensures unserved { IfErr result IsUnserved }
 {
     let mut service = service;
     let served = serve_settled(alloc, graph, operator, &mut service, rest, reply);
@@ -288,7 +281,6 @@ fn serve_settled<'t>(
     reply: &mut MemorySink,
 ) -> Result<(), Unserved>
     ensures ok { OnOk result (Ends graph.now operator.old service.old (map named_operator lines.entry.items) (held reply.old) (held reply.new)) }
-    ensures unserved { IfErr result IsUnserved }
 {
     if !operator.is_of(service) {
         drop(lines);
