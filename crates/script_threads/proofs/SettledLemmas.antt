@@ -1,5 +1,5 @@
 -- What is settled is borne out by the service that is left.
-use Rattle.std.proofs.Common.{◌≡◌, ◌<◌, List, [], ◌∷◌, Some, sym, subst}
+use Rattle.std.proofs.Common.{◌≡◌, ◌<◌, List, Some, sym, subst}
 use Rattle.std.specs.Prelude.{All, AllPairs, slice_get}
 use Rattle.service_core.specs.Service.{ServiceState, journal_of}
 use Rattle.settling.specs.Settling.{AreMarkedEntries, entry_of}
@@ -16,5 +16,4 @@ borne core service t same is = record {
 
 -- each transcript
 pub all_borne : (core : CoreState) (service : ServiceState) (ts : List TranscriptState) → core.service ≡ service → All (AreMarkedEntries core) ts → All (AreBorneOut service) ts
-all_borne core service [] same are = tt
-all_borne core service (t ∷ ts) same are = (borne core service t same are.0, all_borne core service ts same are.1)
+all_borne core service ts same are = λ k d within. borne core service _ same (are k d within)

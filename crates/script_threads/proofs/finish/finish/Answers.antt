@@ -1,0 +1,23 @@
+use Rattle.std.proofs.Common.{◌≡◌, ◌≢◌, ap, sym, subst, ◌∙◌}
+use Rattle.std.specs.Prelude.{All, AllPairs}
+use Rattle.settling.specs.Settling.{SettledState}
+use Rattle.script_threads.specs.Served.{AreBorneOut}
+use Rattle.script_threads.proofs.SettledLemmas.{all_borne}
+use Rattle.script_threads.proofs.finish.finish.Goals as goal
+
+pub returns-in-Ok : goal.returns-in-Ok
+returns-in-Ok g c =
+    let service = c.into_service-service.result in
+    let are = c.in_ok-sections.ensures in
+    let settled = c.in-Ok.ensures.settled in
+    let left = sym (c.into_service-service.ensures ∙ ap (λ (s : SettledState). s.service) c.in-Ok.ensures.service) in
+    record {
+      ok = record {
+        each = are.each;
+        sections_are = are.sections_are;
+        apart = subst (λ ts. AllPairs (λ t u. t.id ≢ u.id) ts) are.transcripts_are settled.apart;
+        borne_out = subst (λ ts. All (AreBorneOut service) ts) are.transcripts_are (all_borne c.args.core service _ left settled.each);
+        alone = c.offset-parted.ensures.alone;
+        parted = c.offset-parted.ensures.parted;
+      };
+    }
