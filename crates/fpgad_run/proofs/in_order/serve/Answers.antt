@@ -11,5 +11,5 @@ serve_all-output-requires c = begins_own c.in_ok-graph.graph c.in_ok-core.core c
 pub returns : goal.returns
 returns c =
     c.serve_all-output.ensures c.args.options.now c.args.arch
-    (ap (λ (s : Stage). s.service) c.new-running.ensures.stage ∙ c.in_ok-core.ensures ∙ ap empty c.device.ensures)
-    (ap (λ (s : Stage). s.graph) c.new-running.ensures.stage ∙ c.in_ok-graph.ensures ∙ ap own_graph c.device.ensures)
+    (ap (λ (s : Stage). s.service) c.new-running.ensures.stage ∙ c.in_ok-core.ensures ∙ ap empty c.device-device.ensures)
+    (ap (λ (s : Stage). s.graph) c.new-running.ensures.stage ∙ c.in_ok-graph.ensures ∙ ap own_graph c.device-device.ensures)
