@@ -15,7 +15,7 @@ use strips::{DeviceGraph, Window};
 use tenant_slot::{Command, SharedText};
 
 /// The device has so many columns, one row and two tracks.
-const COLUMNS: u32 = 3;
+const COLUMNS: u32 = 5;
 
 /// The smallest architecture, with two tracks.
 fn architecture(alloc: Global) -> Option<Arch>
@@ -86,6 +86,21 @@ pub(crate) fn begin_placing<C: Ledger, P: Ledger>(
         }
         None => None,
     }
+}
+
+/// The same of a tenancy that then begins to route: the three steps that place it are made.
+pub(crate) fn begin_routing<C: Ledger, P: Ledger>(
+    alloc: Global,
+    core: &mut Core<C, P>,
+    graph: &DeviceGraph,
+    id: u32,
+) -> Option<u32> {
+    let slot = begin_placing(alloc, core, graph, id);
+    let begins = is_stepped(core, graph, id)
+        && is_stepped(core, graph, id)
+        && is_stepped(core, graph, id)
+        && is_served(core, id, Command::Route);
+    if begins { slot } else { None }
 }
 
 fn is_served<C: Ledger, P: Ledger>(core: &mut Core<C, P>, id: u32, command: Command) -> bool {

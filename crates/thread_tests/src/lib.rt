@@ -4,6 +4,7 @@
 //! - `showing`: what is shown, each of a core of its own.
 //! - `workers`: a worker that drains a closed queue, two steps at once, and a step without the lock.
 //! - `waiting`: a session that waits for a worker, and what it is told.
+//! - `moving`: a strip that moves while a worker holds a step.
 //! - `cores`, `gates`, `seats`: what these share.
 #![tactic(auto)]
 
@@ -11,6 +12,8 @@
 mod cores;
 #[cfg(test)]
 mod gates;
+#[cfg(test)]
+mod moving;
 #[cfg(test)]
 mod seats;
 #[cfg(test)]

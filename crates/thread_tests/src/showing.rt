@@ -2,6 +2,7 @@
 ghost use Rattle.std.specs.Prelude.{◌≡◌};
 
 use crate::cores::{new_core, new_graph};
+use crate::moving::moves_under_a_held_job;
 use crate::waiting::waits;
 use crate::workers::is_worked;
 use shared_core::Core;
@@ -17,6 +18,7 @@ use strips::DeviceGraph;
 enum Shown {
     Worked(Worked),
     WaitWaits,
+    StripMoves,
 }
 
 /// What is shown of workers.
@@ -36,6 +38,7 @@ fn is_shown<
     match shown {
         Shown::Worked(worked) => is_worked(rt, core, graph, worked),
         Shown::WaitWaits => waits(rt, core, graph),
+        Shown::StripMoves => moves_under_a_held_job(rt, core, graph),
     }
 }
 
@@ -96,4 +99,9 @@ fn a_step_is_made_without_the_lock(rt: HostRuntime) {
 #[test]
 fn a_session_waits_for_its_worker(rt: HostRuntime) {
     assert!(rt; shows(&rt, Shown::WaitWaits));
+}
+
+#[test]
+fn a_strip_moves_under_a_held_step(rt: HostRuntime) {
+    assert!(rt; shows(&rt, Shown::StripMoves));
 }
