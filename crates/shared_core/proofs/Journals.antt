@@ -1,6 +1,6 @@
 -- What the calls of a service make of its journals.
-use Rattle.std.proofs.Common.{◌≡◌, ℕ, ◌+◌, ◌-◌, ◌≤◌, List, [], ◌∷◌, ◌++◌, length, Bool, true, false, eqb, Option, Some, None, Ok, Err, refl, sym, ap, ◌∙◌, arith, length-append}
-use Rattle.std.specs.Prelude.{if◌then◌else◌, IsSomeAnd, Result, is_some, option_map}
+use Rattle.std.proofs.Common.{◌≡◌, ℕ, ◌+◌, ◌-◌, ◌≤◌, List, [], ◌∷◌, ◌++◌, length, Bool, true, false, eqb, Option, Some, None, Ok, Err, refl, ap, ◌∙◌, arith, length-append}
+use Rattle.std.specs.Prelude.{if◌then◌else◌, IsSomeAnd, Result, option_map}
 use Rattle.std.specs.declared.alloc.AllocError.{AllocError}
 use Rattle.std.proofs.lemmas.Bool.Decides.{nat_tests}
 use Rattle.job_state.specs.declared.step.JobStep.{JobStep}
@@ -14,12 +14,14 @@ use Rattle.service_core.specs.declared.put_reply.PutReply.{PutReply}
 use Rattle.service_core.specs.declared.put_reply.PutReply.TheVariants.{Recorded, Full, Gone}
 use Rattle.service_core.specs.History.{History, with_entry, with_out}
 use Rattle.service_core.specs.Receipt.{Receipted}
-use Rattle.service_core.specs.Service.{ServiceState, entries_in, history_of, if_live, live_of, modified}
+use Rattle.service_core.specs.Service.{ServiceState, entries_in, history_of, if_live, live_of, modified, with_entry_of, with_out_of}
 use Rattle.service_core.specs.Calls.{IsGivenBack, IsGivenBackTo, IsPut, IsReceipt, IsServed, IsTaken, Puts, step_entry}
-use Rattle.service_core.proofs.Lists.{history_of-modified, length-modified}
-use Rattle.shared_core.specs.CoreState.{is_live, is_put, puts_among, puts_in}
+use Rattle.service_core.proofs.Lists.{history_of-modified}
+use Rattle.shared_core.specs.CoreState.{is_put, puts_among, puts_in}
 use Rattle.shared_core.specs.CoreCalls.{puts_of}
 use Rattle.shared_core.specs.Accounts.{entries_of}
+use Rattle.shared_core.specs.Following.{Follows, GoesOn, Stays}
+use Rattle.shared_core.proofs.Following.{Follows-changed, Follows-same, GoesOn-entry, GoesOn-out, Stays-changed, Stays-same, changed_at}
 
 abbrev put_mark : Entry → ℕ
 put_mark e = if is_put e.event then 1 else 0
@@ -50,40 +52,34 @@ pub puts_in-push : (hs : List History) (h : History) → puts_in (hs ++ h ∷ []
 puts_in-push [] h = omega arith
 puts_in-push (g ∷ hs) h = omega (arith, puts_in-push hs h)
 
--- journals grow, by so many put entries; the tenancies are the same, and live or not as before
-pub record Grows (old new : List History) (puts : ℕ) : Type 0 where
-  pub count : length new ≡ length old
-  pub live : (id : ℕ) → is_live new id ≡ is_live old id
-  pub longer : (id : ℕ) → entries_of old id ≤ entries_of new id
-  pub put : puts_in new ≡ puts_in old + puts
+-- journals grow, by so many put entries; the service goes on, and its tenancies stay
+pub record Grows (old new : ServiceState) (puts : ℕ) : Type 0 where
+  pub follows : Follows old new
+  pub stays : Stays old new
+  pub longer : (id : ℕ) → entries_of old.histories id ≤ entries_of new.histories id
+  pub put : puts_in new.histories ≡ puts_in old.histories + puts
 
-pub Grows-none : (old new : List History) → new ≡ old → Grows old new 0
-Grows-none old new same = record { count = ap length same; live = λ id. ap (λ hs. is_live hs id) same; longer = λ id. (rw same (omega arith)); put = rw same (omega arith) }
-
-live_some : (h : History) → is_some (if_live (Some h)) ≡ h.live
-live_some h = elim h.live as (λ b. is_some (if b then Some h else None) ≡ b) [ true ↦ refl | false ↦ refl ]
-
-live_kept : (change : History → History) → ((h : History) → (change h).live ≡ h.live) → (o : Option History) → is_some (if_live (option_map change o)) ≡ is_some (if_live o)
-live_kept change keeps None = refl
-live_kept change keeps (Some h) = live_some (change h) ∙ (keeps h ∙ sym (live_some h))
+pub Grows-none : (old new : ServiceState) → new ≡ old → Grows old new 0
+Grows-none old new same = rw same (record { follows = Follows-same old; stays = Stays-same old; longer = λ id. omega arith; put = omega arith })
 
 longer_in : (change : History → History) → ((h : History) → length h.entries ≤ length (change h).entries) → (o : Option History) → length (entries_in o) ≤ length (entries_in (option_map change o))
 longer_in change grows None = omega arith
 longer_in change grows (Some h) = grows h
 
-Grows-changed : (hs : List History) (id : ℕ) (change : History → History) (puts : ℕ) → ((h : History) → (change h).live ≡ h.live) → ((h : History) → length h.entries ≤ length (change h).entries) → puts_in (modified hs id change) ≡ puts_in hs + puts → Grows hs (modified hs id change) puts
-Grows-changed hs id change puts live longer put = record {
-  count = length-modified hs id change;
-  live = λ other. grind (arith, nat_tests, history_of-modified hs id other change, live_kept change live (history_of hs other));
-  longer = λ other. grind (arith, nat_tests, history_of-modified hs id other change, longer_in change longer (history_of hs other));
+Grows-changed : (s : ServiceState) (id : ℕ) (change : History → History) (puts : ℕ) → ((h : History) → GoesOn h (change h)) → ((h : History) → (change h).live ≡ h.live) → ((h : History) → length h.entries ≤ length (change h).entries) →
+    puts_in (modified s.histories id change) ≡ puts_in s.histories + puts → Grows s (changed_at s id change) puts
+Grows-changed s id change puts goes live longer put = record {
+  follows = Follows-changed s id change goes;
+  stays = Stays-changed s id change live;
+  longer = λ other. grind (arith, nat_tests, history_of-modified s.histories id other change, longer_in change longer (history_of s.histories other));
   put = put;
 }
 
-Grows-out : (hs : List History) (id : ℕ) (out : Bool) → Grows hs (modified hs id (with_out out)) 0
-Grows-out hs id out = Grows-changed hs id (with_out out) 0 (λ h. refl) (λ h. omega arith) (omega (arith, puts_in-kept hs id (with_out out) (λ h. refl)))
+Grows-out : (s : ServiceState) (id : ℕ) (out : Bool) → Grows s (with_out_of s id out) 0
+Grows-out s id out = Grows-changed s id (with_out out) 0 (GoesOn-out out) (λ h. refl) (λ h. omega arith) (omega (arith, puts_in-kept s.histories id (with_out out) (λ h. refl)))
 
-Grows-entry : (hs : List History) (id : ℕ) (e : Entry) (h : History) → history_of hs id ≡ Some h → Grows hs (modified hs id (with_entry e)) (put_mark e)
-Grows-entry hs id e h at = Grows-changed hs id (with_entry e) (put_mark e) (λ g. refl) (λ g. omega (arith, length-append g.entries (e ∷ []))) (puts_in-entry hs id e h at)
+Grows-entry : (s : ServiceState) (id : ℕ) (e : Entry) (h : History) → history_of s.histories id ≡ Some h → Grows s (with_entry_of s id e) (put_mark e)
+Grows-entry s id e h at = Grows-changed s id (with_entry e) (put_mark e) (GoesOn-entry e) (λ g. refl) (λ g. omega (arith, length-append g.entries (e ∷ []))) (puts_in-entry s.histories id e h at)
 
 -- a live tenancy is one of them
 live_there : (P : History → Type 0) (o : Option History) → IsSomeAnd (if_live o) P → (h : History) × (o ≡ Some h)
@@ -97,35 +93,34 @@ received (Some h) id command r is = (h, refl)
 abbrev hs_of : ServiceState → List History
 hs_of s = s.histories
 
-pub served : (old new : ServiceState) (id : ℕ) (command : Command) (r : Result Receipted NotServed) → IsServed old id command r new → Grows old.histories new.histories 0
+pub served : (old new : ServiceState) (id : ℕ) (command : Command) (r : Result Receipted NotServed) → IsServed old id command r new → Grows old new 0
 served old new id command (Ok r) is =
     let got = received (history_of old.histories id) id command r is.0 in
-    let to = ap hs_of is.1 in
-    rw to (Grows-entry old.histories id (record { event = Asked command; reply = r.reply }) got.0 got.1)
-served old new id command (Err (JournalFull note)) is = Grows-none old.histories new.histories (ap hs_of is.2)
-served old new id command (Err (NoSuchTenancy note)) is = Grows-none old.histories new.histories (ap hs_of is.2)
-served old new id command (Err NoMemory) is = Grows-none old.histories new.histories (ap hs_of is.1)
+    rw is.1 (Grows-entry old id (record { event = Asked command; reply = r.reply }) got.0 got.1)
+served old new id command (Err (JournalFull note)) is = Grows-none old new is.2
+served old new id command (Err (NoSuchTenancy note)) is = Grows-none old new is.2
+served old new id command (Err NoMemory) is = Grows-none old new is.1
 
-pub taken : (old new : ServiceState) (id : ℕ) (r : Option JobState) → IsTaken old id r new → Grows old.histories new.histories 0
-taken old new id None is = Grows-none old.histories new.histories (ap hs_of is.1)
-taken old new id (Some job) is = rw (ap hs_of is.1) (Grows-out old.histories id true)
+pub taken : (old new : ServiceState) (id : ℕ) (r : Option JobState) → IsTaken old id r new → Grows old new 0
+taken old new id None is = Grows-none old new is.1
+taken old new id (Some job) is = rw is.1 (Grows-out old id true)
 
-given_to : (old new : ServiceState) (job : JobState) (o : Option History) → IsGivenBackTo o old job new → Grows old.histories new.histories 0
-given_to old new job None is = Grows-none old.histories new.histories (ap hs_of is)
-given_to old new job (Some h) is = rw (ap hs_of is.2) (Grows-out old.histories job.step.id is.0)
+given_to : (old new : ServiceState) (job : JobState) (o : Option History) → IsGivenBackTo o old job new → Grows old new 0
+given_to old new job None is = Grows-none old new is
+given_to old new job (Some h) is = rw is.2 (Grows-out old job.step.id is.0)
 
-pub given_back : (old new : ServiceState) (job : JobState) → IsGivenBack old job new → Grows old.histories new.histories 0
+pub given_back : (old new : ServiceState) (job : JobState) → IsGivenBack old job new → Grows old new 0
 given_back old new job is = given_to old new job (live_of old.histories job.step.id) is
 
-put_so : (old new : ServiceState) (done : JobStep) (foreign : Bool) (r : Result PutReply (JobStep × AllocError)) → IsPut old done foreign r new → Grows old.histories new.histories (puts_of r)
+put_so : (old new : ServiceState) (done : JobStep) (foreign : Bool) (r : Result PutReply (JobStep × AllocError)) → IsPut old done foreign r new → Grows old new (puts_of r)
 put_so old new done foreign (Ok (Recorded reply)) is =
     let got = live_there _ (history_of old.histories done.id) is.0 in
-    rw (ap hs_of is.1) (Grows-entry old.histories done.id (step_entry done foreign reply) got.0 got.1)
-put_so old new done foreign (Ok Full) is = Grows-none old.histories new.histories (ap hs_of is.1)
-put_so old new done foreign (Ok Gone) is = Grows-none old.histories new.histories (ap hs_of is.1)
-put_so old new done foreign (Err back) is = Grows-none old.histories new.histories (ap hs_of is.2)
+    rw is.1 (Grows-entry old done.id (step_entry done foreign reply) got.0 got.1)
+put_so old new done foreign (Ok Full) is = Grows-none old new is.1
+put_so old new done foreign (Ok Gone) is = Grows-none old new is.1
+put_so old new done foreign (Err back) is = Grows-none old new is.2
 
-pub put : (old new : ServiceState) (done : JobStep) (r : Result PutReply (JobStep × AllocError)) → Puts old done r new → Grows old.histories new.histories (puts_of r)
+pub put : (old new : ServiceState) (done : JobStep) (r : Result PutReply (JobStep × AllocError)) → Puts old done r new → Grows old new (puts_of r)
 put old new done r is = put_so old new done is.0 r is.1
 
 -- a receipt is the entry at the end of its journal

@@ -9,30 +9,37 @@ use Rattle.tenant_slot.proofs.Runs.{step-served}
 use Rattle.service_core.specs.History.{History, closed, state_of}
 use Rattle.service_core.specs.declared.not_served.NotServed.{NotServed}
 use Rattle.service_core.specs.declared.not_served.NotServed.TheVariants.{NoMemory, JournalFull, NoSuchTenancy}
+use Rattle.service_core.specs.declared.op_refusal.OpRefusal.{OpRefusal}
+use Rattle.service_core.specs.declared.op_refusal.OpRefusal.TheVariants.{BadWidth, IdsSpent, NoMemory as OpNoMemory, NoRoom, NoSuchTenancy as OpNoSuchTenancy, TooManyStrips}
 use Rattle.service_core.specs.Receipt.{Receipted}
-use Rattle.service_core.specs.Service.{AreAlone, IsAloneOn, ServiceState, admitted, entries_in, history_of, if_live, live_of, modified, placed_width, live_width}
-use Rattle.service_core.specs.Calls.{IsAdmitted, IsEvicted, IsReceipt, IsServed}
+use Rattle.service_core.specs.Service.{AreAlone, IsAloneOn, ServiceState, admitted, entries_in, history_of, if_live, live_of, modified, placed_width, live_width, with_tenancy, without_tenancy}
+use Rattle.service_core.specs.Calls.{IsAdmitted, IsEvicted, IsMoved, IsReceipt, IsServed}
 use Rattle.service_core.specs.Headline.{AreParted}
+use Rattle.service_core.proofs.MovedStrips.{same_histories}
 use Rattle.service_core.proofs.Lists.{All-history_of, history_of-modified, history_of-past, history_of-push, history_of-zero, length-modified}
 use Rattle.shared_core.specs.CoreState.{AreSlotted, CoreState, LeaseState, Marked, SlotTable, can_lease, given, handed, has_room_in, is_leased, is_live, marked_of, number_of, places_of, remarked, unmarked, with_place}
 use Rattle.shared_core.specs.Accounts.{AreMarks, IsAccount, IsRising, entries_of}
+use Rattle.shared_core.specs.Following.{Follows}
+use Rattle.shared_core.proofs.Following.{Follows-moved, Follows-push, Follows-same, Follows-trans, Follows-without, Stays-trans}
 use Rattle.shared_core.proofs.Holders.{AreSlotted-freed, AreSlotted-given, AreSlotted-same}
 use Rattle.shared_core.proofs.Journals.{Grows, puts_in-kept, puts_in-push, received_at, served}
 use Rattle.shared_core.proofs.Marks.{length-remarked, marked_of-at}
 use Rattle.shared_core.proofs.Sums.{leases_in-few, leases_in-given, leases_in-place, leases_in-push, places_of-given, places_of-other, places_of-place, places_of-push, places_sum-given, places_sum-place, places_sum-push, rising-longer, rising-push}
 
-AreMarks-grown : (old new : List History) (marks : List Marked) (puts : ℕ) → Grows old new puts → AreMarks old marks → AreMarks new marks
-AreMarks-grown old new marks puts grows was = record {
-  count = was.count ∙ sym grows.count;
+AreMarks-grown : (begun : List History) (old new : ServiceState) (marks : List Marked) (puts : ℕ) → Grows old new puts → AreMarks begun old.histories marks → AreMarks begun new.histories marks
+AreMarks-grown begun old new marks puts grows was = record {
+  count = was.count ∙ sym grows.stays.count;
   few = was.few;
-  rising = λ id. rising-longer 0 (places_of marks id) _ _ (grows.longer id) (was.rising id);
+  rising = λ id. rising-longer (entries_of begun id) (places_of marks id) _ _ (grows.longer id) (was.rising id);
 }
 
 -- a call that leaves the marks and the numbers
-pub IsAccount-grown : (old new : List History) (marks : List Marked) (holders : List ℕ) (commands : ℕ × ℕ × ℕ × ℕ) (puts : ℕ × ℕ × ℕ) (shares more total' : ℕ) → Grows old new more → total' ≡ puts.0 + more → IsAccount old marks holders commands puts shares → IsAccount new marks holders commands (total', puts.1, puts.2) shares
-IsAccount-grown old new marks holders commands puts shares more total' grows is was = record {
-  placed = AreMarks-grown old new marks more grows was.placed;
-  slotted = AreSlotted-same (is_live old) (is_live new) holders grows.live was.slotted;
+pub IsAccount-grown : (begun : ServiceState) (stay : Bool) (old new : ServiceState) (marks : List Marked) (holders : List ℕ) (commands : ℕ × ℕ × ℕ × ℕ) (puts : ℕ × ℕ × ℕ) (shares more total' : ℕ) → Grows old new more → total' ≡ puts.0 + more → IsAccount begun stay old marks holders commands puts shares → IsAccount begun stay new marks holders commands (total', puts.1, puts.2) shares
+IsAccount-grown begun stay old new marks holders commands puts shares more total' grows is was = record {
+  follows = Follows-trans begun old new was.follows grows.follows;
+  stays = λ e. Stays-trans begun old new (was.stays e) grows.stays;
+  placed = AreMarks-grown begun.histories old new marks more grows was.placed;
+  slotted = AreSlotted-same (is_live old.histories) (is_live new.histories) holders grows.stays.live was.slotted;
   commanded = was.commanded;
   put = record { all = omega (arith, is, was.put.all, grows.put); cut = was.put.cut; own = was.put.own; few = was.put.few };
 }
@@ -72,18 +79,42 @@ entries-push hs h other none =
 some_live : (hs : List History) (id : ℕ) → IsSome (live_of hs id) → is_live hs id ≡ true
 some_live hs id some = grind (arith, nat_tests)
 
-pub IsAccount-evicted : (old new : ServiceState) (id : ℕ) (marks : List Marked) (holders : List ℕ) (commands : ℕ × ℕ × ℕ × ℕ) (puts : ℕ × ℕ × ℕ) (shares : ℕ) → IsEvicted old id (Ok tt) new → IsAccount old.histories marks holders commands puts shares → IsAccount new.histories marks (handed holders (number_of holders id) 0) commands puts shares
-IsAccount-evicted old new id marks holders commands puts shares is was =
+pub IsAccount-evicted : (begun : ServiceState) (stay : Bool) (old new : ServiceState) (id : ℕ) (marks : List Marked) (holders : List ℕ) (commands : ℕ × ℕ × ℕ × ℕ) (puts : ℕ × ℕ × ℕ) (shares : ℕ) → stay ≡ false → IsEvicted old id (Ok tt) new → IsAccount begun stay old marks holders commands puts shares → IsAccount begun stay new marks (handed holders (number_of holders id) 0) commands puts shares
+IsAccount-evicted begun stay old new id marks holders commands puts shares may is was =
     let hs : List History = old.histories in
-    let to : new.histories ≡ modified hs id closed = ap (λ (s : ServiceState). s.histories) is.1 in
     let live : is_live hs id ≡ true = some_live hs id is.0 in
     let some : id ≢ 0 = λ zero_is. (let never : is_live hs 0 ≡ true = rw zero_is at live in let no = nobody hs in cc) in
-    rw to (record {
+    rw is.1 (record {
+      follows = Follows-trans begun old (without_tenancy old id) was.follows (Follows-without old id);
+      stays = λ e. absurd (cc);
       placed = record { count = was.placed.count ∙ sym (length-modified hs id closed); few = was.placed.few; rising = λ other. rw (entries-closed hs id other) (was.placed.rising other) };
       slotted = AreSlotted-same (λ other. if eqb other id then false else is_live hs other) (is_live (modified hs id closed)) (handed holders (number_of holders id) 0) (live-closed hs id) (AreSlotted-freed (is_live hs) holders id was.slotted live some);
       commanded = was.commanded;
       put = record { all = was.put.all ∙ sym (puts_in-kept hs id closed (λ h. refl)); cut = was.put.cut; own = was.put.own; few = was.put.few };
     })
+
+-- a strip that moves leaves the histories
+moved : (old new : ServiceState) (id offset : ℕ) (answer : Result (Unit {0}) OpRefusal) → IsMoved old id offset answer new → Follows old new
+moved old new id offset (Ok nothing) is = rw is.2 (Follows-moved old id offset)
+moved old new id offset (Err OpNoSuchTenancy) is = rw is.1 (Follows-same old)
+moved old new id offset (Err NoRoom) is = rw is.2 (Follows-same old)
+moved old new id offset (Err OpNoMemory) never = absurd never
+moved old new id offset (Err TooManyStrips) never = absurd never
+moved old new id offset (Err BadWidth) never = absurd never
+moved old new id offset (Err IdsSpent) never = absurd never
+
+pub IsAccount-moved : (begun : ServiceState) (stay : Bool) (old new : ServiceState) (id offset : ℕ) (answer : Result (Unit {0}) OpRefusal) (marks : List Marked) (holders : List ℕ) (commands : ℕ × ℕ × ℕ × ℕ) (puts : ℕ × ℕ × ℕ) (shares : ℕ) →
+    stay ≡ false → IsMoved old id offset answer new → IsAccount begun stay old marks holders commands puts shares → IsAccount begun stay new marks holders commands puts shares
+IsAccount-moved begun stay old new id offset answer marks holders commands puts shares may is was =
+    let same : new.histories ≡ old.histories = same_histories old id offset answer new is in
+    record {
+      follows = Follows-trans begun old new was.follows (moved old new id offset answer is);
+      stays = λ e. absurd (cc);
+      placed = rw same was.placed;
+      slotted = rw same was.slotted;
+      commanded = was.commanded;
+      put = rw same was.put;
+    }
 
 -- just live tenancies have strips
 pub is_some-map : {A B : Type 0} (f : A → B) (o : Option A) → is_some (option_map f o) ≡ is_some o
@@ -93,14 +124,15 @@ is_some-map f (Some x) = refl
 pub has_strip : (s : ServiceState) (id : ℕ) → placed_width s.plan.strips id ≡ live_width s.histories id → is_live s.histories id ≡ true → is_some (strip_of s.plan.strips id) ≡ true
 has_strip s id same live = sym (is_some-map (λ p. p.width) (strip_of s.plan.strips id)) ∙ (ap is_some same ∙ (is_some-map (λ h. h.strip.width) (live_of s.histories id) ∙ live))
 
-pub IsAccount-admitted : (old new : ServiceState) (width : ℕ) (told : ℕ × ℕ) (marks : List Marked) (holders : List ℕ) (commands : ℕ × ℕ × ℕ × ℕ) (puts : ℕ × ℕ × ℕ) (shares : ℕ) → IsAdmitted old width (Ok told) new → AreParted old.device old → IsAccount old.histories marks holders commands puts shares → IsAccount new.histories (marks ++ unmarked ∷ []) (handed holders (number_of holders 0) told.0) commands puts shares
-IsAccount-admitted old new width told marks holders commands puts shares is parted was =
+pub IsAccount-admitted : (begun : ServiceState) (stay : Bool) (old new : ServiceState) (width : ℕ) (told : ℕ × ℕ) (marks : List Marked) (holders : List ℕ) (commands : ℕ × ℕ × ℕ × ℕ) (puts : ℕ × ℕ × ℕ) (shares : ℕ) → stay ≡ false → IsAdmitted old width (Ok told) new → AreParted old.device old → IsAccount begun stay old marks holders commands puts shares → IsAccount begun stay new (marks ++ unmarked ∷ []) (handed holders (number_of holders 0) told.0) commands puts shares
+IsAccount-admitted begun stay old new width told marks holders commands puts shares may is parted was =
     let hs : List History = old.histories in
     let h : History = admitted old.device (length hs + 1) width in
-    let to : new.histories ≡ hs ++ h ∷ [] = ap (λ (s : ServiceState). s.histories) is.3 in
     let ids : length hs < 65535 = is.0.ids_left in
     let given_it : AreSlotted (λ other. if eqb other (length hs + 1) then true else is_live hs other) (handed holders (number_of holders 0) (length hs + 1)) = AreSlotted-given (is_live hs) holders old.plan.strips (length hs + 1) was.slotted (nobody hs) (no_next hs) (λ never. omega arith) (λ other live. has_strip old other (parted.of_live other) live) is.0.few_strips in
-    rw (to, is.1) (record {
+    rw (is.3, is.1) (record {
+      follows = Follows-trans begun old (with_tenancy old width told.1) was.follows (Follows-push old (with_tenancy old width told.1) h refl refl);
+      stays = λ e. absurd (cc);
       placed = record {
         count = length-append marks (unmarked ∷ []) ∙ (ap (λ n. n + 1) was.placed.count ∙ sym (length-append hs (h ∷ [])));
         few = omega (arith, length-append marks (unmarked ∷ []), was.placed.count);
@@ -148,13 +180,15 @@ room_live hs id room = at_option (live_of hs id) room
     at_option (Some h) is = refl
 
 -- a lease is given
-pub IsAccount-leased : (hs : List History) (ms : List Marked) (holders : List ℕ) (total parts amount whole : ℕ) (puts : ℕ × ℕ × ℕ) (shares id parts' amount' : ℕ) → is_live hs id ≡ true → is_leased ms id ≡ false → parts' + 1 ≡ parts → amount' + 0 ≡ amount → IsAccount hs ms holders (total, parts, amount, whole) puts shares → IsAccount hs (remarked ms id given) holders (total, parts', amount', whole) puts shares
-IsAccount-leased hs ms holders total parts amount whole puts shares id parts' amount' live free ps as' was =
-    let there = live_within hs id live in
+pub IsAccount-leased : (begun : ServiceState) (stay : Bool) (s : ServiceState) (ms : List Marked) (holders : List ℕ) (total parts amount whole : ℕ) (puts : ℕ × ℕ × ℕ) (shares id parts' amount' : ℕ) → is_live s.histories id ≡ true → is_leased ms id ≡ false → parts' + 1 ≡ parts → amount' + 0 ≡ amount → IsAccount begun stay s ms holders (total, parts, amount, whole) puts shares → IsAccount begun stay s (remarked ms id given) holders (total, parts', amount', whole) puts shares
+IsAccount-leased begun stay s ms holders total parts amount whole puts shares id parts' amount' live free ps as' was =
+    let there = live_within s.histories id live in
     let count = was.placed.count in
     let got = has_marks ms id there.0 (omega arith) in
     let none : got.0.given ≡ false = rw got.1 at free in
     record {
+      follows = was.follows;
+      stays = was.stays;
       placed = record { count = length-remarked ms id given ∙ was.placed.count; few = omega (arith, length-remarked ms id given, was.placed.few); rising = λ other. rw (places_of-given ms id other) (was.placed.rising other) };
       slotted = was.slotted;
       commanded = record { all = was.commanded.all ∙ sym (places_sum-given ms id); cut = was.commanded.cut; spare = omega (arith, was.commanded.spare, leases_in-given ms id got.0 got.1 none); none_spare = omega (arith, was.commanded.none_spare) };
@@ -162,37 +196,41 @@ IsAccount-leased hs ms holders total parts amount whole puts shares id parts' am
     }
 
 -- a part is left for it
-pub part_left : (hs : List History) (ms : List Marked) (holders : List ℕ) (commands : ℕ × ℕ × ℕ × ℕ) (puts : ℕ × ℕ × ℕ) (shares : ℕ) → IsAccount hs ms holders commands puts shares → 1 ≤ commands.1
-part_left hs ms holders commands puts shares was = omega (arith, was.commanded.spare, leases_in-few ms, was.placed.few)
+pub part_left : (begun : ServiceState) (stay : Bool) (s : ServiceState) (ms : List Marked) (holders : List ℕ) (commands : ℕ × ℕ × ℕ × ℕ) (puts : ℕ × ℕ × ℕ) (shares : ℕ) → IsAccount begun stay s ms holders commands puts shares → 1 ≤ commands.1
+part_left begun stay s ms holders commands puts shares was = omega (arith, was.commanded.spare, leases_in-few ms, was.placed.few)
 
 -- an entry of a lease
-pub IsAccount-marked : (old new : ServiceState) (id : ℕ) (command : Command) (r : Receipted) (ms : List Marked) (holders : List ℕ) (commands : ℕ × ℕ × ℕ × ℕ) (puts : ℕ × ℕ × ℕ) (shares total' : ℕ) → IsServed old id command (Ok r) new → is_live old.histories id ≡ true → total' ≡ commands.0 + 1 → IsAccount old.histories ms holders commands puts shares → IsAccount new.histories (remarked ms id (with_place r.place)) holders (total', commands.1, commands.2, commands.3) puts shares
-IsAccount-marked old new id command r ms holders commands puts shares total' is live ts was =
+pub IsAccount-marked : (begun : ServiceState) (stay : Bool) (old new : ServiceState) (id : ℕ) (command : Command) (r : Receipted) (ms : List Marked) (holders : List ℕ) (commands : ℕ × ℕ × ℕ × ℕ) (puts : ℕ × ℕ × ℕ) (shares total' : ℕ) → IsServed old id command (Ok r) new → is_live old.histories id ≡ true → total' ≡ commands.0 + 1 → IsAccount begun stay old ms holders commands puts shares → IsAccount begun stay new (remarked ms id (with_place r.place)) holders (total', commands.1, commands.2, commands.3) puts shares
+IsAccount-marked begun stay old new id command r ms holders commands puts shares total' is live ts was =
     let there = live_within old.histories id live in
     let count = was.placed.count in
     let got = has_marks ms id there.0 (omega arith) in
-    let grows : Grows old.histories new.histories 0 = served old new id command (Ok r) is in
+    let grows : Grows old new 0 = served old new id command (Ok r) is in
     let at = received_at old new id command r is in
     record {
+      follows = Follows-trans begun old new was.follows grows.follows;
+      stays = λ e. Stays-trans begun old new (was.stays e) grows.stays;
       placed = record {
-        count = length-remarked ms id (with_place r.place) ∙ (was.placed.count ∙ sym grows.count);
+        count = length-remarked ms id (with_place r.place) ∙ (was.placed.count ∙ sym grows.stays.count);
         few = omega (arith, length-remarked ms id (with_place r.place), was.placed.few);
         rising = λ other. by_id at got.0 got.1 grows other (eqb other id) refl;
       };
-      slotted = AreSlotted-same (is_live old.histories) (is_live new.histories) holders grows.live was.slotted;
+      slotted = AreSlotted-same (is_live old.histories) (is_live new.histories) holders grows.stays.live was.slotted;
       commanded = record { all = omega (arith, ts, was.commanded.all, places_sum-place ms id r.place got.0 got.1); cut = was.commanded.cut; spare = ap (λ n. commands.1 + n) (leases_in-place ms id r.place) ∙ was.commanded.spare; none_spare = was.commanded.none_spare };
       put = record { all = omega (arith, was.put.all, grows.put); cut = was.put.cut; own = was.put.own; few = was.put.few };
     }
   where
-    by_id : (r.place ≡ entries_of old.histories id) × (entries_of new.histories id ≡ entries_of old.histories id + 1) → (m : Marked) → marked_of ms id ≡ Some m → Grows old.histories new.histories 0 → (other : ℕ) (b : Bool) → eqb other id ≡ b → IsRising 0 (places_of (remarked ms id (with_place r.place)) other) (entries_of new.histories other)
+    by_id : (r.place ≡ entries_of old.histories id) × (entries_of new.histories id ≡ entries_of old.histories id + 1) → (m : Marked) → marked_of ms id ≡ Some m → Grows old new 0 → (other : ℕ) (b : Bool) → eqb other id ≡ b → IsRising (entries_of begun.histories other) (places_of (remarked ms id (with_place r.place)) other) (entries_of new.histories other)
     by_id at m here grows other true e =
         let same : other ≡ id = (Decides-eqb other id).0 e in
-        rw (same, places_of-place ms id r.place m here, at.0, at.1) (rising-push 0 (places_of ms id) (entries_of old.histories id) (was.placed.rising id))
-    by_id at m here grows other false e = rw (places_of-other ms id other r.place e) (rising-longer 0 (places_of ms other) _ _ (grows.longer other) (was.placed.rising other))
+        rw (same, places_of-place ms id r.place m here, at.0, at.1) (rising-push (entries_of begun.histories id) (places_of ms id) (entries_of old.histories id) (was.placed.rising id))
+    by_id at m here grows other false e = rw (places_of-other ms id other r.place e) (rising-longer (entries_of begun.histories other) (places_of ms other) _ _ (grows.longer other) (was.placed.rising other))
 
 -- a share is given
-pub IsAccount-shared : (hs : List History) (ms : List Marked) (holders : List ℕ) (commands : ℕ × ℕ × ℕ × ℕ) (puts : ℕ × ℕ × ℕ) (shares parts' : ℕ) → shares < 16 → parts' + 1 ≡ puts.1 → IsAccount hs ms holders commands puts shares → IsAccount hs ms holders commands (puts.0, parts', puts.2) (shares + 1)
-IsAccount-shared hs ms holders commands puts shares parts' few is was = record {
+pub IsAccount-shared : (begun : ServiceState) (stay : Bool) (s : ServiceState) (ms : List Marked) (holders : List ℕ) (commands : ℕ × ℕ × ℕ × ℕ) (puts : ℕ × ℕ × ℕ) (shares parts' : ℕ) → shares < 16 → parts' + 1 ≡ puts.1 → IsAccount begun stay s ms holders commands puts shares → IsAccount begun stay s ms holders commands (puts.0, parts', puts.2) (shares + 1)
+IsAccount-shared begun stay s ms holders commands puts shares parts' few is was = record {
+  follows = was.follows;
+  stays = was.stays;
   placed = was.placed;
   slotted = was.slotted;
   commanded = was.commanded;

@@ -1,4 +1,5 @@
 pub mod Marks
+pub mod Following
 pub mod Journals
 pub mod Sums
 pub mod Holders

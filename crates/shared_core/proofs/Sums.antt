@@ -100,3 +100,7 @@ rising-longer least (p ∷ ps) n m le is = (is.0, rising-longer (p + 1) ps n m l
 pub rising-push : (least : ℕ) (ps : List ℕ) (n : ℕ) → IsRising least ps n → IsRising least (ps ++ n ∷ []) (n + 1)
 rising-push least [] n is = (is, omega arith)
 rising-push least (p ∷ ps) n is = (is.0, rising-push (p + 1) ps n is.1)
+
+pub rising-from_zero : (least : ℕ) (ps : List ℕ) (n : ℕ) → IsRising least ps n → IsRising 0 ps n
+rising-from_zero least [] n is = omega arith
+rising-from_zero least (p ∷ ps) n is = (omega arith, is.1)

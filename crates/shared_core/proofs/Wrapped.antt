@@ -14,6 +14,7 @@ use Rattle.service_core.proofs.Lists.{All-history_of, history_of-past}
 use Rattle.shared_core.specs.CoreState.{AreSlotted, Marked, handed, is_live, number_of, puts_among, puts_in, unmarked}
 use Rattle.shared_core.specs.Accounts.{IsAccount}
 use Rattle.shared_core.proofs.Sums.{leases_in-none, places_of-none, places_sum-none}
+use Rattle.shared_core.proofs.Following.{Follows-same, Stays-same}
 use Rattle.shared_core.proofs.Holders.{AreSlotted-given, AreSlotted-same, shrinks}
 
 pub replicate-push : {A : Type 0} (n : ℕ) (x : A) → replicate (n + 1) x ≡ replicate n x ++ x ∷ []
@@ -114,14 +115,19 @@ pub none_past : (s : ServiceState) (id : ℕ) → AreAlone s → slice_get (jour
 none_past s id alone = slice_get_past (journal_of s id) 65536 (few_entries s id alone)
 
 -- the account as it begins
-pub IsAccount-wrapped : (hs : List History) (marks : List Marked) (holders : List ℕ) (total parts amount whole put_total put_parts put_whole : ℕ) → length hs ≤ 65535 → marks ≡ replicate (length hs) unmarked → AreSlotted (is_live hs) holders → total ≡ 0 → parts ≡ 65536 → amount ≡ 0 → whole ≡ 65536 → put_total ≡ puts_in hs → put_parts ≡ 17 → put_whole ≡ 17 → IsAccount hs marks holders (total, parts, amount, whole) (put_total, put_parts, put_whole) 0
-IsAccount-wrapped hs marks holders total parts amount whole put_total put_parts put_whole few are slotted t p a w pt pp pw = record {
-  placed = record {
-    count = rw are (length-replicate (length hs) unmarked);
-    few = rw are (omega (arith, few, length-replicate (length hs) unmarked));
-    rising = λ id. rw (are, places_of-none (length hs) id) (omega arith);
-  };
-  slotted = slotted;
-  commanded = record { all = rw are (t ∙ sym (places_sum-none (length hs))); cut = w; spare = rw are (omega (arith, p, leases_in-none (length hs))); none_spare = a };
-  put = record { all = pt; cut = pw; own = omega (arith, pp); few = omega arith };
-}
+pub IsAccount-wrapped : (begun : ServiceState) (stay : Bool) (s : ServiceState) (marks : List Marked) (holders : List ℕ) (total parts amount whole put_total put_parts put_whole : ℕ) → begun ≡ s → length s.histories ≤ 65535 → marks ≡ replicate (length s.histories) unmarked → AreSlotted (is_live s.histories) holders →
+    total ≡ 0 → parts ≡ 65536 → amount ≡ 0 → whole ≡ 65536 → put_total ≡ puts_in s.histories → put_parts ≡ 17 → put_whole ≡ 17 → IsAccount begun stay s marks holders (total, parts, amount, whole) (put_total, put_parts, put_whole) 0
+IsAccount-wrapped begun stay s marks holders total parts amount whole put_total put_parts put_whole same few are slotted t p a w pt pp pw =
+    let hs : List History = s.histories in
+    rw same (record {
+      follows = Follows-same s;
+      stays = λ e. Stays-same s;
+      placed = record {
+        count = rw are (length-replicate (length hs) unmarked);
+        few = rw are (omega (arith, few, length-replicate (length hs) unmarked));
+        rising = λ id. rw (are, places_of-none (length hs) id) (omega arith);
+      };
+      slotted = slotted;
+      commanded = record { all = rw are (t ∙ sym (places_sum-none (length hs))); cut = w; spare = rw are (omega (arith, p, leases_in-none (length hs))); none_spare = a };
+      put = record { all = pt; cut = pw; own = omega (arith, pp); few = omega arith };
+    })

@@ -1,8 +1,9 @@
 -- Private: what the core keeps of its account.
-use Rattle.std.specs.Prelude.{ℕ, ◌≡◌, ◌+◌, ◌≤◌, List, [], ◌∷◌, length, if◌then◌else◌}
+use Rattle.std.specs.Prelude.{ℕ, Bool, true, ◌≡◌, ◌+◌, ◌≤◌, List, [], ◌∷◌, length, if◌then◌else◌}
 use Rattle.service_core.specs.History.{History}
-use Rattle.service_core.specs.Service.{history_of, entries_in}
+use Rattle.service_core.specs.Service.{ServiceState, history_of, entries_in}
 use Rattle.shared_core.specs.CoreState.{AreSlotted, Marked, is_live, places_of, puts_in}
+use Rattle.shared_core.specs.Following.{Follows, Stays}
 
 -- the places rise, the first is at least that one, and the last is below n
 abbrev pub IsRising : ℕ → List ℕ → ℕ → Type 0
@@ -25,11 +26,11 @@ leases_in (m ∷ ms) = (if m.given then 1 else 0) + leases_in ms
 abbrev pub entries_of : List History → ℕ → ℕ
 entries_of histories id = length (entries_in (history_of histories id))
 
--- the marks are of the ids that there are, and each is the place of an entry, in rising order
-pub record AreMarks (histories : List History) (marks : List Marked) : Type 0 where
+-- the marks are of the ids that there are, and each is the place of an entry, in rising order, behind those with which the core began
+pub record AreMarks (begun histories : List History) (marks : List Marked) : Type 0 where
   pub count : length marks ≡ length histories
   pub few : length marks ≤ 65535
-  pub rising : (id : ℕ) → IsRising 0 (places_of marks id) (entries_of histories id)
+  pub rising : (id : ℕ) → IsRising (entries_of begun id) (places_of marks id) (entries_of histories id)
 
 -- the ledger of commands counts the marked entries, and each lease that was given has one of its parts
 pub record CountsCommands (marks : List Marked) (total parts amount whole : ℕ) : Type 0 where
@@ -45,8 +46,11 @@ pub record CountsPuts (histories : List History) (total parts whole shares : ℕ
   pub own : parts + shares ≡ 17
   pub few : shares ≤ 16
 
-pub record IsAccount (histories : List History) (marks : List Marked) (holders : List ℕ) (commands : ℕ × ℕ × ℕ × ℕ) (puts : ℕ × ℕ × ℕ) (shares : ℕ) : Type 0 where
-  pub placed : AreMarks histories marks
-  pub slotted : AreSlotted (is_live histories) holders
+-- the service goes on from the one with which the core began, and where the tenancies are to stay they do; the counts are right
+pub record IsAccount (begun : ServiceState) (stay : Bool) (service : ServiceState) (marks : List Marked) (holders : List ℕ) (commands : ℕ × ℕ × ℕ × ℕ) (puts : ℕ × ℕ × ℕ) (shares : ℕ) : Type 0 where
+  pub follows : Follows begun service
+  pub stays : stay ≡ true → Stays begun service
+  pub placed : AreMarks begun.histories service.histories marks
+  pub slotted : AreSlotted (is_live service.histories) holders
   pub commanded : CountsCommands marks commands.0 commands.1 commands.2 commands.3
-  pub put : CountsPuts histories puts.0 puts.1 puts.2 shares
+  pub put : CountsPuts service.histories puts.0 puts.1 puts.2 shares

@@ -1,3 +1,4 @@
 pub mod CoreState
 pub mod CoreCalls
+pub mod Following
 pub mod Accounts

@@ -7,14 +7,17 @@
 //!   parts are back ([`Core::close`]) the counts are those of the journals.
 //! - A live tenancy has one of 64 slot numbers, used again after its eviction. `mark_ready` and `popped` keep whether the number
 //!   stands in a queue, so that it stands there at most once.
+//! - Whoever finds a core under its lock knows which service it was put round ([`Begun`]), and that its service goes on from that one.
 #![tactic(auto)]
 
+mod begun;
 mod lease_marks;
 mod shared;
 mod slots;
 mod tokens;
 mod wrapping;
 
+pub use begun::Begun;
 pub use lease_marks::LeaseMarks;
 pub use shared::{Core, MAX_SHARES};
 pub use tokens::{Lease, Share};

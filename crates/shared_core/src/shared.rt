@@ -8,8 +8,10 @@ ghost use Rattle.service_core.specs.History.{state_of};
 ghost use Rattle.service_core.specs.Service.{AreAlone, empty, journal_of, live_of};
 ghost use Rattle.shared_core.specs.Accounts.{AreMarks, leases_in, places_sum};
 ghost use Rattle.shared_core.specs.CoreCalls.{Admits, ChangesService, CountsCommand, CountsOwnPut, CountsPut, Evicts, GivesLease, GivesShare, IsWrapped, MarksEntry};
+ghost use Rattle.shared_core.specs.Following.{Follows, Stays};
 ghost use Rattle.shared_core.specs.CoreState.{AreSlotted, can_lease, has_room_in, holder_of, is_idle_in, is_leased, is_live, is_marked, puts_in, ready_number, with_mark};
 
+use crate::begun::Begun;
 use crate::lease_marks::{LeaseMarks, marks_of};
 use crate::slots::Slots;
 use crate::tokens::{Lease, Share};
@@ -27,7 +29,7 @@ pub const MAX_SHARES: u32 = 16;
 
 /// All tenancies, and the account of what sessions and workers entered.
 #[derive(Drop)]
-pub struct Core<C: Ledger, P: Ledger> {
+pub struct Core<C: Begun, P: Ledger> {
     alloc: Global,
     service: Service,
     marks: Vec<LeaseMarks>,
@@ -39,7 +41,7 @@ pub struct Core<C: Ledger, P: Ledger> {
     shares: u32,
 }
 
-impl<C: Ledger, P: Ledger> Model for Core<C, P> {
+impl<C: Begun, P: Ledger> Model for Core<C, P> {
     ghost use Rattle.shared_core.specs.CoreState.{CoreState};
     ghost use Rattle.shared_core.specs.Accounts.{IsAccount};
 
@@ -47,10 +49,10 @@ impl<C: Ledger, P: Ledger> Model for Core<C, P> {
 
     ghost view = { λ c. record { service = c.service; marks = c.marks.items; slots = c.slots; shares = c.shares; own_puts = c.own.amount } };
 
-    ghost invariant = { λ c. IsAccount c.service.histories c.marks.items c.slots.holders (c.commands.total, c.spare.parts, c.spare.amount, C.parts) (c.puts.total, c.own.parts, P.parts) c.shares };
+    ghost invariant = { λ c. IsAccount C.begun C.stay c.service c.marks.items c.slots.holders (c.commands.total, c.spare.parts, c.spare.amount, C.parts) (c.puts.total, c.own.parts, P.parts) c.shares };
 }
 
-impl<C: Ledger, P: Ledger> Core<C, P> {
+impl<C: Begun, P: Ledger> Core<C, P> {
     /// The core of a device that no one uses.
     pub fn new(
         alloc: Global,
@@ -65,6 +67,7 @@ impl<C: Ledger, P: Ledger> Core<C, P> {
         requires rows { device.rows ≤ 64 }
         requires commands { (commands.name ≡ C.name) × (commands.parts ≡ C.parts) × (commands.parts ≡ 65536) }
         requires puts { (puts.name ≡ P.name) × (puts.parts ≡ P.parts) × (puts.parts ≡ 17) }
+        requires begun { C.begun ≡ empty device }
         ensures { IfOk result (λ core. IsWrapped (empty device) core) }
     {
         let service = Service::new(alloc, device)?;
@@ -87,6 +90,7 @@ impl<C: Ledger, P: Ledger> Core<C, P> {
     ) -> Result<Self, (Service, AllocError)>
         requires commands { (commands.name ≡ C.name) × (commands.parts ≡ C.parts) × (commands.parts ≡ 65536) }
         requires puts { (puts.name ≡ P.name) × (puts.parts ≡ P.parts) × (puts.parts ≡ 17) }
+        requires begun { C.begun ≡ service }
         ensures ok { IfOk result (λ core. IsWrapped service core) }
         ensures err { IfErr result (λ back. back.0 ≡ service) }
     {
@@ -205,10 +209,11 @@ impl<C: Ledger, P: Ledger> Core<C, P> {
     }
 }
 
-impl<C: Ledger, P: Ledger> Core<C, P> {
+impl<C: Begun, P: Ledger> Core<C, P> {
     /// Admits a tenancy, at the least offset that parts its strip from the others, with a slot number that is nobody's.
     /// Answers its id and offset.
     pub fn admit(&mut self, width: u32) -> Result<(u32, u32), OpRefusal>
+        requires { C.stay ≡ false }
         ensures admitted { IsAdmitted self.old.service width result self.new.service }
         ensures rest { Admits self.old result self.new }
     {
@@ -226,6 +231,7 @@ impl<C: Ledger, P: Ledger> Core<C, P> {
 
     /// Ends a tenancy. Its strip and its slot number are free again, and its journal stays. Takes no memory.
     pub fn evict(&mut self, id: u32) -> Result<(), OpRefusal>
+        requires { C.stay ≡ false }
         ensures evicted { IsEvicted self.old.service id result self.new.service }
         ensures rest { Evicts self.old id result self.new }
     {
@@ -236,6 +242,7 @@ impl<C: Ledger, P: Ledger> Core<C, P> {
 
     /// Moves a live tenancy's strip to that offset, with all that the tenancy owns. Jobs that are out go on. Takes no memory.
     pub fn move_strip(&mut self, id: u32, offset: u32) -> Result<(), OpRefusal>
+        requires { C.stay ≡ false }
         ensures moved { IsMoved self.old.service id offset result self.new.service }
         ensures rest { ChangesService self.old self.new }
     {
@@ -377,7 +384,9 @@ impl<C: Ledger, P: Ledger> Core<C, P> {
         ensures shares { puts.parts ≡ self.shares }
         ensures commands { commands.amount ≡ places_sum self.marks }
         ensures puts { puts.amount + self.own_puts ≡ puts_in self.service.histories }
-        ensures account { AreMarks self.service.histories self.marks }
+        ensures account { AreMarks C.begun.histories self.service.histories self.marks }
+        ensures follows { Follows C.begun self.service }
+        ensures stays { C.stay ≡ true → Stays C.begun self.service }
     {
         let Core {
             alloc: _,

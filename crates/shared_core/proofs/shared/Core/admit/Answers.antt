@@ -12,7 +12,7 @@ returns-then-is_err-clause-admitted g c = rw (← c.self.view_is) ((c.in_default
 pub invariant_of-self-2 : goal.invariant_of-self-2
 invariant_of-self-2 g c =
     let items : c.push.new.self.items ≡ c.self.inside.marks.items ++ unmarked ∷ [] = search rules in
-    rw (c.hand.ensures, items) (IsAccount-admitted _ _ c.args.width (c.in_ok-id.id, c.in_ok-id.offset) _ _ _ _ _ c.in_ok-id.ensures c.room_for.ensures.parted c.self.invariant)
+    rw (c.hand.ensures, items) (IsAccount-admitted _ _ _ _ c.args.width (c.in_ok-id.id, c.in_ok-id.offset) _ _ _ _ _ c.requires c.in_ok-id.ensures c.room_for.ensures.parted c.self.invariant)
 
 pub returns-clause-admitted : goal.returns-clause-admitted
 returns-clause-admitted g c = rw (← c.self.view_is) c.in_ok-id.ensures

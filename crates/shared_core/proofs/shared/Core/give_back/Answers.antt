@@ -4,4 +4,4 @@ use Rattle.shared_core.proofs.Kept.{IsAccount-grown}
 use Rattle.shared_core.proofs.shared.Core.give_back.Goals as goal
 
 pub invariant_of-self : goal.invariant_of-self
-invariant_of-self g c = IsAccount-grown _ _ _ _ _ _ _ _ _ (given_back _ _ _ c.give_back.ensures) (omega arith) c.self.invariant
+invariant_of-self g c = IsAccount-grown _ _ _ _ _ _ _ _ _ _ _ (given_back _ _ _ c.give_back.ensures) (omega arith) c.self.invariant

@@ -18,7 +18,7 @@ index_mut-requires g c =
     omega (arith, there.0, there.1)
 
 pub split_off-part-requires-clause-has_parts : goal.split_off-part-requires-clause-has_parts
-split_off-part-requires-clause-has_parts g c = part_left _ _ _ _ _ _ c.self.invariant
+split_off-part-requires-clause-has_parts g c = part_left _ _ _ _ _ _ _ _ c.self.invariant
 
 pub invariant_of-self : goal.invariant_of-self
 invariant_of-self g c =
@@ -28,7 +28,7 @@ invariant_of-self g c =
     let count = c.self.invariant.placed.count in
     let old : Marked = c.index_mut.result.now in
     let is : old ≡ get_or c.self.inside.marks.items (c.args.id - 1) old = search rules in
-    rw (c.give.ensures, set-remarked c.self.inside.marks.items c.args.id old given there.0 (omega arith) is) (IsAccount-leased _ _ _ _ _ _ _ _ _ c.args.id _ _ both.0 both.1 c.split_off-part.ensures.parts_left c.split_off-part.ensures.amount_left c.self.invariant)
+    rw (c.give.ensures, set-remarked c.self.inside.marks.items c.args.id old given there.0 (omega arith) is) (IsAccount-leased _ _ _ _ _ _ _ _ _ _ _ c.args.id _ _ both.0 both.1 c.split_off-part.ensures.parts_left c.split_off-part.ensures.amount_left c.self.invariant)
 
 pub returns : goal.returns
 returns g c =

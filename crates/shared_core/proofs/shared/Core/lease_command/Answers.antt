@@ -7,7 +7,7 @@ use Rattle.shared_core.proofs.Marks.{set-remarked}
 use Rattle.shared_core.proofs.shared.Core.lease_command.Goals as goal
 
 pub invariant_of-self : goal.invariant_of-self
-invariant_of-self g c = IsAccount-grown _ _ _ _ _ _ _ _ _ (served _ _ _ _ _ c.tenant.ensures) (omega arith) c.self.invariant
+invariant_of-self g c = IsAccount-grown _ _ _ _ _ _ _ _ _ _ _ (served _ _ _ _ _ c.tenant.ensures) (omega arith) c.self.invariant
 
 pub returns-then-not-has_room-clause-rest : goal.returns-then-not-has_room-clause-rest
 returns-then-not-has_room-clause-rest g c =
@@ -43,7 +43,7 @@ invariant_of-self-2 g c =
     let count = c.self.invariant.placed.count in
     let old : Marked = c.index_mut.result.now in
     let is : old ≡ get_or c.self.inside.marks.items (c.lease.inside.id - 1) old = search rules in
-    rw (c.in_ok-receipt.ensures.marked, set-remarked c.self.inside.marks.items c.lease.inside.id old (with_place c.in_ok-receipt.receipt.place) there.0 (omega arith) is) (IsAccount-marked _ _ c.lease.inside.id c.args.command c.in_ok-receipt.receipt _ _ _ _ _ _ c.in_ok-receipt.ensures.served live c.add.ensures.total c.self.invariant)
+    rw (c.in_ok-receipt.ensures.marked, set-remarked c.self.inside.marks.items c.lease.inside.id old (with_place c.in_ok-receipt.receipt.place) there.0 (omega arith) is) (IsAccount-marked _ _ _ _ c.lease.inside.id c.args.command c.in_ok-receipt.receipt _ _ _ _ _ _ c.in_ok-receipt.ensures.served live c.add.ensures.total c.self.invariant)
 
 pub returns-clause-rest : goal.returns-clause-rest
 returns-clause-rest g c =

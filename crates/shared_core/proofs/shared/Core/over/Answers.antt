@@ -4,7 +4,8 @@ use Rattle.shared_core.proofs.shared.Core.over.Goals as goal
 
 pub invariant_of-result : goal.invariant_of-result
 invariant_of-result g c =
-    IsAccount-wrapped _ _ _ _ _ _ _ _ _ _
+    IsAccount-wrapped _ _ _ _ _ _ _ _ _ _ _ _
+    c.requires.begun
     c.no_marks.ensures.few
     c.in-Ok.ensures.marks
     c.slots_of-slots.ensures.slotted
