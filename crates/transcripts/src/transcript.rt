@@ -6,7 +6,7 @@ ghost use Rattle.transcripts.specs.Transcripts.{Enters, receipts_of, with_no_mem
 use crate::item::{End, Item, Place};
 use service_core::NotServed;
 use sessions::SessionRefusal;
-use shared_core::{Core, Lease};
+use shared_core::{Begun, Core, Lease};
 use std::alloc::Global;
 use std::marker::Model;
 use std::sync::ledger::Ledger;
@@ -74,29 +74,6 @@ impl<C: Ledger> Transcript<C> {
         self.end
     }
 
-    /// Enters a command by the lease, and notes what it is told. Its entry is marked as the lease's, at the receipt's place.
-    /// Without memory it is counted, and the core is as it was.
-    pub fn enter<P: Ledger>(&mut self, core: &mut Core<C, P>, command: Command) -> bool
-        ensures { Enters self.old core.old command result core.new self.new }
-    {
-        if self.items.reserve(1).is_err() {
-            drop(command);
-            self.count_no_memory();
-            return false;
-        }
-        let place = match core.lease_command(&mut self.lease, command) {
-            Ok(receipt) => Place::Receipt(receipt),
-            Err(NotServed::JournalFull(note)) => Place::Note(note),
-            Err(NotServed::NoSuchTenancy(note)) => Place::Note(note),
-            Err(NotServed::NoMemory) => {
-                self.count_no_memory();
-                return false;
-            }
-        };
-        append(&mut self.items, &mut self.no_memory, place);
-        true
-    }
-
     /// Notes that an item is refused by itself. Without memory it is counted.
     pub fn refuse(&mut self, refusal: SessionRefusal) -> bool
         ensures { MatchBool result (self.new ≡ with_place self.old (Refused refusal)) (self.new ≡ with_no_memory self.old) }
@@ -139,6 +116,31 @@ impl<C: Ledger> Transcript<C> {
             end: _,
         } = self;
         lease
+    }
+}
+
+impl<C: Begun> Transcript<C> {
+    /// Enters a command by the lease, and notes what it is told. Its entry is marked as the lease's, at the receipt's place.
+    /// Without memory it is counted, and the core is as it was.
+    pub fn enter<P: Ledger>(&mut self, core: &mut Core<C, P>, command: Command) -> bool
+        ensures { Enters self.old core.old command result core.new self.new }
+    {
+        if self.items.reserve(1).is_err() {
+            drop(command);
+            self.count_no_memory();
+            return false;
+        }
+        let place = match core.lease_command(&mut self.lease, command) {
+            Ok(receipt) => Place::Receipt(receipt),
+            Err(NotServed::JournalFull(note)) => Place::Note(note),
+            Err(NotServed::NoSuchTenancy(note)) => Place::Note(note),
+            Err(NotServed::NoMemory) => {
+                self.count_no_memory();
+                return false;
+            }
+        };
+        append(&mut self.items, &mut self.no_memory, place);
+        true
     }
 }
 
