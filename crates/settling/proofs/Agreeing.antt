@@ -2,11 +2,12 @@
 use Rattle.std.proofs.Common.{◌≡◌, ◌+◌, List, [], ◌∷◌, ◌++◌, length, Bool, sym}
 use Rattle.std.specs.Prelude.{All}
 use Rattle.std.proofs.lemmas.List.Elements.{All-cons, All-head, All-nil, All-tail}
+use Rattle.service_core.specs.Service.{ServiceState}
 use Rattle.shared_core.specs.CoreState.{CoreState, ShareState, places_of, puts_in}
 use Rattle.shared_core.specs.Accounts.{AreMarks, leases_in, places_sum}
 use Rattle.transcripts.specs.Transcripts.{TranscriptState, receipts_of}
 use Rattle.settling.specs.Settling.{AreAllThere, AreMarkedEntries, Claim, IsBorneOut, IsSettled, claims_from, claims_in, claims_of, has_id, puts_counted, receipts_in}
-use Rattle.settling.proofs.Matching.{Fits, entries_are, fits, ids_are, places_told, rises_in}
+use Rattle.settling.proofs.Matching.{Fits, entries_are, fits, ids_are, places_told, rises_in, since}
 use Rattle.settling.proofs.Matching as Matching
 use Rattle.settling.proofs.Totals.{AreFit, Exact, HavePlaces, apart, sums}
 use Rattle.settling.proofs.Totals as Totals
@@ -30,37 +31,38 @@ each_good core earlier (t ∷ ts) all =
     let rest : List Claim = claims_from (earlier ++ t ∷ []) ts in
     All-cons (Good core) t ts (has_id earlier t.id, all-left (IsBorneOut core) mine rest all) (each_good core (earlier ++ t ∷ []) ts (all-right (IsBorneOut core) mine rest all))
 
-one_fits : (core : CoreState) (t : TranscriptState) → AreMarks core.service.histories core.marks → Good core t → Fits (receipts_of t.items) (places_of core.marks t.id)
-one_fits core t marks good = fits 0 0 _ (receipts_of t.items) (places_of core.marks t.id) (marks.rising t.id) (rises_in core t.id 0 good.0 (receipts_of t.items) good.1)
+one_fits : (begun : ServiceState) (core : CoreState) (t : TranscriptState) → AreMarks begun.histories core.service.histories core.marks → Good core t → Fits (receipts_of t.items) (places_of core.marks t.id)
+one_fits begun core t marks good = fits 0 _ _ (receipts_of t.items) (places_of core.marks t.id) (marks.rising t.id) (rises_in core t.id 0 good.0 (receipts_of t.items) good.1)
 
-all_fit : (core : CoreState) (ts : List TranscriptState) → AreMarks core.service.histories core.marks → All (Good core) ts → AreFit core.marks ts
-all_fit core [] marks good = All-nil (λ (u : TranscriptState). Fits (receipts_of u.items) (places_of core.marks u.id))
-all_fit core (t ∷ ts) marks good = All-cons (λ (u : TranscriptState). Fits (receipts_of u.items) (places_of core.marks u.id)) t ts (one_fits core t marks (All-head (Good core) t ts good)) (all_fit core ts marks (All-tail (Good core) t ts good))
+all_fit : (begun : ServiceState) (core : CoreState) (ts : List TranscriptState) → AreMarks begun.histories core.service.histories core.marks → All (Good core) ts → AreFit core.marks ts
+all_fit begun core [] marks good = All-nil (λ (u : TranscriptState). Fits (receipts_of u.items) (places_of core.marks u.id))
+all_fit begun core (t ∷ ts) marks good = All-cons (λ (u : TranscriptState). Fits (receipts_of u.items) (places_of core.marks u.id)) t ts (one_fits begun core t marks (All-head (Good core) t ts good)) (all_fit begun core ts marks (All-tail (Good core) t ts good))
 
-one_marked : (core : CoreState) (t : TranscriptState) → AreMarks core.service.histories core.marks → Good core t → places_told (receipts_of t.items) ≡ places_of core.marks t.id → AreMarkedEntries core t
-one_marked core t marks good are = record {
+one_marked : (begun : ServiceState) (core : CoreState) (t : TranscriptState) → AreMarks begun.histories core.service.histories core.marks → Good core t → places_told (receipts_of t.items) ≡ places_of core.marks t.id → AreMarkedEntries begun core t
+one_marked begun core t marks good are = record {
   places = are;
-  rising = Matching.two_by_two 0 _ (places_of core.marks t.id) (marks.rising t.id);
+  rising = Matching.two_by_two _ _ (places_of core.marks t.id) (marks.rising t.id);
+  since = since core t.id 0 _ _ good.0 (receipts_of t.items) (marks.rising t.id) good.1;
   ids = ids_are core t.id 0 good.0 (receipts_of t.items) good.1;
   entries = entries_are core t.id 0 good.0 (receipts_of t.items) good.1;
 }
 
-all_marked : (core : CoreState) (ts : List TranscriptState) → AreMarks core.service.histories core.marks → All (Good core) ts → HavePlaces core.marks ts → All (AreMarkedEntries core) ts
-all_marked core [] marks good are = All-nil (AreMarkedEntries core)
-all_marked core (t ∷ ts) marks good are =
-    All-cons (AreMarkedEntries core) t ts
-    (one_marked core t marks (All-head (Good core) t ts good) (All-head (λ (u : TranscriptState). places_told (receipts_of u.items) ≡ places_of core.marks u.id) t ts are))
-    (all_marked core ts marks (All-tail (Good core) t ts good) (All-tail (λ (u : TranscriptState). places_told (receipts_of u.items) ≡ places_of core.marks u.id) t ts are))
+all_marked : (begun : ServiceState) (core : CoreState) (ts : List TranscriptState) → AreMarks begun.histories core.service.histories core.marks → All (Good core) ts → HavePlaces core.marks ts → All (AreMarkedEntries begun core) ts
+all_marked begun core [] marks good are = All-nil (AreMarkedEntries begun core)
+all_marked begun core (t ∷ ts) marks good are =
+    All-cons (AreMarkedEntries begun core) t ts
+    (one_marked begun core t marks (All-head (Good core) t ts good) (All-head (λ (u : TranscriptState). places_told (receipts_of u.items) ≡ places_of core.marks u.id) t ts are))
+    (all_marked begun core ts marks (All-tail (Good core) t ts good) (All-tail (λ (u : TranscriptState). places_told (receipts_of u.items) ≡ places_of core.marks u.id) t ts are))
 
-pub settled : (core : CoreState) (ts : List TranscriptState) (shares : List ShareState) → AreMarks core.service.histories core.marks → AreAllThere core ts (length shares) → All (IsBorneOut core) (claims_of ts) → length ts ≡ leases_in core.marks → receipts_in ts ≡ places_sum core.marks → puts_counted shares + core.own_puts ≡ puts_in core.service.histories → IsSettled core ts shares
-settled core ts shares marks there good many told puts =
+pub settled : (begun : ServiceState) (core : CoreState) (ts : List TranscriptState) (shares : List ShareState) → AreMarks begun.histories core.service.histories core.marks → AreAllThere core ts (length shares) → All (IsBorneOut core) (claims_of ts) → length ts ≡ leases_in core.marks → receipts_in ts ≡ places_sum core.marks → puts_counted shares + core.own_puts ≡ puts_in core.service.histories → IsSettled begun core ts shares
+settled begun core ts shares marks there good many told puts =
     let each : All (Good core) ts = each_good core [] ts good in
     let distinct = apart ts core.marks there.leases (sym many) in
-    let exact : Exact core.marks ts = (sums core.marks ts distinct (all_fit core ts marks each)).exact told in
+    let exact : Exact core.marks ts = (sums core.marks ts distinct (all_fit begun core ts marks each)).exact told in
     record {
       there = there;
       apart = Totals.two_by_two ts distinct;
-      each = all_marked core ts marks each exact.each;
+      each = all_marked begun core ts marks each exact.each;
       no_other = exact.no_other;
       puts = sym puts;
     }

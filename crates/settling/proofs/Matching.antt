@@ -93,6 +93,16 @@ entries_are core id least repeated (r ∷ rs) all =
     let at : slice_get (journal_of core.service r.id) r.place ≡ Some (entry_of r) = good.entry in
     All-cons (λ (x : Receipted). slice_get (journal_of core.service id) x.place ≡ Some (entry_of x)) r rs (rw good.own at at) (entries_are core id (r.place + 1) repeated rs (All-tail (IsBorneOut core) claim rest all))
 
+-- and behind the first place that a mark may have
+pub since : (core : CoreState) (id least first n : ℕ) (repeated : Bool) (rs : List Receipted) → IsRising first (places_of core.marks id) n → All (IsBorneOut core) (claims_in id repeated least rs) → All (λ r. first ≤ r.place) rs
+since core id least first n repeated [] rising all = All-nil (λ (r : Receipted). first ≤ r.place)
+since core id least first n repeated (r ∷ rs) rising all =
+    let claim : Claim = record { id = id; repeated = repeated; least = least; receipt = r } in
+    let rest : List Claim = claims_in id repeated (r.place + 1) rs in
+    let good : IsBorneOut core claim = All-head (IsBorneOut core) claim rest all in
+    let marked : has_place (places_of core.marks r.id) r.place ≡ true = good.marked in
+    All-cons (λ (x : Receipted). first ≤ x.place) r rs (has_least first n r.place (places_of core.marks id) rising (rw good.own at marked)) (since core id (r.place + 1) first n repeated rs rising (All-tail (IsBorneOut core) claim rest all))
+
 -- places that rise, two by two
 from_least : (k n : ℕ) (ps : List ℕ) (q : ℕ) → q < k → IsRising k ps n → All (λ p. q < p) ps
 from_least k n [] q lt is = All-nil (λ p. q < p)

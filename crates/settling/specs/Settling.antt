@@ -75,11 +75,12 @@ abbrev pub IsCause : CoreState → List TranscriptState → ℕ → Cause → Ty
 IsCause core transcripts shares Missing = IsMissing core transcripts shares
 IsCause core transcripts shares (Mismatch id place) = AreAllThere core transcripts shares × IsFirstBad core (claims_of transcripts) id place
 
--- the receipts of a transcript are the marked entries of its tenancy's journal: they have their places, in order, and each tells of the
--- entry at its place
-pub record AreMarkedEntries (core : CoreState) (t : TranscriptState) : Type 0 where
+-- the receipts of a transcript are the marked entries of its tenancy's journal: they have their places, in order, behind the entries with
+-- which the core began, and each tells of the entry at its place
+pub record AreMarkedEntries (begun : ServiceState) (core : CoreState) (t : TranscriptState) : Type 0 where
   pub places : map (λ r. r.place) (receipts_of t.items) ≡ places_of core.marks t.id
   pub rising : AllPairs (λ p q. p < q) (places_of core.marks t.id)
+  pub since : All (λ r. length (journal_of begun t.id) ≤ r.place) (receipts_of t.items)
   pub ids : All (λ r. r.id ≡ t.id) (receipts_of t.items)
   pub entries : All (λ r. slice_get (journal_of core.service t.id) r.place ≡ Some (entry_of r)) (receipts_of t.items)
 
@@ -98,10 +99,10 @@ abbrev pub puts_counted : List ShareState → ℕ
 puts_counted [] = 0
 puts_counted (s ∷ ss) = s.puts + puts_counted ss
 
--- all that was told is settled
-pub record IsSettled (core : CoreState) (transcripts : List TranscriptState) (shares : List ShareState) : Type 0 where
+-- all that was told is settled, of a core that was put round that service
+pub record IsSettled (begun : ServiceState) (core : CoreState) (transcripts : List TranscriptState) (shares : List ShareState) : Type 0 where
   pub there : AreAllThere core transcripts (length shares)
   pub apart : AllPairs (λ t u. t.id ≢ u.id) transcripts
-  pub each : All (AreMarkedEntries core) transcripts
+  pub each : All (AreMarkedEntries begun core) transcripts
   pub no_other : (id : ℕ) → has_id transcripts id ≡ false → places_of core.marks id ≡ []
   pub puts : puts_in core.service.histories ≡ puts_counted shares + core.own_puts

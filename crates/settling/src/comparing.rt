@@ -5,7 +5,7 @@ ghost use Rattle.transcripts.specs.Transcripts.{receipts_of};
 ghost use Rattle.settling.specs.Settling.{IsBorneOut, IsFirstBad, LacksLease, claims_in, claims_of, entry_of, has_id};
 
 use service_core::{Entry, Receipt};
-use shared_core::Core;
+use shared_core::{Begun, Core};
 use std::sync::ledger::Ledger;
 use tenant_slot::Event;
 use transcripts::{Place, Transcript};
@@ -26,7 +26,7 @@ fn has_id<C: Ledger>(transcripts: &[Transcript<C>], id: u32) -> bool
 }
 
 /// Whether each lease that was given has its transcript.
-pub(crate) fn has_each_lease<C: Ledger, P: Ledger>(
+pub(crate) fn has_each_lease<C: Begun, P: Ledger>(
     core: &Core<C, P>,
     transcripts: &[Transcript<C>],
 ) -> bool
@@ -53,7 +53,7 @@ fn agrees(entry: &Entry, receipt: &Receipt) -> bool
 }
 
 /// Whether a receipt of that tenancy's transcript is the entry that its lease made, at a place that isn't below that one.
-fn is_borne_out<C: Ledger, P: Ledger>(
+fn is_borne_out<C: Begun, P: Ledger>(
     core: &Core<C, P>,
     id: u32,
     repeated: bool,
@@ -75,7 +75,7 @@ fn is_borne_out<C: Ledger, P: Ledger>(
 }
 
 /// The first receipt of a transcript that isn't borne out.
-fn mismatch_in<C: Ledger, P: Ledger>(
+fn mismatch_in<C: Begun, P: Ledger>(
     core: &Core<C, P>,
     transcript: &Transcript<C>,
     repeated: bool,
@@ -100,7 +100,7 @@ fn mismatch_in<C: Ledger, P: Ledger>(
 }
 
 /// The first receipt of all transcripts that isn't borne out.
-pub(crate) fn first_mismatch<C: Ledger, P: Ledger>(
+pub(crate) fn first_mismatch<C: Begun, P: Ledger>(
     core: &Core<C, P>,
     transcripts: &[Transcript<C>],
 ) -> Option<At>

@@ -2,7 +2,8 @@
 //!
 //! [`settle`] has the core, the transcript of each lease that was given and each share that was given. Where it answers a [`Settled`], the
 //! receipts of a transcript are the marked entries of its tenancy's journal, with place, command and reply, all of them, each once,
-//! and the put entries of all journals are as many as the sum of the shares and the core's own count. Otherwise it hands all
+//! the put entries of all journals are as many as the sum of the shares and the core's own count, and the service goes on from the one
+//! that the core was put round. Otherwise it hands all
 //! back, with the first cause. It takes no memory.
 #![tactic(auto)]
 

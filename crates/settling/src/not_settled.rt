@@ -1,4 +1,4 @@
-use shared_core::{Core, Share};
+use shared_core::{Begun, Core, Share};
 use std::sync::ledger::Ledger;
 use transcripts::Transcript;
 
@@ -14,7 +14,7 @@ pub enum Cause {
 
 /// Why it isn't settled, and all that was handed in.
 #[derive(Drop)]
-pub struct NotSettled<C: Ledger, P: Ledger> {
+pub struct NotSettled<C: Begun, P: Ledger> {
     pub cause: Cause,
     pub core: Core<C, P>,
     pub transcripts: Vec<Transcript<C>>,

@@ -1,12 +1,13 @@
 //! All that was told against all journals.
-ghost use Rattle.std.specs.Prelude.{◌≡◌, All, IfErr, IfOk, MatchOption, length};
+ghost use Rattle.std.specs.Prelude.{◌≡◌, All, IfErr, IfOk, MatchOption, length, true};
+ghost use Rattle.shared_core.specs.Following.{Follows, Stays};
 ghost use Rattle.settling.specs.Settling.{AreAllThere, IsBorneOut, IsCause, IsSettled, claims_of};
 
 use crate::comparing::{first_mismatch, has_each_lease};
 use crate::counting::{merge_leases, merge_shares};
 use crate::not_settled::{Cause, NotSettled};
 use service_core::Service;
-use shared_core::{Core, LeaseMarks, Share};
+use shared_core::{Begun, Core, LeaseMarks, Share};
 use std::marker::Model;
 use std::sync::ledger::Ledger;
 use transcripts::Transcript;
@@ -45,13 +46,15 @@ impl Settled {
 }
 
 /// Compares each receipt with its journal, once all threads have ended. Takes no memory.
-pub fn settle<C: Ledger, P: Ledger>(
+pub fn settle<C: Begun, P: Ledger>(
     core: Core<C, P>,
     transcripts: Vec<Transcript<C>>,
     shares: Vec<Share<P>>,
 ) -> Result<Settled, NotSettled<C, P>>
     ensures service { IfOk result (λ s. s ≡ record { service = core.service; marks = core.marks }) }
-    ensures settled { IfOk result (λ s. IsSettled core transcripts.items shares.items) }
+    ensures settled { IfOk result (λ s. IsSettled C.begun core transcripts.items shares.items) }
+    ensures follows { IfOk result (λ s. Follows C.begun s.service) }
+    ensures stays { IfOk result (λ s. C.stay ≡ true → Stays C.begun s.service) }
     ensures cause { IfErr result (λ e. IsCause core transcripts.items (length shares.items) e.cause) }
     ensures back { IfErr result (λ e. (e.core ≡ core) × (e.transcripts.items ≡ transcripts.items) × (e.shares.items ≡ shares.items)) }
 {
@@ -73,7 +76,7 @@ pub fn settle<C: Ledger, P: Ledger>(
 }
 
 /// Why it isn't settled, if it isn't.
-fn first_cause<C: Ledger, P: Ledger>(
+fn first_cause<C: Begun, P: Ledger>(
     core: &Core<C, P>,
     transcripts: &[Transcript<C>],
     shares: usize,

@@ -21,9 +21,19 @@ returns-clause-settled g c =
     let many : c.len.result ≡ length c.args.shares.items = search rules in
     let there : AreAllThere core c.args.transcripts.items (length c.args.shares.items) = rw (ts, many) at c.in_default.ensures.0 in
     let good : All (IsBorneOut core) (claims_of c.args.transcripts.items) = rw ts at c.in_default.ensures.1 in
-    settled core c.args.transcripts.items c.args.shares.items
+    settled g.C.Begun.begun core c.args.transcripts.items c.args.shares.items
     (rw same at c.close-service.ensures.account)
     there good
     (sym c.merge_leases-commands.ensures.parts ∙ (rw same at c.close-service.ensures.leases))
     (sym c.merge_leases-commands.ensures.amount ∙ (rw same at c.close-service.ensures.commands))
     (ap (λ n. n + core.own_puts) (sym c.merge_shares-puts.ensures.amount) ∙ (rw same at c.close-service.ensures.puts))
+
+pub returns-clause-follows : goal.returns-clause-follows
+returns-clause-follows g c =
+    let same : c.no_puts-no_puts.new.self ≡ c.args.core = c.no_puts-no_puts.ensures.same ∙ c.no_commands-nothing.ensures.same in
+    rw (c.close-service.ensures.service, same) (rw same at c.close-service.ensures.follows)
+
+pub returns-clause-stays : goal.returns-clause-stays
+returns-clause-stays g c = λ stay.
+    let same : c.no_puts-no_puts.new.self ≡ c.args.core = c.no_puts-no_puts.ensures.same ∙ c.no_commands-nothing.ensures.same in
+    rw (c.close-service.ensures.service, same) (rw same at (c.close-service.ensures.stays stay))
