@@ -13,7 +13,7 @@ use crate::told::{last_place, write_told};
 use job_queue::{Pass, Ready};
 use line_text::{Failed, Sink, Source};
 use sessions::SessionLine;
-use shared_core::Lease;
+use shared_core::{Begun, Lease};
 use std::alloc::AllocGlobal;
 use std::sync::Wait;
 use std::sync::ledger::Ledger;
@@ -24,7 +24,7 @@ use worker_pool::Shared;
 /// Runs a session: reads its input, asks the core what each item asks, and writes what it is told. What each item was told is
 /// in the transcript, in order, or counted there where it found no memory; it was written, or a beginning of it where the
 /// writer failed; and it answers what the input asks. A command whose reply couldn't be written keeps its receipt.
-pub fn run_session<C: Ledger, P: Ledger, S: Source, W: Sink, R: Wait + AllocGlobal>(
+pub fn run_session<C: Begun, P: Ledger, S: Source, W: Sink, R: Wait + AllocGlobal>(
     rt: &R,
     shared: &Shared<C, P>,
     ready: &Ready,
@@ -56,14 +56,14 @@ pub fn run_session<C: Ledger, P: Ledger, S: Source, W: Sink, R: Wait + AllocGlob
 
 /// What a session holds.
 #[derive(Drop)]
-struct Session<C: Ledger> {
+struct Session<C: Begun> {
     pass: Pass,
     /// A slot number that came back from the queue.
     kept: Option<u32>,
     transcript: Transcript<C>,
 }
 
-impl<C: Ledger> Session<C> {
+impl<C: Begun> Session<C> {
     /// Serves the items of an input.
     fn read_all<P: Ledger, S: Source, W: Sink, R: Wait + AllocGlobal>(
         &mut self,

@@ -1,17 +1,17 @@
-use shared_core::Core;
+use shared_core::{Begun, Core};
 use std::sync::ledger::Ledger;
 use std::sync::{Condvar, Mutex};
 
 /// The core that threads share.
 #[derive(Drop)]
-pub struct Shared<C: Ledger, P: Ledger> {
+pub struct Shared<C: Begun, P: Ledger> {
     /// The core under its lock.
     pub core: Mutex<Core<C, P>>,
     /// Told after each step that a worker made.
     pub changed: Condvar,
 }
 
-impl<C: Ledger, P: Ledger> Shared<C, P> {
+impl<C: Begun, P: Ledger> Shared<C, P> {
     /// The core, to be shared.
     pub fn new(core: Core<C, P>) -> Self {
         Shared {

@@ -7,14 +7,14 @@ use crate::shared::Shared;
 use job_queue::{Popped, Ready, Seat};
 use job_state::{AnyJob, Back, Done};
 use service_core::PutReply;
-use shared_core::Share;
+use shared_core::{Begun, Share};
 use std::sync::Wait;
 use std::sync::ledger::Ledger;
 use strips::{DeviceGraph, Window};
 use tenant_slot::StepReply;
 
 /// Serves the numbers of the queue until it is closed and empty. Answers its share, which counts the puts that were recorded.
-pub fn run_worker<C: Ledger, P: Ledger, G: Gate, R: Wait>(
+pub fn run_worker<C: Begun, P: Ledger, G: Gate, R: Wait>(
     rt: &R,
     shared: &Shared<C, P>,
     ready: &Ready,
@@ -47,7 +47,7 @@ pub fn run_worker<C: Ledger, P: Ledger, G: Gate, R: Wait>(
 /// Serves a number: takes the next step of the job of its tenancy, reads where its strip stands, makes the step without the lock
 /// through the window there and puts it. A job that the graph doesn't fit, or whose tenancy isn't live, is given back. Answers whose
 /// it was, where there may be a next one.
-fn serve<C: Ledger, P: Ledger, G: Gate, R: Wait>(
+fn serve<C: Begun, P: Ledger, G: Gate, R: Wait>(
     rt: &R,
     shared: &Shared<C, P>,
     graph: &DeviceGraph,
@@ -83,7 +83,7 @@ fn window_at<'g>(graph: &'g DeviceGraph, job: &AnyJob, offset: Option<u32>) -> O
 
 /// Makes a step through its window without the lock, and puts it. Without memory the job is given back. Answers whether there may be
 /// a next one.
-fn step_and_put<C: Ledger, P: Ledger, G: Gate, R: Wait>(
+fn step_and_put<C: Begun, P: Ledger, G: Gate, R: Wait>(
     rt: &R,
     shared: &Shared<C, P>,
     share: &mut Share<P>,
@@ -114,7 +114,7 @@ fn stepped<G: Gate>(gate: &G, job: AnyJob, window: &Window<'_>) -> Result<Done, 
 }
 
 /// Puts a step. Without memory it is given back, and to be put later. Answers whether there may be a next one.
-fn put<C: Ledger, P: Ledger, R: Wait>(
+fn put<C: Begun, P: Ledger, R: Wait>(
     rt: &R,
     shared: &Shared<C, P>,
     share: &mut Share<P>,
@@ -133,7 +133,7 @@ fn put<C: Ledger, P: Ledger, R: Wait>(
 }
 
 /// Marks and pushes the slot number of a tenancy that has a step to take. A number that isn't pushed comes back.
-fn push_next<C: Ledger, P: Ledger, R: Wait>(
+fn push_next<C: Begun, P: Ledger, R: Wait>(
     rt: &R,
     shared: &Shared<C, P>,
     ready: &Ready,
