@@ -1,6 +1,13 @@
 -- Lines of the operator, served one after another.
-use Rattle.std.proofs.Common.{◌≡◌, ℕ, List, [], ◌∷◌, ◌++◌, length, refl, sym, ap, ◌∙◌, subst, append_assoc, append-nil}
-use Rattle.service_core.specs.Run.{Call}
+use Rattle.std.proofs.Common.{◌≡◌, ℕ, Option, Some, None, List, [], ◌∷◌, ◌++◌, length, refl, sym, ap, ◌∙◌, subst, append_assoc, append-nil}
+use Rattle.std.specs.List.{filter_map}
+use Rattle.std.specs.Prelude.{option_map, reverse}
+use Rattle.job_state.specs.Job.{JobState}
+use Rattle.service_core.specs.Run.{Call, Run}
+use Rattle.service_core.specs.Run.Call.{GiveBack}
+use Rattle.service_core.specs.Service.{ServiceState}
+use Rattle.shared_core.proofs.Journals.{given_back}
+use Rattle.operator.specs.HeldJobs.{HeldList, give_backs}
 use Rattle.script_text.specs.declared.operator_line.OperatorLine.{OperatorLine}
 use Rattle.operator.specs.Serving.{IsServed, Stage}
 use Rattle.script_threads.specs.Lines.{AreServed, RepliesEach}
@@ -23,3 +30,13 @@ replies_more a lines before mid_text after b line calls more c done next told ev
   reply = told ∙ ap (λ t. t ++ more) done.reply ∙ append_assoc before done.text more;
   even = even;
 }
+
+-- jobs that are given back leave the tenancies
+gives : (old new : ServiceState) (jobs : List (Option JobState)) → Run old (filter_map (option_map GiveBack) jobs) new → length new.histories ≡ length old.histories
+gives old new [] is = ap (λ (s : ServiceState). length s.histories) is
+gives old new (None ∷ jobs) is = gives old new jobs is
+gives old new (Some job ∷ jobs) is =
+    let first = given_back old is.0 job is.1 in gives is.0 new jobs is.2 ∙ first.stays.count
+
+pub gives_keep : (old new : ServiceState) (jobs : HeldList) → Run old (give_backs jobs) new → length new.histories ≡ length old.histories
+gives_keep old new jobs is = gives old new (reverse jobs) is

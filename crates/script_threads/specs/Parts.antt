@@ -2,6 +2,7 @@
 use Rattle.std.specs.Prelude.{◌≡◌, ◌≢◌, List, [], ◌∷◌, ◌++◌, map, All, AllPairs}
 use Rattle.service_core.specs.Headline.{AreParted}
 use Rattle.service_core.specs.Service.{AreAlone, ServiceState}
+use Rattle.shared_core.specs.Following.{Follows, Stays}
 use Rattle.transcripts.specs.Transcripts.{TranscriptState}
 use Rattle.script_threads.specs.declared.crowd.Started.{Started}
 use Rattle.script_threads.specs.declared.crowd.Started.TheVariants.{Answered, Runs}
@@ -25,11 +26,13 @@ pub record Adds (part : PartState) (sections : List Told) (transcripts : List Tr
   pub sections_are : new_sections ≡ sections ++ told_in part ∷ []
   pub transcripts_are : new_transcripts ≡ transcripts ++ transcripts_of (part ∷ [])
 
--- the parts are told, and borne out by the service that they left
-pub record Finishes (parts : List PartState) (sections : List Told) (service : ServiceState) : Type 0 where
+-- the parts are told, and borne out by the service that they left, which goes on from that one
+pub record Finishes (begun : ServiceState) (parts : List PartState) (sections : List Told) (service : ServiceState) : Type 0 where
   pub each : All IsTold parts
   pub sections_are : sections ≡ map told_in parts
   pub apart : AllPairs (λ t u. t.id ≢ u.id) (transcripts_of parts)
-  pub borne_out : All (AreBorneOut service) (transcripts_of parts)
+  pub borne_out : All (AreBorneOut begun service) (transcripts_of parts)
+  pub follows : Follows begun service
+  pub stays : Stays begun service
   pub alone : AreAlone service
   pub parted : AreParted service.device service

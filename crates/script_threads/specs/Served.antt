@@ -1,11 +1,11 @@
 -- What a script is answered whose sessions run on threads.
-use Rattle.std.specs.Prelude.{ℕ, ◌≡◌, ◌≢◌, ◌<◌, Some, List, [], ◌++◌, map, slice_get, All, AllPairs}
+use Rattle.std.specs.Prelude.{ℕ, ◌≡◌, ◌≢◌, ◌<◌, ◌≤◌, Some, List, [], ◌++◌, length, map, slice_get, All, AllPairs}
 use Rattle.rr_graph.specs.Graph.{Basis}
 use Rattle.service_core.specs.declared.device.Device.{Device}
 use Rattle.service_core.specs.Headline.{AreParted}
-use Rattle.service_core.specs.History.{History}
 use Rattle.service_core.specs.Service.{AreAlone, ServiceState, empty, journal_of}
 use Rattle.sessions.specs.Fitting.{own_graph}
+use Rattle.shared_core.specs.Following.{Follows, Stays}
 use Rattle.settling.specs.Settling.{entry_of}
 use Rattle.transcripts.specs.Transcripts.{TranscriptState, receipts_of}
 use Rattle.script_text.specs.declared.operator_line.OperatorLine.{OperatorLine}
@@ -26,33 +26,40 @@ told_in part = record { name = part.name; text = part.text }
 abbrev pub section_told : Section → Told
 section_told section = record { name = section.name.now; text = section.text.items }
 
--- the receipts of a transcript are entries of its tenancy's journal, at rising places: each tells of the entry at its place
-pub record AreBorneOut (service : ServiceState) (t : TranscriptState) : Type 0 where
+-- the receipts of a transcript are entries of its tenancy's journal, at rising places behind those that it began with: each tells of the
+-- entry at its place
+pub record AreBorneOut (begun service : ServiceState) (t : TranscriptState) : Type 0 where
   pub ids : All (λ r. r.id ≡ t.id) (receipts_of t.items)
   pub rising : AllPairs (λ p q. p < q) (map (λ r. r.place) (receipts_of t.items))
+  pub since : All (λ r. length (journal_of begun t.id) ≤ r.place) (receipts_of t.items)
   pub entries : All (λ r. slice_get (journal_of service t.id) r.place ≡ Some (entry_of r)) (receipts_of t.items)
 
 -- each name's session was told that, just those of live tenancies having run, each of another tenancy. What they were told is borne out by the
--- service that they left: its journals are those of their tenancies alone, and its strips are parted
-pub record Ran (names : List (List ℕ)) (histories : List History) (sessions : List Said) (sections : List Told) (service : ServiceState) : Type 0 where
+-- service that they left. It goes on from the one that they were given: of the same device and tenancies, which are live, and whose strips
+-- stand, as they did, and their journals' entries are a beginning of those that are there now. Its journals are those of their tenancies
+-- alone, and its strips are parted
+pub record Ran (names : List (List ℕ)) (begun : ServiceState) (sessions : List Said) (sections : List Told) (service : ServiceState) : Type 0 where
   pub parts : List PartState
-  pub asked : map asked_in parts ≡ map (asked_of names histories) sessions
+  pub asked : map asked_in parts ≡ map (asked_of names begun.histories) sessions
   pub each : All IsTold parts
   pub sections_are : sections ≡ map told_in parts
   pub apart : AllPairs (λ t u. t.id ≢ u.id) (transcripts_of parts)
-  pub borne_out : All (AreBorneOut service) (transcripts_of parts)
+  pub borne_out : All (AreBorneOut begun service) (transcripts_of parts)
+  pub follows : Follows begun service
+  pub stays : Stays begun service
   pub alone : AreAlone service
   pub parted : AreParted service.device service
 
 -- the operator's lines ahead are served from that state of the core, over that graph; then the sessions run; and then the operator's other
--- lines are served by the settled service. The operator's text is that of all these lines
+-- lines are served by the settled service, whose ids its names still are. The operator's text is that of all these lines
 pub record IsServedFrom (graph : Basis) (start : ServiceState) (script : Script) (sections : List Told) (text : List ℕ) : Type 0 where
   pub names : List (List ℕ)
   pub service : ServiceState
   pub ahead_text : List ℕ
   pub ahead : Serves graph [] start script.ahead ahead_text names service
   pub settled : ServiceState
-  pub ran : Ran names service.histories script.sessions sections settled
+  pub ran : Ran names service script.sessions sections settled
+  pub even : length names ≡ length settled.histories
   pub last_names : List (List ℕ)
   pub last : ServiceState
   pub rest_text : List ℕ
@@ -70,7 +77,8 @@ pub record Ends (graph : Basis) (names : List (List ℕ)) (settled : ServiceStat
   pub replies : Replies graph names settled rest before after last_names last
 
 -- private: the sessions run ahead of them
-pub record RunsOn (graph : Basis) (names : List (List ℕ)) (histories : List History) (sessions : List Said) (rest : List (OperatorLine (List ℕ))) (sections : List Told) (before after : List ℕ) : Type 0 where
+pub record RunsOn (graph : Basis) (names : List (List ℕ)) (begun : ServiceState) (sessions : List Said) (rest : List (OperatorLine (List ℕ))) (sections : List Told) (before after : List ℕ) : Type 0 where
   pub settled : ServiceState
-  pub ran : Ran names histories sessions sections settled
+  pub ran : Ran names begun sessions sections settled
+  pub even : length names ≡ length settled.histories
   pub ends : Ends graph names settled rest before after

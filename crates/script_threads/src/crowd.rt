@@ -11,7 +11,7 @@ use crate::part::{Part, evicted_part, run_part};
 use crate::seated::Seated;
 use crate::seats::{a_pass, a_seat};
 use job_queue::{Pass, Ready, Seat};
-use shared_core::Share;
+use shared_core::{Begun, Share};
 use std::alloc::AllocGlobal;
 use std::snapshot::Snapshot;
 use std::sync::Wait;
@@ -26,16 +26,16 @@ type Worker<P> = JoinHandle<Share<P>>;
 
 /// A session that was answered at once, or runs on a thread of its own.
 #[derive(Drop)]
-enum Started<'t, C: Ledger> {
+enum Started<'t, C: Begun> {
     Answered(Part<'t, C>),
     Runs(PromisedHandle<Option<Part<'t, C>>, Kept<'t, C>>),
 }
 
 /// A thread's promise: the part that it gives is that session's.
 #[derive(Drop)]
-struct Kept<'t, C: Ledger>(Snapshot<Seated<'t, C>>);
+struct Kept<'t, C: Begun>(Snapshot<Seated<'t, C>>);
 
-impl<'t, C: Ledger> Promise<Option<Part<'t, C>>> for Kept<'t, C> {
+impl<'t, C: Begun> Promise<Option<Part<'t, C>>> for Kept<'t, C> {
     ghost use Rattle.std.specs.Prelude.{◌≡◌, IfSome};
     ghost use Rattle.script_threads.specs.Sessions.{asked_in};
 
@@ -47,7 +47,7 @@ impl<'t, C: Ledger> Promise<Option<Part<'t, C>>> for Kept<'t, C> {
 /// sessions that were started have run to their end then too.
 pub(crate) fn run_crowd<
     't,
-    C: Ledger + Send + Sync,
+    C: Begun + Send + Sync,
     P: Ledger + Send + Sync,
     R: Threads + Wait + AllocGlobal + Sync,
 >(
@@ -78,7 +78,7 @@ fn run_in<
     's,
     't: 's,
     E,
-    C: Ledger + Send + Sync + 's,
+    C: Begun + Send + Sync + 's,
     P: Ledger + Send + Sync + 's,
     R: Threads + Wait + AllocGlobal + Sync + 's,
 >(
@@ -118,7 +118,7 @@ fn start_all<
     's,
     't: 's,
     E,
-    C: Ledger + Send + Sync + 's,
+    C: Begun + Send + Sync + 's,
     P: Ledger + Send + Sync + 's,
     R: Wait + AllocGlobal + Sync + 's,
 >(
@@ -147,7 +147,7 @@ fn start_all<
 }
 
 /// The parts and the shares, where all have started and memory lacked for none.
-fn all_ended<'t, C: Ledger, P: Ledger>(
+fn all_ended<'t, C: Begun, P: Ledger>(
     are_started: bool,
     parts: Option<Vec<Part<'t, C>>>,
     shares: Option<Vec<Share<P>>>,
@@ -169,7 +169,7 @@ fn all_ended<'t, C: Ledger, P: Ledger>(
 }
 
 /// The parts and the shares, if there are any.
-fn with_shares<'t, C: Ledger, P: Ledger>(
+fn with_shares<'t, C: Begun, P: Ledger>(
     parts: Vec<Part<'t, C>>,
     shares: Option<Vec<Share<P>>>,
 ) -> Option<(Vec<Part<'t, C>>, Vec<Share<P>>)>
@@ -188,7 +188,7 @@ fn with_shares<'t, C: Ledger, P: Ledger>(
 fn start_workers<
     's,
     E,
-    C: Ledger + Send + Sync + 's,
+    C: Begun + Send + Sync + 's,
     P: Ledger + Send + Sync + 's,
     R: Wait + Sync + 's,
 >(
@@ -225,7 +225,7 @@ fn start_sessions<
     's,
     't: 's,
     E,
-    C: Ledger + Send + Sync + 's,
+    C: Begun + Send + Sync + 's,
     P: Ledger + Send + Sync + 's,
     R: Wait + AllocGlobal + Sync + 's,
 >(
@@ -260,7 +260,7 @@ fn start_session<
     's,
     't: 's,
     E,
-    C: Ledger + Send + Sync + 's,
+    C: Begun + Send + Sync + 's,
     P: Ledger + Send + Sync + 's,
     R: Wait + AllocGlobal + Sync + 's,
 >(
@@ -290,7 +290,7 @@ fn start_session<
 }
 
 /// Waits for the sessions, and gives their parts. None where one gave none, or memory lacks.
-fn join_sessions<'t, C: Ledger, R: Threads + AllocGlobal>(
+fn join_sessions<'t, C: Begun, R: Threads + AllocGlobal>(
     rt: &R,
     started: Vec<Started<'t, C>>,
 ) -> Option<Vec<Part<'t, C>>>
@@ -305,7 +305,7 @@ fn join_sessions<'t, C: Ledger, R: Threads + AllocGlobal>(
 }
 
 /// Waits for a session.
-fn join_session<'t, C: Ledger, R: Threads>(rt: &R, session: Started<'t, C>) -> Option<Part<'t, C>>
+fn join_session<'t, C: Begun, R: Threads>(rt: &R, session: Started<'t, C>) -> Option<Part<'t, C>>
     ensures { IfSome result (λ part. asked_in part ≡ started_by session.entry) }
 {
     match session {
@@ -315,7 +315,7 @@ fn join_session<'t, C: Ledger, R: Threads>(rt: &R, session: Started<'t, C>) -> O
 }
 
 /// The parts with one more.
-fn with_part<'t, C: Ledger>(
+fn with_part<'t, C: Begun>(
     parts: Option<Vec<Part<'t, C>>>,
     part: Option<Part<'t, C>>,
 ) -> Option<Vec<Part<'t, C>>>

@@ -1,5 +1,5 @@
 //! What the sessions were told, once they and the workers have ended.
-ghost use Rattle.std.specs.Prelude.{[], map, IfOk, OnOk};
+ghost use Rattle.std.specs.Prelude.{◌≡◌, [], true, map, IfOk, OnOk};
 ghost use Rattle.script_threads.specs.Parts.{Adds, AreParts, Finishes};
 ghost use Rattle.script_threads.specs.Served.{section_told};
 
@@ -8,26 +8,27 @@ use crate::part::Part;
 use script_text::SessionInput;
 use service_core::Service;
 use settling::settle;
-use shared_core::{Core, Share};
+use shared_core::{Begun, Core, Share};
 use std::alloc::{AllocError, Global};
 use std::sync::ledger::Ledger;
 use transcripts::Transcript;
 
 /// What each name's session was told, and the transcripts of those that ran.
 #[derive(Drop)]
-struct Parted<'t, C: Ledger> {
+struct Parted<'t, C: Begun> {
     sections: Vec<Section<'t>>,
     transcripts: Vec<Transcript<C>>,
 }
 
 /// Settles what the sessions that ran were told. Gives the service, and what each name's session was told.
-pub(crate) fn finish<'t, C: Ledger, P: Ledger>(
+pub(crate) fn finish<'t, C: Begun, P: Ledger>(
     alloc: Global,
     core: Core<C, P>,
     parts: Vec<Part<'t, C>>,
     shares: Vec<Share<P>>,
 ) -> Result<(Service, Vec<Section<'t>>), Unserved>
-    ensures ok { IfOk result (λ r. Finishes parts.entry.items (map section_told r.1.items) r.0) }
+    requires { C.stay ≡ true }
+    ensures ok { IfOk result (λ r. Finishes C.begun parts.entry.items (map section_told r.1.items) r.0) }
 {
     let Parted {
         sections,
@@ -48,7 +49,7 @@ pub(crate) fn finish<'t, C: Ledger, P: Ledger>(
 }
 
 /// Parts what was told from the transcripts.
-fn part_all<'t, C: Ledger>(
+fn part_all<'t, C: Begun>(
     alloc: Global,
     parts: Vec<Part<'t, C>>,
 ) -> Result<Parted<'t, C>, AllocError>
@@ -64,7 +65,7 @@ fn part_all<'t, C: Ledger>(
     Ok(parted)
 }
 
-impl<'t, C: Ledger> Parted<'t, C> {
+impl<'t, C: Begun> Parted<'t, C> {
     /// Adds what a session was told, and its transcript, if it ran.
     fn add(&mut self, part: Part<'t, C>) -> Result<(), AllocError>
         ensures { OnOk result (Adds part.entry (map section_told self.old.sections.items) self.old.transcripts.items (map section_told self.new.sections.items) self.new.transcripts.items) }

@@ -21,7 +21,8 @@ pub(crate) fn serve_lines<'t>(
     reply: &mut MemorySink,
 ) -> Result<(), AllocError>
     requires { length operator.old ≡ length core.old.histories }
-    ensures { OnOk result (Replies graph.now operator.old core.old (map named_operator lines.entry.items) (held reply.old) (held reply.new) operator.new core.new) }
+    ensures replies { OnOk result (Replies graph.now operator.old core.old (map named_operator lines.entry.items) (held reply.old) (held reply.new) operator.new core.new) }
+    ensures even { OnOk result (length operator.new ≡ length core.new.histories) }
 {
     let mut jobs = HeldJobs::new(alloc);
     let served = serve_each(graph, operator, core, &mut jobs, lines, reply);

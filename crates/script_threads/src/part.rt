@@ -11,7 +11,7 @@ use line_text::{MemorySink, MemorySource};
 use script_text::SessionInput;
 use session_threads::run_session;
 use sessions::{SessionLine, SessionRefusal, read_items, write_session_refusal};
-use shared_core::Lease;
+use shared_core::{Begun, Lease};
 use std::alloc::{AllocError, AllocGlobal, Global};
 use std::marker::Model;
 use std::sync::Wait;
@@ -21,14 +21,14 @@ use worker_pool::Shared;
 
 /// What a name's session was told, and the transcript of one that ran.
 #[derive(Drop)]
-pub(crate) struct Part<'t, C: Ledger> {
+pub(crate) struct Part<'t, C: Begun> {
     pub(crate) said: SessionInput<'t>,
     pub(crate) id: u32,
     pub(crate) text: Vec<u8>,
     pub(crate) transcript: Option<Transcript<C>>,
 }
 
-impl<'t, C: Ledger> Model for Part<'t, C> {
+impl<'t, C: Begun> Model for Part<'t, C> {
     ghost use Rattle.script_threads.specs.Sessions.{IsTold, PartState};
 
     ghost Value = { PartState };
@@ -39,7 +39,7 @@ impl<'t, C: Ledger> Model for Part<'t, C> {
 }
 
 /// The session of a live tenancy, from its begin to its end. None where memory lacked for its text.
-pub(crate) fn run_part<'t, C: Ledger, P: Ledger, R: Wait + AllocGlobal>(
+pub(crate) fn run_part<'t, C: Begun, P: Ledger, R: Wait + AllocGlobal>(
     rt: &R,
     shared: &Shared<C, P>,
     ready: &Ready,
@@ -68,7 +68,7 @@ pub(crate) fn run_part<'t, C: Ledger, P: Ledger, R: Wait + AllocGlobal>(
 }
 
 /// The session of a name that isn't live: each item is told its own refusal, or that the tenancy is evicted.
-pub(crate) fn evicted_part<'t, C: Ledger>(
+pub(crate) fn evicted_part<'t, C: Begun>(
     alloc: Global,
     said: SessionInput<'t>,
     id: u32,

@@ -1,8 +1,7 @@
 //! The sessions of a script, run on threads beside the workers.
-ghost use Rattle.std.specs.Prelude.{◌≡◌, [], List, ℕ, map, All, IfOk};
+ghost use Rattle.std.specs.Prelude.{◌≡◌, [], List, ℕ, true, map, All, IfOk};
 ghost use Rattle.job_queue.specs.Balance.{log};
 ghost use Rattle.script_text.specs.Threaded.{Said, said_by};
-ghost use Rattle.service_core.specs.History.{History};
 ghost use Rattle.script_threads.specs.Served.{Ran, section_told};
 ghost use Rattle.script_threads.specs.Sessions.{asked_of};
 
@@ -14,7 +13,7 @@ use job_queue::{Pass, Ready, Seat};
 use operator::Operator;
 use script_text::SessionInput;
 use service_core::Service;
-use shared_core::{Core, Share};
+use shared_core::{Begun, Core, Share};
 use std::alloc::{AllocGlobal, Global};
 use std::sync::Wait;
 use std::sync::ledger::Ledger;
@@ -25,7 +24,7 @@ use worker_pool::Shared;
 /// Runs each name's session, and settles what they were told.
 pub(crate) fn run_sessions<
     't,
-    C: Ledger + Send + Sync,
+    C: Begun + Send + Sync,
     P: Ledger + Send + Sync,
     R: Threads + Wait + AllocGlobal + Sync,
 >(
@@ -36,7 +35,9 @@ pub(crate) fn run_sessions<
     operator: &Operator<'t>,
     sessions: Vec<SessionInput<'t>>,
 ) -> Result<(Service, Vec<Section<'t>>), Unserved>
-    ensures ok { IfOk result (λ r. Ran operator.now core.service.histories (map said_by sessions.entry.items) (map section_told r.1.items) r.0) }
+    requires begun { C.begun ≡ core.service }
+    requires stay { C.stay ≡ true }
+    ensures ok { IfOk result (λ r. Ran operator.now core.service (map said_by sessions.entry.items) (map section_told r.1.items) r.0) }
 {
     let mut core = core;
     match prepare(rt.alloc(), workers, &mut core, operator, sessions) {
@@ -50,14 +51,14 @@ pub(crate) fn run_sessions<
 
 /// What the threads begin with: the queue, a seat and a share for each worker, and a pass for each session that is seated.
 #[derive(Drop)]
-struct Prepared<'t, C: Ledger, P: Ledger> {
+struct Prepared<'t, C: Begun, P: Ledger> {
     ready: Ready,
     workers: (Vec<Seat>, Vec<Share<P>>),
     sessions: (Vec<Pass>, Vec<Seated<'t, C>>),
 }
 
 /// Asks for all that the threads begin with.
-fn prepare<'t, C: Ledger, P: Ledger>(
+fn prepare<'t, C: Begun, P: Ledger>(
     alloc: Global,
     workers: u32,
     core: &mut Core<C, P>,
@@ -81,7 +82,7 @@ fn prepare<'t, C: Ledger, P: Ledger>(
 /// Runs the sessions that are seated, and settles what they were told.
 fn run_prepared<
     't,
-    C: Ledger + Send + Sync,
+    C: Begun + Send + Sync,
     P: Ledger + Send + Sync,
     R: Threads + Wait + AllocGlobal + Sync,
 >(
@@ -92,7 +93,8 @@ fn run_prepared<
 ) -> Result<(Service, Vec<Section<'t>>), Unserved>
     requires seats { All (λ s. s ≡ record { of = prepared.ready; log = log [] [] }) prepared.workers.0.items }
     requires passes { All (λ s. s ≡ record { of = prepared.ready; log = log [] [] }) prepared.sessions.0.items }
-    ensures ok { (names : List (List ℕ)) (histories : List History) (sessions : List Said) → prepared.entry.sessions.1.items ≡ map (asked_of names histories) sessions → IfOk result (λ r. Ran names histories sessions (map section_told r.1.items) r.0) }
+    requires stay { C.stay ≡ true }
+    ensures ok { (names : List (List ℕ)) (sessions : List Said) → prepared.entry.sessions.1.items ≡ map (asked_of names C.begun.histories) sessions → IfOk result (λ r. Ran names C.begun sessions (map section_told r.1.items) r.0) }
 {
     let Prepared {
         ready,

@@ -7,20 +7,20 @@ use crate::answered::Unserved;
 use operator::Operator;
 use script_text::SessionInput;
 use settling::Cause;
-use shared_core::{Core, Lease, Share};
+use shared_core::{Begun, Core, Lease, Share};
 use std::alloc::Global;
 use std::marker::Model;
 use std::sync::ledger::Ledger;
 
 /// What a name's session says, the last tenancy of the name, and its lease, if it is live.
 #[derive(Drop)]
-pub(crate) struct Seated<'t, C: Ledger> {
+pub(crate) struct Seated<'t, C: Begun> {
     pub(crate) said: SessionInput<'t>,
     pub(crate) id: u32,
     pub(crate) lease: Option<Lease<C>>,
 }
 
-impl<'t, C: Ledger> Model for Seated<'t, C> {
+impl<'t, C: Begun> Model for Seated<'t, C> {
     ghost use Rattle.std.specs.Prelude.{is_some};
     ghost use Rattle.script_threads.specs.Seats.{HasLease};
     ghost use Rattle.script_threads.specs.Sessions.{Asked};
@@ -33,7 +33,7 @@ impl<'t, C: Ledger> Model for Seated<'t, C> {
 }
 
 /// Seats each name's session.
-pub(crate) fn seat_all<'t, C: Ledger, P: Ledger>(
+pub(crate) fn seat_all<'t, C: Begun, P: Ledger>(
     alloc: Global,
     operator: &Operator<'t>,
     core: &mut Core<C, P>,
@@ -53,7 +53,7 @@ pub(crate) fn seat_all<'t, C: Ledger, P: Ledger>(
 }
 
 /// Seats a name's session.
-fn seat<'t, C: Ledger, P: Ledger>(
+fn seat<'t, C: Begun, P: Ledger>(
     operator: &Operator<'t>,
     core: &mut Core<C, P>,
     said: SessionInput<'t>,
@@ -80,7 +80,7 @@ fn seat<'t, C: Ledger, P: Ledger>(
 }
 
 /// A share for each worker.
-pub(crate) fn shares<C: Ledger, P: Ledger>(
+pub(crate) fn shares<C: Begun, P: Ledger>(
     alloc: Global,
     core: &mut Core<C, P>,
     workers: u32,

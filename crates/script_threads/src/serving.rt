@@ -1,5 +1,5 @@
 //! A whole script.
-ghost use Rattle.std.specs.Prelude.{◌≡◌, ◌≤◌, [], map, IfOk, OnOk};
+ghost use Rattle.std.specs.Prelude.{◌≡◌, ◌≤◌, [], true, length, map, IfOk};
 ghost use Rattle.arch_file.specs.Arch.{IsArch};
 ghost use Rattle.operator.specs.Held.{held};
 ghost use Rattle.script_text.specs.Script.{named_operator};
@@ -15,8 +15,7 @@ use operator::Operator;
 use script_text::{OperatorLine, SessionInput, ThreadedScript};
 use service_core::{Device, Service};
 use sessions::device_graph;
-use settling::Cause;
-use shared_core::Core;
+use shared_core::{Begun, Core};
 use std::alloc::{AllocGlobal, Global};
 use std::marker::Brand;
 use std::sync::Wait;
@@ -38,39 +37,9 @@ pub fn serve_on_threads<'t, R: Threads + Wait + AllocGlobal + Sync>(
     requires rows { device.rows ≤ 64 }
     ensures ok { IfOk result (λ answered. IsServedOnThreads device (parts_of script.entry) answered) }
 {
-    let commands = Blank::new(65_536);
-    let puts = Blank::new(17);
-    serve::<Brand, Brand, R>(rt, workers, device, script, commands, puts)
-}
-
-/// The same, with two ledgers.
-fn serve<
-    't,
-    C: Ledger + Send + Sync,
-    P: Ledger + Send + Sync,
-    R: Threads + Wait + AllocGlobal + Sync,
->(
-    rt: &R,
-    workers: u32,
-    device: Device,
-    script: ThreadedScript<'t>,
-    commands: Blank,
-    puts: Blank,
-) -> Result<Answered<'t>, Unserved>
-    requires arch { IsArch device.arch }
-    requires has_columns { 1 ≤ device.columns }
-    requires columns { device.columns ≤ 256 }
-    requires has_rows { 1 ≤ device.rows }
-    requires rows { device.rows ≤ 64 }
-    requires commands { (commands.name ≡ C.name) × (commands.parts ≡ C.parts) × (commands.parts ≡ 65536) }
-    requires puts { (puts.name ≡ P.name) × (puts.parts ≡ P.parts) × (puts.parts ≡ 17) }
-    ensures ok { IfOk result (λ answered. IsServedOnThreads device (parts_of script.entry) answered) }
-{
     match device_graph(rt.alloc(), &device) {
         Ok(graph) => {
-            let answered = serve_over::<C, P, R>(
-                rt, workers, &graph, device, script, commands, puts,
-            );
+            let answered = serve_over(rt, workers, &graph, device, script);
             drop(graph);
             answered
         }
@@ -83,19 +52,12 @@ fn serve<
 }
 
 /// The same over the device's graph.
-fn serve_over<
-    't,
-    C: Ledger + Send + Sync,
-    P: Ledger + Send + Sync,
-    R: Threads + Wait + AllocGlobal + Sync,
->(
+fn serve_over<'t, R: Threads + Wait + AllocGlobal + Sync>(
     rt: &R,
     workers: u32,
     graph: &DeviceGraph,
     device: Device,
     script: ThreadedScript<'t>,
-    commands: Blank,
-    puts: Blank,
 ) -> Result<Answered<'t>, Unserved>
     requires arch { IsArch device.arch }
     requires has_columns { 1 ≤ device.columns }
@@ -103,12 +65,10 @@ fn serve_over<
     requires has_rows { 1 ≤ device.rows }
     requires rows { device.rows ≤ 64 }
     requires own { graph.now ≡ own_graph device }
-    requires commands { (commands.name ≡ C.name) × (commands.parts ≡ C.parts) × (commands.parts ≡ 65536) }
-    requires puts { (puts.name ≡ P.name) × (puts.parts ≡ P.parts) × (puts.parts ≡ 17) }
     ensures ok { IfOk result (λ answered. IsServedOnThreads device (parts_of script.entry) answered) }
 {
     match Service::new(rt.alloc(), device) {
-        Ok(service) => serve_script::<C, P, R>(rt, workers, graph, service, script, commands, puts),
+        Ok(service) => serve_script(rt, workers, graph, service, script),
         Err(error) => {
             drop(script);
             Err(Unserved::from(error))
@@ -117,37 +77,26 @@ fn serve_over<
 }
 
 /// Serves a script by a service that no one uses.
-fn serve_script<
-    't,
-    C: Ledger + Send + Sync,
-    P: Ledger + Send + Sync,
-    R: Threads + Wait + AllocGlobal + Sync,
->(
+fn serve_script<'t, R: Threads + Wait + AllocGlobal + Sync>(
     rt: &R,
     workers: u32,
     graph: &DeviceGraph,
     service: Service,
     script: ThreadedScript<'t>,
-    commands: Blank,
-    puts: Blank,
 ) -> Result<Answered<'t>, Unserved>
     requires unused { service.histories ≡ [] }
-    requires commands { (commands.name ≡ C.name) × (commands.parts ≡ C.parts) × (commands.parts ≡ 65536) }
-    requires puts { (puts.name ≡ P.name) × (puts.parts ≡ P.parts) × (puts.parts ≡ 17) }
     ensures ok { IfOk result (λ answered. IsServedFrom graph.now service (parts_of script.entry) (map section_told answered.sections.items) answered.operator.items) }
 {
     let alloc = rt.alloc();
     let mut operator = Operator::new(alloc);
     let mut reply = MemorySink::new(alloc);
-    let served = serve_parts::<C, P, R>(
+    let served = serve_parts(
         rt,
         workers,
         graph,
         &mut operator,
         service,
         script,
-        commands,
-        puts,
         &mut reply,
     );
     drop(operator);
@@ -164,27 +113,18 @@ fn serve_script<
 }
 
 /// Serves the parts of a script, and appends what the operator is told. Gives what each name's session was told.
-fn serve_parts<
-    't,
-    C: Ledger + Send + Sync,
-    P: Ledger + Send + Sync,
-    R: Threads + Wait + AllocGlobal + Sync,
->(
+fn serve_parts<'t, R: Threads + Wait + AllocGlobal + Sync>(
     rt: &R,
     workers: u32,
     graph: &DeviceGraph,
     operator: &mut Operator<'t>,
     service: Service,
     script: ThreadedScript<'t>,
-    commands: Blank,
-    puts: Blank,
     reply: &mut MemorySink,
 ) -> Result<Vec<Section<'t>>, Unserved>
     requires unused { service.histories ≡ [] }
     requires names { operator.old ≡ [] }
     requires reply { held reply.old ≡ [] }
-    requires commands { (commands.name ≡ C.name) × (commands.parts ≡ C.parts) × (commands.parts ≡ 65536) }
-    requires puts { (puts.name ≡ P.name) × (puts.parts ≡ P.parts) × (puts.parts ≡ 17) }
     ensures ok { IfOk result (λ sections. IsServedFrom graph.now service (parts_of script.entry) (map section_told sections.items) (held reply.new)) }
 {
     let ThreadedScript {
@@ -194,9 +134,13 @@ fn serve_parts<
     } = script;
     let mut service = service;
     match serve_lines(rt.alloc(), graph, operator, &mut service, ahead, reply) {
-        Ok(()) => serve_sessions::<C, P, R>(
-            rt, workers, graph, operator, service, sessions, rest, commands, puts, reply,
-        ),
+        Ok(()) => {
+            let commands = Blank::new(65_536);
+            let puts = Blank::new(17);
+            serve_sessions::<Brand, Brand, R>(
+                rt, workers, graph, operator, service, sessions, rest, commands, puts, reply,
+            )
+        }
         Err(error) => {
             drop(service);
             drop(sessions);
@@ -209,7 +153,7 @@ fn serve_parts<
 /// Runs each name's session, and serves the operator's other lines.
 fn serve_sessions<
     't,
-    C: Ledger + Send + Sync,
+    C: Begun + Send + Sync,
     P: Ledger + Send + Sync,
     R: Threads + Wait + AllocGlobal + Sync,
 >(
@@ -226,7 +170,10 @@ fn serve_sessions<
 ) -> Result<Vec<Section<'t>>, Unserved>
     requires commands { (commands.name ≡ C.name) × (commands.parts ≡ C.parts) × (commands.parts ≡ 65536) }
     requires puts { (puts.name ≡ P.name) × (puts.parts ≡ P.parts) × (puts.parts ≡ 17) }
-    ensures ok { IfOk result (λ sections. RunsOn graph.now operator.old service.histories (map said_by sessions.entry.items) (map named_operator rest.entry.items) (map section_told sections.items) (held reply.old) (held reply.new)) }
+    requires begun { C.begun ≡ service }
+    requires stay { C.stay ≡ true }
+    requires even { length operator.old ≡ length service.histories }
+    ensures ok { IfOk result (λ sections. RunsOn graph.now operator.old service (map said_by sessions.entry.items) (map named_operator rest.entry.items) (map section_told sections.items) (held reply.old) (held reply.new)) }
 {
     match Core::<C, P>::over(rt.alloc(), service, commands, puts) {
         Ok(core) => match run_sessions(rt, graph, workers, core, operator, sessions) {
@@ -257,37 +204,17 @@ fn serve_rest<'t>(
     rest: Vec<OperatorLine<&'t [u8]>>,
     reply: &mut MemorySink,
 ) -> Result<Vec<Section<'t>>, Unserved>
+    requires { length operator.old ≡ length service.histories }
     ensures ok { IfOk result (λ told. (told.items ≡ sections.entry.items) × Ends graph.now operator.old service (map named_operator rest.entry.items) (held reply.old) (held reply.new)) }
 {
     let mut service = service;
-    let served = serve_settled(alloc, graph, operator, &mut service, rest, reply);
+    let served = serve_lines(alloc, graph, operator, &mut service, rest, reply);
     drop(service);
     match served {
         Ok(()) => Ok(sections),
-        Err(unserved) => {
+        Err(error) => {
             drop(sections);
-            Err(unserved)
+            Err(Unserved::from(error))
         }
-    }
-}
-
-/// Serves lines by a service whose tenancies have the operator's names.
-fn serve_settled<'t>(
-    alloc: Global,
-    graph: &DeviceGraph,
-    operator: &mut Operator<'t>,
-    service: &mut Service,
-    lines: Vec<OperatorLine<&'t [u8]>>,
-    reply: &mut MemorySink,
-) -> Result<(), Unserved>
-    ensures ok { OnOk result (Ends graph.now operator.old service.old (map named_operator lines.entry.items) (held reply.old) (held reply.new)) }
-{
-    if !operator.is_of(service) {
-        drop(lines);
-        return Err(Unserved::NotSettled(Cause::Missing));
-    }
-    match serve_lines(alloc, graph, operator, service, lines, reply) {
-        Ok(()) => Ok(()),
-        Err(error) => Err(Unserved::from(error)),
     }
 }

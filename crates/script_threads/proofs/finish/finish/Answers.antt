@@ -10,13 +10,16 @@ returns-in-Ok g c =
     let service = c.into_service-service.result in
     let are = c.in_ok-sections.ensures in
     let settled = c.in-Ok.ensures.settled in
-    let left = sym (c.into_service-service.ensures ∙ ap (λ (s : SettledState). s.service) c.in-Ok.ensures.service) in
+    let given = c.into_service-service.ensures in
+    let left = sym (given ∙ ap (λ (s : SettledState). s.service) c.in-Ok.ensures.service) in
     record {
       ok = record {
         each = are.each;
         sections_are = are.sections_are;
         apart = subst (λ ts. AllPairs (λ t u. t.id ≢ u.id) ts) are.transcripts_are settled.apart;
-        borne_out = subst (λ ts. All (AreBorneOut service) ts) are.transcripts_are (all_borne c.args.core service _ left settled.each);
+        borne_out = subst (λ ts. All (AreBorneOut g.C.Begun.begun service) ts) are.transcripts_are (all_borne c.args.core g.C.Begun.begun service _ left settled.each);
+        follows = rw given c.in-Ok.ensures.follows;
+        stays = rw given (c.in-Ok.ensures.stays c.requires);
         alone = c.offset-parted.ensures.alone;
         parted = c.offset-parted.ensures.parted;
       };

@@ -1,14 +1,15 @@
-use Rattle.std.proofs.Common.{refl, subst}
+use Rattle.std.proofs.Common.{◌≡◌, length, refl, subst, sym, ◌∙◌}
 use Rattle.std.specs.Prelude.{map, OnOk}
 use Rattle.operator.specs.Held.{held}
 use Rattle.operator.specs.HeldJobs.{HeldList}
 use Rattle.operator.proofs.OperatorLemmas.{on_ok}
 use Rattle.script_text.specs.Script.{named_operator}
 use Rattle.script_threads.specs.Lines.{RepliesEach, stage}
+use Rattle.script_threads.proofs.LineLemmas.{gives_keep}
 use Rattle.script_threads.proofs.operator_lines.serve_lines.Goals as goal
 
-pub returns : goal.returns
-returns c =
+pub returns-clause-replies : goal.returns-clause-replies
+returns-clause-replies c =
     let each = c.serve_each-served in
     let last = stage c.args.graph.now each.new.operator each.new.jobs each.new.core in
     let P : HeldList → Type 0 = λ jobs. OnOk each.result (RepliesEach (stage c.args.graph.now c.args.operator.now jobs c.args.core.now) (map named_operator c.args.lines.items) (held c.args.reply.now) (held each.new.reply) last) in
@@ -19,3 +20,8 @@ returns c =
       reply = done.reply;
     })
     (subst P c.new-jobs.ensures each.ensures)
+
+pub returns-clause-even : goal.returns-clause-even
+returns-clause-even c =
+    let each = c.serve_each-served in
+    on_ok each.result (λ done. done.even ∙ sym (gives_keep each.new.core c.give_back.new.core each.new.jobs c.give_back.ensures)) each.ensures
