@@ -1,24 +1,28 @@
-//! A queue that is closed, and a full one.
+//! A queue that is closed.
 ghost use Rattle.std.specs.Prelude.{◌≡◌};
 
-use crate::seats::{a_pass, a_seat};
-use job_queue::{Cause, NotPushed, PLACES, Pass, Popped, Ready, Seat};
-use std::alloc::Global;
+use crate::crew::Crew;
+use crate::numbers::{gives, push_numbers, push_own_numbers};
+use job_queue::{Popped, Ready, Seat};
 use std::sync::Wait;
-use std::test::Fail;
 
-/// Pushes the numbers below that one, and tells how many were pushed.
-fn push_below<R: Wait>(rt: &R, ready: &Ready, pass: &mut Pass, end: u32) -> u32
-    requires { pass.old.of ≡ ready.now }
-    ensures { pass.new.of ≡ pass.old.of }
-{
-    let mut pushed: u32 = 0;
-    for number in 0..end {
-        if ready.push(rt, pass, number).is_ok() {
-            pushed = pushed.saturating_add(1);
-        }
-    }
-    pushed
+/// Whether numbers that were pushed before the queue was closed are popped after, and then numbers that were pushed later.
+fn is_drained<R: Wait>(rt: &R, crew: Crew) -> bool {
+    let Crew {
+        ready,
+        first: mut seat,
+        second,
+        third,
+        mut pass,
+    } = crew;
+    let early = push_numbers(rt, &ready, &mut pass, (0, 5));
+    ready.close();
+    let early = early && drains(rt, &ready, &mut seat, 5);
+    let late = push_numbers(rt, &ready, &mut pass, (1, 2))
+        && push_own_numbers(rt, &ready, &mut seat, (0, 1))
+        && drains(rt, &ready, &mut seat, 2);
+    drop((ready, seat, second, third, pass));
+    early && late
 }
 
 /// Whether the numbers below that one are popped in order, and then that the queue is closed.
@@ -26,60 +30,76 @@ fn drains<R: Wait>(rt: &R, ready: &Ready, seat: &mut Seat, end: u32) -> bool
     requires { seat.old.of ≡ ready.now }
     ensures { seat.new.of ≡ seat.old.of }
 {
-    for number in 0..end {
-        if ready.pop(rt, seat) != Popped::Number(number) {
-            return false;
-        }
-    }
-    ready.pop(rt, seat) == Popped::Closed
+    gives(rt, ready, seat, (0, end)) && ready.pop(rt, seat) == Popped::Closed
 }
 
-/// Whether numbers that were pushed before the queue was closed are popped after, and one that was pushed later.
-fn is_drained<R: Wait>(rt: &R, alloc: Global) -> Option<bool> {
-    let (ready, mut seats, mut passes) = Ready::new(alloc, 1, 1).ok()?;
-    let mut seat = a_seat(&mut seats, &ready)?;
-    let mut pass = a_pass(&mut passes, &ready)?;
-    let pushed = push_below(rt, &ready, &mut pass, 5);
+/// Whether the injector and a deque each take many numbers, and give them in order: its own to the worker, and then the session's.
+fn is_roomy<R: Wait>(rt: &R, crew: Crew) -> bool {
+    let Crew {
+        ready,
+        first: mut seat,
+        second,
+        third,
+        mut pass,
+    } = crew;
+    let are_pushed = push_numbers(rt, &ready, &mut pass, (0, 1000))
+        && push_own_numbers(rt, &ready, &mut seat, (0, 1000));
     ready.close();
-    let is_drained = drains(rt, &ready, &mut seat, 5);
-    Some(pushed == 5 && is_drained && serves_late(rt, &ready, &mut pass, &mut seat))
+    let are_popped = gives(rt, &ready, &mut seat, (0, 1000)) && drains(rt, &ready, &mut seat, 1000);
+    drop((ready, seat, second, third, pass));
+    are_pushed && are_popped
 }
 
-/// Whether a closed queue takes a number of a session and one of a worker, and gives them.
-fn serves_late<R: Wait>(rt: &R, ready: &Ready, pass: &mut Pass, seat: &mut Seat) -> bool
-    requires pass { pass.old.of ≡ ready.now }
-    requires seat { seat.old.of ≡ ready.now }
+/// How many numbers one worker serves who begins when the queue is closed, and pushes the number below after each but 0.
+fn served_alone<R: Wait>(rt: &R, crew: Crew) -> u32 {
+    let Crew {
+        ready,
+        first: mut seat,
+        second,
+        third,
+        mut pass,
+    } = crew;
+    push_numbers(rt, &ready, &mut pass, (2, 4));
+    ready.close();
+    let served = serve(rt, &ready, &mut seat);
+    drop((ready, seat, second, third, pass));
+    served
+}
+
+/// Serves the queue until it is closed and empty: each number but 0 is followed by the number below it. Tells how many were served.
+fn serve<R: Wait>(rt: &R, ready: &Ready, seat: &mut Seat) -> u32
+    requires { seat.old.of ≡ ready.now }
 {
-    ready.push(rt, pass, 0).is_ok()
-        && ready.push_own(rt, seat, 1).is_ok()
-        && drains(rt, ready, seat, 2)
+    let mut served: u32 = 0;
+    for _ in rt.forever() {
+        match ready.pop(rt, seat) {
+            Popped::Number(number) => follow(rt, ready, seat, number),
+            Popped::Closed => return served,
+        }
+        served = served.saturating_add(1);
+    }
+    unreachable!()
+}
+
+/// Pushes the number below that one, if there is one.
+fn follow<R: Wait>(rt: &R, ready: &Ready, seat: &mut Seat, number: u32)
+    requires { seat.old.of ≡ ready.now }
+    ensures { seat.new.of ≡ seat.old.of }
+{
+    push_own_numbers(rt, ready, seat, (number.saturating_sub(1), number));
 }
 
 #[test]
-fn worker_drains_a_closed_queue(rt: HostRuntime) -> Result<(), Fail> {
-    assert_eq!(rt; is_drained(&rt, rt.alloc()), Some(true));
-    Ok(())
-}
-
-/// Whether there are places for 64 numbers, and one more comes back until there is a place again.
-fn is_filled<R: Wait>(rt: &R, alloc: Global) -> Option<bool> {
-    let (ready, mut seats, mut passes) = Ready::new(alloc, 1, 1).ok()?;
-    let mut seat = a_seat(&mut seats, &ready)?;
-    let mut pass = a_pass(&mut passes, &ready)?;
-    let pushed = push_below(rt, &ready, &mut pass, PLACES as u32);
-    let not_pushed = NotPushed {
-        slot: 64,
-        cause: Cause::Full,
-    };
-    let comes_back = ready.push(rt, &mut pass, 64) == Err(not_pushed)
-        && ready.push_own(rt, &mut seat, 64) == Err(not_pushed);
-    let is_first = ready.pop(rt, &mut seat) == Popped::Number(0);
-    let is_pushed = ready.push_own(rt, &mut seat, 64).is_ok();
-    Some(pushed == 64 && comes_back && is_first && is_pushed)
+fn worker_drains_a_closed_queue(rt: HostRuntime) {
+    assert!(rt; Crew::new(rt.alloc()).is_some_and(|crew| is_drained(&rt, crew)));
 }
 
 #[test]
-fn a_full_queue_hands_numbers_back(rt: HostRuntime) -> Result<(), Fail> {
-    assert_eq!(rt; is_filled(&rt, rt.alloc()), Some(true));
-    Ok(())
+fn many_numbers_are_taken(rt: HostRuntime) {
+    assert!(rt; Crew::new(rt.alloc()).is_some_and(|crew| is_roomy(&rt, crew)));
+}
+
+#[test]
+fn a_worker_serves_what_follows_after_the_end(rt: HostRuntime) {
+    assert!(rt; Crew::new(rt.alloc()).is_some_and(|crew| served_alone(&rt, crew) == 7));
 }

@@ -1,13 +1,21 @@
 //! Tests of the ready queue: what no contract says of it, which is that something happens.
 //!
-//! - `closing`: a queue that is closed, or full.
+//! - `closing`: a queue that is closed.
+//! - `order`: which number is popped first.
 //! - `meeting`: seats that push and pop on threads of their own.
-//! - `seats`: the seats and passes of a queue, one at a time.
+//! - `first_queue`: the same pushes and pops in a queue of one line.
+//! - `crew`, `numbers`: a queue with three seats and a pass, and many pushes and pops.
 #![tactic(auto)]
 
 #[cfg(test)]
 mod closing;
 #[cfg(test)]
+mod crew;
+#[cfg(test)]
+mod first_queue;
+#[cfg(test)]
 mod meeting;
 #[cfg(test)]
-mod seats;
+mod numbers;
+#[cfg(test)]
+mod order;

@@ -1,118 +1,105 @@
 //! Seats on threads of their own.
 ghost use Rattle.std.specs.Prelude.{◌≡◌};
 
-use crate::seats::a_seat;
+use crate::crew::Crew;
+use crate::numbers::{Counts, NUMBERS, pop_numbers, push_own_numbers};
 use job_queue::{Popped, Ready, Seat};
-use std::alloc::{AllocError, Global};
 use std::sync::Wait;
-use std::test::Fail;
 use std::thread;
 use std::thread::Threads;
 
-/// The numbers that one seat popped.
-type Numbers = Result<Vec<u32>, AllocError>;
-
-/// Pushes these numbers, and pops one after each. Where each seat does so, a number stands in the queue until each has popped as many as
-/// it pushed.
+/// Pushes the numbers from the first to below the second, and then pops so many. Tells how often each was popped.
 fn push_and_pop<R: Wait>(
     rt: &R,
-    alloc: Global,
     ready: &Ready,
     seat: Seat,
-    from: u32,
-    to: u32,
-) -> Numbers
+    numbers: (u32, u32),
+    pops: u32,
+) -> Counts
     requires { seat.of ≡ ready.now }
 {
     let mut seat = seat;
-    let mut popped = Vec::new(alloc);
-    for number in from..to {
-        push_until(rt, ready, &mut seat, number);
-        if let Popped::Number(slot) = ready.pop(rt, &mut seat) {
-            popped.push(slot)?;
-        }
-    }
-    Ok(popped)
+    let mut counts = [0; NUMBERS];
+    push_own_numbers(rt, ready, &mut seat, numbers);
+    pop_numbers(rt, ready, &mut seat, pops, &mut counts);
+    drop(seat);
+    counts
 }
 
-/// Pushes a number, once there is a place for it.
-fn push_until<R: Wait>(rt: &R, ready: &Ready, seat: &mut Seat, number: u32)
-    requires { seat.old.of ≡ ready.now }
-    ensures { seat.new.of ≡ seat.old.of }
-{
-    for _ in rt.forever() {
-        if ready.push_own(rt, seat, number).is_ok() {
-            return;
-        }
-        thread::yield_now();
-    }
-}
-
-/// Three seats push and pop 1,000 numbers.
+/// Three seats push and pop 1,000 numbers, and as many pops as pushes: the third pushes none, and has to steal.
 fn by_three<R: Threads + Wait + Sync>(
     rt: &R,
-    alloc: Global,
     ready: &Ready,
     first: Seat,
     second: Seat,
     third: Seat,
-) -> (Numbers, (Numbers, Numbers))
+) -> (Counts, (Counts, Counts))
     requires first { first.of ≡ ready.now }
     requires second { second.of ≡ ready.now }
     requires third { third.of ≡ ready.now }
 {
     thread::join(
         rt,
-        move || -> Numbers
+        move || -> Counts
             requires { first.of ≡ ready.now }
-        { push_and_pop(rt, alloc, ready, first, 0, 334) },
-        move || -> (Numbers, Numbers)
+        { push_and_pop(rt, ready, first, (0, 700), 334) },
+        move || -> (Counts, Counts)
             requires second { second.of ≡ ready.now }
             requires third { third.of ≡ ready.now }
-        {
-            thread::join(
-                rt,
-                move || -> Numbers
-                    requires { second.of ≡ ready.now }
-                { push_and_pop(rt, alloc, ready, second, 334, 667) },
-                move || -> Numbers
-                    requires { third.of ≡ ready.now }
-                { push_and_pop(rt, alloc, ready, third, 667, 1000) },
-            )
-        },
+        { by_two(rt, ready, second, third) },
     )
 }
 
-/// Counts each number that was popped. Tells whether all are below 1,000.
-fn count(counts: &mut [u32; 1000], popped: &[u32]) -> bool {
-    let mut all_small = true;
-    for slot in popped {
-        match counts.get_mut(*slot as usize) {
-            Some(times) => *times = times.saturating_add(1),
-            None => all_small = false,
-        }
-    }
-    all_small
+/// The second and the third of them.
+fn by_two<R: Threads + Wait + Sync>(
+    rt: &R,
+    ready: &Ready,
+    second: Seat,
+    third: Seat,
+) -> (Counts, Counts)
+    requires second { second.of ≡ ready.now }
+    requires third { third.of ≡ ready.now }
+{
+    thread::join(
+        rt,
+        move || -> Counts
+            requires { second.of ≡ ready.now }
+        { push_and_pop(rt, ready, second, (700, 1000), 333) },
+        move || -> Counts
+            requires { third.of ≡ ready.now }
+        { push_and_pop(rt, ready, third, (0, 0), 333) },
+    )
 }
 
-/// Whether each of the 1,000 numbers was popped once, and no other one.
-fn each_once<R: Threads + Wait + Sync>(rt: &R, alloc: Global) -> Option<bool> {
-    let (ready, mut seats, _passes) = Ready::new(alloc, 3, 0).ok()?;
-    let first = a_seat(&mut seats, &ready)?;
-    let second = a_seat(&mut seats, &ready)?;
-    let third = a_seat(&mut seats, &ready)?;
-    let (one, (two, three)) = by_three(rt, alloc, &ready, first, second, third);
-    let mut counts = [0; 1000];
-    let all_small = count(&mut counts, one.ok()?.as_slice())
-        && count(&mut counts, two.ok()?.as_slice())
-        && count(&mut counts, three.ok()?.as_slice());
-    Some(all_small && counts.iter().all(|times| *times == 1))
+/// Whether each of the 1,000 numbers was popped once.
+fn is_each_popped_once<R: Threads + Wait + Sync>(rt: &R, crew: Crew) -> bool {
+    let Crew {
+        ready,
+        first,
+        second,
+        third,
+        pass,
+    } = crew;
+    let (one, (two, three)) = by_three(rt, &ready, first, second, third);
+    drop((ready, pass));
+    is_each_once(&one, &two, &three)
+}
+
+/// Whether each number was counted once.
+fn is_each_once(one: &Counts, two: &Counts, three: &Counts) -> bool {
+    let mut once = true;
+    for number in 0..NUMBERS {
+        let times = one[number]
+            .saturating_add(two[number])
+            .saturating_add(three[number]);
+        once = once && times == 1;
+    }
+    once
 }
 
 #[test]
-fn three_seats_pop_each_number_once(rt: HostRuntime) -> Result<(), Fail> {
-    assert_eq!(rt; each_once(&rt, rt.alloc()), Some(true));
-    Ok(())
+fn three_seats_pop_each_number_once(rt: HostRuntime) {
+    assert!(rt; Crew::new(rt.alloc()).is_some_and(|crew| is_each_popped_once(&rt, crew)));
 }
 
 /// Does nothing for that many turns.
@@ -148,8 +135,9 @@ fn pop_twice<R: Wait>(rt: &R, ready: &Ready, seat: Seat) -> (Popped, Popped)
     requires { seat.of ≡ ready.now }
 {
     let mut seat = seat;
-    let first = ready.pop(rt, &mut seat);
-    (first, ready.pop(rt, &mut seat))
+    let popped = (ready.pop(rt, &mut seat), ready.pop(rt, &mut seat));
+    drop(seat);
+    popped
 }
 
 fn push_and_close<R: Wait>(rt: &R, ready: &Ready, seat: Seat)
@@ -157,24 +145,27 @@ fn push_and_close<R: Wait>(rt: &R, ready: &Ready, seat: Seat)
 {
     let mut seat = seat;
     idle(1000);
-    push_until(rt, ready, &mut seat, 7);
+    push_own_numbers(rt, ready, &mut seat, (7, 8));
     idle(1000);
     ready.close();
+    drop(seat);
 }
 
-/// What pops are answered that wait.
-fn waited<R: Threads + Wait + Sync>(rt: &R, alloc: Global) -> Option<(Popped, Popped)> {
-    let (ready, mut seats, _passes) = Ready::new(alloc, 2, 0).ok()?;
-    let first = a_seat(&mut seats, &ready)?;
-    let second = a_seat(&mut seats, &ready)?;
-    Some(two_pops(rt, &ready, first, second))
+/// Whether a pop waits for a number that another worker pushes, and the next one for the closing.
+fn waits<R: Threads + Wait + Sync>(rt: &R, crew: Crew) -> bool {
+    let Crew {
+        ready,
+        first,
+        second,
+        third,
+        pass,
+    } = crew;
+    let popped = two_pops(rt, &ready, first, second);
+    drop((ready, third, pass));
+    popped == (Popped::Number(7), Popped::Closed)
 }
 
 #[test]
-fn a_pop_waits_for_a_number_or_the_end(rt: HostRuntime) -> Result<(), Fail> {
-    assert_eq!(rt;
-        waited(&rt, rt.alloc()),
-        Some((Popped::Number(7), Popped::Closed))
-    );
-    Ok(())
+fn a_pop_waits_for_a_number_or_the_end(rt: HostRuntime) {
+    assert!(rt; Crew::new(rt.alloc()).is_some_and(|crew| waits(&rt, crew)));
 }

@@ -1,8 +1,7 @@
 -- Lines of the operator, served one after another.
-use Rattle.std.proofs.Common.{◌≡◌, ℕ, Option, Some, None, List, [], ◌∷◌, ◌++◌, length, refl, sym, ap, ◌∙◌, subst, append_assoc, append-nil}
+use Rattle.std.proofs.Common.{◌≡◌, ℕ, Some, None, List, [], ◌∷◌, ◌++◌, length, refl, sym, ap, ◌∙◌, subst, append_assoc, append-nil}
 use Rattle.std.specs.List.{filter_map}
 use Rattle.std.specs.Prelude.{option_map, reverse}
-use Rattle.job_state.specs.Job.{JobState}
 use Rattle.service_core.specs.Run.{Call, Run}
 use Rattle.service_core.specs.Run.Call.{GiveBack}
 use Rattle.service_core.specs.Service.{ServiceState}
@@ -32,7 +31,7 @@ replies_more a lines before mid_text after b line calls more c done next told ev
 }
 
 -- jobs that are given back leave the tenancies
-gives : (old new : ServiceState) (jobs : List (Option JobState)) → Run old (filter_map (option_map GiveBack) jobs) new → length new.histories ≡ length old.histories
+gives : (old new : ServiceState) (jobs : HeldList) → Run old (filter_map (option_map GiveBack) jobs) new → length new.histories ≡ length old.histories
 gives old new [] is = ap (λ (s : ServiceState). length s.histories) is
 gives old new (None ∷ jobs) is = gives old new jobs is
 gives old new (Some job ∷ jobs) is =

@@ -1,13 +1,10 @@
 -- One of the seats or passes of a queue.
-use Rattle.std.proofs.Common.{◌≡◌, ◌++◌, [], List, Option, Some, None, ap}
+use Rattle.std.proofs.Common.{◌≡◌, ◌++◌, List, Option}
 use Rattle.std.specs.Prelude.{All, IfSome, option_to_list}
 use Rattle.std.proofs.lemmas.List.Elements.{All-pop}
-use Rattle.atomic_table.specs.Seated.{TableId}
-use Rattle.job_queue.specs.Balance.{Held, log}
 
-pub rest_of : (of : TableId) (xs ys : List Held) (r : Option Held) → xs ≡ ys ++ option_to_list r → All (λ h. h ≡ record { of = of; log = log [] [] }) xs → All (λ h. h ≡ record { of = of; log = log [] [] }) ys
-rest_of of xs ys r was all = (All-pop (λ h. h ≡ record { of = of; log = log [] [] }) xs ys r was all).0
+pub rest_of : {X I : Type 0} (of : X → I) (id : I) (xs ys : List X) (r : Option X) → xs ≡ ys ++ option_to_list r → All (λ x. of x ≡ id) xs → All (λ x. of x ≡ id) ys
+rest_of of id xs ys r was all = (All-pop (λ x. of x ≡ id) xs ys r was all).0
 
-pub one_of : (of : TableId) (xs ys : List Held) (r : Option Held) → xs ≡ ys ++ option_to_list r → All (λ h. h ≡ record { of = of; log = log [] [] }) xs → IfSome r (λ h. h.of ≡ of)
-one_of of xs ys None was all = tt
-one_of of xs ys (Some x) was all = ap (λ (h : Held). h.of) (All-pop (λ h. h ≡ record { of = of; log = log [] [] }) xs ys (Some x) was all).1
+pub one_of : {X I : Type 0} (of : X → I) (id : I) (xs ys : List X) (r : Option X) → xs ≡ ys ++ option_to_list r → All (λ x. of x ≡ id) xs → IfSome r (λ x. of x ≡ id)
+one_of of id xs ys r was all = (All-pop (λ x. of x ≡ id) xs ys r was all).1

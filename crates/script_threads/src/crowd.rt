@@ -1,7 +1,6 @@
 //! Sessions and workers on threads.
 
 ghost use Rattle.std.specs.Prelude.{◌≡◌, ◌++◌, ◌∷◌, All, IfSome, IsSomeAnd, IsTrue, Some, [], map};
-ghost use Rattle.job_queue.specs.Balance.{log};
 ghost use Rattle.script_text.specs.Threaded.{said_by};
 ghost use Rattle.script_threads.specs.Parts.{started_by};
 ghost use Rattle.script_threads.specs.Seats.{asked_by};
@@ -58,16 +57,16 @@ pub(crate) fn run_crowd<
     benches: (Vec<Seat>, Vec<Share<P>>),
     sessions: (Vec<Pass>, Vec<Seated<'t, C>>),
 ) -> Option<(Vec<Part<'t, C>>, Vec<Share<P>>)>
-    requires seats { All (λ s. s ≡ record { of = ready.now; log = log [] [] }) benches.0.items }
-    requires passes { All (λ p. p ≡ record { of = ready.now; log = log [] [] }) sessions.0.items }
+    requires seats { All (λ s. s.of ≡ ready.now) benches.0.items }
+    requires passes { All (λ p. p.of ≡ ready.now) sessions.0.items }
     ensures { IfSome result (λ ended. map asked_in ended.0.items ≡ sessions.entry.1.items) }
 {
     thread::scope(
         thread::scope_env(),
         rt,
         move |scope| -> Option<(Vec<Part<C>>, Vec<Share<P>>)>
-            requires seats { All (λ s. s ≡ record { of = ready.now; log = log [] [] }) benches.0.items }
-            requires passes { All (λ p. p ≡ record { of = ready.now; log = log [] [] }) sessions.0.items }
+            requires seats { All (λ s. s.of ≡ ready.now) benches.0.items }
+            requires passes { All (λ p. p.of ≡ ready.now) sessions.0.items }
             ensures { IfSome result (λ ended. map asked_in ended.0.items ≡ sessions.entry.1.items) }
         { run_in(rt, scope, shared, ready, graph, benches, sessions) },
     )
@@ -90,8 +89,8 @@ fn run_in<
     benches: (Vec<Seat>, Vec<Share<P>>),
     sessions: (Vec<Pass>, Vec<Seated<'t, C>>),
 ) -> Option<(Vec<Part<'t, C>>, Vec<Share<P>>)>
-    requires seats { All (λ s. s ≡ record { of = ready.now; log = log [] [] }) benches.0.items }
-    requires passes { All (λ p. p ≡ record { of = ready.now; log = log [] [] }) sessions.0.items }
+    requires seats { All (λ s. s.of ≡ ready.now) benches.0.items }
+    requires passes { All (λ p. p.of ≡ ready.now) sessions.0.items }
     ensures { IfSome result (λ ended. map asked_in ended.0.items ≡ sessions.entry.1.items) }
 {
     let mut workers = Vec::new(rt.alloc());
@@ -132,8 +131,8 @@ fn start_all<
     workers: &mut Vec<Worker<P>>,
     started: &mut Vec<Started<'t, C>>,
 ) -> bool
-    requires seats { All (λ s. s ≡ record { of = ready.now; log = log [] [] }) benches.0.items }
-    requires passes { All (λ p. p ≡ record { of = ready.now; log = log [] [] }) sessions.0.items }
+    requires seats { All (λ s. s.of ≡ ready.now) benches.0.items }
+    requires passes { All (λ p. p.of ≡ ready.now) sessions.0.items }
     ensures { IsTrue result → map started_by started.new.items ≡ map started_by started.old.items ++ sessions.entry.1.items }
 {
     let (seats, shares) = benches;
@@ -201,7 +200,7 @@ fn start_workers<
     shares: Vec<Share<P>>,
     started: &mut Vec<Worker<P>>,
 ) -> bool
-    requires { All (λ s. s ≡ record { of = ready.now; log = log [] [] }) seats.items }
+    requires { All (λ s. s.of ≡ ready.now) seats.items }
 {
     let mut seats = seats;
     for share in shares {
@@ -237,7 +236,7 @@ fn start_sessions<
     seated: Vec<Seated<'t, C>>,
     started: &mut Vec<Started<'t, C>>,
 ) -> bool
-    requires { All (λ p. p ≡ record { of = ready.now; log = log [] [] }) passes.items }
+    requires { All (λ p. p.of ≡ ready.now) passes.items }
     ensures { IsTrue result → map started_by started.new.items ≡ map started_by started.old.items ++ seated.entry.items }
 {
     let mut passes = passes;

@@ -1,6 +1,5 @@
 //! The sessions of a script, run on threads beside the workers.
-ghost use Rattle.std.specs.Prelude.{◌≡◌, [], List, ℕ, true, map, All, IfOk};
-ghost use Rattle.job_queue.specs.Balance.{log};
+ghost use Rattle.std.specs.Prelude.{◌≡◌, List, ℕ, true, map, All, IfOk};
 ghost use Rattle.script_text.specs.Threaded.{Said, said_by};
 ghost use Rattle.script_threads.specs.Served.{Ran, section_told};
 ghost use Rattle.script_threads.specs.Sessions.{asked_of};
@@ -65,8 +64,8 @@ fn prepare<'t, C: Begun, P: Ledger>(
     operator: &Operator<'t>,
     sessions: Vec<SessionInput<'t>>,
 ) -> Result<Prepared<'t, C, P>, Unserved>
-    ensures seats { IfOk result (λ p. All (λ s. s ≡ record { of = p.ready; log = log [] [] }) p.workers.0.items) }
-    ensures passes { IfOk result (λ p. All (λ s. s ≡ record { of = p.ready; log = log [] [] }) p.sessions.0.items) }
+    ensures seats { IfOk result (λ p. All (λ s. s.of ≡ p.ready) p.workers.0.items) }
+    ensures passes { IfOk result (λ p. All (λ s. s.of ≡ p.ready) p.sessions.0.items) }
     ensures seated { IfOk result (λ p. p.sessions.1.items ≡ map (asked_of operator.now core.old.service.histories) (map said_by sessions.entry.items)) }
 {
     let shares = shares(alloc, core, workers)?;
@@ -91,8 +90,8 @@ fn run_prepared<
     core: Core<C, P>,
     prepared: Prepared<'t, C, P>,
 ) -> Result<(Service, Vec<Section<'t>>), Unserved>
-    requires seats { All (λ s. s ≡ record { of = prepared.ready; log = log [] [] }) prepared.workers.0.items }
-    requires passes { All (λ s. s ≡ record { of = prepared.ready; log = log [] [] }) prepared.sessions.0.items }
+    requires seats { All (λ s. s.of ≡ prepared.ready) prepared.workers.0.items }
+    requires passes { All (λ s. s.of ≡ prepared.ready) prepared.sessions.0.items }
     requires stay { C.stay ≡ true }
     ensures ok { (names : List (List ℕ)) (sessions : List Said) → prepared.entry.sessions.1.items ≡ map (asked_of names C.begun.histories) sessions → IfOk result (λ r. Ran names C.begun sessions (map section_told r.1.items) r.0) }
 {

@@ -1,13 +1,12 @@
 //! Seats and passes, one at a time.
-ghost use Rattle.std.specs.Prelude.{◌≡◌, All, IfSome, []};
-ghost use Rattle.job_queue.specs.Balance.{log};
+ghost use Rattle.std.specs.Prelude.{◌≡◌, All, IfSome};
 
 use job_queue::{Pass, Ready, Seat};
 
 /// One of the seats.
 pub(crate) fn a_seat(seats: &mut Vec<Seat>, ready: &Ready) -> Option<Seat>
-    requires { All (λ s. s ≡ record { of = ready.now; log = log [] [] }) seats.old.items }
-    ensures rest { All (λ s. s ≡ record { of = ready.now; log = log [] [] }) seats.new.items }
+    requires { All (λ s. s.of ≡ ready.now) seats.old.items }
+    ensures rest { All (λ s. s.of ≡ ready.now) seats.new.items }
     ensures of { IfSome result (λ s. s.of ≡ ready.now) }
 {
     seats.pop()
@@ -15,8 +14,8 @@ pub(crate) fn a_seat(seats: &mut Vec<Seat>, ready: &Ready) -> Option<Seat>
 
 /// One of the passes.
 pub(crate) fn a_pass(passes: &mut Vec<Pass>, ready: &Ready) -> Option<Pass>
-    requires { All (λ p. p ≡ record { of = ready.now; log = log [] [] }) passes.old.items }
-    ensures rest { All (λ p. p ≡ record { of = ready.now; log = log [] [] }) passes.new.items }
+    requires { All (λ p. p.of ≡ ready.now) passes.old.items }
+    ensures rest { All (λ p. p.of ≡ ready.now) passes.new.items }
     ensures of { IfSome result (λ p. p.of ≡ ready.now) }
 {
     passes.pop()

@@ -58,7 +58,7 @@ pub fn run_session<C: Begun, P: Ledger, S: Source, W: Sink, R: Wait + AllocGloba
 #[derive(Drop)]
 struct Session<C: Begun> {
     pass: Pass,
-    /// A slot number that came back from the queue.
+    /// A slot number that came back from the queue. It is pushed again before each further item, and in each turn of a `wait`.
     kept: Option<u32>,
     transcript: Transcript<C>,
 }
@@ -199,6 +199,7 @@ impl<C: Begun> Session<C> {
             Outcome::Nothing => Ok(()),
             Outcome::Item(item) => self.answer(rt, shared, ready, item, writer),
             Outcome::NoMemory => {
+                self.push_kept(rt, ready);
                 self.transcript.count_no_memory();
                 write_told(writer, None)
             }

@@ -1,14 +1,16 @@
 //! A core to be shared, and the graph of its device.
-ghost use Rattle.std.specs.Prelude.{◌≡◌, IfSome};
+ghost use Rattle.std.specs.Prelude.{◌≡◌, IfSome, false};
 ghost use Rattle.arch_file.specs.Arch.{IsArch};
 ghost use Rattle.job_state.specs.JobValue.{basis_in};
+ghost use Rattle.service_core.specs.Service.{empty};
+ghost use Rattle.thread_tests.specs.Devices.{IsSmall};
 
 use arch_file::{Arch, read_arch};
 use fixtures::{AND, ARCHITECTURE};
 use job_state::{AnyJob, Done};
 use line_text::Text;
 use service_core::Device;
-use shared_core::Core;
+use shared_core::{Begun, Core};
 use std::alloc::Global;
 use std::sync::ledger::{Blank, Ledger};
 use strips::{DeviceGraph, Window};
@@ -27,26 +29,33 @@ fn architecture(alloc: Global) -> Option<Arch>
     }
 }
 
+/// The device.
+pub(crate) fn new_device(alloc: Global) -> Option<Device>
+    ensures { IfSome result IsSmall }
+{
+    match architecture(alloc) {
+        Some(arch) => Some(Device {
+            arch,
+            columns: COLUMNS,
+            rows: 1,
+        }),
+        None => None,
+    }
+}
+
 /// The core of the device, without tenancies.
-pub(crate) fn new_core<C: Ledger, P: Ledger>(
+pub(crate) fn new_core<C: Begun, P: Ledger>(
     alloc: Global,
+    device: Device,
     commands: Blank,
     puts: Blank,
 ) -> Option<Core<C, P>>
+    requires small { IsSmall device }
     requires commands { (commands.name ≡ C.name) × (commands.parts ≡ C.parts) × (commands.parts ≡ 65536) }
     requires puts { (puts.name ≡ P.name) × (puts.parts ≡ P.parts) × (puts.parts ≡ 17) }
+    requires begun { C.begun ≡ empty device }
 {
-    match architecture(alloc) {
-        Some(arch) => {
-            let device = Device {
-                arch,
-                columns: COLUMNS,
-                rows: 1,
-            };
-            Core::<C, P>::new(alloc, device, commands, puts).ok()
-        }
-        None => None,
-    }
+    Core::<C, P>::new(alloc, device, commands, puts).ok()
 }
 
 /// The graph of the device.
@@ -69,12 +78,14 @@ fn text(alloc: Global) -> Option<SharedText> {
 }
 
 /// Admits a tenancy, uploads a netlist, packs it by one step and begins to place it. Tells the slot's number, which is marked.
-pub(crate) fn begin_placing<C: Ledger, P: Ledger>(
+pub(crate) fn begin_placing<C: Begun, P: Ledger>(
     alloc: Global,
     core: &mut Core<C, P>,
     graph: &DeviceGraph,
     id: u32,
-) -> Option<u32> {
+) -> Option<u32>
+    requires { C.stay ≡ false }
+{
     match text(alloc) {
         Some(text) => {
             let begins = core.admit(1).is_ok()
@@ -89,12 +100,14 @@ pub(crate) fn begin_placing<C: Ledger, P: Ledger>(
 }
 
 /// The same of a tenancy that then begins to route: the three steps that place it are made.
-pub(crate) fn begin_routing<C: Ledger, P: Ledger>(
+pub(crate) fn begin_routing<C: Begun, P: Ledger>(
     alloc: Global,
     core: &mut Core<C, P>,
     graph: &DeviceGraph,
     id: u32,
-) -> Option<u32> {
+) -> Option<u32>
+    requires { C.stay ≡ false }
+{
     let slot = begin_placing(alloc, core, graph, id);
     let begins = is_stepped(core, graph, id)
         && is_stepped(core, graph, id)
@@ -103,19 +116,19 @@ pub(crate) fn begin_routing<C: Ledger, P: Ledger>(
     if begins { slot } else { None }
 }
 
-fn is_served<C: Ledger, P: Ledger>(core: &mut Core<C, P>, id: u32, command: Command) -> bool {
+fn is_served<C: Begun, P: Ledger>(core: &mut Core<C, P>, id: u32, command: Command) -> bool {
     core.tenant(id, command).is_ok()
 }
 
 /// Makes the next step, which the core counts as its own.
-fn is_stepped<C: Ledger, P: Ledger>(core: &mut Core<C, P>, graph: &DeviceGraph, id: u32) -> bool {
+fn is_stepped<C: Begun, P: Ledger>(core: &mut Core<C, P>, graph: &DeviceGraph, id: u32) -> bool {
     match core.take(id) {
         Some(job) => is_made(core, graph, job),
         None => false,
     }
 }
 
-fn is_made<C: Ledger, P: Ledger>(core: &mut Core<C, P>, graph: &DeviceGraph, job: AnyJob) -> bool {
+fn is_made<C: Begun, P: Ledger>(core: &mut Core<C, P>, graph: &DeviceGraph, job: AnyJob) -> bool {
     match job.window(graph, 0) {
         Some(window) => is_made_through(core, &window, job),
         None => {
@@ -125,7 +138,7 @@ fn is_made<C: Ledger, P: Ledger>(core: &mut Core<C, P>, graph: &DeviceGraph, job
     }
 }
 
-fn is_made_through<C: Ledger, P: Ledger>(
+fn is_made_through<C: Begun, P: Ledger>(
     core: &mut Core<C, P>,
     window: &Window<'_>,
     job: AnyJob,
@@ -141,7 +154,7 @@ fn is_made_through<C: Ledger, P: Ledger>(
     }
 }
 
-fn is_put<C: Ledger, P: Ledger>(core: &mut Core<C, P>, done: Done) -> bool {
+fn is_put<C: Begun, P: Ledger>(core: &mut Core<C, P>, done: Done) -> bool {
     match core.put(done) {
         Ok(_) => true,
         Err((done, _)) => {

@@ -1,12 +1,11 @@
 //! A strip that is moved while a worker holds a routing step of its tenancy, as the operator's thread moves it: under the lock.
-ghost use Rattle.std.specs.Prelude.{◌≡◌, All, IfSome, []};
-ghost use Rattle.job_queue.specs.Balance.{log};
+ghost use Rattle.std.specs.Prelude.{◌≡◌, All, IfSome, false};
 
 use crate::cores::begin_routing;
 use crate::gates::{Held, is_raised};
 use crate::seats::{Worker, a_pass, a_worker};
 use job_queue::{Pass, Ready, Seat};
-use shared_core::{Core, Share};
+use shared_core::{Begun, Core, Share};
 use std::alloc::AllocGlobal;
 use std::sync::Wait;
 use std::sync::atomic::Ordering::SeqCst;
@@ -21,14 +20,15 @@ use worker_pool::{Shared, run_worker};
 const OFFSET: u32 = 4;
 
 /// Whether the tenancy begins to route, and the queue is closed with its number.
-fn begins<C: Ledger, P: Ledger, R: Wait + AllocGlobal>(
+fn begins<C: Begun, P: Ledger, R: Wait + AllocGlobal>(
     rt: &R,
     core: &mut Core<C, P>,
     graph: &DeviceGraph,
     ready: &Ready,
     passes: &mut Vec<Pass>,
 ) -> bool
-    requires { All (λ p. p ≡ record { of = ready.now; log = log [] [] }) passes.old.items }
+    requires passes { All (λ p. p.of ≡ ready.now) passes.old.items }
+    requires stay { C.stay ≡ false }
 {
     match a_pass(passes, ready) {
         Some(mut pass) => {
@@ -45,7 +45,7 @@ fn begins<C: Ledger, P: Ledger, R: Wait + AllocGlobal>(
 }
 
 /// A worker, in front of the queue.
-fn prepared<C: Ledger, P: Ledger, R: Wait + AllocGlobal>(
+fn prepared<C: Begun, P: Ledger, R: Wait + AllocGlobal>(
     rt: &R,
     core: &mut Core<C, P>,
     graph: &DeviceGraph,
@@ -53,8 +53,9 @@ fn prepared<C: Ledger, P: Ledger, R: Wait + AllocGlobal>(
     seats: &mut Vec<Seat>,
     passes: &mut Vec<Pass>,
 ) -> Option<Worker<P>>
-    requires seats { All (λ s. s ≡ record { of = ready.now; log = log [] [] }) seats.old.items }
-    requires passes { All (λ p. p ≡ record { of = ready.now; log = log [] [] }) passes.old.items }
+    requires seats { All (λ s. s.of ≡ ready.now) seats.old.items }
+    requires passes { All (λ p. p.of ≡ ready.now) passes.old.items }
+    requires stay { C.stay ≡ false }
     ensures { IfSome result (λ worker. worker.seat.of ≡ ready.now) }
 {
     if begins(rt, core, graph, ready, passes) {
@@ -67,10 +68,12 @@ fn prepared<C: Ledger, P: Ledger, R: Wait + AllocGlobal>(
 /// Whether a strip moves while a worker holds a routing step of its tenancy, and the step counts as if the strip had stayed: of a core
 /// without tenancies.
 pub(crate) fn moves_under_a_held_job<
-    C: Ledger + Send + Sync,
+    C: Begun + Send + Sync,
     P: Ledger + Send + Sync,
     R: Threads + Wait + AllocGlobal + Sync,
->(rt: &R, core: Core<C, P>, graph: &DeviceGraph) -> bool {
+>(rt: &R, core: Core<C, P>, graph: &DeviceGraph) -> bool
+    requires { C.stay ≡ false }
+{
     let mut core = core;
     match Ready::new(rt.alloc(), 1, 1) {
         Ok((ready, mut seats, mut passes)) => {
@@ -90,14 +93,15 @@ pub(crate) fn moves_under_a_held_job<
 }
 
 /// Whether the strip moves meanwhile, and the tenancy is routed where it stands in the end.
-fn is_routed_elsewhere<C: Ledger + Send + Sync, P: Ledger + Send + Sync, R: Threads + Wait + Sync>(
+fn is_routed_elsewhere<C: Begun + Send + Sync, P: Ledger + Send + Sync, R: Threads + Wait + Sync>(
     rt: &R,
     core: Core<C, P>,
     graph: &DeviceGraph,
     ready: &Ready,
     worker: Worker<P>,
 ) -> bool
-    requires { worker.seat.of ≡ ready.now }
+    requires worker { worker.seat.of ≡ ready.now }
+    requires stay { C.stay ≡ false }
 {
     let shared = Shared::new(core);
     let is_moved = moves_meanwhile(rt, &shared, graph, ready, worker);
@@ -109,21 +113,22 @@ fn is_routed_elsewhere<C: Ledger + Send + Sync, P: Ledger + Send + Sync, R: Thre
 
 /// Whether the tenancy is routed by two steps, as where no strip moves: entries 8 and 9 of its journal. A step that came late would be
 /// an entry more.
-fn is_routed<C: Ledger, P: Ledger>(core: &Core<C, P>) -> bool {
+fn is_routed<C: Begun, P: Ledger>(core: &Core<C, P>) -> bool {
     core.state(1) == Some(StateName::Routed)
         && core.entry(1, 9).is_some()
         && core.entry(1, 10).is_none()
 }
 
 /// Whether a worker holds a step until the strip has moved.
-fn moves_meanwhile<C: Ledger + Send + Sync, P: Ledger + Send + Sync, R: Threads + Wait + Sync>(
+fn moves_meanwhile<C: Begun + Send + Sync, P: Ledger + Send + Sync, R: Threads + Wait + Sync>(
     rt: &R,
     shared: &Shared<C, P>,
     graph: &DeviceGraph,
     ready: &Ready,
     worker: Worker<P>,
 ) -> bool
-    requires { worker.seat.of ≡ ready.now }
+    requires worker { worker.seat.of ≡ ready.now }
+    requires stay { C.stay ≡ false }
 {
     let held = Held::new();
     let gate = &held;
@@ -132,18 +137,18 @@ fn moves_meanwhile<C: Ledger + Send + Sync, P: Ledger + Send + Sync, R: Threads 
         move || -> Share<P>
             requires { worker.seat.of ≡ ready.now }
         { run_worker(rt, shared, ready, graph, worker.seat, worker.share, gate) },
-        move || -> bool { moves_once_held(rt, shared, gate) },
+        move || -> bool
+            requires { C.stay ≡ false }
+        { moves_once_held(rt, shared, gate) },
     );
     drop(share);
     is_moved && held.was_held()
 }
 
 /// Takes the lock once a step is held, moves the strip, and lets the step go on when the lock is free again.
-fn moves_once_held<C: Ledger, P: Ledger, R: Wait>(
-    rt: &R,
-    shared: &Shared<C, P>,
-    held: &Held,
-) -> bool {
+fn moves_once_held<C: Begun, P: Ledger, R: Wait>(rt: &R, shared: &Shared<C, P>, held: &Held) -> bool
+    requires { C.stay ≡ false }
+{
     let is_held = is_raised(&held.begins);
     let is_moved = moves(&mut *shared.core.lock(rt));
     held.goes_on.store(1, SeqCst);
@@ -151,7 +156,9 @@ fn moves_once_held<C: Ledger, P: Ledger, R: Wait>(
 }
 
 /// Whether the strip of the tenancy, which is routing, moves.
-fn moves<C: Ledger, P: Ledger>(core: &mut Core<C, P>) -> bool {
+fn moves<C: Begun, P: Ledger>(core: &mut Core<C, P>) -> bool
+    requires { C.stay ≡ false }
+{
     core.state(1) == Some(StateName::Routing)
         && core.offset(1) == Some(0)
         && core.move_strip(1, OFFSET) == Ok(())

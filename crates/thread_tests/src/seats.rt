@@ -1,25 +1,24 @@
 //! Seats and passes, one at a time, and what workers and sessions hold.
-ghost use Rattle.std.specs.Prelude.{◌≡◌, All, IfSome, []};
-ghost use Rattle.job_queue.specs.Balance.{log};
+ghost use Rattle.std.specs.Prelude.{◌≡◌, All, IfSome};
 
 use job_queue::{Pass, Ready, Seat};
-use shared_core::{Core, Lease, Share};
+use shared_core::{Begun, Core, Lease, Share};
 use std::sync::ledger::Ledger;
 
 /// One of the seats.
 fn a_seat(seats: &mut Vec<Seat>, ready: &Ready) -> Option<Seat>
-    requires { All (λ s. s ≡ record { of = ready.now; log = log [] [] }) seats.old.items }
-    ensures rest { All (λ s. s ≡ record { of = ready.now; log = log [] [] }) seats.new.items }
-    ensures taken { IfSome result (λ s. s ≡ record { of = ready.now; log = log [] [] }) }
+    requires { All (λ s. s.of ≡ ready.now) seats.old.items }
+    ensures rest { All (λ s. s.of ≡ ready.now) seats.new.items }
+    ensures taken { IfSome result (λ s. s.of ≡ ready.now) }
 {
     seats.pop()
 }
 
 /// One of the passes.
 pub(crate) fn a_pass(passes: &mut Vec<Pass>, ready: &Ready) -> Option<Pass>
-    requires { All (λ p. p ≡ record { of = ready.now; log = log [] [] }) passes.old.items }
-    ensures rest { All (λ p. p ≡ record { of = ready.now; log = log [] [] }) passes.new.items }
-    ensures taken { IfSome result (λ p. p ≡ record { of = ready.now; log = log [] [] }) }
+    requires { All (λ p. p.of ≡ ready.now) passes.old.items }
+    ensures rest { All (λ p. p.of ≡ ready.now) passes.new.items }
+    ensures taken { IfSome result (λ p. p.of ≡ ready.now) }
 {
     passes.pop()
 }
@@ -32,13 +31,13 @@ pub(crate) struct Worker<P: Ledger> {
 }
 
 /// A worker.
-pub(crate) fn a_worker<C: Ledger, P: Ledger>(
+pub(crate) fn a_worker<C: Begun, P: Ledger>(
     core: &mut Core<C, P>,
     ready: &Ready,
     seats: &mut Vec<Seat>,
 ) -> Option<Worker<P>>
-    requires { All (λ s. s ≡ record { of = ready.now; log = log [] [] }) seats.old.items }
-    ensures rest { All (λ s. s ≡ record { of = ready.now; log = log [] [] }) seats.new.items }
+    requires { All (λ s. s.of ≡ ready.now) seats.old.items }
+    ensures rest { All (λ s. s.of ≡ ready.now) seats.new.items }
     ensures of { IfSome result (λ w. w.seat.of ≡ ready.now) }
 {
     match (a_seat(seats, ready), core.share()) {
@@ -49,19 +48,19 @@ pub(crate) fn a_worker<C: Ledger, P: Ledger>(
 
 /// What a session holds.
 #[derive(Drop)]
-pub(crate) struct Speaker<C: Ledger> {
+pub(crate) struct Speaker<C: Begun> {
     pub(crate) pass: Pass,
     pub(crate) lease: Lease<C>,
 }
 
 /// The session of a tenancy.
-pub(crate) fn a_speaker<C: Ledger, P: Ledger>(
+pub(crate) fn a_speaker<C: Begun, P: Ledger>(
     core: &mut Core<C, P>,
     ready: &Ready,
     passes: &mut Vec<Pass>,
     id: u32,
 ) -> Option<Speaker<C>>
-    requires { All (λ p. p ≡ record { of = ready.now; log = log [] [] }) passes.old.items }
+    requires { All (λ p. p.of ≡ ready.now) passes.old.items }
     ensures { IfSome result (λ s. (s.pass.of ≡ ready.now) × (s.lease.made ≡ 0)) }
 {
     match (a_pass(passes, ready), core.lease(id)) {

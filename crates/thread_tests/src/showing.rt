@@ -1,11 +1,14 @@
 //! What is shown, each of a core of its own.
-ghost use Rattle.std.specs.Prelude.{◌≡◌};
+ghost use Rattle.std.specs.Prelude.{◌≡◌, false};
+ghost use Rattle.service_core.specs.Service.{empty};
+ghost use Rattle.thread_tests.specs.Devices.{IsSmall};
 
-use crate::cores::{new_core, new_graph};
+use crate::cores::{new_core, new_device, new_graph};
 use crate::moving::moves_under_a_held_job;
 use crate::waiting::waits;
 use crate::workers::is_worked;
-use shared_core::Core;
+use service_core::Device;
+use shared_core::{Begun, Core};
 use std::alloc::AllocGlobal;
 use std::marker::Brand;
 use std::sync::Wait;
@@ -26,15 +29,18 @@ enum Shown {
 pub(crate) enum Worked {
     DrainsAClosedQueue,
     TwoStepsAtOnce,
+    OneStepStolen,
     StepWithoutTheLock,
 }
 
 /// Whether that is so of a core without tenancies.
 fn is_shown<
-    C: Ledger + Send + Sync,
+    C: Begun + Send + Sync,
     P: Ledger + Send + Sync,
     R: Threads + Wait + AllocGlobal + Sync,
->(rt: &R, core: Core<C, P>, graph: &DeviceGraph, shown: Shown) -> bool {
+>(rt: &R, core: Core<C, P>, graph: &DeviceGraph, shown: Shown) -> bool
+    requires { C.stay ≡ false }
+{
     match shown {
         Shown::Worked(worked) => is_worked(rt, core, graph, worked),
         Shown::WaitWaits => waits(rt, core, graph),
@@ -44,10 +50,12 @@ fn is_shown<
 
 /// The same, with a graph of its own.
 fn is_shown_on_graph<
-    C: Ledger + Send + Sync,
+    C: Begun + Send + Sync,
     P: Ledger + Send + Sync,
     R: Threads + Wait + AllocGlobal + Sync,
->(rt: &R, core: Core<C, P>, shown: Shown) -> bool {
+>(rt: &R, core: Core<C, P>, shown: Shown) -> bool
+    requires { C.stay ≡ false }
+{
     match new_graph(rt.alloc()) {
         Some(graph) => {
             let is_so = is_shown(rt, core, &graph, shown);
@@ -63,14 +71,17 @@ fn is_shown_on_graph<
 
 /// The same, of a core with two ledgers.
 fn shows_on<
-    C: Ledger + Send + Sync,
+    C: Begun + Send + Sync,
     P: Ledger + Send + Sync,
     R: Threads + Wait + AllocGlobal + Sync,
->(rt: &R, commands: Blank, puts: Blank, shown: Shown) -> bool
+>(rt: &R, device: Device, commands: Blank, puts: Blank, shown: Shown) -> bool
+    requires small { IsSmall device }
     requires commands { (commands.name ≡ C.name) × (commands.parts ≡ C.parts) × (commands.parts ≡ 65536) }
     requires puts { (puts.name ≡ P.name) × (puts.parts ≡ P.parts) × (puts.parts ≡ 17) }
+    requires begun { C.begun ≡ empty device }
+    requires stay { C.stay ≡ false }
 {
-    match new_core::<C, P>(rt.alloc(), commands, puts) {
+    match new_core::<C, P>(rt.alloc(), device, commands, puts) {
         Some(core) => is_shown_on_graph(rt, core, shown),
         None => false,
     }
@@ -78,7 +89,14 @@ fn shows_on<
 
 /// The same, of a core of its own.
 fn shows<R: Threads + Wait + AllocGlobal + Sync>(rt: &R, shown: Shown) -> bool {
-    shows_on::<Brand, Brand, R>(rt, Blank::new(65_536), Blank::new(17), shown)
+    match new_device(rt.alloc()) {
+        Some(device) => {
+            let commands = Blank::new(65_536);
+            let puts = Blank::new(17);
+            shows_on::<Brand, Brand, R>(rt, device, commands, puts, shown)
+        }
+        None => false,
+    }
 }
 
 #[test]
@@ -89,6 +107,11 @@ fn worker_drains_a_closed_queue(rt: HostRuntime) {
 #[test]
 fn two_steps_run_at_once(rt: HostRuntime) {
     assert!(rt; shows(&rt, Shown::Worked(Worked::TwoStepsAtOnce)));
+}
+
+#[test]
+fn a_step_is_stolen(rt: HostRuntime) {
+    assert!(rt; shows(&rt, Shown::Worked(Worked::OneStepStolen)));
 }
 
 #[test]

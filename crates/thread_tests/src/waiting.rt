@@ -1,6 +1,5 @@
 //! A session beside a worker that holds each step: it is told what it is told alone only if each `wait` waits.
-ghost use Rattle.std.specs.Prelude.{◌≡◌, All, IfSome, []};
-ghost use Rattle.job_queue.specs.Balance.{log};
+ghost use Rattle.std.specs.Prelude.{◌≡◌, All, IfSome, false};
 
 use crate::gates::Holding;
 use crate::seats::{Speaker, Worker, a_speaker, a_worker};
@@ -10,7 +9,7 @@ use line_text::{MemorySink, MemorySource};
 use service_core::Service;
 use session_threads::run_session;
 use settling::settle;
-use shared_core::{Core, Share};
+use shared_core::{Begun, Core, Share};
 use std::alloc::{AllocGlobal, Global};
 use std::sync::Wait;
 use std::sync::ledger::Ledger;
@@ -22,13 +21,13 @@ use worker_pool::{Shared, run_worker};
 
 /// What a session came to, and what was written.
 #[derive(Drop)]
-struct Told<C: Ledger> {
+struct Told<C: Begun> {
     transcript: Transcript<C>,
     text: Vec<u8>,
 }
 
 /// Runs a session over memory, and closes the queue.
-fn told_over<C: Ledger, P: Ledger, R: Wait + AllocGlobal>(
+fn told_over<C: Begun, P: Ledger, R: Wait + AllocGlobal>(
     rt: &R,
     shared: &Shared<C, P>,
     ready: &Ready,
@@ -57,7 +56,7 @@ fn told_over<C: Ledger, P: Ledger, R: Wait + AllocGlobal>(
 
 /// Runs the session beside a worker that holds each step, until both have ended.
 fn run_beside<
-    C: Ledger + Send + Sync,
+    C: Begun + Send + Sync,
     P: Ledger + Send + Sync,
     R: Threads + Wait + AllocGlobal + Sync,
 >(
@@ -86,7 +85,7 @@ fn run_beside<
 }
 
 /// Whether all was served, and all that the session was told is settled with the journal.
-fn is_settled<C: Ledger, P: Ledger>(
+fn is_settled<C: Begun, P: Ledger>(
     alloc: Global,
     core: Core<C, P>,
     transcript: Transcript<C>,
@@ -105,7 +104,7 @@ fn is_settled<C: Ledger, P: Ledger>(
     }
 }
 
-fn settles<C: Ledger, P: Ledger>(
+fn settles<C: Begun, P: Ledger>(
     core: Core<C, P>,
     transcripts: Vec<Transcript<C>>,
     shares: Vec<Share<P>>,
@@ -132,11 +131,7 @@ fn owns_thirteen(service: &Service) -> bool {
 }
 
 /// Whether the session that says this is told that.
-fn is_told<
-    C: Ledger + Send + Sync,
-    P: Ledger + Send + Sync,
-    R: Threads + Wait + AllocGlobal + Sync,
->(
+fn is_told<C: Begun + Send + Sync, P: Ledger + Send + Sync, R: Threads + Wait + AllocGlobal + Sync>(
     rt: &R,
     core: Core<C, P>,
     graph: &DeviceGraph,
@@ -158,14 +153,15 @@ fn is_told<
 }
 
 /// The worker and the session of a new tenancy of one column.
-fn prepared<C: Ledger, P: Ledger>(
+fn prepared<C: Begun, P: Ledger>(
     core: &mut Core<C, P>,
     ready: &Ready,
     seats: &mut Vec<Seat>,
     passes: &mut Vec<Pass>,
 ) -> Option<(Worker<P>, Speaker<C>)>
-    requires seats { All (λ s. s ≡ record { of = ready.now; log = log [] [] }) seats.old.items }
-    requires passes { All (λ p. p ≡ record { of = ready.now; log = log [] [] }) passes.old.items }
+    requires seats { All (λ s. s.of ≡ ready.now) seats.old.items }
+    requires passes { All (λ p. p.of ≡ ready.now) passes.old.items }
+    requires stay { C.stay ≡ false }
     ensures { IfSome result (λ both. (both.0.seat.of ≡ ready.now) × (both.1.pass.of ≡ ready.now) × (both.1.lease.made ≡ 0)) }
 {
     if core.admit(1) != Ok((1, 0)) {
@@ -182,10 +178,12 @@ fn prepared<C: Ledger, P: Ledger>(
 
 /// Whether the session that says this is told that, of a core without tenancies.
 fn is_told_on<
-    C: Ledger + Send + Sync,
+    C: Begun + Send + Sync,
     P: Ledger + Send + Sync,
     R: Threads + Wait + AllocGlobal + Sync,
->(rt: &R, core: Core<C, P>, graph: &DeviceGraph, texts: (&str, &str)) -> bool {
+>(rt: &R, core: Core<C, P>, graph: &DeviceGraph, texts: (&str, &str)) -> bool
+    requires { C.stay ≡ false }
+{
     let mut core = core;
     match Ready::new(rt.alloc(), 1, 1) {
         Ok((ready, mut seats, mut passes)) => {
@@ -206,10 +204,12 @@ fn is_told_on<
 
 /// Whether a session has a circuit packed, placed and routed, and is told so, of a core without tenancies.
 pub(crate) fn waits<
-    C: Ledger + Send + Sync,
+    C: Begun + Send + Sync,
     P: Ledger + Send + Sync,
     R: Threads + Wait + AllocGlobal + Sync,
->(rt: &R, core: Core<C, P>, graph: &DeviceGraph) -> bool {
+>(rt: &R, core: Core<C, P>, graph: &DeviceGraph) -> bool
+    requires { C.stay ≡ false }
+{
     match (ROUTED_AND.session(rt.alloc()), ROUTED_AND.told(rt.alloc())) {
         (Ok(input), Ok(want)) => is_told_on(rt, core, graph, (input.as_str(), want.as_str())),
         _ => {

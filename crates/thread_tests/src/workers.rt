@@ -1,13 +1,12 @@
 //! Workers in front of a closed queue with the numbers of two tenancies, each of which has begun to place.
-ghost use Rattle.std.specs.Prelude.{◌≡◌, All, IfSome, []};
-ghost use Rattle.job_queue.specs.Balance.{log};
+ghost use Rattle.std.specs.Prelude.{◌≡◌, All, IfSome, false};
 
 use crate::cores::begin_placing;
 use crate::gates::{Meeting, Watched, is_raised};
 use crate::seats::{Worker, a_pass, a_worker};
 use crate::showing::Worked;
-use job_queue::{Pass, Ready, Seat};
-use shared_core::{Core, Share};
+use job_queue::{Pass, Popped, Ready, Seat};
+use shared_core::{Begun, Core, Share};
 use std::alloc::AllocGlobal;
 use std::sync::Wait;
 use std::sync::atomic::Ordering::SeqCst;
@@ -19,7 +18,7 @@ use tenant_slot::StateName;
 use worker_pool::{Open, Shared, run_worker};
 
 /// Whether a tenancy begins to place, and its number is pushed.
-fn is_pushed<C: Ledger, P: Ledger, R: Wait + AllocGlobal>(
+fn is_pushed<C: Begun, P: Ledger, R: Wait + AllocGlobal>(
     rt: &R,
     core: &mut Core<C, P>,
     graph: &DeviceGraph,
@@ -27,7 +26,8 @@ fn is_pushed<C: Ledger, P: Ledger, R: Wait + AllocGlobal>(
     pass: &mut Pass,
     id: u32,
 ) -> bool
-    requires { pass.old.of ≡ ready.now }
+    requires pass { pass.old.of ≡ ready.now }
+    requires stay { C.stay ≡ false }
     ensures { pass.new.of ≡ pass.old.of }
 {
     match begin_placing(rt.alloc(), core, graph, id) {
@@ -37,14 +37,15 @@ fn is_pushed<C: Ledger, P: Ledger, R: Wait + AllocGlobal>(
 }
 
 /// Whether two tenancies begin to place, and the queue is closed with their numbers.
-fn both_begin<C: Ledger, P: Ledger, R: Wait + AllocGlobal>(
+fn both_begin<C: Begun, P: Ledger, R: Wait + AllocGlobal>(
     rt: &R,
     core: &mut Core<C, P>,
     graph: &DeviceGraph,
     ready: &Ready,
     passes: &mut Vec<Pass>,
 ) -> bool
-    requires { All (λ p. p ≡ record { of = ready.now; log = log [] [] }) passes.old.items }
+    requires passes { All (λ p. p.of ≡ ready.now) passes.old.items }
+    requires stay { C.stay ≡ false }
 {
     match a_pass(passes, ready) {
         Some(mut pass) => {
@@ -59,12 +60,12 @@ fn both_begin<C: Ledger, P: Ledger, R: Wait + AllocGlobal>(
 }
 
 /// Two workers.
-fn two_workers<C: Ledger, P: Ledger>(
+fn two_workers<C: Begun, P: Ledger>(
     core: &mut Core<C, P>,
     ready: &Ready,
     seats: &mut Vec<Seat>,
 ) -> Option<(Worker<P>, Worker<P>)>
-    requires { All (λ s. s ≡ record { of = ready.now; log = log [] [] }) seats.old.items }
+    requires { All (λ s. s.of ≡ ready.now) seats.old.items }
     ensures { IfSome result (λ both. (both.0.seat.of ≡ ready.now) × (both.1.seat.of ≡ ready.now)) }
 {
     match (a_worker(core, ready, seats), a_worker(core, ready, seats)) {
@@ -74,7 +75,7 @@ fn two_workers<C: Ledger, P: Ledger>(
 }
 
 /// Two workers, in front of the queue.
-fn prepared<C: Ledger, P: Ledger, R: Wait + AllocGlobal>(
+fn prepared<C: Begun, P: Ledger, R: Wait + AllocGlobal>(
     rt: &R,
     core: &mut Core<C, P>,
     graph: &DeviceGraph,
@@ -82,8 +83,9 @@ fn prepared<C: Ledger, P: Ledger, R: Wait + AllocGlobal>(
     seats: &mut Vec<Seat>,
     passes: &mut Vec<Pass>,
 ) -> Option<(Worker<P>, Worker<P>)>
-    requires seats { All (λ s. s ≡ record { of = ready.now; log = log [] [] }) seats.old.items }
-    requires passes { All (λ p. p ≡ record { of = ready.now; log = log [] [] }) passes.old.items }
+    requires seats { All (λ s. s.of ≡ ready.now) seats.old.items }
+    requires passes { All (λ p. p.of ≡ ready.now) passes.old.items }
+    requires stay { C.stay ≡ false }
     ensures { IfSome result (λ both. (both.0.seat.of ≡ ready.now) × (both.1.seat.of ≡ ready.now)) }
 {
     if both_begin(rt, core, graph, ready, passes) {
@@ -95,10 +97,12 @@ fn prepared<C: Ledger, P: Ledger, R: Wait + AllocGlobal>(
 
 /// Whether that is so of a core without tenancies.
 pub(crate) fn is_worked<
-    C: Ledger + Send + Sync,
+    C: Begun + Send + Sync,
     P: Ledger + Send + Sync,
     R: Threads + Wait + AllocGlobal + Sync,
->(rt: &R, core: Core<C, P>, graph: &DeviceGraph, worked: Worked) -> bool {
+>(rt: &R, core: Core<C, P>, graph: &DeviceGraph, worked: Worked) -> bool
+    requires { C.stay ≡ false }
+{
     let mut core = core;
     match Ready::new(rt.alloc(), 2, 1) {
         Ok((ready, mut seats, mut passes)) => {
@@ -118,7 +122,7 @@ pub(crate) fn is_worked<
 }
 
 /// Whether that is so, and both tenancies are placed in the end.
-fn works<C: Ledger + Send + Sync, P: Ledger + Send + Sync, R: Threads + Wait + Sync>(
+fn works<C: Begun + Send + Sync, P: Ledger + Send + Sync, R: Threads + Wait + Sync>(
     rt: &R,
     core: Core<C, P>,
     graph: &DeviceGraph,
@@ -129,11 +133,13 @@ fn works<C: Ledger + Send + Sync, P: Ledger + Send + Sync, R: Threads + Wait + S
 ) -> bool
     requires one { one.seat.of ≡ ready.now }
     requires other { other.seat.of ≡ ready.now }
+    requires stay { C.stay ≡ false }
 {
     let shared = Shared::new(core);
     let is_so = match worked {
         Worked::DrainsAClosedQueue => drains(rt, &shared, graph, ready, one, other),
         Worked::TwoStepsAtOnce => two_at_once(rt, &shared, graph, ready, one, other),
+        Worked::OneStepStolen => one_stolen(rt, &shared, graph, ready, one, other),
         Worked::StepWithoutTheLock => without_lock(rt, &shared, graph, ready, one, other),
     };
     let mut core = shared.into_core();
@@ -143,14 +149,14 @@ fn works<C: Ledger + Send + Sync, P: Ledger + Send + Sync, R: Threads + Wait + S
 }
 
 /// Whether that tenancy is placed, by three steps: entries 4 to 6 of its journal.
-fn is_placed<C: Ledger, P: Ledger>(core: &Core<C, P>, id: u32) -> bool {
+fn is_placed<C: Begun, P: Ledger>(core: &Core<C, P>, id: u32) -> bool {
     core.state(id) == Some(StateName::Placed)
         && core.entry(id, 6).is_some()
         && core.entry(id, 7).is_none()
 }
 
 /// One worker alone. It ends only if it finds the queue closed.
-fn drains<C: Ledger, P: Ledger, R: Wait>(
+fn drains<C: Begun, P: Ledger, R: Wait>(
     rt: &R,
     shared: &Shared<C, P>,
     graph: &DeviceGraph,
@@ -167,7 +173,7 @@ fn drains<C: Ledger, P: Ledger, R: Wait>(
 }
 
 /// Whether two workers step two tenancies at once.
-fn two_at_once<C: Ledger + Send + Sync, P: Ledger + Send + Sync, R: Threads + Wait + Sync>(
+fn two_at_once<C: Begun + Send + Sync, P: Ledger + Send + Sync, R: Threads + Wait + Sync>(
     rt: &R,
     shared: &Shared<C, P>,
     graph: &DeviceGraph,
@@ -193,8 +199,39 @@ fn two_at_once<C: Ledger + Send + Sync, P: Ledger + Send + Sync, R: Threads + Wa
     meeting.took_place()
 }
 
+/// Whether two workers step two tenancies at once, both of whose numbers the first has pushed.
+fn one_stolen<C: Begun + Send + Sync, P: Ledger + Send + Sync, R: Threads + Wait + Sync>(
+    rt: &R,
+    shared: &Shared<C, P>,
+    graph: &DeviceGraph,
+    ready: &Ready,
+    one: Worker<P>,
+    other: Worker<P>,
+) -> bool
+    requires one { one.seat.of ≡ ready.now }
+    requires other { other.seat.of ≡ ready.now }
+{
+    let Worker { mut seat, share } = one;
+    let has_both = takes_both(rt, ready, &mut seat);
+    let one = Worker { seat, share };
+    two_at_once(rt, shared, graph, ready, one, other) && has_both
+}
+
+/// Pops two numbers, and pushes them to the worker's own deque.
+fn takes_both<R: Wait>(rt: &R, ready: &Ready, seat: &mut Seat) -> bool
+    requires { seat.old.of ≡ ready.now }
+    ensures { seat.new.of ≡ seat.old.of }
+{
+    match (ready.pop(rt, seat), ready.pop(rt, seat)) {
+        (Popped::Number(first), Popped::Number(second)) => {
+            ready.push_own(rt, seat, first).is_ok() && ready.push_own(rt, seat, second).is_ok()
+        }
+        _ => false,
+    }
+}
+
 /// Whether a step is made while another thread holds the lock.
-fn without_lock<C: Ledger + Send + Sync, P: Ledger + Send + Sync, R: Threads + Wait + Sync>(
+fn without_lock<C: Begun + Send + Sync, P: Ledger + Send + Sync, R: Threads + Wait + Sync>(
     rt: &R,
     shared: &Shared<C, P>,
     graph: &DeviceGraph,
@@ -219,7 +256,7 @@ fn without_lock<C: Ledger + Send + Sync, P: Ledger + Send + Sync, R: Threads + W
 }
 
 /// Takes the lock once the step begins, and holds it until it is made.
-fn holds_the_lock<C: Ledger, P: Ledger, R: Wait>(
+fn holds_the_lock<C: Begun, P: Ledger, R: Wait>(
     rt: &R,
     shared: &Shared<C, P>,
     watched: &Watched,

@@ -1,10 +1,10 @@
 //! A worker.
-ghost use Rattle.std.specs.Prelude.{◌≡◌, ◌≤◌, IfSome};
+ghost use Rattle.std.specs.Prelude.{◌≡◌, ◌≤◌, ⊤, IfSome, MatchOption};
 ghost use Rattle.job_state.specs.JobValue.{basis_in};
 
 use crate::gate::Gate;
 use crate::shared::Shared;
-use job_queue::{Popped, Ready, Seat};
+use job_queue::{Law, Popped, Ready, Seat};
 use job_state::{AnyJob, Back, Done};
 use service_core::PutReply;
 use shared_core::{Begun, Share};
@@ -13,35 +13,73 @@ use std::sync::ledger::Ledger;
 use strips::{DeviceGraph, Window};
 use tenant_slot::StepReply;
 
-/// Serves the numbers of the queue until it is closed and empty. Answers its share, which counts the puts that were recorded.
-pub fn run_worker<C: Begun, P: Ledger, G: Gate, R: Wait>(
+/// Serves the numbers of the queue until it is closed and empty, and doesn't end before. Answers its share, which counts the puts that
+/// were recorded.
+pub fn run_worker<C: Begun, P: Ledger, G: Gate, J: Law, R: Wait>(
     rt: &R,
     shared: &Shared<C, P>,
-    ready: &Ready,
+    ready: &Ready<J>,
     graph: &DeviceGraph,
-    seat: Seat,
+    seat: Seat<J>,
     share: Share<P>,
     gate: &G,
 ) -> Share<P>
     requires { seat.of ≡ ready.now }
-    ensures { share.puts ≤ result.puts }
+    ensures puts { share.puts ≤ result.puts }
+    ensures closed { J.closed }
 {
     let mut seat = seat;
     let mut share = share;
+    serve_all(rt, shared, ready, graph, &mut seat, &mut share, gate);
+    drop(seat);
+    share
+}
+
+/// Serves the numbers of the queue until it is closed and empty. A number that its own deque refuses is served next.
+fn serve_all<C: Begun, P: Ledger, G: Gate, J: Law, R: Wait>(
+    rt: &R,
+    shared: &Shared<C, P>,
+    ready: &Ready<J>,
+    graph: &DeviceGraph,
+    seat: &mut Seat<J>,
+    share: &mut Share<P>,
+    gate: &G,
+)
+    requires { seat.old.of ≡ ready.now }
+    ensures puts { share.old.puts ≤ share.new.puts }
+    ensures closed { J.closed }
+{
     let mut kept = None;
     for _ in rt.forever() {
-        let slot = match kept.take() {
-            Some(slot) => slot,
-            None => match ready.pop(rt, &mut seat) {
-                Popped::Number(slot) => slot,
-                Popped::Closed => return share,
-            },
+        let Some(slot) = next_number(rt, ready, seat, kept) else {
+            return;
         };
-        if let Some(id) = serve(rt, shared, graph, &mut share, gate, slot) {
-            kept = push_next(rt, shared, ready, &mut seat, id);
-        }
+        kept = match serve(rt, shared, graph, share, gate, slot) {
+            Some(id) => push_next(rt, shared, ready, seat, id),
+            None => None,
+        };
     }
     unreachable!()
+}
+
+/// The number that was kept, or the next one of the queue. None where that is closed and empty.
+fn next_number<J: Law, R: Wait>(
+    rt: &R,
+    ready: &Ready<J>,
+    seat: &mut Seat<J>,
+    kept: Option<u32>,
+) -> Option<u32>
+    requires { seat.old.of ≡ ready.now }
+    ensures of { seat.new.of ≡ seat.old.of }
+    ensures closed { MatchOption result J.closed (λ _. ⊤) }
+{
+    if let Some(slot) = kept {
+        return Some(slot);
+    }
+    match ready.pop(rt, seat) {
+        Popped::Number(slot) => Some(slot),
+        Popped::Closed => None,
+    }
 }
 
 /// Serves a number: takes the next step of the job of its tenancy, reads where its strip stands, makes the step without the lock
@@ -57,18 +95,38 @@ fn serve<C: Begun, P: Ledger, G: Gate, R: Wait>(
 ) -> Option<u32>
     ensures { share.old.puts ≤ share.new.puts }
 {
-    let id = shared.core.lock(rt).popped(slot)?;
-    let job = shared.core.lock(rt).take(id)?;
-    let offset = shared.core.lock(rt).offset(id);
+    let id = popped(rt, shared, slot)?;
+    let job = take(rt, shared, id)?;
+    let offset = offset(rt, shared, id);
     let again = match window_at(graph, &job, offset) {
         Some(window) => step_and_put(rt, shared, share, gate, job, &window),
         None => {
-            shared.core.lock(rt).give_back(job.into_back());
+            give_back(rt, shared, job.into_back());
             false
         }
     };
     shared.changed.notify_all();
     again.then_some(id)
+}
+
+/// Whose the number is that was popped.
+fn popped<C: Begun, P: Ledger, R: Wait>(rt: &R, shared: &Shared<C, P>, slot: u32) -> Option<u32> {
+    shared.core.lock(rt).popped(slot)
+}
+
+/// Takes the next step of the job of that tenancy.
+fn take<C: Begun, P: Ledger, R: Wait>(rt: &R, shared: &Shared<C, P>, id: u32) -> Option<AnyJob> {
+    shared.core.lock(rt).take(id)
+}
+
+/// Where the strip of that tenancy stands.
+fn offset<C: Begun, P: Ledger, R: Wait>(rt: &R, shared: &Shared<C, P>, id: u32) -> Option<u32> {
+    shared.core.lock(rt).offset(id)
+}
+
+/// Gives a job back.
+fn give_back<C: Begun, P: Ledger, R: Wait>(rt: &R, shared: &Shared<C, P>, back: Back) {
+    shared.core.lock(rt).give_back(back)
 }
 
 /// The window for a job's step, where its strip stands.
@@ -97,7 +155,7 @@ fn step_and_put<C: Begun, P: Ledger, G: Gate, R: Wait>(
     match stepped(gate, job, window) {
         Ok(done) => put(rt, shared, share, done),
         Err(back) => {
-            shared.core.lock(rt).give_back(back);
+            give_back(rt, shared, back);
             true
         }
     }
@@ -126,18 +184,18 @@ fn put<C: Begun, P: Ledger, R: Wait>(
     match answer {
         Ok(reply) => reply == PutReply::Recorded(StepReply::Advanced),
         Err((done, _)) => {
-            shared.core.lock(rt).give_back(done.into_back());
+            give_back(rt, shared, done.into_back());
             true
         }
     }
 }
 
 /// Marks and pushes the slot number of a tenancy that has a step to take. A number that isn't pushed comes back.
-fn push_next<C: Begun, P: Ledger, R: Wait>(
+fn push_next<C: Begun, P: Ledger, J: Law, R: Wait>(
     rt: &R,
     shared: &Shared<C, P>,
-    ready: &Ready,
-    seat: &mut Seat,
+    ready: &Ready<J>,
+    seat: &mut Seat<J>,
     id: u32,
 ) -> Option<u32>
     requires { seat.old.of ≡ ready.now }

@@ -1,12 +1,11 @@
-use Rattle.std.proofs.Common.{◌≡◌, ◌++◌, []}
+use Rattle.std.proofs.Common.{◌≡◌, ◌++◌}
 use Rattle.std.specs.Prelude.{All, map}
-use Rattle.job_queue.specs.Balance.{log}
 use Rattle.script_threads.specs.Parts.{started_by}
 use Rattle.script_threads.proofs.crowd.start_sessions.Given as goal
 
 -- the sessions so far are started
 abbrev pub invariant-loop-seat : goal.invariant-loop-seat
 invariant-loop-seat g l = record {
-  passes : All (λ p. p ≡ record { of = l.ready; log = log [] [] }) l.passes.items;
+  passes : All (λ p. p.of ≡ l.ready) l.passes.items;
   started : map started_by l.started.items ≡ map started_by l.fn.started.items ++ l.yielded;
 }

@@ -1,4 +1,4 @@
-use Rattle.std.proofs.Common.{◌≡◌, ◌≢◌, ap, sym, subst, ◌∙◌}
+use Rattle.std.proofs.Common.{◌≢◌, ap, sym, subst, ◌∙◌}
 use Rattle.std.specs.Prelude.{All, AllPairs}
 use Rattle.settling.specs.Settling.{SettledState}
 use Rattle.script_threads.specs.Served.{AreBorneOut}

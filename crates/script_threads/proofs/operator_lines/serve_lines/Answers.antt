@@ -1,4 +1,4 @@
-use Rattle.std.proofs.Common.{◌≡◌, length, refl, subst, sym, ◌∙◌}
+use Rattle.std.proofs.Common.{refl, subst, sym, ◌∙◌}
 use Rattle.std.specs.Prelude.{map, OnOk}
 use Rattle.operator.specs.Held.{held}
 use Rattle.operator.specs.HeldJobs.{HeldList}
