@@ -31,16 +31,18 @@ not_before sources number from_one before at fewer less =
 pub stepped : (step : JobStep) (work new : Work) → HasMade step work (step.number - 1) → is_last step.sources (step.number - 1) ≡ false → new ≡ next_work work → HasMade step new step.number
 stepped step work new holds going is =
     let next : job_value step.sources (step.number - 1 + 1) ≡ Ok (next_work work) = stands_next step.sources (step.number - 1) work holds.value going in
+    let made : job_value step.sources step.number ≡ Ok new = ap (λ steps. job_value step.sources steps) (sym (one_more step.number holds.from_one)) ∙ (next ∙ ap as_value (sym is)) in
     record {
-      value = as_stands step.sources step.number new (ap (λ steps. job_value step.sources steps) (sym (one_more step.number holds.from_one)) ∙ (next ∙ ap as_value (sym is)));
+      value = as_stands step.sources step.number new made;
+      exact = λ same. made;
       from_one = holds.from_one;
       few = holds.few;
       going = not_before step.sources step.number holds.from_one holds.going going;
     }
 
 -- what a step without memory leaves
-pub left : (step : JobStep) (work new : Work) (steps : ℕ) → HasMade step work steps → is_last step.sources steps ≡ false → IsLeft work new → HasMade step new steps
-left step work new steps holds going is = record { value = stands_left step.sources steps work new holds.value going is; from_one = holds.from_one; few = holds.few; going = holds.going }
+pub left : (step : JobStep) (work new : Work) (steps : ℕ) → (steps ≡ step.number → ⊥) → HasMade step work steps → is_last step.sources steps ≡ false → IsLeft work new → HasMade step new steps
+left step work new steps apart holds going is = record { value = stands_left step.sources steps work new holds.value going is; exact = λ same. absurd (apart same); from_one = holds.from_one; few = holds.few; going = holds.going }
 
 -- the steps made are few
 pub few_steps_made : (step : JobStep) (work : Work) (steps : ℕ) → HasMade step work steps → steps ≤ 8192

@@ -24,9 +24,10 @@ abbrev pub StandsFor : Sources → ℕ → Work → Type 0
 StandsFor sources steps (Unlisted routed) = (job_value sources (steps + 1) ≡ Ok (Routed routed)) × (is_last sources steps ≡ false)
 StandsFor sources steps work = job_value sources steps ≡ Ok work
 
--- a job that has so much after so many steps
+-- a job that has so much after so many steps; where its own step is made, that is exactly its value
 pub record HasMade (step : JobStep) (work : Work) (steps : ℕ) : Type 0 where
   pub value : StandsFor step.sources steps work
+  pub exact : steps ≡ step.number → job_value step.sources steps ≡ Ok work
   pub from_one : 1 ≤ step.number
   pub few : HasFewSteps step.sources
   pub going : IsNotOverBefore step.sources steps

@@ -120,6 +120,7 @@ impl Search {
         requires goal { goal < (R.graph roads.now).count }
         ensures found { result ≡ Ok true → TellsLeastPath (R.graph roads.now) starts.now goal path.new }
         ensures none { result ≡ Ok false → HasNoPath (R.graph roads.now) starts.now goal }
+        ensures kept { result ≡ Ok false → path.new ≡ path.old }
         ensures exact { IfOk result (λ found.
             least_path (R.graph roads.now) starts.now goal ≡ (if found then Some path.new.nodes.items else None)) }
     {

@@ -1,6 +1,6 @@
 //! Sessions and workers on threads.
 
-ghost use Rattle.std.specs.Prelude.{◌≡◌, ◌++◌, ◌∷◌, All, IfSome, IsSomeAnd, IsTrue, [], map};
+ghost use Rattle.std.specs.Prelude.{◌≡◌, ◌++◌, ◌∷◌, All, IfSome, IsSomeAnd, IsTrue, Some, [], map};
 ghost use Rattle.job_queue.specs.Balance.{log};
 ghost use Rattle.script_text.specs.Threaded.{said_by};
 ghost use Rattle.script_threads.specs.Parts.{started_by};
@@ -94,22 +94,94 @@ fn run_in<
     requires passes { All (λ p. p ≡ record { of = ready.now; log = log [] [] }) sessions.0.items }
     ensures { IfSome result (λ ended. map asked_in ended.0.items ≡ sessions.entry.1.items) }
 {
+    let mut workers = Vec::new(rt.alloc());
+    let mut started = Vec::new(rt.alloc());
+    let are_started = start_all(
+        rt,
+        scope,
+        shared,
+        ready,
+        graph,
+        benches,
+        sessions,
+        &mut workers,
+        &mut started,
+    );
+    let parts = join_sessions(rt, started);
+    ready.close();
+    let shares = join_workers(rt, workers);
+    all_ended(are_started, parts, shares)
+}
+
+/// Starts the workers, and then the sessions. Tells whether all were started or answered.
+fn start_all<
+    's,
+    't: 's,
+    E,
+    C: Ledger + Send + Sync + 's,
+    P: Ledger + Send + Sync + 's,
+    R: Wait + AllocGlobal + Sync + 's,
+>(
+    rt: &'s R,
+    scope: &Scope<'s, E>,
+    shared: &'s Shared<C, P>,
+    ready: &'s Ready,
+    graph: &'s DeviceGraph,
+    benches: (Vec<Seat>, Vec<Share<P>>),
+    sessions: (Vec<Pass>, Vec<Seated<'t, C>>),
+    workers: &mut Vec<Worker<P>>,
+    started: &mut Vec<Started<'t, C>>,
+) -> bool
+    requires seats { All (λ s. s ≡ record { of = ready.now; log = log [] [] }) benches.0.items }
+    requires passes { All (λ p. p ≡ record { of = ready.now; log = log [] [] }) sessions.0.items }
+    ensures { IsTrue result → map started_by started.new.items ≡ map started_by started.old.items ++ sessions.entry.1.items }
+{
     let (seats, shares) = benches;
     let (passes, seated) = sessions;
-    let mut workers = Vec::with_capacity(rt.alloc(), shares.len()).ok()?;
-    let mut started = Vec::with_capacity(rt.alloc(), seated.len()).ok()?;
-    let parts = Vec::with_capacity(rt.alloc(), seated.len()).ok()?;
-    let mut ended = Vec::with_capacity(rt.alloc(), shares.len()).ok()?;
-    let are_working = start_workers(rt, scope, shared, ready, graph, seats, shares, &mut workers);
-    let are_seated = are_working
-        && start_sessions(rt, scope, shared, ready, passes, seated, &mut started);
-    let parts = join_sessions(rt, started, parts);
-    ready.close();
-    join_workers(rt, workers, &mut ended);
-    if !are_seated {
+    if !start_workers(rt, scope, shared, ready, graph, seats, shares, workers) {
+        drop(passes);
+        drop(seated);
+        return false;
+    }
+    start_sessions(rt, scope, shared, ready, passes, seated, started)
+}
+
+/// The parts and the shares, where all have started and memory lacked for none.
+fn all_ended<'t, C: Ledger, P: Ledger>(
+    are_started: bool,
+    parts: Option<Vec<Part<'t, C>>>,
+    shares: Option<Vec<Share<P>>>,
+) -> Option<(Vec<Part<'t, C>>, Vec<Share<P>>)>
+    ensures { IfSome result (λ ended. IsTrue are_started × parts.entry ≡ Some ended.0) }
+{
+    if !are_started {
+        drop(parts);
+        drop(shares);
         return None;
     }
-    Some((parts?, ended))
+    match parts {
+        Some(parts) => with_shares(parts, shares),
+        None => {
+            drop(shares);
+            None
+        }
+    }
+}
+
+/// The parts and the shares, if there are any.
+fn with_shares<'t, C: Ledger, P: Ledger>(
+    parts: Vec<Part<'t, C>>,
+    shares: Option<Vec<Share<P>>>,
+) -> Option<(Vec<Part<'t, C>>, Vec<Share<P>>)>
+    ensures { IfSome result (λ ended. ended.0 ≡ parts.entry) }
+{
+    match shares {
+        Some(shares) => Some((parts, shares)),
+        None => {
+            drop(parts);
+            None
+        }
+    }
 }
 
 /// Starts the workers. Tells whether all were started.
@@ -217,16 +289,14 @@ fn start_session<
     }
 }
 
-/// Waits for the sessions, and keeps their parts in the room for them. None where one gave none.
-fn join_sessions<'t, C: Ledger, R: Threads>(
+/// Waits for the sessions, and gives their parts. None where one gave none, or memory lacks.
+fn join_sessions<'t, C: Ledger, R: Threads + AllocGlobal>(
     rt: &R,
     started: Vec<Started<'t, C>>,
-    room: Vec<Part<'t, C>>,
 ) -> Option<Vec<Part<'t, C>>>
-    requires { room.items ≡ [] }
     ensures { IfSome result (λ parts. map asked_in parts.items ≡ map started_by started.entry.items) }
 {
-    let mut parts = Some(room);
+    let mut parts = Vec::with_capacity(rt.alloc(), started.len()).ok();
     for session in started {
         let part = join_session(rt, session);
         parts = with_part(parts, part);
@@ -256,16 +326,32 @@ fn with_part<'t, C: Ledger>(
     Some(parts)
 }
 
-/// Waits for the workers.
-fn join_workers<P: Ledger, R: Threads>(
+/// Waits for the workers, and gives their shares. None where memory lacks.
+fn join_workers<P: Ledger, R: Threads + AllocGlobal>(
     rt: &R,
     workers: Vec<Worker<P>>,
-    shares: &mut Vec<Share<P>>,
-) {
+) -> Option<Vec<Share<P>>> {
+    let mut shares = Vec::with_capacity(rt.alloc(), workers.len()).ok();
     for worker in workers {
         let share = worker.join(rt);
-        if let Err(failed) = shares.push(share) {
-            drop(failed);
+        shares = with_share(shares, share);
+    }
+    shares
+}
+
+/// The shares with one more.
+fn with_share<P: Ledger>(shares: Option<Vec<Share<P>>>, share: Share<P>) -> Option<Vec<Share<P>>> {
+    match shares {
+        Some(mut shares) => {
+            if shares.push(share).is_err() {
+                drop(shares);
+                return None;
+            }
+            Some(shares)
+        }
+        None => {
+            drop(share);
+            None
         }
     }
 }

@@ -10,6 +10,7 @@ mod crowd;
 mod finish;
 mod operator_lines;
 mod part;
+mod running;
 mod seated;
 mod seats;
 mod serving;

@@ -1,4 +1,4 @@
-use Rattle.std.proofs.Common.{◌≡◌, ◌-◌, ap, sym, ◌∙◌}
+use Rattle.std.proofs.Common.{◌≡◌, ◌-◌, arith, ap, sym, ◌∙◌}
 use Rattle.job_state.specs.Held.{steps_made}
 use Rattle.job_state.specs.Job.{JobState}
 use Rattle.job_state.specs.JobValue.{basis_in}
@@ -24,7 +24,7 @@ pub invariant_of-job : goal.invariant_of-job
 invariant_of-job c =
     let step = c.self.inside.step in
     let holds = rw c.if-made.false at c.self.invariant.holds in
-    let kept = left step c.self.inside.work.value c.in-Err.left (step.number - 1) holds c.self.invariant.going (rw c.replace-before.ensures.value at c.in-Err.ensures.back) in
+    let kept = left step c.self.inside.work.value c.in-Err.left (step.number - 1) (λ same. omega (arith, same, holds.from_one)) holds c.self.invariant.going (rw c.replace-before.ensures.value at c.in-Err.ensures.back) in
     record { holds = rw (c.replace-in-Err.ensures.after, c.if-made.false) kept; going = c.self.invariant.going }
 
 pub returns-in-Err : goal.returns-in-Err

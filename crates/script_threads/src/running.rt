@@ -1,0 +1,116 @@
+//! The sessions of a script, run on threads beside the workers.
+ghost use Rattle.std.specs.Prelude.{◌≡◌, [], List, ℕ, map, All, IfErr, IfOk};
+ghost use Rattle.job_queue.specs.Balance.{log};
+ghost use Rattle.script_text.specs.Threaded.{Said, said_by};
+ghost use Rattle.service_core.specs.History.{History};
+ghost use Rattle.script_threads.specs.Served.{IsUnserved, Ran, section_told};
+ghost use Rattle.script_threads.specs.Sessions.{asked_of};
+
+use crate::answered::{Section, Unserved};
+use crate::crowd::run_crowd;
+use crate::finish::finish;
+use crate::seated::{Seated, seat_all, shares};
+use job_queue::{Pass, Ready, Seat};
+use operator::Operator;
+use script_text::SessionInput;
+use service_core::Service;
+use shared_core::{Core, Share};
+use std::alloc::{AllocGlobal, Global};
+use std::sync::Wait;
+use std::sync::ledger::Ledger;
+use std::thread::Threads;
+use strips::DeviceGraph;
+use worker_pool::Shared;
+
+/// Runs each name's session, and settles what they were told.
+pub(crate) fn run_sessions<
+    't,
+    C: Ledger + Send + Sync,
+    P: Ledger + Send + Sync,
+    R: Threads + Wait + AllocGlobal + Sync,
+>(
+    rt: &R,
+    graph: &DeviceGraph,
+    workers: u32,
+    core: Core<C, P>,
+    operator: &Operator<'t>,
+    sessions: Vec<SessionInput<'t>>,
+) -> Result<(Service, Vec<Section<'t>>), Unserved>
+    ensures ok { IfOk result (λ r. Ran operator.now core.service.histories (map said_by sessions.entry.items) (map section_told r.1.items) r.0) }
+    ensures unserved { IfErr result IsUnserved }
+{
+    let mut core = core;
+    match prepare(rt.alloc(), workers, &mut core, operator, sessions) {
+        Ok(prepared) => run_prepared(rt, graph, core, prepared),
+        Err(unserved) => {
+            drop(core);
+            Err(unserved)
+        }
+    }
+}
+
+/// What the threads begin with: the queue, a seat and a share for each worker, and a pass for each session that is seated.
+#[derive(Drop)]
+struct Prepared<'t, C: Ledger, P: Ledger> {
+    ready: Ready,
+    workers: (Vec<Seat>, Vec<Share<P>>),
+    sessions: (Vec<Pass>, Vec<Seated<'t, C>>),
+}
+
+/// Asks for all that the threads begin with.
+fn prepare<'t, C: Ledger, P: Ledger>(
+    alloc: Global,
+    workers: u32,
+    core: &mut Core<C, P>,
+    operator: &Operator<'t>,
+    sessions: Vec<SessionInput<'t>>,
+) -> Result<Prepared<'t, C, P>, Unserved>
+    ensures seats { IfOk result (λ p. All (λ s. s ≡ record { of = p.ready; log = log [] [] }) p.workers.0.items) }
+    ensures passes { IfOk result (λ p. All (λ s. s ≡ record { of = p.ready; log = log [] [] }) p.sessions.0.items) }
+    ensures seated { IfOk result (λ p. p.sessions.1.items ≡ map (asked_of operator.now core.old.service.histories) (map said_by sessions.entry.items)) }
+    ensures unserved { IfErr result IsUnserved }
+{
+    let shares = shares(alloc, core, workers)?;
+    let (ready, seats, passes) = Ready::new(alloc, shares.len(), sessions.len())?;
+    let seated = seat_all(alloc, operator, core, sessions)?;
+    Ok(Prepared {
+        ready,
+        workers: (seats, shares),
+        sessions: (passes, seated),
+    })
+}
+
+/// Runs the sessions that are seated, and settles what they were told.
+fn run_prepared<
+    't,
+    C: Ledger + Send + Sync,
+    P: Ledger + Send + Sync,
+    R: Threads + Wait + AllocGlobal + Sync,
+>(
+    rt: &R,
+    graph: &DeviceGraph,
+    core: Core<C, P>,
+    prepared: Prepared<'t, C, P>,
+) -> Result<(Service, Vec<Section<'t>>), Unserved>
+    requires seats { All (λ s. s ≡ record { of = prepared.ready; log = log [] [] }) prepared.workers.0.items }
+    requires passes { All (λ s. s ≡ record { of = prepared.ready; log = log [] [] }) prepared.sessions.0.items }
+    ensures ok { (names : List (List ℕ)) (histories : List History) (sessions : List Said) → prepared.entry.sessions.1.items ≡ map (asked_of names histories) sessions → IfOk result (λ r. Ran names histories sessions (map section_told r.1.items) r.0) }
+    ensures unserved { IfErr result IsUnserved }
+{
+    let Prepared {
+        ready,
+        workers,
+        sessions,
+    } = prepared;
+    let shared = Shared::new(core);
+    let ran = run_crowd(rt, &shared, &ready, graph, workers, sessions);
+    drop(ready);
+    let core = shared.into_core();
+    match ran {
+        Some((parts, shares)) => finish(rt.alloc(), core, parts, shares),
+        None => {
+            drop(core);
+            Err(Unserved::NoMemory)
+        }
+    }
+}
