@@ -108,7 +108,7 @@ impl Search {
     }
 
     /// Writes the least path from one of `starts` to `goal` in place of what `path` held, and tells
-    /// whether there is one, as `least` does. Where all has room enough already, no memory is taken.
+    /// whether there is one, as `least` does. Where there is none, `path` stays as it was. Where all has room enough already, no memory is taken.
     pub fn least_into<R: Roads>(
         &mut self,
         roads: &R,
