@@ -12,7 +12,7 @@ use Rattle.service_core.specs.declared.not_served.NotServed.{NotServed}
 use Rattle.service_core.specs.declared.not_served.NotServed.TheVariants.{NoMemory, JournalFull, NoSuchTenancy}
 use Rattle.service_core.specs.declared.put_reply.PutReply.{PutReply}
 use Rattle.service_core.specs.declared.put_reply.PutReply.TheVariants.{Recorded, Full, Gone}
-use Rattle.service_core.specs.History.{History, with_entry, with_out}
+use Rattle.service_core.specs.History.{History, with_entry, with_here}
 use Rattle.service_core.specs.Receipt.{Receipted}
 use Rattle.service_core.specs.Service.{ServiceState, entries_in, history_of, if_live, live_of, modified}
 use Rattle.service_core.specs.Calls.{IsGivenBack, IsGivenBackTo, IsPut, IsReceipt, IsServed, IsTaken, Puts, step_entry}
@@ -79,8 +79,8 @@ Grows-changed hs id change puts live longer put = record {
   put = put;
 }
 
-Grows-out : (hs : List History) (id : ℕ) (out : Bool) → Grows hs (modified hs id (with_out out)) 0
-Grows-out hs id out = Grows-changed hs id (with_out out) 0 (λ h. refl) (λ h. omega arith) (omega (arith, puts_in-kept hs id (with_out out) (λ h. refl)))
+Grows-here : (hs : List History) (id : ℕ) (here : Option Bool) → Grows hs (modified hs id (with_here here)) 0
+Grows-here hs id here = Grows-changed hs id (with_here here) 0 (λ h. refl) (λ h. omega arith) (omega (arith, puts_in-kept hs id (with_here here) (λ h. refl)))
 
 Grows-entry : (hs : List History) (id : ℕ) (e : Entry) (h : History) → history_of hs id ≡ Some h → Grows hs (modified hs id (with_entry e)) (put_mark e)
 Grows-entry hs id e h at = Grows-changed hs id (with_entry e) (put_mark e) (λ g. refl) (λ g. omega (arith, length-append g.entries (e ∷ []))) (puts_in-entry hs id e h at)
@@ -108,11 +108,11 @@ served old new id command (Err NoMemory) is = Grows-none old.histories new.histo
 
 pub taken : (old new : ServiceState) (id : ℕ) (r : Option JobState) → IsTaken old id r new → Grows old.histories new.histories 0
 taken old new id None is = Grows-none old.histories new.histories (ap hs_of is.1)
-taken old new id (Some job) is = rw (ap hs_of is.1) (Grows-out old.histories id true)
+taken old new id (Some job) is = rw (ap hs_of is.1) (Grows-here old.histories id None)
 
 given_to : (old new : ServiceState) (job : JobState) (o : Option History) → IsGivenBackTo o old job new → Grows old.histories new.histories 0
 given_to old new job None is = Grows-none old.histories new.histories (ap hs_of is)
-given_to old new job (Some h) is = rw (ap hs_of is.2) (Grows-out old.histories job.step.id is.0)
+given_to old new job (Some h) is = rw (ap hs_of is.2) (Grows-here old.histories job.step.id is.0)
 
 pub given_back : (old new : ServiceState) (job : JobState) → IsGivenBack old job new → Grows old.histories new.histories 0
 given_back old new job is = given_to old new job (live_of old.histories job.step.id) is
