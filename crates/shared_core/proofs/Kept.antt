@@ -6,11 +6,12 @@ use Rattle.strips.specs.Plan.{strip_of}
 use Rattle.tenant_slot.specs.declared.command.Command.{Command}
 use Rattle.tenant_slot.specs.declared.event.Event.TheVariants.{Command as Asked}
 use Rattle.tenant_slot.proofs.Runs.{step-served}
-use Rattle.service_core.specs.History.{History, closed, state_of}
+use Rattle.service_core.specs.History.{History, state_of}
+use Rattle.service_core.specs.Tenancy.{closed, if_live}
 use Rattle.service_core.specs.declared.not_served.NotServed.{NotServed}
 use Rattle.service_core.specs.declared.not_served.NotServed.TheVariants.{NoMemory, JournalFull, NoSuchTenancy}
 use Rattle.service_core.specs.Receipt.{Receipted}
-use Rattle.service_core.specs.Service.{AreAlone, IsAloneOn, ServiceState, admitted, entries_in, history_of, if_live, live_of, modified, placed_width, live_width}
+use Rattle.service_core.specs.Service.{AreAlone, IsAloneOn, ServiceState, admitted, entries_in, history_of, live_of, modified, placed_width, live_width}
 use Rattle.service_core.specs.Calls.{IsAdmitted, IsEvicted, IsReceipt, IsServed}
 use Rattle.service_core.specs.Headline.{AreParted}
 use Rattle.service_core.proofs.Lists.{All-history_of, history_of-modified, history_of-past, history_of-push, history_of-zero, length-modified}
