@@ -14,8 +14,8 @@ use Rattle.service_core.specs.declared.device.Device.{Device}
 use Rattle.service_core.specs.declared.entry.Entry.{Entry}
 use Rattle.service_core.specs.declared.not_served.NotServed.TheVariants.{NoMemory, JournalFull, NoSuchTenancy}
 use Rattle.service_core.specs.declared.put_reply.PutReply.TheVariants.{Recorded, Full, Gone}
-use Rattle.service_core.specs.History.{History, closed, events_of, state_of, with_entry, with_out}
-use Rattle.service_core.specs.Service.{AreAlone, IsAloneOn, ServiceState, admitted, empty, entries_in, history_of, journal_of, live_of, modified, strip_on, with_entry_of, with_out_of, with_tenancy}
+use Rattle.service_core.specs.History.{History, closed, events_of, state_of, with_entry, with_here}
+use Rattle.service_core.specs.Service.{AreAlone, IsAloneOn, ServiceState, admitted, empty, entries_in, history_of, journal_of, live_of, modified, strip_on, with_entry_of, with_here_of, with_tenancy}
 use Rattle.service_core.specs.Calls.{IsGivenBackTo, IsStepOf, step_entry, step_event}
 use Rattle.service_core.proofs.MovedStrips.{same_histories}
 use Rattle.service_core.specs.Run.{Call, Admit, Evict, GiveBack, Happens, Move, Put, Run, Take, Tenant}
@@ -122,8 +122,8 @@ own_limit first old new t id event limit same alone_all has =
 unchanged : (first : State) (old new : ServiceState) (id : ℕ) → new ≡ old → Exchanged first old new id []
 unchanged first old new id same = same_journal first old new id (ap (λ s. journal_of s id) same)
 
-turned : (first : State) (old new : ServiceState) (t id : ℕ) (out : Bool) → new ≡ with_out_of old t out → Exchanged first old new id []
-turned first old new t id out is = same_journal first old new id (rw is (journal-kept old.histories t id (with_out out) (λ h. refl)))
+turned : (first : State) (old new : ServiceState) (t id : ℕ) (here : Option Bool) → new ≡ with_here_of old t here → Exchanged first old new id []
+turned first old new t id here is = same_journal first old new id (rw is (journal-kept old.histories t id (with_here here) (λ h. refl)))
 
 given : (first : State) (old : ServiceState) (job : JobState) (new : ServiceState) (id : ℕ) (o : Option History) → IsGivenBackTo o old job new → Exchanged first old new id []
 given first old job new id None is = unchanged first old new id is
@@ -142,7 +142,7 @@ exchanged first old (Tenant t command (Ok r)) new id happens alone_all has =
 exchanged first old (Tenant t command (Err NoMemory)) new id happens alone_all has = unchanged first old new id happens.1
 exchanged first old (Tenant t command (Err (JournalFull note))) new id happens alone_all has = own_limit first old new t id (Asked command) happens.1 happens.2 alone_all has
 exchanged first old (Tenant t command (Err (NoSuchTenancy note))) new id happens alone_all has = unchanged first old new id happens.2
-exchanged first old (Take t (Some job)) new id happens alone_all has = turned first old new t id true happens.1
+exchanged first old (Take t (Some job)) new id happens alone_all has = turned first old new t id None happens.1
 exchanged first old (Take t None) new id happens alone_all has = unchanged first old new id happens.1
 exchanged first old (Put done foreign (Ok (Recorded reply))) new id happens alone_all has =
     let got : (h : History) × (history_of old.histories done.id ≡ Some h) × IsStepOf h done foreign reply = of_live (λ h. IsStepOf h done foreign reply) old done.id happens.0 in
@@ -177,7 +177,7 @@ back first old new id (Admitted width offset can fits is) has = pushed_back firs
 back first old new id (Evicted t is) has = modified_back first old.histories t id closed (λ h. refl) (rw is at has)
 back first old new id (Moved t offset parted is) has = rw is at has
 back first old new id (Entered t e h next is) has = modified_back first old.histories t id (with_entry e) (λ h. refl) (rw is at has)
-back first old new id (Turned t out is) has = modified_back first old.histories t id (with_out out) (λ h. refl) (rw is at has)
+back first old new id (Turned t here is) has = modified_back first old.histories t id (with_here here) (λ h. refl) (rw is at has)
 
 -- over a run
 run_back : (first : State) (old : ServiceState) (calls : List Call) (new : ServiceState) (id : ℕ) → Run old calls new → HasFirst first new id → HasFirst first old id

@@ -29,7 +29,7 @@ use Rattle.tenant_slot.specs.RoutedSet.{routed_set}
 use Rattle.tenant_slot.specs.SingleUser.{State, start, step}
 use Rattle.service_core.specs.declared.device.Device.{Device}
 use Rattle.service_core.specs.declared.entry.Entry.{Entry}
-use Rattle.service_core.specs.History.{History, closed, state_of, with_entry, with_out}
+use Rattle.service_core.specs.History.{History, closed, state_of, with_entry, with_here}
 use Rattle.service_core.specs.Headline.{AreParted}
 use Rattle.service_core.specs.Service.{AreAlone, IsAloneOn, ServiceState, admitted, history_of, if_live, live_of, live_width, modified, placed_width, strip_on}
 use Rattle.service_core.specs.Calls.{step_entry}
@@ -70,9 +70,9 @@ sound_admitted book device strips hs width offset was few = record {
 }
 
 -- a take, and a job that is given back
-turned : (book : Owners) (device : Device) (strips : List PlacedStrip) (hs : List History) (id : ℕ) (old new : History) (out : Bool) → KeepsBook book (state_on device strips hs) → IsLiveIn hs id → old ≡ get_or hs (id - 1) old → new ≡ with_out out old → KeepsBook book (state_on device strips (set hs (id - 1) new))
-turned book device strips hs id old new out was live is changes =
-    subst (λ xs. KeepsBook book (state_on device strips xs)) (sym (set-live hs id old (with_out out) new live is changes)) (keeps_same book device strips strips hs (modified hs id (with_out out)) (same_owned strips hs id (with_out out) (λ h here. (refl, refl))) was)
+turned : (book : Owners) (device : Device) (strips : List PlacedStrip) (hs : List History) (id : ℕ) (old new : History) (here : Option Bool) → KeepsBook book (state_on device strips hs) → IsLiveIn hs id → old ≡ get_or hs (id - 1) old → new ≡ with_here here old → KeepsBook book (state_on device strips (set hs (id - 1) new))
+turned book device strips hs id old new here was live is changes =
+    subst (λ xs. KeepsBook book (state_on device strips xs)) (sym (set-live hs id old (with_here here) new live is changes)) (keeps_same book device strips strips hs (modified hs id (with_here here)) (same_owned strips hs id (with_here here) (λ h found. (refl, refl))) was)
 
 stayed : (book : Owners) (device : Device) (strips : List PlacedStrip) (hs : List History) (id : ℕ) (old new : History) → KeepsBook book (state_on device strips hs) → old ≡ get_or hs (id - 1) old → new ≡ old → KeepsBook book (state_on device strips (set hs (id - 1) new))
 stayed book device strips hs id old new was is same = subst (λ xs. KeepsBook book (state_on device strips xs)) (sym (set-kept hs id old new is same)) was
@@ -81,7 +81,7 @@ pub sound_taken : (book : Owners) (device : Device) (strips : List PlacedStrip) 
 sound_taken book device strips hs id old answer new was live is taken = record { lawful = was.lawful; kept = IsService-taken device strips hs id old answer new was.kept live is taken; book = by_answer answer taken }
   where
     by_answer : (answer : Option JobState) → TakesHistory old answer new → KeepsBook book (state_on device strips (set hs (id - 1) new))
-    by_answer (Some job) taken = turned book device strips hs id old new true was.book live is taken.2
+    by_answer (Some job) taken = turned book device strips hs id old new None was.book live is taken.3
     by_answer None taken = stayed book device strips hs id old new was.book is taken.1
 
 pub sound_given : (book : Owners) (device : Device) (strips : List PlacedStrip) (hs : List History) (id : ℕ) (old : History) (job : JobState) (new : History) → IsSound book device strips hs → IsLiveIn hs id → old ≡ get_or hs (id - 1) old → GivesHistoryBack old job new → IsSound book device strips (set hs (id - 1) new)

@@ -1,5 +1,5 @@
 -- What a call makes of the state: one of six changes, whatever was called.
-use Rattle.std.proofs.Common.{◌≡◌, ℕ, List, [], ◌∷◌, Bool, true, Option, Some, None, Ok, Err, refl, ap, ◌∙◌}
+use Rattle.std.proofs.Common.{◌≡◌, ℕ, List, [], ◌∷◌, Bool, Option, Some, None, Ok, Err, refl, ap, ◌∙◌}
 use Rattle.std.specs.Prelude.{IsSomeAnd}
 use Rattle.strips.specs.Plan.{IsFirstFit, IsParted, with_moved}
 use Rattle.tenant_slot.specs.declared.command.Command.{Command}
@@ -12,11 +12,11 @@ use Rattle.service_core.specs.declared.not_served.NotServed.TheVariants.{NoMemor
 use Rattle.service_core.specs.declared.put_reply.PutReply.TheVariants.{Recorded, Full, Gone}
 use Rattle.service_core.specs.History.{History, state_of}
 use Rattle.service_core.specs.Receipt.{Receipted}
-use Rattle.service_core.specs.Service.{ServiceState, history_of, live_of, with_entry_of, with_offset_of, with_out_of, with_tenancy, without_tenancy}
+use Rattle.service_core.specs.Service.{ServiceState, history_of, live_of, with_entry_of, with_offset_of, with_here_of, with_tenancy, without_tenancy}
 use Rattle.service_core.specs.Calls.{CanAdmit, IsGivenBackTo, IsReceipt, IsStepOf, step_entry}
 use Rattle.service_core.specs.Run.{Call, Admit, Evict, GiveBack, Happens, Move, Put, Run, Take, Tenant}
 use Rattle.service_core.specs.Kept.{IsService}
-use Rattle.service_core.proofs.Keeps.{IsService-admitted, IsService-entry, IsService-evicted, IsService-out, if_live_some}
+use Rattle.service_core.proofs.Keeps.{IsService-admitted, IsService-entry, IsService-evicted, IsService-here, if_live_some}
 use Rattle.service_core.proofs.MovedStrips.{IsService-moved}
 
 -- an entry is the next one of a tenancy's journal
@@ -30,7 +30,7 @@ pub data Effect (old new : ServiceState) : Type 0 where
   Evicted : (id : ℕ) → new ≡ without_tenancy old id → Effect old new
   Moved : (id offset : ℕ) → IsParted (with_moved old.plan id offset) → new ≡ with_offset_of old id offset → Effect old new
   Entered : (id : ℕ) (e : Entry) (h : History) → IsNext old id e h → new ≡ with_entry_of old id e → Effect old new
-  Turned : (id : ℕ) (out : Bool) → new ≡ with_out_of old id out → Effect old new
+  Turned : (id : ℕ) (here : Option Bool) → new ≡ with_here_of old id here → Effect old new
 
 -- what holds of the live tenancy
 pub of_live : (P : History → Type 0) (old : ServiceState) (id : ℕ) → IsSomeAnd (live_of old.histories id) P → (h : History) × (history_of old.histories id ≡ Some h) × P h
@@ -71,7 +71,7 @@ effect old (Tenant id command (Ok r)) new happens = let next : (h : History) × 
 effect old (Tenant id command (Err NoMemory)) new happens = Nothing happens.1
 effect old (Tenant id command (Err (JournalFull note))) new happens = Nothing happens.2
 effect old (Tenant id command (Err (NoSuchTenancy note))) new happens = Nothing happens.2
-effect old (Take id (Some job)) new happens = Turned id true happens.1
+effect old (Take id (Some job)) new happens = Turned id None happens.1
 effect old (Take id None) new happens = Nothing happens.1
 effect old (Put done foreign (Ok (Recorded reply))) new happens =
     let got : (h : History) × (history_of old.histories done.id ≡ Some h) × IsStepOf h done foreign reply = of_live (λ h. IsStepOf h done foreign reply) old done.id happens.0 in
@@ -88,7 +88,7 @@ effect_device old new (Admitted width offset can fits is) = ap (λ (s : ServiceS
 effect_device old new (Evicted id is) = ap (λ (s : ServiceState). s.device) is
 effect_device old new (Moved id offset parted is) = ap (λ (s : ServiceState). s.device) is
 effect_device old new (Entered id e h next is) = ap (λ (s : ServiceState). s.device) is
-effect_device old new (Turned id out is) = ap (λ (s : ServiceState). s.device) is
+effect_device old new (Turned id here is) = ap (λ (s : ServiceState). s.device) is
 
 -- no call breaks what the core keeps
 abbrev pub Kept : ServiceState → Type 0
@@ -100,7 +100,7 @@ effect_keeps old new (Admitted width offset can fits is) was = rw is (IsService-
 effect_keeps old new (Evicted id is) was = rw is (IsService-evicted old.device old.plan.strips old.histories id was)
 effect_keeps old new (Moved id offset parted is) was = rw is (IsService-moved old.device old.plan.strips old.histories id offset was)
 effect_keeps old new (Entered id e h next is) was = rw is (IsService-entry old.device old.plan.strips old.histories id h e was next.here next.told)
-effect_keeps old new (Turned id out is) was = rw is (IsService-out old.device old.plan.strips old.histories id out was)
+effect_keeps old new (Turned id here is) was = rw is (IsService-here old.device old.plan.strips old.histories id here was)
 
 pub kept_after : (old : ServiceState) (call : Call) (new : ServiceState) → Happens old call new → Kept old → Kept new
 kept_after old call new happens was = effect_keeps old new (effect old call new happens) was

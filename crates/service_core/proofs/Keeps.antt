@@ -11,7 +11,7 @@ use Rattle.strips.proofs.Laid.{strip_of-without, strip_of-push}
 use Rattle.tenant_slot.specs.SingleUser.{step}
 use Rattle.service_core.specs.declared.device.Device.{Device}
 use Rattle.service_core.specs.declared.entry.Entry.{Entry}
-use Rattle.service_core.specs.History.{History, IsReplayed, closed, state_of, with_entry, with_out}
+use Rattle.service_core.specs.History.{History, IsReplayed, closed, state_of, with_entry, with_here}
 use Rattle.service_core.specs.Service.{IsAloneOn, admitted, history_of, if_live, live_of, modified, placed_width, strip_on}
 use Rattle.service_core.specs.Kept.{IsLiveIn, IsService}
 use Rattle.service_core.proofs.Lists.{history_of-past, history_of-modified, history_of-push, length-modified, All-modified, set-modified}
@@ -26,8 +26,8 @@ pub record Keeps (change : History → History) : Type 0 where
 pub Keeps-with_entry : (e : Entry) → Keeps (with_entry e)
 Keeps-with_entry e = record { id = λ h. refl; arch = λ h. refl; strip = λ h. refl }
 
-pub Keeps-with_out : (out : Bool) → Keeps (with_out out)
-Keeps-with_out out = record { id = λ h. refl; arch = λ h. refl; strip = λ h. refl }
+pub Keeps-with_here : (here : Option Bool) → Keeps (with_here here)
+Keeps-with_here here = record { id = λ h. refl; arch = λ h. refl; strip = λ h. refl }
 
 pub Keeps-closed : Keeps closed
 Keeps-closed = record { id = λ h. refl; arch = λ h. refl; strip = λ h. refl }
@@ -78,8 +78,8 @@ pub IsService-entry : (device : Device) (strips : List PlacedStrip) (hs : List H
 IsService-entry device strips hs id old e was here told =
     IsService-changed device strips hs id (with_entry e) was (Keeps-with_entry e) (λ h. refl) (λ h at is. let same : old ≡ h = cc (here, at) in IsReplayed-push h.arch h.strip h.entries e is (rw (← same) told))
 
-pub IsService-out : (device : Device) (strips : List PlacedStrip) (hs : List History) (id : ℕ) (out : Bool) → IsService device strips hs → IsService device strips (modified hs id (with_out out))
-IsService-out device strips hs id out was = IsService-changed device strips hs id (with_out out) was (Keeps-with_out out) (λ h. refl) (λ h at is. is)
+pub IsService-here : (device : Device) (strips : List PlacedStrip) (hs : List History) (id : ℕ) (here : Option Bool) → IsService device strips hs → IsService device strips (modified hs id (with_here here))
+IsService-here device strips hs id here was = IsService-changed device strips hs id (with_here here) was (Keeps-with_here here) (λ h. refl) (λ h at is. is)
 
 pub IsService-evicted : (device : Device) (strips : List PlacedStrip) (hs : List History) (id : ℕ) → IsService device strips hs → IsService device (without strips id) (modified hs id closed)
 IsService-evicted device strips hs id was = record {

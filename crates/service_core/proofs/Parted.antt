@@ -34,7 +34,7 @@ parted_after columns old new (Admitted width offset can fits is) was =
 parted_after columns old new (Evicted id is) was = rw is (record { same = was.same; parted = IsParted-without old.plan id was.parted })
 parted_after columns old new (Moved id offset parted is) was = rw is (record { same = was.same; parted = parted })
 parted_after columns old new (Entered id e h next is) was = rw is (record { same = was.same; parted = was.parted })
-parted_after columns old new (Turned id out is) was = rw is (record { same = was.same; parted = was.parted })
+parted_after columns old new (Turned id here is) was = rw is (record { same = was.same; parted = was.parted })
 
 run_parted : (columns : ℕ) (old : ServiceState) (calls : List Call) (new : ServiceState) → Run old calls new → IsPartedOn columns old → IsPartedOn columns new
 run_parted columns old [] new run was = rw run was

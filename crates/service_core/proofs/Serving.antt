@@ -20,12 +20,12 @@ use Rattle.service_core.specs.declared.entry.Entry.{Entry}
 use Rattle.service_core.specs.declared.not_served.NoteCause.TheVariants.{JournalFull as CauseJournalFull}
 use Rattle.service_core.specs.declared.not_served.NotServed.TheVariants.{NoMemory as NoMemoryToServe, JournalFull as JournalFullNote}
 use Rattle.service_core.specs.declared.put_reply.PutReply.TheVariants.{Recorded}
-use Rattle.service_core.specs.History.{History, slot_of, with_entry, with_out}
+use Rattle.service_core.specs.History.{History, slot_of, with_entry, with_here}
 use Rattle.service_core.specs.Service.{ServiceState, modified}
 use Rattle.service_core.specs.Calls.{IsGivenBack, IsOriginIn, IsServed, IsTaken, Puts, step_entry}
 use Rattle.service_core.specs.Tenancy.{GivesHistoryBack, PutsHistory, ServesHistory, TakesHistory}
 use Rattle.service_core.specs.Kept.{IsLiveIn, IsService}
-use Rattle.service_core.proofs.Keeps.{IsService-entry, IsService-out, history-live, live_is, set-kept, set-live}
+use Rattle.service_core.proofs.Keeps.{IsService-entry, IsService-here, history-live, live_is, set-kept, set-live}
 
 -- the core with that tenancy written
 abbrev pub written : ServiceState → ℕ → History → ServiceState
@@ -58,12 +58,12 @@ IsServed-no_memory old id here command new live is served = (rw (live_is old.his
 
 -- a take
 pub IsService-taken : (device : Device) (strips : List PlacedStrip) (hs : List History) (id : ℕ) (old : History) (answer : Option JobState) (new : History) → IsService device strips hs → IsLiveIn hs id → old ≡ get_or hs (id - 1) old → TakesHistory old answer new → IsService device strips (set hs (id - 1) new)
-IsService-taken device strips hs id old (Some job) new was live is taken = rw (set-live hs id old (with_out true) new live is taken.2) (IsService-out device strips hs id true was)
+IsService-taken device strips hs id old (Some job) new was live is taken = rw (set-live hs id old (with_here None) new live is taken.3) (IsService-here device strips hs id None was)
 IsService-taken device strips hs id old None new was live is taken = rw (set-kept hs id old new is taken.1) was
 
 pub IsTaken-live : (old : ServiceState) (id : ℕ) (here : History) (answer : Option JobState) (new : History) → IsLiveIn old.histories id → here ≡ get_or old.histories (id - 1) here → here.id ≡ id → TakesHistory here answer new → IsTaken old id answer (written old id new)
 IsTaken-live old id here (Some job) new live is its taken =
-    (rw (live_is old.histories id here live is) (its, taken.0, taken.1), changed_to old id here (with_out true) new live is taken.2)
+    (rw (live_is old.histories id here live is) (its, taken.0, taken.1, taken.2), changed_to old id here (with_here None) new live is taken.3)
 IsTaken-live old id here None new live is its taken = (rw (live_is old.histories id here live is) taken.0, kept_as_it_was old id here new is taken.1)
 
 -- what is known of a step is known of it where its tenancy stands
@@ -88,8 +88,8 @@ Puts-no_memory old here done back new live is room put =
 
 -- a job that is given back
 pub IsService-given : (device : Device) (strips : List PlacedStrip) (hs : List History) (id : ℕ) (old : History) (job : JobState) (new : History) → IsService device strips hs → IsLiveIn hs id → old ≡ get_or hs (id - 1) old → GivesHistoryBack old job new → IsService device strips (set hs (id - 1) new)
-IsService-given device strips hs id old job new was live is given = rw (set-live hs id old (with_out given.0) new live is given.2) (IsService-out device strips hs id given.0 was)
+IsService-given device strips hs id old job new was live is given = rw (set-live hs id old (with_here given.0) new live is given.2) (IsService-here device strips hs id given.0 was)
 
 pub IsGivenBack-live : (old : ServiceState) (here : History) (job : JobState) (new : History) → IsLiveIn old.histories job.step.id → here ≡ get_or old.histories (job.step.id - 1) here → GivesHistoryBack here job new → IsGivenBack old job (written old job.step.id new)
 IsGivenBack-live old here job new live is given =
-    rw (live_is old.histories job.step.id here live is) (given.0, given.1, changed_to old job.step.id here (with_out given.0) new live is given.2)
+    rw (live_is old.histories job.step.id here live is) (given.0, given.1, changed_to old job.step.id here (with_here given.0) new live is given.2)

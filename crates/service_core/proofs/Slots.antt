@@ -9,32 +9,32 @@ use Rattle.tenant_slot.specs.declared.reply.Reply.TheVariants.{Step}
 use Rattle.tenant_slot.specs.declared.reply.StepReply.{StepReply}
 use Rattle.tenant_slot.specs.Slot.{GivesBack, Puts, SlotState}
 use Rattle.tenant_slot.specs.SingleUser.{State, step}
-use Rattle.service_core.specs.History.{History, slot_of, with_entry, with_out}
+use Rattle.service_core.specs.History.{History, slot_of, with_entry, with_here}
 use Rattle.service_core.specs.Calls.{IsStepOf, step_entry}
 
-pub slot_is : (slot : SlotState) (id : ℕ) (state : State) → slot.id ≡ id → slot.state ≡ state → slot ≡ record { id = id; state = state; out = slot.out }
+pub slot_is : (slot : SlotState) (id : ℕ) (state : State) → slot.id ≡ id → slot.state ≡ state → slot ≡ record { id = id; state = state; here = slot.here }
 slot_is slot id state its_id its_state = rw (← its_id, ← its_state) refl
 
-pub history_is : (x y : History) → x.id ≡ y.id → x.arch ≡ y.arch → x.strip ≡ y.strip → x.live ≡ y.live → x.out ≡ y.out → x.entries ≡ y.entries → x ≡ y
-history_is x y id arch strip live out entries =
-    ap (λ i. record { id = i; arch = x.arch; strip = x.strip; live = x.live; out = x.out; entries = x.entries }) id
-    ∙ (ap (λ a. record { id = y.id; arch = a; strip = x.strip; live = x.live; out = x.out; entries = x.entries }) arch
-    ∙ (ap (λ s. record { id = y.id; arch = y.arch; strip = s; live = x.live; out = x.out; entries = x.entries }) strip
-    ∙ (ap (λ l. record { id = y.id; arch = y.arch; strip = y.strip; live = l; out = x.out; entries = x.entries }) live
-    ∙ (ap (λ o. record { id = y.id; arch = y.arch; strip = y.strip; live = y.live; out = o; entries = x.entries }) out
-    ∙ ap (λ es. record { id = y.id; arch = y.arch; strip = y.strip; live = y.live; out = y.out; entries = es }) entries))))
+pub history_is : (x y : History) → x.id ≡ y.id → x.arch ≡ y.arch → x.strip ≡ y.strip → x.live ≡ y.live → x.here ≡ y.here → x.entries ≡ y.entries → x ≡ y
+history_is x y id arch strip live here entries =
+    ap (λ i. record { id = i; arch = x.arch; strip = x.strip; live = x.live; here = x.here; entries = x.entries }) id
+    ∙ (ap (λ a. record { id = y.id; arch = a; strip = x.strip; live = x.live; here = x.here; entries = x.entries }) arch
+    ∙ (ap (λ s. record { id = y.id; arch = y.arch; strip = s; live = x.live; here = x.here; entries = x.entries }) strip
+    ∙ (ap (λ l. record { id = y.id; arch = y.arch; strip = y.strip; live = l; here = x.here; entries = x.entries }) live
+    ∙ (ap (λ o. record { id = y.id; arch = y.arch; strip = y.strip; live = y.live; here = o; entries = x.entries }) here
+    ∙ ap (λ es. record { id = y.id; arch = y.arch; strip = y.strip; live = y.live; here = y.here; entries = es }) entries))))
 
 -- a job that is given back to the slot is given back to the tenancy
-pub gives_back : (h : History) (slot new : SlotState) (back : JobState) → slot ≡ slot_of h → GivesBack slot back new → GivesBack (slot_of h) back (slot_of (with_out new.out h))
+pub gives_back : (h : History) (slot new : SlotState) (back : JobState) → slot ≡ slot_of h → GivesBack slot back new → GivesBack (slot_of h) back (slot_of (with_here new.here h))
 gives_back h slot new back is given =
     let its : GivesBack (slot_of h) back new = rw is at given in
-    record { only_out = refl; ready = its.ready; dropped = its.dropped }
+    record { only_here = refl; ready = its.ready; dropped = its.dropped }
 
 -- a step that is put in the slot is put in the tenancy
 pub record Stands (h : History) (slot new : SlotState) (done : JobStep) (advance : Advance) (reply : StepReply) : Type 0 where
   pub entry : step_entry done advance.foreign reply ≡ record { event = Stepped advance; reply = Step reply }
   pub made : IsStepOf h done advance.foreign reply
-  pub out : new.out ≡ (with_entry (step_entry done advance.foreign reply) h).out
+  pub here : new.here ≡ (with_entry (step_entry done advance.foreign reply) h).here
   pub id : new.id ≡ h.id
   pub steps : step slot.state (Stepped advance) ≡ (new.state, Some (Step reply))
 
@@ -45,7 +45,7 @@ put_stands h slot new done made reply is put =
     record {
       entry = ap (λ (a : Advance). record { event = Stepped a; reply = Step reply }) (sym written);
       made = record { flag = rw (← written) its.advance; told = rw (← written) its.told };
-      out = rw (← written) (ap (λ (s : SlotState). s.out) its.after);
+      here = rw (← written) (ap (λ (s : SlotState). s.here) its.after);
       id = ap (λ (s : SlotState). s.id) its.after;
       steps = pair_is (step slot.state (Stepped made)) new.state (Some (Step reply)) (sym (ap (λ (s : SlotState). s.state) put.after)) put.told;
     }

@@ -21,9 +21,9 @@ use Rattle.service_core.specs.declared.not_served.NotServed.{NotServed}
 use Rattle.service_core.specs.declared.not_served.NotServed.TheVariants.{NoMemory as NotServedNoMemory, JournalFull as NotServedJournalFull, NoSuchTenancy as NotServedNoSuchTenancy}
 use Rattle.service_core.specs.declared.put_reply.PutReply.{PutReply}
 use Rattle.service_core.specs.declared.put_reply.PutReply.TheVariants.{Recorded, Full, Gone}
-use Rattle.service_core.specs.History.{History, slot_of, state_of, with_out}
+use Rattle.service_core.specs.History.{History, slot_of, state_of, with_here}
 use Rattle.service_core.specs.Receipt.{Receipted}
-use Rattle.service_core.specs.Service.{ServiceState, live_of, with_entry_of, with_offset_of, with_out_of, with_tenancy, without_tenancy}
+use Rattle.service_core.specs.Service.{ServiceState, live_of, with_entry_of, with_offset_of, with_here_of, with_tenancy, without_tenancy}
 
 -- a tenancy of that width is admitted, if there is room and memory
 pub record CanAdmit (state : ServiceState) (width : ℕ) : Type 0 where
@@ -70,14 +70,14 @@ IsServed old id command (Err (NotServedJournalFull note)) new = (note ≡ record
 IsServed old id command (Err (NotServedNoSuchTenancy note)) new = (note ≡ record { id = id; cause = CauseNoSuchTenancy }) × (live_of old.histories id ≡ None) × (new ≡ old)
 IsServed old id command (Err NotServedNoMemory) new = IsSomeAnd (live_of old.histories id) (λ h. length h.entries < 65536) × (new ≡ old)
 
--- a live tenancy's job runs, its next step isn't out, and its journal has room
+-- a live tenancy's job runs, its next step is here, and its journal has room
 abbrev pub takeable_in : Option History → Bool
 takeable_in None = false
 takeable_in (Some h) = is_takeable (slot_of h)
 
--- a job is given exactly where there is a step to take. It is that step, which is out then
+-- a job is given exactly where there is a step to take. It is that step, made just where it came back made, and is out then
 abbrev pub IsTaken : ServiceState → ℕ → Option JobState → ServiceState → Type 0
-IsTaken old id (Some job) new = IsSomeAnd (live_of old.histories id) (λ h. (h.id ≡ id) × (is_takeable (slot_of h) ≡ true) × (next_job (slot_of h) ≡ Some job.step)) × (new ≡ with_out_of old id true)
+IsTaken old id (Some job) new = IsSomeAnd (live_of old.histories id) (λ h. (h.id ≡ id) × (is_takeable (slot_of h) ≡ true) × (next_job (slot_of h) ≡ Some job.step) × (h.here ≡ Some job.made)) × (new ≡ with_here_of old id None)
 IsTaken old id None new = (takeable_in (live_of old.histories id) ≡ false) × (new ≡ old)
 
 -- the step is the next one of a live tenancy's running job: the tenancy, the generation, the number and all sources are its own
@@ -115,7 +115,7 @@ Puts old done answer new = (foreign : Bool) × IsPut old done foreign answer new
 -- a job that is given back to a live tenancy is to be taken again where it is the next step of the running one, and is dropped else
 abbrev pub IsGivenBackTo : Option History → ServiceState → JobState → ServiceState → Type 0
 IsGivenBackTo None old job new = new ≡ old
-IsGivenBackTo (Some h) old job new = (out : Bool) × GivesBack (slot_of h) job (slot_of (with_out out h)) × (new ≡ with_out_of old job.step.id out)
+IsGivenBackTo (Some h) old job new = (here : Option Bool) × GivesBack (slot_of h) job (slot_of (with_here here h)) × (new ≡ with_here_of old job.step.id here)
 
 abbrev pub IsGivenBack : ServiceState → JobState → ServiceState → Type 0
 IsGivenBack old job new = IsGivenBackTo (live_of old.histories job.step.id) old job new

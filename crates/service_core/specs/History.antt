@@ -1,5 +1,5 @@
 -- One tenancy's history: its journal, and what the replies in it have to be.
-use Rattle.std.specs.Prelude.{ℕ, ◌≡◌, ◌≤◌, List, [], ◌∷◌, ◌++◌, length, map, Bool, false, Some}
+use Rattle.std.specs.Prelude.{ℕ, ◌≡◌, ◌≤◌, List, [], ◌∷◌, ◌++◌, length, map, Bool, false, Option, Some}
 use Rattle.arch_file.specs.declared.arch.Arch.{Arch}
 use Rattle.grid.specs.declared.Strip.{Strip}
 use Rattle.tenant_slot.specs.declared.event.Event.{Event}
@@ -7,14 +7,14 @@ use Rattle.tenant_slot.specs.SingleUser.{State, start, state_after, replies_to}
 use Rattle.tenant_slot.specs.Slot.{SlotState, after_event}
 use Rattle.service_core.specs.declared.entry.Entry.{Entry}
 
--- a tenancy, live or closed: its id, what its device is made of, its strip's size, whether the next step of its running job is
--- out, and its journal
+-- a tenancy, live or closed: its id, what its device is made of, its strip's size, what is here of the next step of its running
+-- job (nothing where it is out, else whether it was made already), and its journal
 pub record History : Type 0 where
   pub id : ℕ
   pub arch : Arch
   pub strip : Strip
   pub live : Bool
-  pub out : Bool
+  pub here : Option Bool
   pub entries : List Entry
 
 abbrev pub events_of : List Entry → List Event
@@ -26,7 +26,7 @@ state_of h = state_after (start h.arch h.strip) (events_of h.entries)
 
 -- the same as a slot
 abbrev pub slot_of : History → SlotState
-slot_of h = record { id = h.id; state = state_of h; out = h.out }
+slot_of h = record { id = h.id; state = state_of h; here = h.here }
 
 -- the stored replies are those that the service for a single user gives to the stored events
 pub record IsReplayed (arch : Arch) (strip : Strip) (entries : List Entry) : Type 0 where
@@ -36,11 +36,11 @@ pub record IsReplayed (arch : Arch) (strip : Strip) (entries : List Entry) : Typ
 
 -- one entry more
 abbrev pub with_entry : Entry → History → History
-with_entry entry h = record h { entries = h.entries ++ entry ∷ []; out = (after_event (slot_of h) entry.event).out }
+with_entry entry h = record h { entries = h.entries ++ entry ∷ []; here = (after_event (slot_of h) entry.event).here }
 
--- a step that is out, or isn't
-abbrev pub with_out : Bool → History → History
-with_out out h = record h { out = out }
+-- with that of a step here
+abbrev pub with_here : Option Bool → History → History
+with_here here h = record h { here = here }
 
 abbrev pub closed : History → History
-closed h = record h { live = false; out = false }
+closed h = record h { live = false; here = Some false }

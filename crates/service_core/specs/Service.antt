@@ -5,7 +5,7 @@ use Rattle.strips.specs.declared.placed_strip.PlacedStrip.{PlacedStrip}
 use Rattle.strips.specs.Plan.{Plan, strip_of, with_moved, with_strip, without}
 use Rattle.service_core.specs.declared.device.Device.{Device}
 use Rattle.service_core.specs.declared.entry.Entry.{Entry}
-use Rattle.service_core.specs.History.{History, IsReplayed, with_entry, with_out, closed}
+use Rattle.service_core.specs.History.{History, IsReplayed, with_entry, with_here, closed}
 
 -- the device, where the live tenancies' strips stand, and the history of each id from 1 on
 pub record ServiceState : Type 0 where
@@ -49,7 +49,7 @@ strip_on device width = record { width = width; rows = device.rows; io_rat = dev
 
 -- a tenancy of that id and width as it is admitted
 abbrev pub admitted : Device → ℕ → ℕ → History
-admitted device id width = record { id = id; arch = device.arch; strip = strip_on device width; live = true; out = false; entries = [] }
+admitted device id width = record { id = id; arch = device.arch; strip = strip_on device width; live = true; here = Some false; entries = [] }
 
 -- one tenancy more, of the next id
 abbrev pub with_tenancy : ServiceState → ℕ → ℕ → ServiceState
@@ -73,9 +73,9 @@ with_offset_of state id offset = record state { plan = with_moved state.plan id 
 abbrev pub with_entry_of : ServiceState → ℕ → Entry → ServiceState
 with_entry_of state id entry = record state { histories = modified state.histories id (with_entry entry) }
 
--- that tenancy's running job has its next step out, or hasn't
-abbrev pub with_out_of : ServiceState → ℕ → Bool → ServiceState
-with_out_of state id out = record state { histories = modified state.histories id (with_out out) }
+-- that tenancy has that of its running job's next step here
+abbrev pub with_here_of : ServiceState → ℕ → Option Bool → ServiceState
+with_here_of state id here = record state { histories = modified state.histories id (with_here here) }
 
 -- the tenancy is one of that device, and its journal is that of the tenancy alone
 pub record IsAloneOn (device : Device) (h : History) : Type 0 where

@@ -20,12 +20,13 @@ use Rattle.tenant_slot.specs.SingleUser.{start, step, state_after}
 use Rattle.tenant_slot.specs.RoutedSet.{routed_set}
 use Rattle.tenant_slot.specs.Slot.{GivesBack, SlotState, is_takeable, next_job}
 use Rattle.service_core.specs.declared.entry.Entry.{Entry}
-use Rattle.service_core.specs.History.{History, IsReplayed, events_of, slot_of, state_of, with_entry, with_out}
+use Rattle.service_core.specs.History.{History, IsReplayed, events_of, slot_of, state_of, with_entry, with_here}
 use Rattle.service_core.specs.Calls.{IsStepOf, step_entry}
 
-abbrev pub slot_out : Option SlotState → Bool
-slot_out None = false
-slot_out (Some slot) = slot.out
+-- what is here of its next step
+abbrev pub slot_here : Option SlotState → Option Bool
+slot_here None = Some false
+slot_here (Some slot) = slot.here
 
 -- the journal is that of the tenancy alone, and a live tenancy's slot is in the state that it leads to
 pub record IsHistory (id : ℕ) (arch : Arch) (strip : Strip) (slot : Option SlotState) (entries : List Entry) : Type 0 where
@@ -41,7 +42,7 @@ ServesHistory old command (Err NoMemory) new = (length old.entries < 65536) × (
 
 -- what a take of a live tenancy's next step may be answered
 abbrev pub TakesHistory : History → Option JobState → History → Type 0
-TakesHistory old (Some job) new = (is_takeable (slot_of old) ≡ true) × (next_job (slot_of old) ≡ Some job.step) × (new ≡ with_out true old)
+TakesHistory old (Some job) new = (is_takeable (slot_of old) ≡ true) × (next_job (slot_of old) ≡ Some job.step) × (old.here ≡ Some job.made) × (new ≡ with_here None old)
 TakesHistory old None new = (is_takeable (slot_of old) ≡ false) × (new ≡ old)
 
 -- what a put of a step of a live tenancy whose journal has room may be answered
@@ -51,7 +52,7 @@ PutsHistory old done (Err back) new = (back.0 ≡ done) × (new ≡ old)
 
 -- what a job that is given back leads to
 abbrev pub GivesHistoryBack : History → JobState → History → Type 0
-GivesHistoryBack old job new = (out : Bool) × GivesBack (slot_of old) job (slot_of (with_out out old)) × (new ≡ with_out out old)
+GivesHistoryBack old job new = (here : Option Bool) × GivesBack (slot_of old) job (slot_of (with_here here old)) × (new ≡ with_here here old)
 
 -- what a strip has, so many columns to the right, has its place in the book
 abbrev pub StandsIn : Extent → ℕ → Arch → Strip → Type 0

@@ -272,7 +272,7 @@ impl Service {
         }
     }
 
-    /// The next step of a live tenancy's running job, which is out then. None where no job of it runs, that step is out, or the
+    /// The next step of a live tenancy's running job, which is out then; it is made just where it came back made. None where no job of it runs, that step is out, or the
     /// journal is full. Takes no memory.
     pub fn take(&mut self, id: u32) -> Option<AnyJob>
         ensures { IsTaken self.old id result self.new }

@@ -1,4 +1,4 @@
-ghost use Rattle.std.specs.Prelude.{◌≡◌, ◌<◌, [], true, false, All, IfErr, IfOk, length, map, option_copied, slice_get};
+ghost use Rattle.std.specs.Prelude.{◌≡◌, ◌<◌, [], Some, true, false, All, IfErr, IfOk, length, map, option_copied, slice_get};
 ghost use Rattle.rr_graph.specs.declared.resource.Resource.{Resource};
 ghost use Rattle.rr_graph.specs.Resources.{has, is_there, moved_resource};
 ghost use Rattle.grid.specs.Sizes.{IsStripSize};
@@ -33,11 +33,11 @@ pub(crate) struct Tenancy {
 impl Model for Tenancy {
     ghost use Rattle.std.specs.Prelude.{is_some};
     ghost use Rattle.service_core.specs.History.{History};
-    ghost use Rattle.service_core.specs.Tenancy.{IsHistory, slot_out};
+    ghost use Rattle.service_core.specs.Tenancy.{IsHistory, slot_here};
 
     ghost Value = { History };
 
-    ghost view = { λ t. record { id = t.id; arch = t.arch; strip = t.strip; live = is_some t.slot; out = slot_out t.slot; entries = t.journal.items } };
+    ghost view = { λ t. record { id = t.id; arch = t.arch; strip = t.strip; live = is_some t.slot; here = slot_here t.slot; entries = t.journal.items } };
 
     ghost invariant = { λ t. IsHistory t.id t.arch t.strip t.slot t.journal.items };
 }
@@ -51,7 +51,7 @@ impl Tenancy {
         strip: Strip,
     ) -> Result<Self, AllocError>
         requires { IsStripSize strip }
-        ensures { IfOk result (λ t. t ≡ record { id = id; arch = arch.now; strip = strip; live = true; out = false; entries = [] }) }
+        ensures { IfOk result (λ t. t ≡ record { id = id; arch = arch.now; strip = strip; live = true; here = Some false; entries = [] }) }
     {
         Ok(Tenancy {
             id,

@@ -13,7 +13,7 @@ use Rattle.tenant_slot.proofs.Runs.{step-served}
 use Rattle.service_core.specs.declared.entry.Entry.{Entry}
 use Rattle.service_core.specs.declared.put_reply.PutReply.TheVariants.{Recorded as PutRecorded}
 use Rattle.service_core.specs.Calls.{IsNextStep, IsPut, IsStepOf, IsTaken, step_entry, step_event}
-use Rattle.service_core.specs.History.{History, slot_of, state_of, with_entry, with_out}
+use Rattle.service_core.specs.History.{History, slot_of, state_of, with_entry, with_here}
 use Rattle.service_core.specs.Run.{Call, Run}
 use Rattle.service_core.specs.Run.Call.{Take, Put}
 use Rattle.service_core.specs.Service.{ServiceState, history_of, if_live, live_of, modified}
@@ -62,15 +62,15 @@ takeable_room slot is = grind (arith, nat_tests)
 
 -- a job that was taken makes its tenancy's next step
 abbrev pub IsTakenOf : ℕ → JobState → History → Type 0
-IsTakenOf id job h = (h.id ≡ id) × (is_takeable (slot_of h) ≡ true) × (next_job (slot_of h) ≡ Some job.step)
+IsTakenOf id job h = (h.id ≡ id) × (is_takeable (slot_of h) ≡ true) × (next_job (slot_of h) ≡ Some job.step) × (h.here ≡ Some job.made)
 
 pub taken_next : (old mid : ServiceState) (id : ℕ) (job : JobState) → IsTaken old id (Some job) mid → IsNextStep mid job.step
 taken_next old mid id job takes =
     let was = some_and (IsTakenOf id job) (live_of old.histories id) takes.0 in
     let h : History = was.0 in
     let own : job.step.id ≡ id = next_own (slot_of h) _ job.step was.2.2 ∙ was.2.0 in
-    let out : live_of mid.histories id ≡ Some (with_out true h) = ap (λ (s : ServiceState). live_of s.histories id) takes.1 ∙ (live_of-changed old.histories id (with_out true) h (λ g. refl) was.1) in
-    let here : live_of mid.histories job.step.id ≡ Some (with_out true h) = ap (live_of mid.histories) own ∙ out in
+    let out : live_of mid.histories id ≡ Some (with_here None h) = ap (λ (s : ServiceState). live_of s.histories id) takes.1 ∙ (live_of-changed old.histories id (with_here None) h (λ g. refl) was.1) in
+    let here : live_of mid.histories job.step.id ≡ Some (with_here None h) = ap (live_of mid.histories) own ∙ out in
     subst (λ o. IsSomeAnd o (λ g. next_job (slot_of g) ≡ Some job.step)) (sym here) was.2.2
 
 -- an entry more
@@ -86,11 +86,11 @@ recorded old mid new id job foreign reply takes puts =
     let h : History = was.0 in
     let own : job.step.id ≡ id = next_own (slot_of h) _ job.step was.2.2 ∙ was.2.0 in
     let room : (state_of h).entries < 65536 = takeable_room (slot_of h) was.2.1 in
-    let out : live_of mid.histories id ≡ Some (with_out true h) = ap (λ (s : ServiceState). live_of s.histories id) takes.1 ∙ (live_of-changed old.histories id (with_out true) h (λ g. refl) was.1) in
+    let out : live_of mid.histories id ≡ Some (with_here None h) = ap (λ (s : ServiceState). live_of s.histories id) takes.1 ∙ (live_of-changed old.histories id (with_here None) h (λ g. refl) was.1) in
     let put = some_and (λ g. IsStepOf g job.step foreign reply) (live_of mid.histories job.step.id) puts.0 in
     let g : History = put.0 in
     let here : live_of mid.histories id ≡ Some g = ap (λ x. live_of mid.histories x) (sym own) ∙ put.1 in
-    let same : g ≡ with_out true h = cc in
+    let same : g ≡ with_here None h = cc in
     let e : Entry = step_entry job.step foreign reply in
     let after : live_of new.histories id ≡ Some (with_entry e g) =
     ap (λ (s : ServiceState). live_of s.histories id) puts.1

@@ -1,6 +1,6 @@
 -- Where the steps of a wait end.
 use Rattle.std.proofs.Common.{◌≡◌, ◌∙◌, ℕ, ◌+◌, List, [], ◌∷◌, ◌++◌, Bool, true, false, Option, Some, None, Ok, Err, Result, inl, inr, refl, sym, ap, subst, arith}
-use Rattle.std.specs.Prelude.{◌⊎◌, ◌&&◌, is_some, nat_lt, not, if◌then◌else◌}
+use Rattle.std.specs.Prelude.{◌⊎◌, ◌&&◌, is_some, nat_lt, if◌then◌else◌}
 use Rattle.std.proofs.lemmas.Bool.Decides.{nat_tests}
 use Rattle.std.specs.declared.alloc.AllocError.{AllocError}
 use Rattle.std.specs.List.{flat_map}
@@ -12,7 +12,7 @@ use Rattle.tenant_slot.specs.declared.reply.Reply.{Reply}
 use Rattle.tenant_slot.specs.declared.reply.Refusal.TheVariants.{WrongState}
 use Rattle.tenant_slot.specs.declared.reply.Reply.TheVariants.{Refused}
 use Rattle.tenant_slot.specs.SingleUser.{State, after, answer_to, is_lawful, running, serve, start, step}
-use Rattle.tenant_slot.specs.Slot.{is_takeable, next_job, out_after}
+use Rattle.tenant_slot.specs.Slot.{is_takeable, next_job, here_after}
 use Rattle.tenant_slot.proofs.Runs.{step-room, step-served}
 use Rattle.service_core.specs.declared.entry.Entry.{Entry}
 use Rattle.service_core.specs.declared.not_served.NotServed.{NotServed}
@@ -20,7 +20,7 @@ use Rattle.service_core.specs.declared.not_served.NotServed.TheVariants.{Journal
 use Rattle.service_core.specs.declared.put_reply.PutReply.{PutReply}
 use Rattle.service_core.specs.declared.put_reply.PutReply.TheVariants.{Full as PutFull, Gone as PutGone}
 use Rattle.service_core.specs.Calls.{IsReceipt, IsServed, IsTaken, takeable_in}
-use Rattle.service_core.specs.History.{History, slot_of, state_of, with_entry, with_out}
+use Rattle.service_core.specs.History.{History, slot_of, state_of, with_entry, with_here}
 use Rattle.service_core.specs.Receipt.{Receipted}
 use Rattle.service_core.specs.Run.{Call, Run}
 use Rattle.service_core.specs.Run.Call.{Take, Put}
@@ -46,9 +46,9 @@ same_left old new id same left = let P : ServiceState → Type 0 = λ s. Nothing
 -- while the step is out there is none to take
 taken_left : (old new : ServiceState) (id : ℕ) (job : JobState) → IsTaken old id (Some job) new → NothingLeft new id
 taken_left old new id job takes =
-    let was = some_and (λ h. (h.id ≡ id) × (is_takeable (slot_of h) ≡ true) × (next_job (slot_of h) ≡ Some job.step)) (live_of old.histories id) takes.0 in
+    let was = some_and (λ h. (h.id ≡ id) × (is_takeable (slot_of h) ≡ true) × (next_job (slot_of h) ≡ Some job.step) × (h.here ≡ Some job.made)) (live_of old.histories id) takes.0 in
     let h : History = was.0 in
-    let out : live_of new.histories id ≡ Some (with_out true h) = ap (λ (s : ServiceState). live_of s.histories id) takes.1 ∙ live_of-changed old.histories id (with_out true) h (λ g. refl) was.1 in
+    let out : live_of new.histories id ≡ Some (with_here None h) = ap (λ (s : ServiceState). live_of s.histories id) takes.1 ∙ live_of-changed old.histories id (with_here None) h (λ g. refl) was.1 in
     ap takeable_in out ∙ and_false _
 
 put_left : (old new : ServiceState) (id : ℕ) (job : JobState) (calls more : List Call) (answer : Result PutReply (JobStep × AllocError)) → ((foreign : Bool) (a b : ServiceState) → Run a (Put job.step foreign answer ∷ []) b → b ≡ a) → IsOnePut job more answer → calls ≡ Take id (Some job) ∷ more → Run old calls new → NothingLeft new id
@@ -84,10 +84,10 @@ either_none false one other is else_is = else_is
 status_changes : (state : State) → (answer_to state (Asked Status)).0 ≡ None
 status_changes state = either_none (is_lawful state.name Status) (serve state Status) (None, Refused (WrongState state.name)) refl refl
 
-fewer : (runs out : Bool) (entries : ℕ) → (runs && (not out && nat_lt entries 65536)) ≡ false → (runs && (not out && nat_lt (entries + 1) 65536)) ≡ false
-fewer false out entries is = refl
-fewer true true entries is = refl
-fewer true false entries is = grind (arith, nat_tests)
+fewer : (runs here : Bool) (entries : ℕ) → (runs && (here && nat_lt entries 65536)) ≡ false → (runs && (here && nat_lt (entries + 1) 65536)) ≡ false
+fewer false here entries is = refl
+fewer true false entries is = refl
+fewer true true entries is = grind (arith, nat_tests)
 
 -- so it makes no step takeable
 status_left_of : (h : History) (reply : Reply) → (step (state_of h) (Asked Status)).1 ≡ Some reply → is_takeable (slot_of h) ≡ false → is_takeable (slot_of (with_entry (record { event = Asked Status; reply = reply }) h)) ≡ false
@@ -97,10 +97,10 @@ status_left_of h reply told left =
     let next : state_of (with_entry e h) ≡ record (state_of h) { entries = (state_of h).entries + 1 } =
     state_after-push (start h.arch h.strip) h.entries e
     ∙ (ap (λ (p : State × Option Reply). p.0) (step-room (state_of h) (Asked Status) served.1) ∙ ap (after (state_of h)) (status_changes (state_of h))) in
-    let out : (slot_of (with_entry e h)).out ≡ h.out = ap (out_after (slot_of h)) (status_changes (state_of h)) in
-    ap (λ (s : State). is_some (running s.name) && (not (slot_of (with_entry e h)).out && nat_lt s.entries 65536)) next
-    ∙ (ap (λ out. is_some (running (state_of h).name) && (not out && nat_lt ((state_of h).entries + 1) 65536)) out
-    ∙ fewer (is_some (running (state_of h).name)) h.out (state_of h).entries left)
+    let here : (slot_of (with_entry e h)).here ≡ h.here = ap (here_after (slot_of h)) (status_changes (state_of h)) in
+    ap (λ (s : State). is_some (running s.name) && (is_some (slot_of (with_entry e h)).here && nat_lt s.entries 65536)) next
+    ∙ (ap (λ here. is_some (running (state_of h).name) && (is_some here && nat_lt ((state_of h).entries + 1) 65536)) here
+    ∙ fewer (is_some (running (state_of h).name)) (is_some h.here) (state_of h).entries left)
 
 status_left : (old new : ServiceState) (id : ℕ) (served : Result Receipted NotServed) → IsServed old id Status served new → NothingLeft old id → (Served served ≡ Served (Err NotServedNoMemory)) ⊎ NothingLeft new id
 status_left old new id (Err NotServedNoMemory) is left = inl refl

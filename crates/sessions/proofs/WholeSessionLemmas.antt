@@ -18,7 +18,7 @@ use Rattle.service_core.specs.declared.not_served.NotServed.{NotServed}
 use Rattle.service_core.specs.declared.not_served.NotServed.TheVariants.{NoMemory as NotServedNoMemory, JournalFull, NoSuchTenancy}
 use Rattle.service_core.specs.declared.put_reply.PutReply.TheVariants.{Recorded as PutRecorded, Full as PutFull, Gone as PutGone}
 use Rattle.service_core.specs.Calls.{IsGivenBackTo, IsServed, step_entry, step_event}
-use Rattle.service_core.specs.History.{History, closed, with_entry, with_out}
+use Rattle.service_core.specs.History.{History, closed, with_entry, with_here}
 use Rattle.service_core.specs.OwnEvents.{if_own, own_events, own_exchange, own_exchanges}
 use Rattle.service_core.specs.Receipt.{Receipted}
 use Rattle.service_core.specs.Run.{Call, Happens, Run}
@@ -188,7 +188,7 @@ changed id width t old new change keeps is was = let P : ServiceState → Type 0
 
 given_back : (id width : ℕ) (o : Option History) (old new : ServiceState) (job : JobState) → IsGivenBackTo o old job new → Stays id width old → Stays id width new
 given_back id width None old new job is was = unchanged id width old new is was
-given_back id width (Some h) old new job is was = changed id width job.step.id old new (with_out is.0) (λ g. (refl, refl)) is.2 was
+given_back id width (Some h) old new job is was = changed id width job.step.id old new (with_here is.0) (λ g. (refl, refl)) is.2 was
 
 call_stays : (id width : ℕ) (old : ServiceState) (call : Call) (new : ServiceState) → Spares id call → Happens old call new → Stays id width old → Stays id width new
 call_stays id width old (Admit w (Ok given)) new spares is was = let P : ServiceState → Type 0 = λ s. Stays id width s in subst P (sym is.3) (width_pushed old.histories _ id width was)
@@ -200,7 +200,7 @@ call_stays id width old (Tenant t command (Ok r)) new spares is was = changed id
 call_stays id width old (Tenant t command (Err (JournalFull note))) new spares is was = unchanged id width old new is.2 was
 call_stays id width old (Tenant t command (Err (NoSuchTenancy note))) new spares is was = unchanged id width old new is.2 was
 call_stays id width old (Tenant t command (Err NotServedNoMemory)) new spares is was = unchanged id width old new is.1 was
-call_stays id width old (Take t (Some job)) new spares is was = changed id width t old new (with_out true) (λ g. (refl, refl)) is.1 was
+call_stays id width old (Take t (Some job)) new spares is was = changed id width t old new (with_here None) (λ g. (refl, refl)) is.1 was
 call_stays id width old (Take t None) new spares is was = unchanged id width old new is.1 was
 call_stays id width old (Put done foreign (Ok (PutRecorded reply))) new spares is was = changed id width done.id old new (with_entry (step_entry done foreign reply)) (λ g. (refl, refl)) is.1 was
 call_stays id width old (Put done foreign (Ok PutFull)) new spares is was = unchanged id width old new is.1 was

@@ -3,7 +3,7 @@ use Rattle.std.proofs.Common.{◌≡◌, ℕ, ◌+◌, List, [], ◌∷◌, ◌+
 use Rattle.std.specs.Prelude.{if◌then◌else◌, IsSomeAnd, is_some, option_map}
 use Rattle.std.proofs.lemmas.Bool.Decides.{nat_tests}
 use Rattle.service_core.specs.declared.entry.Entry.{Entry}
-use Rattle.service_core.specs.History.{History, closed, with_entry, with_out}
+use Rattle.service_core.specs.History.{History, closed, with_entry, with_here}
 use Rattle.service_core.specs.Service.{ServiceState, history_of, if_live, modified, with_offset_of, without_tenancy}
 use Rattle.service_core.proofs.Lists.{history_of-modified, history_of-past, history_of-push, length-modified}
 use Rattle.shared_core.specs.Following.{Follows, GoesOn, Stays}
@@ -50,8 +50,8 @@ GoesOn-trans h g f one two = record {
 pub GoesOn-entry : (e : Entry) (h : History) → GoesOn h (with_entry e h)
 GoesOn-entry e h = record { id = refl; arch = refl; strip = refl; entries = ahead h.entries (e ∷ []); closed = λ is. is }
 
-pub GoesOn-out : (out : Bool) (h : History) → GoesOn h (with_out out h)
-GoesOn-out out h = record { id = refl; arch = refl; strip = refl; entries = whole h.entries; closed = λ is. is }
+pub GoesOn-here : (here : Option Bool) (h : History) → GoesOn h (with_here here h)
+GoesOn-here here h = record { id = refl; arch = refl; strip = refl; entries = whole h.entries; closed = λ is. is }
 
 pub GoesOn-closed : (h : History) → GoesOn h (closed h)
 GoesOn-closed h = record { id = refl; arch = refl; strip = refl; entries = whole h.entries; closed = λ is. refl }

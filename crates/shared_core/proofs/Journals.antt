@@ -12,16 +12,16 @@ use Rattle.service_core.specs.declared.not_served.NotServed.{NotServed}
 use Rattle.service_core.specs.declared.not_served.NotServed.TheVariants.{NoMemory, JournalFull, NoSuchTenancy}
 use Rattle.service_core.specs.declared.put_reply.PutReply.{PutReply}
 use Rattle.service_core.specs.declared.put_reply.PutReply.TheVariants.{Recorded, Full, Gone}
-use Rattle.service_core.specs.History.{History, with_entry, with_out}
+use Rattle.service_core.specs.History.{History, with_entry, with_here}
 use Rattle.service_core.specs.Receipt.{Receipted}
-use Rattle.service_core.specs.Service.{ServiceState, entries_in, history_of, if_live, live_of, modified, with_entry_of, with_out_of}
+use Rattle.service_core.specs.Service.{ServiceState, entries_in, history_of, if_live, live_of, modified, with_entry_of, with_here_of}
 use Rattle.service_core.specs.Calls.{IsGivenBack, IsGivenBackTo, IsPut, IsReceipt, IsServed, IsTaken, Puts, step_entry}
 use Rattle.service_core.proofs.Lists.{history_of-modified}
 use Rattle.shared_core.specs.CoreState.{is_put, puts_among, puts_in}
 use Rattle.shared_core.specs.CoreCalls.{puts_of}
 use Rattle.shared_core.specs.Accounts.{entries_of}
 use Rattle.shared_core.specs.Following.{Follows, GoesOn, Stays}
-use Rattle.shared_core.proofs.Following.{Follows-changed, Follows-same, GoesOn-entry, GoesOn-out, Stays-changed, Stays-same, changed_at}
+use Rattle.shared_core.proofs.Following.{Follows-changed, Follows-same, GoesOn-entry, GoesOn-here, Stays-changed, Stays-same, changed_at}
 
 abbrev put_mark : Entry → ℕ
 put_mark e = if is_put e.event then 1 else 0
@@ -75,8 +75,8 @@ Grows-changed s id change puts goes live longer put = record {
   put = put;
 }
 
-Grows-out : (s : ServiceState) (id : ℕ) (out : Bool) → Grows s (with_out_of s id out) 0
-Grows-out s id out = Grows-changed s id (with_out out) 0 (GoesOn-out out) (λ h. refl) (λ h. omega arith) (omega (arith, puts_in-kept s.histories id (with_out out) (λ h. refl)))
+Grows-here : (s : ServiceState) (id : ℕ) (here : Option Bool) → Grows s (with_here_of s id here) 0
+Grows-here s id here = Grows-changed s id (with_here here) 0 (GoesOn-here here) (λ h. refl) (λ h. omega arith) (omega (arith, puts_in-kept s.histories id (with_here here) (λ h. refl)))
 
 Grows-entry : (s : ServiceState) (id : ℕ) (e : Entry) (h : History) → history_of s.histories id ≡ Some h → Grows s (with_entry_of s id e) (put_mark e)
 Grows-entry s id e h at = Grows-changed s id (with_entry e) (put_mark e) (GoesOn-entry e) (λ g. refl) (λ g. omega (arith, length-append g.entries (e ∷ []))) (puts_in-entry s.histories id e h at)
@@ -103,11 +103,11 @@ served old new id command (Err NoMemory) is = Grows-none old new is.1
 
 pub taken : (old new : ServiceState) (id : ℕ) (r : Option JobState) → IsTaken old id r new → Grows old new 0
 taken old new id None is = Grows-none old new is.1
-taken old new id (Some job) is = rw is.1 (Grows-out old id true)
+taken old new id (Some job) is = rw is.1 (Grows-here old id None)
 
 given_to : (old new : ServiceState) (job : JobState) (o : Option History) → IsGivenBackTo o old job new → Grows old new 0
 given_to old new job None is = Grows-none old new is
-given_to old new job (Some h) is = rw is.2 (Grows-out old job.step.id is.0)
+given_to old new job (Some h) is = rw is.2 (Grows-here old job.step.id is.0)
 
 pub given_back : (old new : ServiceState) (job : JobState) → IsGivenBack old job new → Grows old new 0
 given_back old new job is = given_to old new job (live_of old.histories job.step.id) is

@@ -80,22 +80,22 @@ other_number arch strip text = refl
 other_sources : (arch : Arch) (strip : Strip) (text : List ℕ) → (step (packing arch strip text) (Stepped (record { generation = 4; number = 3; foreign = true }))).1 ≡ Some (Step Stale)
 other_sources arch strip text = refl
 
--- the running job's next step follows those that are made, and can be taken while it isn't out
+-- the running job's next step follows those that are made, and can be taken while it is here
 third_step : (arch : Arch) (strip : Strip) (text : List ℕ) →
-    (next_job (record { id = 7; state = packing arch strip text; out = false })) ≡ Some (record { id = 7; generation = 4; number = 3; sources = packing_sources arch strip text })
+    (next_job (record { id = 7; state = packing arch strip text; here = Some false })) ≡ Some (record { id = 7; generation = 4; number = 3; sources = packing_sources arch strip text })
 third_step arch strip text = refl
 
-takeable : (arch : Arch) (strip : Strip) (text : List ℕ) → is_takeable (record { id = 7; state = packing arch strip text; out = false }) ≡ true
+takeable : (arch : Arch) (strip : Strip) (text : List ℕ) → is_takeable (record { id = 7; state = packing arch strip text; here = Some false }) ≡ true
 takeable arch strip text = refl
 
-taken : (arch : Arch) (strip : Strip) (text : List ℕ) → is_takeable (record { id = 7; state = packing arch strip text; out = true }) ≡ false
+taken : (arch : Arch) (strip : Strip) (text : List ℕ) → is_takeable (record { id = 7; state = packing arch strip text; here = None }) ≡ false
 taken arch strip text = refl
 
 -- a job that is given up is out no longer; one whose steps are told still is
-given_up : (arch : Arch) (strip : Strip) (text : List ℕ) → (after_event (record { id = 7; state = packing arch strip text; out = true }) (Asked Cancel)).out ≡ false
+given_up : (arch : Arch) (strip : Strip) (text : List ℕ) → (after_event (record { id = 7; state = packing arch strip text; here = None }) (Asked Cancel)).here ≡ Some false
 given_up arch strip text = refl
 
-still_out : (arch : Arch) (strip : Strip) (text : List ℕ) → (after_event (record { id = 7; state = packing arch strip text; out = true }) (Asked Status)).out ≡ true
+still_out : (arch : Arch) (strip : Strip) (text : List ℕ) → (after_event (record { id = 7; state = packing arch strip text; here = None }) (Asked Status)).here ≡ None
 still_out arch strip text = refl
 
 -- a tenancy whose netlist is placed
@@ -123,7 +123,7 @@ no_places arch strip text = refl
 
 -- its next step tells its seed and its effort
 placing_step : (arch : Arch) (strip : Strip) (text : List ℕ) →
-    (next_job (record { id = 7; state = record (placed arch strip text) { name = Placing; steps = 3 }; out = false })) ≡ Some (record { id = 7; generation = 4; number = 4; sources = placing_sources arch strip text [] 7 1 })
+    (next_job (record { id = 7; state = record (placed arch strip text) { name = Placing; steps = 3 }; here = Some false })) ≡ Some (record { id = 7; generation = 4; number = 4; sources = placing_sources arch strip text [] 7 1 })
 placing_step arch strip text = refl
 
 -- a routing begins where the netlist is placed, and where it is given up the places stay

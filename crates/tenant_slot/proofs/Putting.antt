@@ -29,7 +29,7 @@ use Rattle.tenant_slot.specs.JobNames.{before, during}
 use Rattle.tenant_slot.specs.Content.{CanFinish, HasContent, IsMadeOf, name_at_rest, routed_with}
 use Rattle.tenant_slot.specs.Results.{failure_of}
 use Rattle.tenant_slot.specs.SingleUser.{State, advance, advanced, after, answer_to, finished, go_on, is_next, routed_unless, running, sources_from, sources_of, step}
-use Rattle.tenant_slot.specs.Slot.{IsAdvanceOf, SlotState, after_event, out_after, running_sources}
+use Rattle.tenant_slot.specs.Slot.{IsAdvanceOf, SlotState, after_event, here_after, running_sources}
 use Rattle.tenant_slot.specs.Standing.{IsSlot, put_in, put_reply, seen, seen_state}
 use Rattle.strip_place.specs.KeptSites.{AreKeptOn}
 use Rattle.tenant_slot.proofs.Runs.{step-room}
@@ -46,7 +46,7 @@ pub record IsPut (id : ℕ) (arch : Arch) (strip : Strip) (standing : Standing) 
 
 -- an event that has that answer
 abbrev answered_with : SlotState → Option State → SlotState
-answered_with slot change = record slot { state = after slot.state change; out = out_after slot change }
+answered_with slot change = record slot { state = after slot.state change; here = here_after slot change }
 
 answered : (slot : SlotState) (event : Event) (change : Option State) (reply : Reply) → slot.state.entries < 65536 → answer_to slot.state event ≡ (change, reply) →
     ((step slot.state event).1 ≡ Some reply) × (answered_with slot change ≡ after_event slot event)

@@ -1,6 +1,6 @@
 -- What a slot carries along after a take, and once a job is given back.
 use Rattle.std.proofs.Common.{◌≡◌, ℕ, ◌+◌, ◌-◌, Bool, true, false, not, Option, Some, None, refl, sym, ap, subst, ◌∙◌, arith}
-use Rattle.std.specs.Prelude.{◌↔◌, ◌==◌, ◌&&◌, is_some, is_none, nat_lt, option_map, IfSome}
+use Rattle.std.specs.Prelude.{◌↔◌, ◌==◌, ◌&&◌, is_some, nat_lt, option_map, IfSome}
 use Rattle.std.proofs.lemmas.Bool.Decides.{Decides-eqb}
 use Rattle.arch_file.specs.declared.arch.Arch.{Arch}
 use Rattle.grid.specs.declared.Strip.{Strip}
@@ -16,7 +16,7 @@ use Rattle.tenant_slot.specs.declared.standing.Running.{Running}
 use Rattle.tenant_slot.specs.declared.standing.Standing.{Standing}
 use Rattle.tenant_slot.specs.SingleUser.{State, is_next, sources_of}
 use Rattle.tenant_slot.specs.Slot.{GivesBack, IsAdvanceOf, SlotState, is_takeable, next_job, running_sources}
-use Rattle.tenant_slot.specs.Standing.{IsSlot, ready_of, ready_with, seen, seen_state, without_ready}
+use Rattle.tenant_slot.specs.Standing.{IsSlot, here_of, ready_of, ready_with, seen, seen_state, without_ready}
 use Rattle.tenant_slot.proofs.Putting.{at_rest_none, next_of, running_during, some_same, standing_of, step_of, step_of-same}
 
 -- how a step is written down depends on its generation, its number and its sources
@@ -51,7 +51,8 @@ pub record IsTaken (id : ℕ) (arch : Arch) (strip : Strip) (standing : Standing
   pub lawful : IsSlot id arch strip (record standing { running = option_map without_ready standing.running }) entries
   pub takeable : nat_lt entries 65536 ≡ true → is_takeable (seen id arch strip standing entries) ≡ true
   pub next : next_job (seen id arch strip standing entries) ≡ Some ready.step
-  pub out : seen id arch strip (record standing { running = option_map without_ready standing.running }) entries ≡ record (seen id arch strip standing entries) { out = true }
+  pub made : here_of standing.running ≡ Some ready.made
+  pub out : seen id arch strip (record standing { running = option_map without_ready standing.running }) entries ≡ record (seen id arch strip standing entries) { here = None }
 
 all_three : (a b c : Bool) → a ≡ true → b ≡ true → c ≡ false → (a && (b && not c)) ≡ true
 all_three a b c first second third = rw (first, second, third) refl
@@ -83,10 +84,11 @@ module _ (id : ℕ) (arch : Arch) (strip : Strip) (content : Content) (job : Run
           entries_small = slot.entries_small;
         };
         takeable = λ room.
-            ap (λ (k : Option JobKind). is_some k && (not (is_none job.ready) && nat_lt entries 65536)) (running_during job.sources.kind)
-            ∙ ap (λ (r : Option JobState). not (is_none r) && nat_lt entries 65536) is
+            ap (λ (k : Option JobKind). is_some k && (is_some (option_map (λ (j : JobState). j.made) job.ready) && nat_lt entries 65536)) (running_during job.sources.kind)
+            ∙ ap (λ (r : Option JobState). is_some (option_map (λ (j : JobState). j.made) r) && nat_lt entries 65536) is
             ∙ room;
         next = next_is ∙ ap (λ (s : JobStep). Some s) (sym step);
+        made = ap (option_map (λ (j : JobState). j.made)) is;
         out = refl;
       }
 
@@ -180,16 +182,19 @@ is_not_back id arch strip standing entries step made slot said not_next is =
 
 -- what is seen of a slot whose running job's next step stands there again
 stood_seen : (id : ℕ) (arch : Arch) (strip : Strip) (content : Content) (job : Option Running) (kept : KeptPlaces) (seed effort generation steps entries : ℕ) (back : JobState) →
-    seen id arch strip (standing_of content (option_map (ready_with back) job) kept seed effort generation steps) entries ≡ record (seen id arch strip (standing_of content job kept seed effort generation steps) entries) { out = false }
-stood_seen id arch strip content None kept seed effort generation steps entries back = refl
-stood_seen id arch strip content (Some job) kept seed effort generation steps entries back = refl
+    next_job (seen id arch strip (standing_of content job kept seed effort generation steps) entries) ≡ Some back.step →
+    seen id arch strip (standing_of content (option_map (ready_with back) job) kept seed effort generation steps) entries ≡ record (seen id arch strip (standing_of content job kept seed effort generation steps) entries) { here = Some back.made }
+stood_seen id arch strip content None kept seed effort generation steps entries back is =
+    let none : next_job (seen id arch strip (standing_of content None kept seed effort generation steps) entries) ≡ None = none_next id arch strip content kept seed effort generation steps entries in
+    absurd (cc)
+stood_seen id arch strip content (Some job) kept seed effort generation steps entries back is = refl
 
-gives_back : (old : SlotState) (back : JobState) → next_job old ≡ Some back.step → GivesBack old back (record old { out = false })
-gives_back old back is = record { only_out = refl; ready = λ next. refl; dropped = λ other. absurd (other is) }
+gives_back : (old : SlotState) (back : JobState) → next_job old ≡ Some back.step → GivesBack old back (record old { here = Some back.made })
+gives_back old back is = record { only_here = refl; ready = λ next. refl; dropped = λ other. absurd (other is) }
 
 pub is_given_back : (id : ℕ) (arch : Arch) (strip : Strip) (standing : Standing) (entries : ℕ) (old : SlotState) (back : JobState) → seen id arch strip standing entries ≡ old → next_job (seen id arch strip standing entries) ≡ Some back.step →
     GivesBack old back (seen id arch strip (record standing { running = option_map (ready_with back) standing.running }) entries)
 is_given_back id arch strip standing entries old back seen_so is =
-    let here : seen id arch strip (record standing { running = option_map (ready_with back) standing.running }) entries ≡ record old { out = false } =
-    stood_seen id arch strip standing.content standing.running standing.kept standing.seed standing.effort standing.generation standing.steps entries back ∙ ap (λ (s : SlotState). record s { out = false }) seen_so in
+    let here : seen id arch strip (record standing { running = option_map (ready_with back) standing.running }) entries ≡ record old { here = Some back.made } =
+    stood_seen id arch strip standing.content standing.running standing.kept standing.seed standing.effort standing.generation standing.steps entries back is ∙ ap (λ (s : SlotState). record s { here = Some back.made }) seen_so in
     subst (λ (s : SlotState). GivesBack old back s) (sym here) (gives_back old back (subst (λ (s : SlotState). next_job s ≡ Some back.step) seen_so is))

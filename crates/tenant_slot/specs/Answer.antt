@@ -13,7 +13,7 @@ use Rattle.tenant_slot.specs.declared.not_served.NotServed.{NotServed}
 use Rattle.tenant_slot.specs.declared.not_served.NotServed.TheVariants.{NoMemory, JournalFull}
 use Rattle.tenant_slot.specs.SingleUser.{State, after, answer_to, begun, begun_placing, emptied, is_lawful, keeping, loaded, risen, sources_of, stopped}
 use Rattle.strip_place.specs.KeptSites.{AreKeptOn}
-use Rattle.tenant_slot.specs.Slot.{SlotState, out_after}
+use Rattle.tenant_slot.specs.Slot.{SlotState, here_after}
 use Rattle.tenant_slot.specs.JobNames.{before, during}
 
 -- an answer that isn't given yet: for tables of how many inputs it is computed, what it changes, and the reply
@@ -58,4 +58,4 @@ Answers slot command (Err NoMemory) = slot.state.entries < 65536
 
 -- the slot once the answer is accepted
 abbrev pub accepted : SlotState → Outcome → SlotState
-accepted slot answer = record slot { state = after slot.state (option_map (changed slot.state) answer.change); out = out_after slot (option_map (changed slot.state) answer.change) }
+accepted slot answer = record slot { state = after slot.state (option_map (changed slot.state) answer.change); here = here_after slot (option_map (changed slot.state) answer.change) }

@@ -1,5 +1,5 @@
 -- A slot: one tenancy by its id, and its running job, which may be out.
-use Rattle.std.specs.Prelude.{ℕ, ◌≡◌, ◌+◌, ◌<◌, ◌↔◌, Result, Ok, Err, Option, Some, None, option_map, is_some, Bool, true, false, not, ◌&&◌, nat_lt, ⊤}
+use Rattle.std.specs.Prelude.{ℕ, ◌≡◌, ◌+◌, ◌<◌, ◌↔◌, Result, Ok, Err, Option, Some, None, option_map, is_some, Bool, true, false, ◌&&◌, nat_lt, ⊤}
 use Rattle.job_state.specs.declared.step.JobStep.{JobStep}
 use Rattle.job_state.specs.declared.sources.Sources.{Sources}
 use Rattle.job_state.specs.Job.{JobState}
@@ -16,20 +16,20 @@ use Rattle.tenant_slot.specs.declared.not_served.NotServed.{NotServed}
 use Rattle.tenant_slot.specs.declared.not_served.NotServed.TheVariants.{NoMemory, JournalFull}
 use Rattle.tenant_slot.specs.SingleUser.{State, answer_to, running, sources_of, step}
 
--- a tenancy with its id; and whether the running job's next step is out
+-- a tenancy with its id; and what is here of the running job's next step: nothing where it is out, else whether it was made already
 pub record SlotState : Type 0 where
   pub id : ℕ
   pub state : State
-  pub out : Bool
+  pub here : Option Bool
 
--- an event that changes the state leaves no step of the running job out
-abbrev pub out_after : SlotState → Option State → Bool
-out_after slot None = slot.out
-out_after slot (Some new) = false
+-- an event that changes the state leaves the running job's next step here, not made
+abbrev pub here_after : SlotState → Option State → Option Bool
+here_after slot None = slot.here
+here_after slot (Some new) = Some false
 
 -- the slot after an event that has a reply
 abbrev pub after_event : SlotState → Event → SlotState
-after_event slot event = record slot { state = (step slot.state event).0; out = out_after slot (answer_to slot.state event).0 }
+after_event slot event = record slot { state = (step slot.state event).0; here = here_after slot (answer_to slot.state event).0 }
 
 -- what a command may be answered, with the slots before and after it: without memory nothing changes
 abbrev pub Serves : SlotState → Command → Result Reply NotServed → SlotState → Type 0
@@ -45,14 +45,14 @@ running_sources state = option_map (sources_of state) (running state.name)
 abbrev pub next_job : SlotState → Option JobStep
 next_job slot = option_map (λ sources. record { id = slot.id; generation = slot.state.generation; number = slot.state.steps + 1; sources = sources }) (running_sources slot.state)
 
--- there is a step to take: a job runs, its next step isn't out, and the journal has room for an entry
+-- there is a step to take: a job runs, its next step is here, and the journal has room for an entry
 abbrev pub is_takeable : SlotState → Bool
-is_takeable slot = is_some (running slot.state.name) && (not slot.out && nat_lt slot.state.entries 65536)
+is_takeable slot = is_some (running slot.state.name) && (is_some slot.here && nat_lt slot.state.entries 65536)
 
--- what a take may answer: the running job's next step, which is out then, exactly where there is one to take
+-- what a take may answer: the running job's next step, made just where it came back made, and out then, exactly where there is one to take
 abbrev pub Takes : SlotState → Option JobState → SlotState → Type 0
 Takes old None new = (is_takeable old ≡ false) × (new ≡ old)
-Takes old (Some job) new = (is_takeable old ≡ true) × (next_job old ≡ Some job.step) × (new ≡ record old { out = true })
+Takes old (Some job) new = (is_takeable old ≡ true) × (next_job old ≡ Some job.step) × (old.here ≡ Some job.made) × (new ≡ record old { here = None })
 
 -- how a step that was made is written down: it is foreign unless its sources are those of the running job
 pub record IsAdvanceOf (state : State) (done : JobStep) (made : Advance) : Type 0 where
@@ -71,8 +71,8 @@ pub record Puts (old : SlotState) (done : JobStep) (made : Advance) (reply : Ste
   pub told : (step old.state (Stepped made)).1 ≡ Some (Step reply)
   pub after : new ≡ after_event old (Stepped made)
 
--- a job that is given back can be taken again where its step is the running job's next one, and is dropped elsewhere
+-- a job that is given back can be taken again as it is where its step is the running job's next one, and is dropped elsewhere
 pub record GivesBack (old : SlotState) (back : JobState) (new : SlotState) : Type 0 where
-  pub only_out : new ≡ record old { out = new.out }
-  pub ready : next_job old ≡ Some back.step → new.out ≡ false
-  pub dropped : (next_job old ≡ Some back.step → ⊥) → new.out ≡ old.out
+  pub only_here : new ≡ record old { here = new.here }
+  pub ready : next_job old ≡ Some back.step → new.here ≡ Some back.made
+  pub dropped : (next_job old ≡ Some back.step → ⊥) → new.here ≡ old.here

@@ -1,6 +1,6 @@
 -- Private: what a slot carries along, what it is seen as, and what ties the two.
 use Rattle.strip_place.specs.KeptSites.{AreKeptOn}
-use Rattle.std.specs.Prelude.{ℕ, ◌≡◌, ◌+◌, ◌≤◌, [], ⊤, Bool, true, false, is_none, is_some, Option, Some, None, option_map, IfSome}
+use Rattle.std.specs.Prelude.{ℕ, ◌≡◌, ◌+◌, ◌≤◌, [], ⊤, Bool, true, false, is_some, Option, Some, None, option_map, IfSome}
 use Rattle.arch_file.specs.declared.arch.Arch.{Arch}
 use Rattle.grid.specs.declared.Strip.{Strip}
 use Rattle.grid.specs.Sizes.{IsStripSize}
@@ -25,10 +25,10 @@ abbrev pub name_of : Content → Option Running → StateName
 name_of content None = name_at_rest content
 name_of content (Some job) = during job.sources.kind
 
--- the running job's step is out
-abbrev pub is_out : Option Running → Bool
-is_out None = false
-is_out (Some job) = is_none job.ready
+-- what is here of the running job's next step: nothing where it is out, else whether it was made already
+abbrev pub here_of : Option Running → Option Bool
+here_of None = Some false
+here_of (Some job) = option_map (λ ready. ready.made) job.ready
 
 -- a slot of these parts as it is seen
 abbrev pub seen_state : Arch → Strip → Standing → ℕ → State
@@ -47,7 +47,7 @@ seen_state arch strip standing entries = record {
 }
 
 abbrev pub seen : ℕ → Arch → Strip → Standing → ℕ → SlotState
-seen id arch strip standing entries = record { id = id; state = seen_state arch strip standing entries; out = is_out standing.running }
+seen id arch strip standing entries = record { id = id; state = seen_state arch strip standing entries; here = here_of standing.running }
 
 -- the running job is computed from what is carried along, and has a step to make, which is the next
 pub record IsRunning (id : ℕ) (arch : Arch) (strip : Strip) (standing : Standing) (job : Running) : Type 0 where

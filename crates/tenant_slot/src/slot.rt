@@ -1,5 +1,5 @@
 //! One tenancy: its commands, and its job that leaves and comes back.
-ghost use Rattle.std.specs.Prelude.{◌≡◌, ◌<◌, All, AllPairs, false, true, option_and_then, IfOk};
+ghost use Rattle.std.specs.Prelude.{◌≡◌, ◌<◌, All, AllPairs, Some, false, true, option_and_then, IfOk};
 ghost use Rattle.grid.specs.Sizes.{IsStripSize};
 ghost use Rattle.rr_graph.specs.declared.resource.Resource.{Resource};
 ghost use Rattle.rr_graph.specs.Resources.{IsEarlier, has, is_there};
@@ -32,7 +32,7 @@ use strip_place::Kept;
 pub const MAX_ENTRIES: u32 = 65_536;
 
 /// One tenancy. Its value is its id, the state of the service for a single user, and whether the running job's next step is
-/// out.
+/// here, and was made already.
 #[derive(Drop)]
 pub struct Slot {
     alloc: Global,
@@ -58,7 +58,7 @@ impl Slot {
     /// A tenancy as it is admitted, in the state Empty. Takes no memory.
     pub fn new(alloc: Global, id: u32, arch: SharedArch, strip: Strip) -> Self
         requires { IsStripSize strip }
-        ensures { result ≡ record { id = id; state = start arch strip; out = false } }
+        ensures { result ≡ record { id = id; state = start arch strip; here = Some false } }
     {
         Slot {
             alloc,
@@ -326,7 +326,8 @@ impl Slot {
         Ok(self.accept(answer))
     }
 
-    /// The running job's next step, where it isn't out and the journal has room for its entry. Takes no memory.
+    /// The running job's next step, where it isn't out and the journal has room for its entry. The step is not made here: it was
+    /// made just where it came back made. Takes no memory.
     pub fn take(&mut self) -> Option<AnyJob>
         ensures { Takes self.old result self.new }
     {

@@ -45,4 +45,4 @@ returns-clause-book c =
     rw (← c.self.view_is, items) (state_after-push (start c.self.inside.arch c.self.inside.strip) c.self.inside.journal.items e) in
     let given : GivesUp c.args.book.now (map (moved_resource c.args.offset) (routed_set c.in-Some.slot.state)) c.in_ok-answer.answer.reply c.give_up.new.book = subst (λ reply. GivesUp c.args.book.now (map (moved_resource c.args.offset) (routed_set c.in-Some.slot.state)) reply c.give_up.new.book) c.reply.ensures c.give_up.ensures in
     slot_gives_up c.args.book.now c.give_up.new.book c.args.offset c.args.self.now
-    (record { id = c.self.inside.id; arch = c.self.inside.arch; strip = c.self.inside.strip; live = true; out = c.accept-reply.new.self.out; entries = c.push.new.self.items }) c.in-Some.slot.state c.args.command c.in_ok-answer.answer.reply (rw (← c.self.view_is) here) told after given
+    (record { id = c.self.inside.id; arch = c.self.inside.arch; strip = c.self.inside.strip; live = true; here = c.accept-reply.new.self.here; entries = c.push.new.self.items }) c.in-Some.slot.state c.args.command c.in_ok-answer.answer.reply (rw (← c.self.view_is) here) told after given

@@ -1,8 +1,6 @@
-use Rattle.std.proofs.Common.{◌≡◌, ◌∙◌, ◌<◌, ℕ, IfOk, Some, ap, subst, sym, true}
+use Rattle.std.proofs.Common.{◌≡◌, ◌∙◌, IfOk, Some, ap, subst}
 use Rattle.arch_file.specs.declared.arch.Arch.{Arch}
 use Rattle.blif.specs.CircuitOf.{circuit_of}
-use Rattle.tenant_slot.specs.declared.command.Command.TheVariants.{Change}
-use Rattle.tenant_slot.specs.Answer.{Answers, Outcome}
 use Rattle.tenant_slot.specs.Outcomes.{load_outcome}
 use Rattle.tenant_slot.specs.Slot.{SlotState}
 use Rattle.tenant_slot.proofs.Serving.{change_result}

@@ -30,7 +30,7 @@ returns-else-runs c =
     ap (λ (s : SlotState). is_next s.state c.advance_of-made.result) c.self.view_is ∙ (sym c.is_next-runs.ensures ∙ c.if-runs.false) in
     let other = is_not_back c.self.inside.id c.self.inside.arch c.self.inside.strip c.self.inside.standing c.self.inside.entries c.args.back.step c.advance_of-made.result c.self.invariant said stays in
     record {
-      only_out = refl;
+      only_here = refl;
       ready = λ is. absurd (other (ap next_job c.self.view_is ∙ is));
       dropped = λ not_next. refl;
     }

@@ -1,4 +1,4 @@
-use Rattle.std.proofs.Common.{◌≡◌, Some, true, sym, ap, subst, ◌∙◌, arith}
+use Rattle.std.proofs.Common.{◌≡◌, Some, None, true, sym, ap, subst, ◌∙◌, arith}
 use Rattle.std.specs.Prelude.{nat_lt}
 use Rattle.std.proofs.lemmas.Bool.Decides.{nat_tests}
 use Rattle.job_state.specs.Job.{JobState}
@@ -27,5 +27,6 @@ returns c =
     let room : nat_lt c.self.inside.entries 65536 ≡ true = grind (arith, nat_tests) in (
       subst (λ (s : SlotState). is_takeable s ≡ true) c.self.view_is ((taken c).takeable room),
       subst (λ (s : SlotState). next_job s ≡ Some c.leave.result.step) c.self.view_is ((taken c).next ∙ ap (λ (j : JobState). Some j.step) (sym c.leave.ensures)),
-      rw c.take.ensures.out ((taken c).out ∙ ap (λ (s : SlotState). record s { out = true }) c.self.view_is),
+      subst (λ (s : SlotState). s.here ≡ Some c.leave.result.made) c.self.view_is ((taken c).made ∙ ap (λ (j : JobState). Some j.made) (sym c.leave.ensures)),
+      rw c.take.ensures.out ((taken c).out ∙ ap (λ (s : SlotState). record s { here = None }) c.self.view_is),
     )
