@@ -111,12 +111,12 @@ pub record IsHeadline : Type 0 where
   pub alone : (device : Device) (calls : List Call) (state : ServiceState) → Run (empty device) calls state → EachIsAlone device calls state
   pub parted : (device : Device) (calls : List Call) (state : ServiceState) → Run (empty device) calls state → AreParted device state
   pub exact : (device : Device) (calls : List Call) (state : ServiceState) → Run (empty device) calls state → IsExactBook state
-  pub line : (device : Device) (before : List Call) (old new : ServiceState) (id : ℕ) (line : SessionLine) (answer : Answer) → Run (empty device) before old → IsAnswer old id line answer new → LineIsToldAlone device old id before line answer
+  pub line : (device : Device) (before calls : List Call) (old new : ServiceState) (id : ℕ) (line : SessionLine) (answer : Answer) → Run (empty device) before old → Asks id line calls answer → Run old calls new → LineIsToldAlone device old id before calls line answer
 
-telling_alone : IsHeadline → (device : Device) (before : List Call) (old new : Stage) (act : Act (List ℕ)) (calls : List Call) (text : List ℕ) → Run (empty device) before old.service → IsAnswered old act calls text new → IsToldAlone device old before act text
+telling_alone : IsHeadline → (device : Device) (before : List Call) (old new : Stage) (act : Act (List ℕ)) (calls : List Call) (text : List ℕ) → Run (empty device) before old.service → IsAnswered old act calls text new → IsToldAlone device old before calls act text
 telling_alone headline device before old new (Operator line) calls text runs is = tt
 telling_alone headline device before old new (Session name line) calls text runs is =
-    (is.0, headline.line device before old.service new.service (last_id old.names name) line is.0 runs (calls, is.1, is.2), is.5)
+    (is.0, headline.line device before calls old.service new.service (last_id old.names name) line is.0 runs is.1 is.2, is.5)
 
 tellings_alone : IsHeadline → (device : Device) (before : List Call) (old : Stage) (ts : List Telling) (last : Stage) → Run (empty device) before old.service → Tells old ts last → AreToldAlone device old before ts
 tellings_alone headline device before old [] last runs told = tt

@@ -11,14 +11,14 @@ use Rattle.operator.specs.OperatorText.{last_id}
 use Rattle.operator.specs.Serving.{Stage}
 use Rattle.fpgad_run.specs.Run.{Telling, IsAnswered}
 
--- a session's line is told what its name's last tenancy is told alone, after its own events of the calls before
-abbrev pub IsToldAlone : Device → Stage → List Call → Act (List ℕ) → List ℕ → Type 0
-IsToldAlone device stage before (Operator line) text = ⊤
-IsToldAlone device stage before (Session name line) text =
-    (answer : Answer) × LineIsToldAlone device stage.service (last_id stage.names name) before line answer × (text ≡ answer_text answer)
+-- a session's line that makes those calls is told what its name's last tenancy is told alone, after its own events of the calls before
+abbrev pub IsToldAlone : Device → Stage → List Call → List Call → Act (List ℕ) → List ℕ → Type 0
+IsToldAlone device stage before calls (Operator line) text = ⊤
+IsToldAlone device stage before calls (Session name line) text =
+    (answer : Answer) × LineIsToldAlone device stage.service (last_id stage.names name) before calls line answer × (text ≡ answer_text answer)
 
 -- and so is each, one after another
 abbrev pub AreToldAlone : Device → Stage → List Call → List Telling → Type 0
 AreToldAlone device stage before [] = ⊤
 AreToldAlone device stage before (t ∷ ts) =
-    IsToldAlone device stage before t.act t.text × ((mid : Stage) × IsAnswered stage t.act t.calls t.text mid × AreToldAlone device mid (before ++ t.calls) ts)
+    IsToldAlone device stage before t.calls t.act t.text × ((mid : Stage) × IsAnswered stage t.act t.calls t.text mid × AreToldAlone device mid (before ++ t.calls) ts)

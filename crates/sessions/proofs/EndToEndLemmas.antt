@@ -1,6 +1,7 @@
 -- A line is told what the service for a single user tells.
-use Rattle.std.proofs.Common.{◌≡◌, ◌∙◌, ℕ, List, [], ◌∷◌, ◌++◌, length, Option, Some, None, Result, Ok, Err, inl, inr, refl, sym, ap, subst}
-use Rattle.std.specs.Prelude.{IfSome, IsSomeAnd, option_map}
+use Rattle.std.proofs.Common.{◌≡◌, ◌∙◌, ℕ, ◌-◌, List, [], ◌∷◌, ◌++◌, length, length-append, take, Option, Some, None, Result, Ok, Err, inl, inr, refl, sym, ap, subst, arith}
+use Rattle.std.specs.Prelude.{◌⊎◌, IfSome, IsSomeAnd, option_map}
+use Rattle.std.proofs.lemmas.List.{take-append-le, take_all}
 use Rattle.tenant_slot.specs.declared.command.Command.{Command as TenantCommand}
 use Rattle.tenant_slot.specs.declared.command.Command.TheVariants.{Status}
 use Rattle.tenant_slot.specs.declared.event.Event.TheVariants.{Command as Asked}
@@ -28,9 +29,10 @@ use Rattle.sessions.specs.declared.steps.StepOutcome.TheVariants.{Recorded, Full
 use Rattle.sessions.specs.declared.told.Answer.{Answer}
 use Rattle.sessions.specs.declared.told.Answer.TheVariants.{Served}
 use Rattle.sessions.specs.EndToEnd.{IsToldAlone, LineIsToldAlone, alone_after, alone_text, told_text}
-use Rattle.sessions.specs.SessionAnswer.{AsksCommand, EndsWait, IsAnswer}
+use Rattle.sessions.specs.SessionAnswer.{Asks, AsksCommand, EndsWait}
 use Rattle.sessions.specs.SessionText.{answer_text}
 use Rattle.sessions.proofs.StepLemmas.{Run-append}
+use Rattle.sessions.proofs.Stepping.{steps_width, wait_stepping}
 
 -- a live tenancy is in the state that its own events lead to alone
 state_alone : (device : Device) (calls : List Call) (state : ServiceState) (id : ℕ) (h : History) → Run (empty device) calls state → live_of state.histories id ≡ Some h → state_of h ≡ alone_after device h.strip.width id calls
@@ -85,28 +87,44 @@ asked_told device before calls old new id command answer runs asks next =
     let P : Answer → Type 0 = λ a. IsToldAlone device old id before command a in
     subst P (sym asks.2) (command_told device before old call.0 id command asks.0 runs call.1)
 
-end_told : (device : Device) (before calls : List Call) (old new : ServiceState) (id : ℕ) (last : StepOutcome) (answer : Answer) → Run (empty device) before old → EndsWait id last calls answer → Run old calls new →
-    IsToldAlone device old id before Status answer
-end_told device before calls old new id (Recorded reply) answer runs ends next = asked_told device before calls old new id Status answer runs ends next
-end_told device before calls old new id Full answer runs ends next = asked_told device before calls old new id Status answer runs ends next
-end_told device before calls old new id Gone answer runs ends next = asked_told device before calls old new id Status answer runs ends next
-end_told device before calls old new id StepNoMemory answer runs ends next = inl ends.1
-end_told device before calls old new id Nothing answer runs ends next = asked_told device before calls old new id Status answer runs ends next
-end_told device before calls old new id Unfit answer runs ends next = asked_told device before calls old new id Status answer runs ends next
+-- all calls but the last
+all_but_last : (steps : List Call) (call : Call) → take (length (steps ++ call ∷ []) - 1) (steps ++ call ∷ []) ≡ steps
+all_but_last steps call =
+    let less : length (steps ++ call ∷ []) - 1 ≡ length steps = omega (arith, length-append steps (call ∷ [])) in
+    ap (λ n. take n (steps ++ call ∷ [])) less ∙ (take-append-le (length steps) steps (call ∷ []) (omega arith) ∙ take_all (length steps) steps (omega arith))
+
+-- a status behind steps, which change no width
+behind_told : (device : Device) (before steps more calls : List Call) (old mid new : ServiceState) (id : ℕ) (answer : Answer) → Run (empty device) (before ++ steps) mid → live_width mid.histories id ≡ live_width old.histories id →
+    AsksCommand id Status more answer → Run mid more new → calls ≡ steps ++ more → IsToldAlone device old id (before ++ take (length calls - 1) calls) Status answer
+behind_told device before steps more calls old mid new id answer runs width asks next is =
+    let all : calls ≡ steps ++ Tenant id Status asks.0 ∷ [] = is ∙ ap (λ cs. steps ++ cs) asks.1 in
+    let first : take (length calls - 1) calls ≡ steps = ap (λ cs. take (length cs - 1) cs) all ∙ all_but_last steps (Tenant id Status asks.0) in
+    let P : List Call → Type 0 = λ cs. IsToldAlone device old id (before ++ cs) Status answer in
+    let Q : Option ℕ → Type 0 = λ w. (answer ≡ Served (Err NotServedNoMemory)) ⊎ (answer_text answer ≡ alone_text device w id (before ++ steps) Status) in
+    subst P (sym first) (subst Q width (asked_told device (before ++ steps) more mid new id Status answer runs asks next))
+
+end_told : (device : Device) (before steps more calls : List Call) (old mid new : ServiceState) (id : ℕ) (last : StepOutcome) (answer : Answer) → Run (empty device) (before ++ steps) mid → live_width mid.histories id ≡ live_width old.histories id →
+    EndsWait id last more answer → Run mid more new → calls ≡ steps ++ more → IsToldAlone device old id (before ++ take (length calls - 1) calls) Status answer
+end_told device before steps more calls old mid new id (Recorded reply) answer runs width ends next is = behind_told device before steps more calls old mid new id answer runs width ends next is
+end_told device before steps more calls old mid new id Full answer runs width ends next is = behind_told device before steps more calls old mid new id answer runs width ends next is
+end_told device before steps more calls old mid new id Gone answer runs width ends next is = behind_told device before steps more calls old mid new id answer runs width ends next is
+end_told device before steps more calls old mid new id StepNoMemory answer runs width ends next is = inl ends.1
+end_told device before steps more calls old mid new id Nothing answer runs width ends next is = behind_told device before steps more calls old mid new id answer runs width ends next is
+end_told device before steps more calls old mid new id Unfit answer runs width ends next is = behind_told device before steps more calls old mid new id answer runs width ends next is
 
 pub split : (old : ServiceState) (xs ys : List Call) (new : ServiceState) → Run old (xs ++ ys) new → (mid : ServiceState) × Run old xs mid × Run mid ys new
 split old [] ys new runs = (old, refl, runs)
 split old (x ∷ xs) ys new runs = let rest = split runs.0 xs ys new runs.2 in (rest.0, (runs.0, runs.1, rest.1), rest.2)
 
-pub line_told : (device : Device) (before : List Call) (old new : ServiceState) (id : ℕ) (line : SessionLine) (answer : Answer) → Run (empty device) before old → IsAnswer old id line answer new →
-    LineIsToldAlone device old id before line answer
-line_told device before old new id Blank answer runs is = ap answer_text is.1.1
-line_told device before old new id (Refused refusal) answer runs is = ap answer_text is.1.1
-line_told device before old new id (Command command) answer runs is = asked_told device before is.0 old new id command answer runs is.1 is.2
-line_told device before old new id Wait answer runs is =
-    let asks = is.1 in
+pub line_told : (device : Device) (before calls : List Call) (old new : ServiceState) (id : ℕ) (line : SessionLine) (answer : Answer) → Run (empty device) before old → Asks id line calls answer → Run old calls new →
+    LineIsToldAlone device old id before calls line answer
+line_told device before calls old new id Blank answer runs asks next = ap answer_text asks.1
+line_told device before calls old new id (Refused refusal) answer runs asks next = ap answer_text asks.1
+line_told device before calls old new id (Command command) answer runs asks next = asked_told device before calls old new id command answer runs asks next
+line_told device before calls old new id Wait answer runs asks next =
     let steps = asks.1 in
     let more = asks.2 in
-    let whole : Run old (steps ++ more) new = (let P : List Call → Type 0 = λ cs. Run old cs new in subst P asks.5 is.2) in
+    let whole : Run old (steps ++ more) new = (let P : List Call → Type 0 = λ cs. Run old cs new in subst P asks.5 next) in
     let parts = split old steps more new whole in
-    (steps, parts.0, parts.1, end_told device (before ++ steps) more parts.0 new id asks.0 answer (Run-append (empty device) before old steps parts.0 runs parts.1) asks.4 parts.2)
+    end_told device before steps more calls old parts.0 new id asks.0 answer (Run-append (empty device) before old steps parts.0 runs parts.1)
+    (steps_width id old steps parts.0 (wait_stepping id steps asks.0 asks.3) parts.1) asks.4 parts.2 asks.5

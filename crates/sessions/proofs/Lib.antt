@@ -6,6 +6,7 @@ pub mod Fitting
 pub mod KeptLemmas
 pub mod ReadingLemmas
 pub mod StepLemmas
+mod Stepping
 mod WaitLemmas
 mod WholeSessionLemmas
 mod WordLemmas

@@ -41,6 +41,7 @@ use Rattle.sessions.specs.WholeSession.Heard.{Happened}
 use Rattle.sessions.specs.WholeSession.Turn.{Item, Meanwhile}
 use Rattle.sessions.proofs.EndToEndLemmas.{journal_told, receipt_told, split}
 use Rattle.sessions.proofs.StepLemmas.{Run-append}
+use Rattle.sessions.proofs.Stepping.{AreStepping, IsStepping, KeepsWidth, same_width, wait_stepping, width_in}
 
 -- first these calls, then those
 pub own_events-append : (id : ℕ) (xs ys : List Call) → own_events id (xs ++ ys) ≡ own_events id xs ++ own_events id ys
@@ -100,56 +101,24 @@ all_steps id (call ∷ calls) are =
     subst P (sym (own_events-append id (call ∷ []) calls))
     (AreSteps-append (own_events id (call ∷ [])) (own_events id calls) (subst P (ap (map (λ (e : Event × Option Reply). e.0)) (sym (append-nil (own_exchange id call)))) (others_steps id call are.0)) (all_steps id calls are.1))
 
--- the making of a step asks no command, and so do the steps of a wait
-to_others : (id : ℕ) (calls these : List Call) → calls ≡ these → AreOthers id these → AreOthers id calls
-to_others id calls these is are = rw is are
-
-AreOthers-append : (id : ℕ) (xs ys : List Call) → AreOthers id xs → AreOthers id ys → AreOthers id (xs ++ ys)
-AreOthers-append id [] ys a b = b
-AreOthers-append id (x ∷ xs) ys a b = (a.0, AreOthers-append id xs ys a.1 b)
-
-puts_others : (id : ℕ) (job : JobState) (calls : List Call) (outcome : StepOutcome) → StepsAndPuts job calls outcome → AreOthers id calls
-puts_others id job calls (Recorded reply) is = to_others id calls _ is.1 (tt, tt)
-puts_others id job calls Full is = to_others id calls _ is.1 (tt, tt)
-puts_others id job calls Gone is = to_others id calls _ is.1 (tt, tt)
-puts_others id job calls StepNoMemory (inl is) = to_others id calls _ is (tt, tt)
-puts_others id job calls StepNoMemory (inr is) = to_others id calls _ is.2 (tt, (tt, tt))
-puts_others id job calls Nothing is = absurd is
-puts_others id job calls Unfit is = to_others id calls _ is (tt, tt)
-
-taking : (id : ℕ) (job : JobState) (calls more : List Call) (outcome : StepOutcome) → StepsAndPuts job more outcome → calls ≡ Take id (Some job) ∷ more → AreOthers id calls
-taking id job calls more outcome puts is = to_others id calls _ is (tt, puts_others id job more outcome puts)
-
-step_others : (id : ℕ) (calls : List Call) (outcome : StepOutcome) → MakesStep id calls outcome → AreOthers id calls
-step_others id calls (Recorded reply) is = taking id is.0 calls is.1 (Recorded reply) is.2 is.3
-step_others id calls Full is = taking id is.0 calls is.1 Full is.2 is.3
-step_others id calls Gone is = taking id is.0 calls is.1 Gone is.2 is.3
-step_others id calls StepNoMemory is = taking id is.0 calls is.1 StepNoMemory is.2 is.3
-step_others id calls Nothing is = to_others id calls _ is (tt, tt)
-step_others id calls Unfit is = taking id is.0 calls is.1 Unfit is.2 is.3
-
-made_others : (id : ℕ) (made : List MadeStep) → All (λ (m : MadeStep). MakesStep id m.0 (Recorded m.1)) made → AreOthers id (flat_map (λ (m : MadeStep). m.0) made)
-made_others id [] all = tt
-made_others id (m ∷ ms) all = AreOthers-append id m.0 _ (step_others id m.0 (Recorded m.1) (all 0 m (omega arith))) (made_others id ms (λ k d within. all (suc k) d (omega arith)))
+-- the steps of a wait ask no command
+stepping_others : (id : ℕ) (calls : List Call) → AreStepping calls → AreOthers id calls
+stepping_others id [] are = tt
+stepping_others id (call ∷ calls) are = (one call are.0, stepping_others id calls are.1)
+  where
+    one : (call : Call) → IsStepping call → IsOthers id call
+    one (Take t answer) is = tt
+    one (Put done foreign answer) is = tt
+    one (GiveBack job) is = tt
+    one (Evict t answer) is = absurd is
+    one (Move t offset answer) is = absurd is
+    one (Tenant t command served) is = absurd is
+    one (Admit width answer) is = absurd is
 
 wait_others : (id : ℕ) (calls : List Call) (last : StepOutcome) → Waits id calls last → AreOthers id calls
-wait_others id calls last is = to_others id calls _ is.5 (AreOthers-append id _ is.1 (made_others id is.0 is.2) (step_others id is.1 last is.3))
+wait_others id calls last is = stepping_others id calls (wait_stepping id calls last is)
 
 -- a tenancy that is live stays so, with its width, where it isn't evicted
-abbrev width_in : Option History → Option ℕ
-width_in o = option_map (λ h. h.strip.width) (if_live o)
-
-width_some : (g : History) → width_in (Some g) ≡ (if g.live then Some g.strip.width else None)
-width_some g = elim g.live as (λ b. option_map (λ (h : History). h.strip.width) (if b then Some g else None) ≡ (if b then Some g.strip.width else None)) [ true ↦ refl | false ↦ refl ]
-
--- a change that keeps a tenancy's width, and that it is live
-abbrev KeepsWidth : (History → History) → Type 0
-KeepsWidth change = (h : History) → ((change h).live ≡ h.live) × ((change h).strip ≡ h.strip)
-
-same_width : (change : History → History) → KeepsWidth change → (o : Option History) → width_in (option_map change o) ≡ width_in o
-same_width change keeps None = refl
-same_width change keeps (Some h) = width_some (change h) ∙ ((rw ((keeps h).0, (keeps h).1) refl) ∙ sym (width_some h))
-
 width_changed : (hs : List History) (t id width : ℕ) (change : History → History) → KeepsWidth change → live_width hs id ≡ Some width → live_width (modified hs t change) id ≡ Some width
 width_changed hs t id width change keeps was =
     let P : Option History → Type 0 = λ o. width_in o ≡ Some width in

@@ -1,5 +1,5 @@
 -- What a session is told, by the service for a single user.
-use Rattle.std.specs.Prelude.{ℕ, ◌≡◌, ◌⊎◌, List, [], ◌++◌, Option, Some, None, Err}
+use Rattle.std.specs.Prelude.{ℕ, ◌≡◌, ◌-◌, ◌⊎◌, List, [], ◌++◌, length, take, Option, Some, None, Err}
 use Rattle.tenant_slot.specs.declared.command.Command.{Command as TenantCommand}
 use Rattle.tenant_slot.specs.declared.command.Command.TheVariants.{Status}
 use Rattle.tenant_slot.specs.declared.event.Event.TheVariants.{Command as Asked}
@@ -8,7 +8,7 @@ use Rattle.tenant_slot.specs.SingleUser.{State, start, state_after, step}
 use Rattle.service_core.specs.declared.device.Device.{Device}
 use Rattle.service_core.specs.declared.not_served.NotServed.TheVariants.{NoMemory}
 use Rattle.service_core.specs.OwnEvents.{own_events}
-use Rattle.service_core.specs.Run.{Call, Run}
+use Rattle.service_core.specs.Run.{Call}
 use Rattle.service_core.specs.Service.{ServiceState, live_width, strip_on}
 use Rattle.sessions.specs.declared.line.SessionLine.{SessionLine}
 use Rattle.sessions.specs.declared.line.SessionLine.TheVariants.{Blank, Command, Wait, Refused}
@@ -35,10 +35,9 @@ alone_text device None id calls command = session_refusal_text Evicted
 abbrev pub IsToldAlone : Device → ServiceState → ℕ → List Call → TenantCommand → Answer → Type 0
 IsToldAlone device state id calls command answer = (answer ≡ Served (Err NoMemory)) ⊎ (answer_text answer ≡ alone_text device (live_width state.histories id) id calls command)
 
--- and so is a line; a wait as a status behind the steps that it makes
-abbrev pub LineIsToldAlone : Device → ServiceState → ℕ → List Call → SessionLine → Answer → Type 0
-LineIsToldAlone device state id calls Blank answer = answer_text answer ≡ []
-LineIsToldAlone device state id calls (Refused refusal) answer = answer_text answer ≡ session_refusal_text refusal
-LineIsToldAlone device state id calls (Command command) answer = IsToldAlone device state id calls command answer
-LineIsToldAlone device state id calls Wait answer =
-    (steps : List Call) × (mid : ServiceState) × Run state steps mid × IsToldAlone device mid id (calls ++ steps) Status answer
+-- and so is a line that makes those calls, after those before; a wait as a status behind its steps, which are all of its calls but the last
+abbrev pub LineIsToldAlone : Device → ServiceState → ℕ → List Call → List Call → SessionLine → Answer → Type 0
+LineIsToldAlone device state id before calls Blank answer = answer_text answer ≡ []
+LineIsToldAlone device state id before calls (Refused refusal) answer = answer_text answer ≡ session_refusal_text refusal
+LineIsToldAlone device state id before calls (Command command) answer = IsToldAlone device state id before command answer
+LineIsToldAlone device state id before calls Wait answer = IsToldAlone device state id (before ++ take (length calls - 1) calls) Status answer

@@ -11,14 +11,15 @@ ghost use Rattle.sessions.specs.declared.steps.StepOutcome.TheVariants.{NoMemory
 ghost use Rattle.sessions.specs.declared.told.Answer.{Answer};
 ghost use Rattle.sessions.specs.EndToEnd.{LineIsToldAlone, alone_after};
 ghost use Rattle.sessions.specs.Fitting.{FitsOwnDevice};
-ghost use Rattle.sessions.specs.SessionAnswer.{IsAnswer};
+ghost use Rattle.sessions.specs.SessionAnswer.{Asks};
 ghost use Rattle.sessions.specs.Steps.{Waits};
 ghost use Rattle.sessions.specs.WholeSession.{Turn, Turns, events_in, heard, session_text, written};
 
 /// A session, end to end. Whatever calls were made of the core of a device before, in any order, with jobs out for any
-/// time, a line is told the text of what the service for a single user replies after the tenancy's own events.
+/// time, a line is told the text of what the service for a single user replies after the tenancy's own events: a wait what that
+/// service replies to `status` after those and the steps that the wait has made.
 pub fn end_to_end()
-    ensures { (device : Device) (before : List Call) (old new : ServiceState) (id : ℕ) (line : SessionLine) (answer : Answer) → Run (empty device) before old → IsAnswer old id line answer new → LineIsToldAlone device old id before line answer }
+    ensures { (device : Device) (before calls : List Call) (old new : ServiceState) (id : ℕ) (line : SessionLine) (answer : Answer) → Run (empty device) before old → Asks id line calls answer → Run old calls new → LineIsToldAlone device old id before calls line answer }
 {}
 
 /// A whole session, end to end. While it goes on, others may call the core as they like, but for the commands and the eviction

@@ -1,0 +1,112 @@
+-- The calls by which steps are made, and that they change no strip's width.
+use Rattle.std.proofs.Common.{◌≡◌, ◌∙◌, ℕ, List, [], ◌∷◌, ◌++◌, true, false, eqb, Option, Some, None, Ok, Err, inl, inr, suc, refl, sym, ap, arith}
+use Rattle.std.specs.Prelude.{All, ⊤, option_map, if◌then◌else◌}
+use Rattle.std.specs.List.{flat_map}
+use Rattle.job_state.specs.Job.{JobState}
+use Rattle.service_core.specs.declared.put_reply.PutReply.TheVariants.{Recorded as PutRecorded, Full as PutFull, Gone as PutGone}
+use Rattle.service_core.specs.Calls.{IsGivenBackTo, step_entry}
+use Rattle.service_core.specs.History.{History, with_entry, with_here}
+use Rattle.service_core.specs.Run.{Call, Happens, Run}
+use Rattle.service_core.specs.Run.Call.{Admit, Evict, Move, Tenant, Take, Put, GiveBack}
+use Rattle.service_core.specs.Service.{ServiceState, history_of, if_live, live_of, live_width, modified}
+use Rattle.service_core.proofs.Lists.{history_of-modified}
+use Rattle.sessions.specs.declared.steps.StepOutcome.{StepOutcome}
+use Rattle.sessions.specs.declared.steps.StepOutcome.TheVariants.{Recorded, Full, Gone, NoMemory as StepNoMemory, Nothing, Unfit}
+use Rattle.sessions.specs.Steps.{MadeStep, MakesStep, StepsAndPuts, Waits}
+
+-- a call that steps are made by
+abbrev pub IsStepping : Call → Type 0
+IsStepping (Take t answer) = ⊤
+IsStepping (Put done foreign answer) = ⊤
+IsStepping (GiveBack job) = ⊤
+IsStepping call = ⊥
+
+abbrev pub AreStepping : List Call → Type 0
+AreStepping [] = ⊤
+AreStepping (call ∷ calls) = IsStepping call × AreStepping calls
+
+-- the making of a step is such calls, and so are the steps of a wait
+to_stepping : (calls these : List Call) → calls ≡ these → AreStepping these → AreStepping calls
+to_stepping calls these is are = rw is are
+
+AreStepping-append : (xs ys : List Call) → AreStepping xs → AreStepping ys → AreStepping (xs ++ ys)
+AreStepping-append [] ys a b = b
+AreStepping-append (x ∷ xs) ys a b = (a.0, AreStepping-append xs ys a.1 b)
+
+puts_stepping : (job : JobState) (calls : List Call) (outcome : StepOutcome) → StepsAndPuts job calls outcome → AreStepping calls
+puts_stepping job calls (Recorded reply) is = to_stepping calls _ is.1 (tt, tt)
+puts_stepping job calls Full is = to_stepping calls _ is.1 (tt, tt)
+puts_stepping job calls Gone is = to_stepping calls _ is.1 (tt, tt)
+puts_stepping job calls StepNoMemory (inl is) = to_stepping calls _ is (tt, tt)
+puts_stepping job calls StepNoMemory (inr is) = to_stepping calls _ is.2 (tt, (tt, tt))
+puts_stepping job calls Nothing is = absurd is
+puts_stepping job calls Unfit is = to_stepping calls _ is (tt, tt)
+
+taking : (id : ℕ) (job : JobState) (calls more : List Call) (outcome : StepOutcome) → StepsAndPuts job more outcome → calls ≡ Take id (Some job) ∷ more → AreStepping calls
+taking id job calls more outcome puts is = to_stepping calls _ is (tt, puts_stepping job more outcome puts)
+
+step_stepping : (id : ℕ) (calls : List Call) (outcome : StepOutcome) → MakesStep id calls outcome → AreStepping calls
+step_stepping id calls (Recorded reply) is = taking id is.0 calls is.1 (Recorded reply) is.2 is.3
+step_stepping id calls Full is = taking id is.0 calls is.1 Full is.2 is.3
+step_stepping id calls Gone is = taking id is.0 calls is.1 Gone is.2 is.3
+step_stepping id calls StepNoMemory is = taking id is.0 calls is.1 StepNoMemory is.2 is.3
+step_stepping id calls Nothing is = to_stepping calls _ is (tt, tt)
+step_stepping id calls Unfit is = taking id is.0 calls is.1 Unfit is.2 is.3
+
+made_stepping : (id : ℕ) (made : List MadeStep) → All (λ (m : MadeStep). MakesStep id m.0 (Recorded m.1)) made → AreStepping (flat_map (λ (m : MadeStep). m.0) made)
+made_stepping id [] all = tt
+made_stepping id (m ∷ ms) all = AreStepping-append m.0 _ (step_stepping id m.0 (Recorded m.1) (all 0 m (omega arith))) (made_stepping id ms (λ k d within. all (suc k) d (omega arith)))
+
+pub wait_stepping : (id : ℕ) (calls : List Call) (last : StepOutcome) → Waits id calls last → AreStepping calls
+wait_stepping id calls last is = to_stepping calls _ is.5 (AreStepping-append _ is.1 (made_stepping id is.0 is.2) (step_stepping id is.1 last is.3))
+
+-- the width of a live tenancy
+abbrev pub width_in : Option History → Option ℕ
+width_in o = option_map (λ h. h.strip.width) (if_live o)
+
+width_some : (g : History) → width_in (Some g) ≡ (if g.live then Some g.strip.width else None)
+width_some g = elim g.live as (λ b. option_map (λ (h : History). h.strip.width) (if b then Some g else None) ≡ (if b then Some g.strip.width else None)) [ true ↦ refl | false ↦ refl ]
+
+-- a change that keeps a tenancy's width, and that it is live
+abbrev pub KeepsWidth : (History → History) → Type 0
+KeepsWidth change = (h : History) → ((change h).live ≡ h.live) × ((change h).strip ≡ h.strip)
+
+pub same_width : (change : History → History) → KeepsWidth change → (o : Option History) → width_in (option_map change o) ≡ width_in o
+same_width change keeps None = refl
+same_width change keeps (Some h) = width_some (change h) ∙ ((rw ((keeps h).0, (keeps h).1) refl) ∙ sym (width_some h))
+
+width_kept : (hs : List History) (t id : ℕ) (change : History → History) → KeepsWidth change → live_width (modified hs t change) id ≡ live_width hs id
+width_kept hs t id change keeps =
+    ap width_in (history_of-modified hs t id change)
+    ∙ (elim (eqb id t) as (λ b. width_in (if b then option_map change (history_of hs id) else history_of hs id) ≡ width_in (history_of hs id)) [ true ↦ same_width change keeps (history_of hs id) | false ↦ refl ])
+
+-- they change no width
+abbrev SameWidth : ℕ → ServiceState → ServiceState → Type 0
+SameWidth id old new = live_width new.histories id ≡ live_width old.histories id
+
+unchanged : (id : ℕ) (old new : ServiceState) → new ≡ old → SameWidth id old new
+unchanged id old new same = ap (λ (s : ServiceState). live_width s.histories id) same
+
+changed : (id t : ℕ) (old new : ServiceState) (change : History → History) → KeepsWidth change → new ≡ record old { histories = modified old.histories t change } → SameWidth id old new
+changed id t old new change keeps is = ap (λ (s : ServiceState). live_width s.histories id) is ∙ width_kept old.histories t id change keeps
+
+given_back : (id : ℕ) (o : Option History) (old new : ServiceState) (job : JobState) → IsGivenBackTo o old job new → SameWidth id old new
+given_back id None old new job is = unchanged id old new is
+given_back id (Some h) old new job is = changed id job.step.id old new (with_here is.0) (λ g. (refl, refl)) is.2
+
+stepping_width : (id : ℕ) (old : ServiceState) (call : Call) (new : ServiceState) → IsStepping call → Happens old call new → SameWidth id old new
+stepping_width id old (Take t (Some job)) new steps is = changed id t old new (with_here None) (λ g. (refl, refl)) is.1
+stepping_width id old (Take t None) new steps is = unchanged id old new is.1
+stepping_width id old (Put done foreign (Ok (PutRecorded reply))) new steps is = changed id done.id old new (with_entry (step_entry done foreign reply)) (λ g. (refl, refl)) is.1
+stepping_width id old (Put done foreign (Ok PutFull)) new steps is = unchanged id old new is.1
+stepping_width id old (Put done foreign (Ok PutGone)) new steps is = unchanged id old new is.1
+stepping_width id old (Put done foreign (Err back)) new steps is = unchanged id old new is.2
+stepping_width id old (GiveBack job) new steps is = given_back id (live_of old.histories job.step.id) old new job is
+stepping_width id old (Admit width answer) new steps is = absurd steps
+stepping_width id old (Evict t answer) new steps is = absurd steps
+stepping_width id old (Move t offset answer) new steps is = absurd steps
+stepping_width id old (Tenant t command served) new steps is = absurd steps
+
+pub steps_width : (id : ℕ) (old : ServiceState) (calls : List Call) (new : ServiceState) → AreStepping calls → Run old calls new → SameWidth id old new
+steps_width id old [] new are run = unchanged id old new run
+steps_width id old (call ∷ calls) new are run = steps_width id run.0 calls new are.1 run.2 ∙ stepping_width id old call run.0 are.0 run.1
