@@ -6,8 +6,8 @@ use Rattle.std.proofs.lemmas.Grind.{flat_map-append}
 use Rattle.std.proofs.lemmas.List.{map_push}
 use Rattle.rr_graph.specs.Graph.{Basis}
 use Rattle.service_core.specs.declared.device.Device.{Device}
-use Rattle.service_core.specs.Headline.{AreParted, EachIsAlone}
-use Rattle.service_core.specs.Owners.{IsExactBook}
+use Rattle.service_core.specs.Headline.{AreOwnJournals, AreParted, EachIsAlone, IsBook}
+use Rattle.service_core.specs.Owners.{HasOneOwner}
 use Rattle.service_core.specs.Run.{Call, Run}
 use Rattle.service_core.specs.Service.{ServiceState, empty}
 use Rattle.fpgad_run.specs.declared.in_order.Running.{Running}
@@ -110,7 +110,9 @@ on_ok_value (Err e) f p = tt
 pub record IsHeadline : Type 0 where
   pub alone : (device : Device) (calls : List Call) (state : ServiceState) → Run (empty device) calls state → EachIsAlone device calls state
   pub parted : (device : Device) (calls : List Call) (state : ServiceState) → Run (empty device) calls state → AreParted device state
-  pub exact : (device : Device) (calls : List Call) (state : ServiceState) → Run (empty device) calls state → IsExactBook state
+  pub journals : (device : Device) (calls : List Call) (state : ServiceState) → Run (empty device) calls state → AreOwnJournals calls state
+  pub book : (device : Device) (calls : List Call) (state : ServiceState) → Run (empty device) calls state → IsBook device calls state
+  pub exact : (device : Device) (calls : List Call) (state : ServiceState) → Run (empty device) calls state → HasOneOwner state
   pub line : (device : Device) (before calls : List Call) (old new : ServiceState) (id : ℕ) (line : SessionLine) (answer : Answer) → Run (empty device) before old → Asks id line calls answer → Run old calls new → LineIsToldAlone device old id before calls line answer
 
 telling_alone : IsHeadline → (device : Device) (before : List Call) (old new : Stage) (act : Act (List ℕ)) (calls : List Call) (text : List ℕ) → Run (empty device) before old.service → IsAnswered old act calls text new → IsToldAlone device old before calls act text
@@ -149,6 +151,8 @@ replies_all options arch all running acts output headline p same is =
       runs = runs;
       alone = headline.alone _ _ _ runs;
       parted = headline.parted _ _ _ runs;
+      journals = headline.journals _ _ _ runs;
+      book = headline.book _ _ _ runs;
       exact = headline.exact _ _ _ runs;
       output_is = is ∙ ap (λ o. output_of o (sections_of running)) p.operator_text ∙ ap (λ ss. output_of (operator_texts p.tellings) ss) p.sections;
     }

@@ -6,8 +6,8 @@ use Rattle.arch_file.specs.declared.fault.ArchFault.{ArchFault}
 use Rattle.arch_file.specs.Arch.{arch_of}
 use Rattle.service_core.specs.declared.device.Device.{Device}
 use Rattle.service_core.specs.Service.{empty}
-use Rattle.service_core.specs.Headline.{AreParted, EachIsAlone}
-use Rattle.service_core.specs.Owners.{IsExactBook}
+use Rattle.service_core.specs.Headline.{AreOwnJournals, AreParted, EachIsAlone, IsBook}
+use Rattle.service_core.specs.Owners.{HasOneOwner}
 use Rattle.service_core.specs.Run.{Run}
 use Rattle.sessions.specs.Fitting.{own_graph}
 use Rattle.fpgad_run.specs.declared.options.Options.{Options}
@@ -47,7 +47,7 @@ abbrev pub device_of : Options → Arch → Device
 device_of options arch = record { arch = arch; columns = options.columns; rows = options.rows }
 
 -- the bytes are what a run of the acts from the empty device writes, over the device's own graph. Each session's line is told what its tenancy is told alone, by
--- the service for a single user; of the run's calls so is each tenancy, the strips are parted, and nothing has two owners
+-- the service for a single user; of the run's calls so is each tenancy, with its journal and what it owns, the strips are parted, and nothing has two owners
 pub record IsReplies (options : Options) (start : Start (List (Act (List ℕ)))) (output : List ℕ) : Type 0 where
   pub arch : Arch
   pub acts : List (Act (List ℕ))
@@ -59,8 +59,10 @@ pub record IsReplies (options : Options) (start : Start (List (Act (List ℕ))))
   pub each_alone : AreToldAlone (device_of options arch) (record { names = []; jobs = []; service = empty (device_of options arch); graph = own_graph (device_of options arch) }) [] tellings
   pub runs : Run (empty (device_of options arch)) (calls_of tellings) last.service
   pub alone : EachIsAlone (device_of options arch) (calls_of tellings) last.service
+  pub journals : AreOwnJournals (calls_of tellings) last.service
   pub parted : AreParted (device_of options arch) last.service
-  pub exact : IsExactBook last.service
+  pub book : IsBook (device_of options arch) (calls_of tellings) last.service
+  pub exact : HasOneOwner last.service
   pub output_is : output ≡ written tellings
 
 -- what the texts decide of how a run ends

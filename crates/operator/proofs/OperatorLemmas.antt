@@ -9,7 +9,8 @@ use Rattle.std.proofs.lemmas.List.{map_push, reverse-append, length-reverse, len
 use Rattle.rr_graph.specs.Graph.{Basis}
 use Rattle.tenant_slot.specs.declared.reply.StateName.{StateName}
 use Rattle.service_core.specs.declared.op_refusal.OpRefusal.{OpRefusal}
-use Rattle.service_core.specs.History.{History, closed, state_of}
+use Rattle.service_core.specs.History.{History, state_of}
+use Rattle.service_core.specs.Tenancy.{closed}
 use Rattle.service_core.specs.Service.{ServiceState, modified}
 use Rattle.service_core.specs.Calls.{IsAdmitted, IsEvicted, IsMoved}
 use Rattle.service_core.specs.Run.Call.{Admit as AdmitCall, Evict as EvictCall, Move as MoveCall}

@@ -24,4 +24,4 @@ served_runs old (Step name count) calls text new is = is.3
 served_runs old (Take name) calls text new is = is.2
 served_runs old (Put number) calls text new is = is.2
 served_runs old ListAll calls text new is = rw is.0 (ap (λ (s : Stage). s.service) is.2)
-served_runs old Owners calls text new is = rw is.2 (ap (λ (s : Stage). s.service) is.4)
+served_runs old Owners calls text new is = rw is.2 (new.service, (is.1, ap (λ (s : Stage). s.service) is.4), refl)

@@ -12,7 +12,7 @@ use Rattle.service_core.specs.declared.put_reply.PutReply.TheVariants.{Recorded 
 use Rattle.service_core.specs.Calls.{IsGivenBackTo}
 use Rattle.service_core.specs.History.{History}
 use Rattle.service_core.specs.Run.{Call, Happens, Run}
-use Rattle.service_core.specs.Run.Call.{Admit, Evict, Move, Tenant, Take, Put, GiveBack}
+use Rattle.service_core.specs.Run.Call.{Admit, Evict, Move, Tenant, Take, Put, GiveBack, Owners}
 use Rattle.service_core.specs.Service.{ServiceState, live_of, modified}
 use Rattle.sessions.specs.declared.line.SessionLine.{SessionLine}
 use Rattle.sessions.specs.declared.line.SessionLine.TheVariants.{Blank, Command, Wait, Refused}
@@ -70,6 +70,7 @@ lengths-happens old new (Put done foreign (Ok PutFull)) steady is = same old new
 lengths-happens old new (Put done foreign (Ok PutGone)) steady is = same old new is.1
 lengths-happens old new (Put done foreign (Err back)) steady is = same old new is.2
 lengths-happens old new (GiveBack job) steady is = given (live_of old.histories job.step.id) old new job is
+lengths-happens old new (Owners list) steady is = same old new is.1
 
 pub lengths-run : (old new : ServiceState) (calls : List Call) → AreSteady calls → Run old calls new → length old.histories ≡ length new.histories
 lengths-run old new [] steady run = same old new run

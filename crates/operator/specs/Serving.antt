@@ -6,7 +6,7 @@ use Rattle.job_state.specs.Job.{JobState}
 use Rattle.service_core.specs.declared.op_refusal.OpRefusal.{OpRefusal}
 use Rattle.service_core.specs.History.{History}
 use Rattle.service_core.specs.Run.{Call, Run}
-use Rattle.service_core.specs.Run.Call.{Admit as AdmitCall, Evict as EvictCall, Move as MoveCall, Take as TakeCall}
+use Rattle.service_core.specs.Run.Call.{Admit as AdmitCall, Evict as EvictCall, Move as MoveCall, Take as TakeCall, Owners as OwnersCall}
 use Rattle.service_core.specs.Calls.{IsAdmitted, IsEvicted, IsMoved}
 use Rattle.service_core.specs.Service.{ServiceState, live_of}
 use Rattle.script_text.specs.declared.operator_line.OperatorLine.{OperatorLine}
@@ -74,4 +74,4 @@ IsServed old (Put number) calls text new = (outcome : StepOutcome)
     × (new.graph ≡ old.graph) × (outcome ≢ Unfit)
 IsServed old ListAll calls text new = (calls ≡ []) × (text ≡ list_text old.service old.names) × (new ≡ old)
 IsServed old Owners calls text new = (owners : List Owned)
-    × ListsOwnersOf old.service owners × (calls ≡ []) × (text ≡ owners_text old.service.device.rows owners) × (new ≡ old)
+    × ListsOwnersOf old.service owners × (calls ≡ OwnersCall owners ∷ []) × (text ≡ owners_text old.service.device.rows owners) × (new ≡ old)

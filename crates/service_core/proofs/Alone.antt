@@ -1,29 +1,36 @@
 -- Each tenancy is served as if it were alone, over every run.
-use Rattle.std.proofs.Common.{◌≡◌, ℕ, ◌+◌, List, [], ◌∷◌, ◌++◌, length, map, Bool, true, false, eqb, Option, Some, None, Ok, Err, refl, sym, ap, ◌∙◌, subst, arith}
-use Rattle.std.specs.Prelude.{option_map, if◌then◌else◌, IfSome, IsSomeAnd}
+use Rattle.std.proofs.Common.{◌≡◌, ℕ, ◌+◌, List, [], ◌∷◌, ◌++◌, length, map, Bool, true, false, eqb, Option, Some, None, Ok, Err, append_assoc, append-nil, refl, sym, ap, ◌∙◌, subst, arith}
+use Rattle.std.specs.Prelude.{◌↔◌, is_some, option_map, if◌then◌else◌, IfSome, IsSomeAnd}
+use Rattle.std.specs.List.{filter}
 use Rattle.std.proofs.lemmas.Bool.Decides.{nat_tests, Decides-eqb}
-use Rattle.std.proofs.lemmas.List.{map-append}
+use Rattle.std.proofs.lemmas.List.{map-append, map_push}
+use Rattle.std.proofs.lemmas.List.Elements.{filter-append}
 use Rattle.grid.specs.declared.Strip.{Strip}
+use Rattle.rr_graph.specs.declared.resource.Resource.{Resource}
+use Rattle.rr_graph.specs.Resources.{has, moved_resource}
+use Rattle.strips.specs.Plan.{offset_of}
 use Rattle.job_state.specs.Job.{JobState}
 use Rattle.tenant_slot.specs.declared.event.Event.{Event}
 use Rattle.tenant_slot.specs.declared.event.Event.TheVariants.{Command as Asked}
 use Rattle.tenant_slot.specs.declared.reply.Reply.{Reply}
+use Rattle.tenant_slot.specs.RoutedSet.{routed_set}
 use Rattle.tenant_slot.specs.SingleUser.{State, start, step, state_after, replies_to, run}
 use Rattle.tenant_slot.proofs.Runs.{state_after-append, replies_to-append, step-full}
 use Rattle.service_core.specs.declared.device.Device.{Device}
 use Rattle.service_core.specs.declared.entry.Entry.{Entry}
 use Rattle.service_core.specs.declared.not_served.NotServed.TheVariants.{NoMemory, JournalFull, NoSuchTenancy}
 use Rattle.service_core.specs.declared.put_reply.PutReply.TheVariants.{Recorded, Full, Gone}
-use Rattle.service_core.specs.History.{History, closed, events_of, state_of, with_entry, with_here}
+use Rattle.service_core.specs.History.{History, events_of, state_of, with_entry, with_here}
+use Rattle.service_core.specs.Tenancy.{closed}
 use Rattle.service_core.specs.Service.{AreAlone, IsAloneOn, ServiceState, admitted, empty, entries_in, history_of, journal_of, live_of, modified, strip_on, with_entry_of, with_here_of, with_tenancy}
 use Rattle.service_core.specs.Calls.{IsGivenBackTo, IsStepOf, step_entry, step_event}
 use Rattle.service_core.proofs.MovedStrips.{same_histories}
-use Rattle.service_core.specs.Run.{Call, Admit, Evict, GiveBack, Happens, Move, Put, Run, Take, Tenant}
+use Rattle.service_core.specs.Run.{Call, Admit, Evict, GiveBack, Happens, Move, Owners, Put, Run, Take, Tenant}
 use Rattle.service_core.specs.OwnEvents.{if_own, own_exchange, own_exchanges, own_events, own_replies}
-use Rattle.service_core.specs.Headline.{EachIsAlone}
+use Rattle.service_core.specs.Headline.{AreOwnJournals, EachIsAlone, IsBook}
 use Rattle.service_core.proofs.Lists.{history_of-past, history_of-modified, history_of-push, All-history_of}
 use Rattle.service_core.proofs.Histories.{state_after-push}
-use Rattle.service_core.proofs.Keeps.{IsService-empty}
+use Rattle.service_core.proofs.Keeps.{IsService-empty, if_live_some}
 use Rattle.service_core.proofs.Effects.{Admitted, Effect, Entered, Evicted, IsNext, Kept, Moved, Nothing, Turned, effect, kept_after, of_live, run_device, run_keeps, served_entry, served_next}
 
 -- the journals after each call
@@ -63,14 +70,22 @@ asked xs = map (λ x. x.0) xs
 abbrev told : List (Event × Option Reply) → List (Option Reply)
 told xs = map (λ x. x.1) xs
 
+-- the entries of a journal, and which exchanges are recorded
+abbrev recorded : List Entry → List (Event × Option Reply)
+recorded entries = map (λ (entry : Entry). (entry.event, Some entry.reply)) entries
+
+abbrev has_reply : Event × Option Reply → Bool
+has_reply x = is_some x.1
+
 -- between two states of the service a tenancy asked and was told just this
 record Exchanged (first : State) (old new : ServiceState) (id : ℕ) (xs : List (Event × Option Reply)) : Type 0 where
   replies : told xs ≡ replies_to (alone first old id) (asked xs)
   state : alone first new id ≡ state_after (alone first old id) (asked xs)
+  journal : recorded (journal_of new id) ≡ recorded (journal_of old id) ++ filter has_reply xs
 
 -- nothing was asked, and the journal stayed
 same_journal : (first : State) (old new : ServiceState) (id : ℕ) → journal_of new id ≡ journal_of old id → Exchanged first old new id []
-same_journal first old new id same = record { replies = refl; state = ap (λ es. state_after first (events_of es)) same }
+same_journal first old new id same = record { replies = refl; state = ap (λ es. state_after first (events_of es)) same; journal = ap recorded same ∙ sym (append-nil (recorded (journal_of old id))) }
 
 -- an entry is what was asked and told
 own_entry : (first : State) (old new : ServiceState) (id : ℕ) (h : History) (e : Entry) → IsNext old id e h → new ≡ with_entry_of old id e → HasFirst first old id → Exchanged first old new id ((e.event, Some e.reply) ∷ [])
@@ -82,6 +97,7 @@ own_entry first old new id h e next changes has =
     record {
       replies = rw (was, reply) refl;
       state = rw (was, is) (state_after-push first h.entries e);
+      journal = rw (was, is) (map_push (λ (entry : Entry). (entry.event, Some entry.reply)) h.entries e);
     }
 
 -- where the journal is full, it is told nothing
@@ -97,6 +113,7 @@ own_full first old new id event limit same alone_all has =
     record {
       replies = rw (was, stays) refl;
       state = rw (same, was) (sym (ap (λ (p : State × Option Reply). p.0) stays));
+      journal = ap (λ s. recorded (journal_of s id)) same ∙ sym (append-nil (recorded (journal_of old id)));
     }
 
 -- an event of this tenancy or of another
@@ -151,6 +168,7 @@ exchanged first old (Put done foreign (Ok Full)) new id happens alone_all has = 
 exchanged first old (Put done foreign (Ok Gone)) new id happens alone_all has = unchanged first old new id happens.1
 exchanged first old (Put done foreign (Err back)) new id happens alone_all has = unchanged first old new id happens.2
 exchanged first old (GiveBack job) new id happens alone_all has = given first old job new id (live_of old.histories job.step.id) happens
+exchanged first old (Owners list) new id happens alone_all has = unchanged first old new id happens.1
 
 -- a tenancy keeps its first state
 first_in-change : (first : State) (change : History → History) → ((h : History) → first_of (change h) ≡ first_of h) → (o : Option History) → IfSome (option_map change o) (λ h. first_of h ≡ first) → IfSome o (λ h. first_of h ≡ first)
@@ -192,6 +210,9 @@ Exchanged-append first old mid new id xs ys one rest =
     record {
       replies = rw (answers, both, replies_to-append (alone first old id) (asked xs) (asked ys), one.replies, rest.replies, one.state) refl;
       state = rw (both, state_after-append (alone first old id) (asked xs) (asked ys), ← one.state) rest.state;
+      journal = rest.journal
+          ∙ (ap (λ es. es ++ filter has_reply ys) one.journal
+          ∙ (append_assoc (recorded (journal_of old id)) (filter has_reply xs) (filter has_reply ys) ∙ ap (λ es. recorded (journal_of old id) ++ es) (sym (filter-append has_reply xs ys))));
     }
 
 run_exchanged : (first : State) (old : ServiceState) (calls : List Call) (new : ServiceState) (id : ℕ) → Run old calls new → Kept old → HasFirst first new id → Exchanged first old new id (own_exchanges id calls)
@@ -218,3 +239,35 @@ each_alone device calls state runs id = by_history (history_of state.histories i
         let on : IsAloneOn device h = rw (run_device (empty device) calls state runs) at (All-history_of (IsAloneOn state.device) state.histories id h e kept.alone) in
         let first : first_of h ≡ start device.arch (strip_on device h.strip.width) = first_on device h on in
         rw (after, answers, first) refl
+
+-- each journal is what the tenancy asked and was told, and was recorded
+pub own_journals : (device : Device) (calls : List Call) (state : ServiceState) → Run (empty device) calls state → AreOwnJournals calls state
+own_journals device calls state runs id = by_history (history_of state.histories id) refl
+  where
+    by_history : (o : Option History) → history_of state.histories id ≡ o → IfSome o (λ h. map (λ entry. (entry.event, Some entry.reply)) h.entries ≡ filter (λ exchange. is_some exchange.1) (own_exchanges id calls))
+    by_history None e = tt
+    by_history (Some h) e =
+        let its : Exchanged (first_of h) (empty device) state id (own_exchanges id calls) = run_exchanged (first_of h) (empty device) calls state id runs (IsService-empty device) (rw e refl) in
+        ap (λ o. recorded (entries_in o)) (sym e) ∙ its.journal
+
+-- a live tenancy is in the state that its own events lead to alone
+pub state_alone : (device : Device) (calls : List Call) (state : ServiceState) (id : ℕ) (h : History) → Run (empty device) calls state → live_of state.histories id ≡ Some h →
+    state_of h ≡ (run device.arch (strip_on device h.strip.width) (own_events id calls)).0
+state_alone device calls state id h runs live =
+    let here : history_of state.histories id ≡ Some h = if_live_some (history_of state.histories id) h live in
+    let P : Option History → Type 0 = λ o. IfSome o (λ h. (state_of h, own_replies id calls) ≡ run device.arch (strip_on device h.strip.width) (own_events id calls)) in
+    let alone : (state_of h, own_replies id calls) ≡ run device.arch (strip_on device h.strip.width) (own_events id calls) = subst P here (each_alone device calls state runs id) in
+    ap (λ (p : State × List (Option Reply)). p.0) alone
+
+-- and owns what that state has routed
+abbrev HoldsAt : ServiceState → ℕ → Resource → State → Type 0
+HoldsAt state id resource s = IsSomeAnd (offset_of state.plan.strips id) (λ offset. has (map (moved_resource offset) (routed_set s)) resource ≡ true)
+
+pub is_book : (device : Device) (calls : List Call) (state : ServiceState) → Run (empty device) calls state → IsBook device calls state
+is_book device calls state runs resource id = by_live (live_of state.histories id) refl
+  where
+    by_live : (o : Option History) → live_of state.histories id ≡ o → IsSomeAnd o (λ h. HoldsAt state id resource (state_of h)) ↔ IsSomeAnd o (λ h. HoldsAt state id resource (run device.arch (strip_on device h.strip.width) (own_events id calls)).0)
+    by_live None e = ((λ never. never), (λ never. never))
+    by_live (Some h) e =
+        let same = state_alone device calls state id h runs e in
+        ((λ is. subst (HoldsAt state id resource) same is), (λ is. subst (HoldsAt state id resource) (sym same) is))

@@ -29,12 +29,12 @@ use Rattle.tenant_slot.specs.RoutedSet.{routed_set}
 use Rattle.tenant_slot.specs.SingleUser.{State, start, step}
 use Rattle.service_core.specs.declared.device.Device.{Device}
 use Rattle.service_core.specs.declared.entry.Entry.{Entry}
-use Rattle.service_core.specs.History.{History, closed, state_of, with_entry, with_here}
+use Rattle.service_core.specs.History.{History, state_of, with_entry, with_here}
 use Rattle.service_core.specs.Headline.{AreParted}
-use Rattle.service_core.specs.Service.{AreAlone, IsAloneOn, ServiceState, admitted, history_of, if_live, live_of, live_width, modified, placed_width, strip_on}
+use Rattle.service_core.specs.Service.{AreAlone, IsAloneOn, ServiceState, admitted, history_of, live_of, live_width, modified, placed_width, strip_on}
 use Rattle.service_core.specs.Calls.{step_entry}
-use Rattle.service_core.specs.Owners.{IsExactBook, ListsOwnersOf}
-use Rattle.service_core.specs.Tenancy.{GivesHistoryBack, GivesUp, GivesUpOrKeeps, PutsHistory, ServesHistory, StandsIn, TakesHistory}
+use Rattle.service_core.specs.Owners.{HasOneOwner, ListsOwnersOf}
+use Rattle.service_core.specs.Tenancy.{GivesHistoryBack, GivesUp, GivesUpOrKeeps, PutsHistory, ServesHistory, StandsIn, TakesHistory, closed, if_live}
 use Rattle.service_core.specs.Kept.{AreFree, IsDevice, IsLiveIn, IsSound, KeepsBook, TakesUp, held_at}
 use Rattle.service_core.proofs.Lists.{All-history_of}
 use Rattle.service_core.proofs.Histories.{state_after-push}
@@ -43,7 +43,7 @@ use Rattle.service_core.proofs.Serving.{IsService-given, IsService-put, IsServic
 use Rattle.service_core.proofs.Held.{HeldAfter, IsOnStrip, StepHeld, command_held, step_held}
 use Rattle.service_core.proofs.Holdings.{all_had, has_all, moved_same, owned_same}
 use Rattle.service_core.proofs.Exact.{exact_claimed, exact_released, exact_same}
-use Rattle.service_core.proofs.Owning.{admitted_owned, evicted_other, evicted_owned, in_window, nobody_else, own_owned, owned_in, same_owned, set_live_of, set_other}
+use Rattle.service_core.proofs.Owning.{admitted_owned, evicted_other, evicted_owned, in_window, nobody_else, own_owned, owned_in, owner_has, same_owned, set_live_of, set_other}
 use Rattle.service_core.proofs.There.{nobody_owns, stands}
 
 abbrev pub state_on : Device → List PlacedStrip → List History → ServiceState
@@ -325,12 +325,15 @@ pub in_book_there : (book : Owners) (device : Device) (offset : ℕ) (h : Histor
 in_book_there book device offset h extent stand = subst (λ e. StandsIn e offset h.arch h.strip) (sym extent) stand
 
 -- the book has one owner of each
-pub one_in_book : (book : Owners) (state : ServiceState) → KeepsBook book state → IsExactBook state
-one_in_book book state keeps = λ r id other is is_other. same_Some _ _ (sym ((keeps.exact r id).1 is) ∙ (keeps.exact r other).1 is_other)
+pub one_in_book : (book : Owners) (state : ServiceState) → KeepsBook book state → HasOneOwner state
+one_in_book book state keeps = λ r id other is is_other. same_Some _ _ (sym ((keeps.exact r id).1 ((owner_has state r id).0 is)) ∙ (keeps.exact r other).1 ((owner_has state r other).0 is_other))
 
 -- and lists them
 pub listed_owners : (book : Owners) (state : ServiceState) (list : List Owned) → KeepsBook book state → ListsOwners book list → ListsOwnersOf state list
 listed_owners book state list keeps listed = record {
   in_order = listed.in_order;
-  exact = λ owned. ((λ within. (keeps.exact owned.resource owned.id).0 ((listed.exact owned).0 within)), (λ is. (listed.exact owned).1 ((keeps.exact owned.resource owned.id).1 is)));
+  exact = λ owned. (
+    (λ within. (owner_has state owned.resource owned.id).1 ((keeps.exact owned.resource owned.id).0 ((listed.exact owned).0 within))),
+    (λ is. (listed.exact owned).1 ((keeps.exact owned.resource owned.id).1 ((owner_has state owned.resource owned.id).0 is))),
+  );
 }

@@ -12,9 +12,9 @@ use Rattle.service_core.specs.declared.not_served.NotServed.TheVariants.{NoMemor
 use Rattle.service_core.specs.declared.put_reply.PutReply.TheVariants.{Recorded, Full, Gone}
 use Rattle.service_core.specs.History.{History, state_of}
 use Rattle.service_core.specs.Receipt.{Receipted}
-use Rattle.service_core.specs.Service.{ServiceState, history_of, live_of, with_entry_of, with_offset_of, with_here_of, with_tenancy, without_tenancy}
+use Rattle.service_core.specs.Service.{ServiceState, history_of, live_of, with_entry_of, with_here_of, with_tenancy, without_tenancy}
 use Rattle.service_core.specs.Calls.{CanAdmit, IsGivenBackTo, IsReceipt, IsStepOf, step_entry}
-use Rattle.service_core.specs.Run.{Call, Admit, Evict, GiveBack, Happens, Move, Put, Run, Take, Tenant}
+use Rattle.service_core.specs.Run.{Call, Admit, Evict, GiveBack, Happens, Move, Owners, Put, Run, Take, Tenant}
 use Rattle.service_core.specs.Kept.{IsService}
 use Rattle.service_core.proofs.Keeps.{IsService-admitted, IsService-entry, IsService-evicted, IsService-here, if_live_some}
 use Rattle.service_core.proofs.MovedStrips.{IsService-moved}
@@ -23,6 +23,10 @@ use Rattle.service_core.proofs.MovedStrips.{IsService-moved}
 pub record IsNext (old : ServiceState) (id : ℕ) (e : Entry) (h : History) : Type 0 where
   pub here : history_of old.histories id ≡ Some h
   pub told : (step (state_of h) e.event).1 ≡ Some e.reply
+
+-- that tenancy's strip at that offset
+abbrev pub with_offset_of : ServiceState → ℕ → ℕ → ServiceState
+with_offset_of state id offset = record state { plan = with_moved state.plan id offset }
 
 pub data Effect (old new : ServiceState) : Type 0 where
   Nothing : new ≡ old → Effect old new
@@ -80,6 +84,7 @@ effect old (Put done foreign (Ok Full)) new happens = Nothing happens.1
 effect old (Put done foreign (Ok Gone)) new happens = Nothing happens.1
 effect old (Put done foreign (Err back)) new happens = Nothing happens.2
 effect old (GiveBack job) new happens = given_effect (live_of old.histories job.step.id) old job new happens
+effect old (Owners list) new happens = Nothing happens.1
 
 -- the device stays
 effect_device : (old new : ServiceState) → Effect old new → new.device ≡ old.device

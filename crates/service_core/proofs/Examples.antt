@@ -12,10 +12,11 @@ use Rattle.service_core.specs.declared.device.Device.{Device}
 use Rattle.service_core.specs.declared.not_served.NoteCause.TheVariants as cause
 use Rattle.service_core.specs.declared.not_served.NotServed.TheVariants.{NoMemory, JournalFull, NoSuchTenancy}
 use Rattle.service_core.specs.declared.put_reply.PutReply.TheVariants.{Recorded, Full, Gone}
-use Rattle.service_core.specs.History.{History, closed}
+use Rattle.service_core.specs.History.{History}
+use Rattle.service_core.specs.Tenancy.{closed}
 use Rattle.service_core.specs.Calls.{step_event}
 use Rattle.service_core.specs.Service.{admitted, empty, history_of, live_of, modified, strip_on, with_tenancy, without_tenancy}
-use Rattle.service_core.specs.Run.{Call, Admit, Evict, GiveBack, Put, Take, Tenant}
+use Rattle.service_core.specs.Run.{Call, Admit, Evict, GiveBack, Owners, Put, Take, Tenant}
 use Rattle.service_core.specs.OwnEvents.{own_events, own_replies}
 
 -- the strip of a tenancy has its own width, and the device's rows and pads
@@ -46,7 +47,7 @@ admitted_and_evicted : (device : Device) →
 admitted_and_evicted device = refl
 
 -- a tenancy's own events are its served commands, and those that found its journal full; not what others asked, nor what found
--- no memory or no tenancy
+-- no memory or no tenancy, nor a look at the book
 abbrev calls : List Call
 calls =
     Admit 1 (Ok (1, 0))
@@ -54,6 +55,7 @@ calls =
     ∷ Tenant 2 Status (Err (NoSuchTenancy (record { id = 2; cause = cause.NoSuchTenancy })))
     ∷ Tenant 1 Status (Err NoMemory)
     ∷ Tenant 1 Status (Err (JournalFull (record { id = 1; cause = cause.JournalFull })))
+    ∷ Owners []
     ∷ Evict 1 (Ok tt)
     ∷ []
 

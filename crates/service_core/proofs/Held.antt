@@ -29,7 +29,8 @@ use Rattle.tenant_slot.specs.declared.reply.StepReply.{StepReply}
 use Rattle.tenant_slot.specs.declared.reply.StepReply.TheVariants.{Advanced, Finished, Stale}
 use Rattle.tenant_slot.specs.Results.{failure_of}
 use Rattle.tenant_slot.specs.RoutedSet.{held_in, routed_set}
-use Rattle.tenant_slot.specs.SingleUser.{State, advance, advanced, after, answer_to, at_rest, begun, begun_placing, circuit_in, emptied, finished, go_on, is_lawful, is_next, keeping, load, loaded, misfit_of, net, pack, pack_unless, place, place_unless, risen, routed_unless, running, serve, sources_of, start, state_after, step, stopped}
+use Rattle.tenant_slot.specs.SingleUser.{State, advance, advanced, after, answer_to, at_rest, begun, begun_placing, circuit_in, emptied, finished, go_on, is_lawful, is_next, keeping, loaded, misfit_of, pack_unless, place_unless, risen, routed_unless, running, serve, sources_of, start, state_after, step, stopped}
+use Rattle.tenant_slot.proofs.Leading.{load, net, pack, placing}
 use Rattle.tenant_slot.proofs.Runs.{step-room, step-served}
 
 -- the state of that name holds nothing
@@ -110,7 +111,7 @@ pack_changes state (Ok circuit) = unless (unfit_of circuit state.arch)
     unless None = (record { arch_is = refl; strip_is = refl }, nothing_in (begun state Packing) Packing refl refl)
     unless (Some ble) = tt
 
-place_changes : (state : State) (seed effort : ℕ) (circuit : Result Circuit BlifFault) → Answered state (place state seed effort circuit)
+place_changes : (state : State) (seed effort : ℕ) (circuit : Result Circuit BlifFault) → Answered state (placing state seed effort circuit)
 place_changes state seed effort (Err fault) = tt
 place_changes state seed effort (Ok circuit) = by_effort (nat_lt 100 effort)
   where

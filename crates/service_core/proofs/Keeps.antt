@@ -11,8 +11,9 @@ use Rattle.strips.proofs.Laid.{strip_of-without, strip_of-push}
 use Rattle.tenant_slot.specs.SingleUser.{step}
 use Rattle.service_core.specs.declared.device.Device.{Device}
 use Rattle.service_core.specs.declared.entry.Entry.{Entry}
-use Rattle.service_core.specs.History.{History, IsReplayed, closed, state_of, with_entry, with_here}
-use Rattle.service_core.specs.Service.{IsAloneOn, admitted, history_of, if_live, live_of, modified, placed_width, strip_on}
+use Rattle.service_core.specs.History.{History, IsReplayed, state_of, with_entry, with_here}
+use Rattle.service_core.specs.Tenancy.{closed, if_live}
+use Rattle.service_core.specs.Service.{IsAloneOn, admitted, history_of, live_of, modified, placed_width, strip_on}
 use Rattle.service_core.specs.Kept.{IsLiveIn, IsService}
 use Rattle.service_core.proofs.Lists.{history_of-past, history_of-modified, history_of-push, length-modified, All-modified, set-modified}
 use Rattle.service_core.proofs.Histories.{IsReplayed-push}

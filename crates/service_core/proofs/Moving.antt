@@ -15,8 +15,7 @@ use Rattle.device_book.specs.Owners.{IsNoOneElses, Owners, OwnsJust, Shifts, ext
 use Rattle.tenant_slot.specs.RoutedSet.{routed_set}
 use Rattle.service_core.specs.declared.device.Device.{Device}
 use Rattle.service_core.specs.History.{History, state_of}
-use Rattle.service_core.specs.Kept.{IsLiveIn, IsSound, held_at}
-use Rattle.service_core.specs.Owners.{placed_at, routed_in}
+use Rattle.service_core.specs.Kept.{IsLiveIn, IsSound, held_at, placed_at, routed_in}
 use Rattle.service_core.specs.Service.{live_of}
 use Rattle.service_core.specs.Tenancy.{StandsIn}
 use Rattle.service_core.proofs.Booking.{its_width, placed_strip, stands_there}

@@ -1,6 +1,6 @@
 -- Who owns what after each change, and that nothing has two owners.
 use Rattle.std.proofs.Common.{◌≡◌, ◌≢◌, inl, inr, ℕ, ◌+◌, ◌-◌, ◌≤◌, List, [], ◌∷◌, ◌++◌, length, get_or, map, Bool, true, false, nat_le, eqb, Option, Some, None, refl, sym, ap, ◌∙◌, arith}
-use Rattle.std.specs.Prelude.{option_map, if◌then◌else◌}
+use Rattle.std.specs.Prelude.{◌↔◌, IsSomeAnd, option_map, if◌then◌else◌}
 use Rattle.std.proofs.Math.ListN.{set}
 use Rattle.std.proofs.lemmas.Bool.Decides.{Decides-eqb}
 use Rattle.std.proofs.lemmas.Bool.{and_parts, false≢true, leb-true}
@@ -14,10 +14,11 @@ use Rattle.strips.proofs.Laid.{apart_of, strip_of-without, strip_of-push}
 use Rattle.tenant_slot.specs.RoutedSet.{routed_set}
 use Rattle.tenant_slot.specs.SingleUser.{start}
 use Rattle.service_core.specs.declared.device.Device.{Device}
-use Rattle.service_core.specs.History.{History, closed, events_of, state_of}
-use Rattle.service_core.specs.Service.{ServiceState, admitted, history_of, if_live, live_of, live_width, modified, placed_width}
-use Rattle.service_core.specs.Owners.{IsExactBook, placed_at, routed_in}
-use Rattle.service_core.specs.Kept.{IsLiveIn, IsService}
+use Rattle.service_core.specs.History.{History, events_of, state_of}
+use Rattle.service_core.specs.Tenancy.{closed, if_live}
+use Rattle.service_core.specs.Service.{ServiceState, admitted, history_of, live_of, live_width, modified, placed_width}
+use Rattle.service_core.specs.Owners.{HasOneOwner, IsOwner}
+use Rattle.service_core.specs.Kept.{IsLiveIn, IsService, placed_at, routed_in}
 use Rattle.service_core.proofs.Lists.{history_of-modified, history_of-past, history_of-push}
 use Rattle.service_core.proofs.Keeps.{history-live, no_strip-next, set-live}
 use Rattle.service_core.proofs.Held.{events_stay, start_holds}
@@ -160,11 +161,21 @@ nobody_else plan hs id k s r parted linked found from to is differ =
     apart s t at (inl before) from to = omega (arith, before, from, at.to)
     apart s t at (inr after) from to = omega (arith, after, to, at.from)
 
+-- an owner has what its tenancy holds, where its strip stands
+pub owner_has : (state : ServiceState) (r : Resource) (id : ℕ) → IsOwner state r id ↔ (has (owned_in state.plan.strips state.histories id) r ≡ true)
+owner_has state r id = by_both (live_of state.histories id) (offset_of state.plan.strips id)
+  where
+    by_both : (o : Option History) (at : Option ℕ) → IsSomeAnd o (λ h. IsSomeAnd at (λ offset. has (map (moved_resource offset) (routed_set (state_of h))) r ≡ true)) ↔ (has (placed_at at (routed_in o)) r ≡ true)
+    by_both None None = ((λ never. absurd never), (λ never. absurd (false≢true never)))
+    by_both None (Some offset) = ((λ never. absurd never), (λ never. absurd (false≢true never)))
+    by_both (Some h) None = ((λ never. absurd never), (λ never. absurd (false≢true never)))
+    by_both (Some h) (Some offset) = ((λ is. is), (λ is. is))
+
 -- nothing has two owners
-pub one_owner : (state : ServiceState) → IsParted state.plan → ((j : ℕ) → placed_width state.plan.strips j ≡ live_width state.histories j) → IsExactBook state
+pub one_owner : (state : ServiceState) → IsParted state.plan → ((j : ℕ) → placed_width state.plan.strips j ≡ live_width state.histories j) → HasOneOwner state
 one_owner state parted linked = λ r id other is is_other.
-    let at = owns_at state.plan.strips state.histories id r (linked id) is in
-    by_id r id other at (eqb other id) refl is_other
+    let at = owns_at state.plan.strips state.histories id r (linked id) ((owner_has state r id).0 is) in
+    by_id r id other at (eqb other id) refl ((owner_has state r other).0 is_other)
   where
     by_id : (r : Resource) (id other : ℕ) → ((s : PlacedStrip) × OwnsAt state.plan.strips id r s) → (b : Bool) → eqb other id ≡ b → has (owned_in state.plan.strips state.histories other) r ≡ true → id ≡ other
     by_id r id other at true e is = sym ((Decides-eqb other id).0 e)

@@ -1,5 +1,5 @@
 -- What a call of a live tenancy makes of the core.
-use Rattle.std.proofs.Common.{◌≡◌, ℕ, ◌-◌, ◌<◌, List, length, get_or, true, false, Result, Ok, Err, Option, Some, None, refl, ap, subst}
+use Rattle.std.proofs.Common.{◌≡◌, ℕ, ◌-◌, ◌<◌, List, length, get_or, false, Result, Ok, Err, Option, Some, None, refl, ap, subst}
 use Rattle.std.specs.Prelude.{IsSomeAnd}
 use Rattle.std.specs.declared.alloc.AllocError.{AllocError}
 use Rattle.std.proofs.Math.ListN.{set}

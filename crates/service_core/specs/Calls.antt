@@ -1,5 +1,5 @@
 -- What each call may answer, with the states before and after it. A refused call changes nothing.
-use Rattle.std.specs.Prelude.{ℕ, ◌≡◌, ◌+◌, ◌<◌, length, Bool, true, false, Option, Some, None, IsSome, IsSomeAnd, Result, Ok, Err, ⊤}
+use Rattle.std.specs.Prelude.{ℕ, ◌≡◌, ◌+◌, ◌<◌, length, Bool, true, false, Option, Some, None, IfSome, IsSome, IsSomeAnd, Result, Ok, Err, ⊤}
 use Rattle.std.specs.declared.alloc.AllocError.{AllocError}
 use Rattle.strips.specs.Plan.{IsFirstFit, IsParted, is_bad_width, with_moved}
 use Rattle.job_state.specs.declared.step.JobStep.{JobStep}
@@ -23,7 +23,7 @@ use Rattle.service_core.specs.declared.put_reply.PutReply.{PutReply}
 use Rattle.service_core.specs.declared.put_reply.PutReply.TheVariants.{Recorded, Full, Gone}
 use Rattle.service_core.specs.History.{History, slot_of, state_of, with_here}
 use Rattle.service_core.specs.Receipt.{Receipted}
-use Rattle.service_core.specs.Service.{ServiceState, live_of, with_entry_of, with_offset_of, with_here_of, with_tenancy, without_tenancy}
+use Rattle.service_core.specs.Service.{ServiceState, live_of, with_entry_of, with_here_of, with_tenancy, without_tenancy}
 
 -- a tenancy of that width is admitted, if there is room and memory
 pub record CanAdmit (state : ServiceState) (width : ℕ) : Type 0 where
@@ -53,7 +53,7 @@ IsEvicted old id (Err refusal) new = (refusal ≡ NoSuchTenancy) × (live_of old
 
 -- a strip moves just where its tenancy is live and the strips are parted with it at that offset; the columns that it leaves don't count
 abbrev pub IsMoved : ServiceState → ℕ → ℕ → Result (Unit {0}) OpRefusal → ServiceState → Type 0
-IsMoved old id offset (Ok nothing) new = IsSome (live_of old.histories id) × IsParted (with_moved old.plan id offset) × (new ≡ with_offset_of old id offset)
+IsMoved old id offset (Ok nothing) new = IsSome (live_of old.histories id) × IsParted (with_moved old.plan id offset) × (new ≡ record old { plan = with_moved old.plan id offset })
 IsMoved old id offset (Err NoSuchTenancy) new = (live_of old.histories id ≡ None) × (new ≡ old)
 IsMoved old id offset (Err NoRoom) new = IsSome (live_of old.histories id) × (IsParted (with_moved old.plan id offset) → ⊥) × (new ≡ old)
 IsMoved old id offset (Err refusal) new = ⊥
@@ -78,7 +78,7 @@ takeable_in (Some h) = is_takeable (slot_of h)
 -- a job is given exactly where there is a step to take. It is that step, made just where it came back made, and is out then
 abbrev pub IsTaken : ServiceState → ℕ → Option JobState → ServiceState → Type 0
 IsTaken old id (Some job) new = IsSomeAnd (live_of old.histories id) (λ h. (h.id ≡ id) × (is_takeable (slot_of h) ≡ true) × (next_job (slot_of h) ≡ Some job.step) × (h.here ≡ Some job.made)) × (new ≡ with_here_of old id None)
-IsTaken old id None new = (takeable_in (live_of old.histories id) ≡ false) × (new ≡ old)
+IsTaken old id None new = IfSome (live_of old.histories id) (λ h. is_takeable (slot_of h) ≡ false) × (new ≡ old)
 
 -- the step is the next one of a live tenancy's running job: the tenancy, the generation, the number and all sources are its own
 abbrev pub IsNextStep : ServiceState → JobStep → Type 0

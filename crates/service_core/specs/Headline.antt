@@ -1,24 +1,38 @@
 -- What the main theorem says of a list of calls and the state after it.
-use Rattle.std.specs.Prelude.{ℕ, ◌≡◌, List, Option, Some, IfSome}
-use Rattle.strips.specs.Plan.{IsParted}
+use Rattle.std.specs.Prelude.{ℕ, ◌≡◌, List, map, Option, Some, is_some, option_map, true, IfSome, IsSomeAnd, ◌↔◌}
+use Rattle.std.specs.List.{filter}
+use Rattle.rr_graph.specs.declared.resource.Resource.{Resource}
+use Rattle.rr_graph.specs.Resources.{has, moved_resource}
+use Rattle.strips.specs.Plan.{IsParted, offset_of, strip_of}
 use Rattle.tenant_slot.specs.declared.reply.StepReply.{StepReply}
 use Rattle.tenant_slot.specs.declared.reply.StepReply.TheVariants.{Advanced, Finished, Stale}
+use Rattle.tenant_slot.specs.RoutedSet.{routed_set}
 use Rattle.tenant_slot.specs.SingleUser.{run}
 use Rattle.service_core.specs.declared.device.Device.{Device}
 use Rattle.service_core.specs.History.{History, state_of}
-use Rattle.service_core.specs.Service.{ServiceState, history_of, live_width, placed_width, strip_on}
+use Rattle.service_core.specs.Owners.{IsOwner}
+use Rattle.service_core.specs.Service.{ServiceState, history_of, live_of, strip_on}
 use Rattle.service_core.specs.Run.{Call}
-use Rattle.service_core.specs.OwnEvents.{own_events, own_replies}
+use Rattle.service_core.specs.OwnEvents.{own_events, own_exchanges, own_replies}
 
 -- each tenancy's state, and what it was told, are what its own events lead to alone, on a device of its strip's size
 abbrev pub EachIsAlone : Device → List Call → ServiceState → Type 0
 EachIsAlone device calls state = (id : ℕ) → IfSome (history_of state.histories id) (λ h. (state_of h, own_replies id calls) ≡ run device.arch (strip_on device h.strip.width) (own_events id calls))
 
+-- a tenancy owns just what the state that its own events lead to alone has routed, where its strip stands on the device, while it is live
+abbrev pub IsBook : Device → List Call → ServiceState → Type 0
+IsBook device calls state = (resource : Resource) (id : ℕ) → IsOwner state resource id
+    ↔ IsSomeAnd (live_of state.histories id) (λ h. IsSomeAnd (offset_of state.plan.strips id) (λ offset. has (map (moved_resource offset) (routed_set (run device.arch (strip_on device h.strip.width) (own_events id calls)).0)) resource ≡ true))
+
+-- each journal is its tenancy's own events with their replies, less those that weren't recorded
+abbrev pub AreOwnJournals : List Call → ServiceState → Type 0
+AreOwnJournals calls state = (id : ℕ) → IfSome (history_of state.histories id) (λ h. map (λ entry. (entry.event, Some entry.reply)) h.entries ≡ filter (λ exchange. is_some exchange.1) (own_exchanges id calls))
+
 -- the strips of the live tenancies, each of its width, stand on the device, and between two of them a column lies unused
 pub record AreParted (device : Device) (state : ServiceState) : Type 0 where
   pub columns : state.plan.columns ≡ device.columns
   pub parted : IsParted state.plan
-  pub of_live : (id : ℕ) → placed_width state.plan.strips id ≡ live_width state.histories id
+  pub of_live : (id : ℕ) → option_map (λ s. s.width) (strip_of state.plan.strips id) ≡ option_map (λ h. h.strip.width) (live_of state.histories id)
 
 -- that reply says that the step counts, just where it is to count
 abbrev pub Counts : StepReply → Type 0 → Type 0

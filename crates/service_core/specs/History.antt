@@ -1,5 +1,5 @@
 -- One tenancy's history: its journal, and what the replies in it have to be.
-use Rattle.std.specs.Prelude.{ℕ, ◌≡◌, ◌≤◌, List, [], ◌∷◌, ◌++◌, length, map, Bool, false, Option, Some}
+use Rattle.std.specs.Prelude.{ℕ, ◌≡◌, ◌≤◌, List, [], ◌∷◌, ◌++◌, length, map, Bool, Option, Some}
 use Rattle.arch_file.specs.declared.arch.Arch.{Arch}
 use Rattle.grid.specs.declared.Strip.{Strip}
 use Rattle.tenant_slot.specs.declared.event.Event.{Event}
@@ -41,6 +41,3 @@ with_entry entry h = record h { entries = h.entries ++ entry ∷ []; here = (aft
 -- with that of a step here
 abbrev pub with_here : Option Bool → History → History
 with_here here h = record h { here = here }
-
-abbrev pub closed : History → History
-closed h = record h { live = false; here = Some false }

@@ -1,9 +1,9 @@
 -- Private: what the core keeps, and what its own looks at it tell.
-use Rattle.std.specs.Prelude.{ℕ, ◌≡◌, ◌-◌, ◌<◌, ◌≤◌, ◌↔◌, List, length, map, true, Result, Ok, Err, Some, All, slice_index_or}
+use Rattle.std.specs.Prelude.{ℕ, ◌≡◌, ◌-◌, ◌<◌, ◌≤◌, ◌↔◌, List, [], length, map, true, Option, Some, None, Result, Ok, Err, All, slice_index_or}
 use Rattle.arch_file.specs.Arch.{IsArch, IsWithin}
 use Rattle.strips.specs.declared.placed_strip.PlacedStrip.{PlacedStrip}
 use Rattle.rr_graph.specs.declared.resource.Resource.{Resource}
-use Rattle.rr_graph.specs.Resources.{moved_resource}
+use Rattle.rr_graph.specs.Resources.{has, moved_resource}
 use Rattle.strips.specs.Plan.{IsFirstFit, IsParted, offset_of}
 use Rattle.device_book.specs.Owners.{Claims, IsFree, Owners, extent_of, owner_of}
 use Rattle.tenant_slot.specs.declared.reply.StepReply.{StepReply}
@@ -14,7 +14,6 @@ use Rattle.service_core.specs.declared.op_refusal.OpRefusal.{OpRefusal}
 use Rattle.service_core.specs.Calls.{CanAdmit, RefusesAdmission}
 use Rattle.service_core.specs.History.{History, state_of}
 use Rattle.service_core.specs.Service.{IsAloneOn, ServiceState, history_of, live_of, live_width, placed_width}
-use Rattle.service_core.specs.Owners.{IsOwner}
 use Rattle.service_core.specs.Tenancy.{StandsIn}
 
 -- the device keeps the limits
@@ -30,10 +29,24 @@ pub record IsService (device : Device) (strips : List PlacedStrip) (histories : 
   pub ids : (id : ℕ) (h : History) → history_of histories id ≡ Some h → h.id ≡ id
   pub alone : All (IsAloneOn device) histories
 
+-- what a tenancy that is live has routed, in its strip's own columns
+abbrev pub routed_in : Option History → List Resource
+routed_in None = []
+routed_in (Some h) = routed_set (state_of h)
+
+-- the same where its strip stands on the device
+abbrev pub placed_at : Option ℕ → List Resource → List Resource
+placed_at None resources = []
+placed_at (Some offset) resources = map (moved_resource offset) resources
+
+-- what the tenancy of that id owns
+abbrev pub owned_by : ServiceState → ℕ → List Resource
+owned_by state id = placed_at (offset_of state.plan.strips id) (routed_in (live_of state.histories id))
+
 -- the book of a device has each owner, and no other
 pub record KeepsBook (book : Owners) (state : ServiceState) : Type 0 where
   pub extent : book.extent ≡ extent_of state.device.arch state.device.columns state.device.rows
-  pub exact : (resource : Resource) (id : ℕ) → (owner_of book resource ≡ Some id) ↔ IsOwner state resource id
+  pub exact : (resource : Resource) (id : ℕ) → (owner_of book resource ≡ Some id) ↔ (has (owned_by state id) resource ≡ true)
 
 -- and the device keeps the limits, and its book is exact
 pub record IsSound (owners : Owners) (device : Device) (strips : List PlacedStrip) (histories : List History) : Type 0 where

@@ -9,7 +9,7 @@ use Rattle.service_core.specs.declared.not_served.NotServed.TheVariants.{NoMemor
 use Rattle.service_core.specs.declared.put_reply.PutReply.TheVariants.{Recorded, Full, Gone}
 use Rattle.service_core.specs.Calls.{step_event}
 use Rattle.service_core.specs.Run.{Call}
-use Rattle.service_core.specs.Run.Call.{Admit, Evict, Move, Tenant, Take, Put, GiveBack}
+use Rattle.service_core.specs.Run.Call.{Admit, Evict, Move, Tenant, Take, Put, GiveBack, Owners}
 
 -- an event of the tenancy `t` with its reply, where that is the one of `id`
 abbrev pub if_own : ℕ → ℕ → Event → Option Reply → List (Event × Option Reply)
@@ -31,6 +31,7 @@ own_exchange id (Evict t answer) = []
 own_exchange id (Move t offset answer) = []
 own_exchange id (Take t answer) = []
 own_exchange id (GiveBack job) = []
+own_exchange id (Owners list) = []
 
 abbrev pub own_exchanges : ℕ → List Call → List (Event × Option Reply)
 own_exchanges id calls = flat_map (own_exchange id) calls

@@ -1,11 +1,11 @@
 -- All tenancies on one device.
-use Rattle.std.specs.Prelude.{ℕ, ◌≡◌, ◌+◌, ◌-◌, List, [], ◌∷◌, ◌++◌, length, Bool, true, false, Option, Some, None, option_map, All, ◌==◌, if◌then◌else◌}
+use Rattle.std.specs.Prelude.{ℕ, ◌≡◌, ◌+◌, ◌-◌, List, [], ◌∷◌, ◌++◌, length, Bool, true, false, Option, Some, None, option_and_then, option_map, All, ◌==◌, if◌then◌else◌}
 use Rattle.grid.specs.declared.Strip.{Strip}
 use Rattle.strips.specs.declared.placed_strip.PlacedStrip.{PlacedStrip}
-use Rattle.strips.specs.Plan.{Plan, strip_of, with_moved, with_strip, without}
+use Rattle.strips.specs.Plan.{Plan, strip_of, with_strip, without}
 use Rattle.service_core.specs.declared.device.Device.{Device}
 use Rattle.service_core.specs.declared.entry.Entry.{Entry}
-use Rattle.service_core.specs.History.{History, IsReplayed, with_entry, with_here, closed}
+use Rattle.service_core.specs.History.{History, IsReplayed, with_entry, with_here}
 
 -- the device, where the live tenancies' strips stand, and the history of each id from 1 on
 pub record ServiceState : Type 0 where
@@ -27,13 +27,9 @@ abbrev pub modified : List History → ℕ → (History → History) → List Hi
 modified [] id change = []
 modified (h ∷ hs) id change = if id == 1 then change h ∷ hs else h ∷ modified hs (id - 1) change
 
-abbrev pub if_live : Option History → Option History
-if_live None = None
-if_live (Some h) = if h.live then Some h else None
-
 -- the history of that id, if the tenancy is live
 abbrev pub live_of : List History → ℕ → Option History
-live_of histories id = if_live (history_of histories id)
+live_of histories id = option_and_then (λ h. if h.live then Some h else None) (history_of histories id)
 
 abbrev pub entries_in : Option History → List Entry
 entries_in None = []
@@ -62,12 +58,8 @@ with_tenancy state width offset = record state {
 abbrev pub without_tenancy : ServiceState → ℕ → ServiceState
 without_tenancy state id = record state {
   plan = record state.plan { strips = without state.plan.strips id };
-  histories = modified state.histories id closed;
+  histories = modified state.histories id (λ h. record h { live = false; here = Some false });
 }
-
--- that tenancy's strip at that offset
-abbrev pub with_offset_of : ServiceState → ℕ → ℕ → ServiceState
-with_offset_of state id offset = record state { plan = with_moved state.plan id offset }
 
 -- one entry more in that tenancy's journal
 abbrev pub with_entry_of : ServiceState → ℕ → Entry → ServiceState

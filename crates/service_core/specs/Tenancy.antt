@@ -1,5 +1,5 @@
 -- Private: what a tenancy keeps, and what its calls do.
-use Rattle.std.specs.Prelude.{ℕ, ◌≡◌, ◌<◌, ◌⊎◌, List, [], length, map, Bool, true, false, Result, Ok, Err, Option, Some, None, IfSome}
+use Rattle.std.specs.Prelude.{ℕ, ◌≡◌, ◌<◌, ◌⊎◌, List, [], length, map, Bool, true, false, Result, Ok, Err, Option, Some, None, IfSome, option_and_then, if◌then◌else◌}
 use Rattle.std.specs.declared.alloc.AllocError.{AllocError}
 use Rattle.arch_file.specs.declared.arch.Arch.{Arch}
 use Rattle.grid.specs.declared.Strip.{Strip}
@@ -27,6 +27,13 @@ use Rattle.service_core.specs.Calls.{IsStepOf, step_entry}
 abbrev pub slot_here : Option SlotState → Option Bool
 slot_here None = Some false
 slot_here (Some slot) = slot.here
+
+-- a tenancy that has ended
+abbrev pub closed : History → History
+closed h = record h { live = false; here = Some false }
+
+abbrev pub if_live : Option History → Option History
+if_live o = option_and_then (λ h. if h.live then Some h else None) o
 
 -- the journal is that of the tenancy alone, and a live tenancy's slot is in the state that it leads to
 pub record IsHistory (id : ℕ) (arch : Arch) (strip : Strip) (slot : Option SlotState) (entries : List Entry) : Type 0 where

@@ -6,17 +6,21 @@ ghost use Rattle.service_core.specs.declared.put_reply.PutReply.TheVariants.{Rec
 ghost use Rattle.service_core.specs.Service.{ServiceState, empty};
 ghost use Rattle.service_core.specs.Calls.{IsNextStep, IsPut};
 ghost use Rattle.service_core.specs.Run.{Call, Run};
-ghost use Rattle.service_core.specs.Headline.{AreParted, AreToldTheSame, Counts, EachIsAlone, HaveSameStrip};
+ghost use Rattle.service_core.specs.Headline.{AreOwnJournals, AreParted, AreToldTheSame, Counts, EachIsAlone, HaveSameStrip, IsBook};
 ghost use Rattle.service_core.specs.OwnEvents.{own_events};
-ghost use Rattle.service_core.specs.Owners.{IsExactBook};
+ghost use Rattle.service_core.specs.Owners.{HasOneOwner};
 
 /// The main theorem. Whatever calls are made of the core of a device, in any order, with jobs out for any time and put, late or never,
 /// each tenancy was told what the service for a single user tells it for its own events, on a device of its strip's size, and
-/// is in that service's state. And the strips of the live tenancies are parted, and nothing of the device has two owners.
+/// is in that service's state, and its journal is those events with their replies. The strips of the live tenancies are parted. A
+/// resource is owned by a tenancy exactly while that is live and has it routed, alone, where its strip stands, and nothing has two
+/// owners. A look at the book is a call too, and lists just that.
 pub fn headline()
     ensures alone { (device : Device) (calls : List Call) (state : ServiceState) → Run (empty device) calls state → EachIsAlone device calls state }
+    ensures journals { (device : Device) (calls : List Call) (state : ServiceState) → Run (empty device) calls state → AreOwnJournals calls state }
     ensures parted { (device : Device) (calls : List Call) (state : ServiceState) → Run (empty device) calls state → AreParted device state }
-    ensures exact { (device : Device) (calls : List Call) (state : ServiceState) → Run (empty device) calls state → IsExactBook state }
+    ensures book { (device : Device) (calls : List Call) (state : ServiceState) → Run (empty device) calls state → IsBook device calls state }
+    ensures exact { (device : Device) (calls : List Call) (state : ServiceState) → Run (empty device) calls state → HasOneOwner state }
 {}
 
 /// Two runs, on devices of the same architecture and rows that may differ in columns, and in which strips may stand anywhere

@@ -5,7 +5,7 @@ ghost use Rattle.service_core.specs.History.{state_of};
 ghost use Rattle.service_core.specs.Service.{AreAlone, empty, journal_of, live_of};
 ghost use Rattle.service_core.specs.Calls.{IsAdmitted, IsEvicted, IsGivenBack, IsMoved, IsOriginIn, IsServed, IsTaken, Puts, takeable_in};
 ghost use Rattle.service_core.specs.Kept.{AreFree, ChecksAdmission, IsLiveIn, IsPlaceOf, TakesUp};
-ghost use Rattle.service_core.specs.Owners.{IsExactBook, ListsOwnersOf};
+ghost use Rattle.service_core.specs.Owners.{HasOneOwner, ListsOwnersOf};
 ghost use Rattle.service_core.specs.Tenancy.{StandsIn};
 ghost use Rattle.tenant_slot.specs.declared.reply.StepReply.{StepReply};
 ghost use Rattle.service_core.specs.Headline.{AreParted};
@@ -153,7 +153,7 @@ impl Service {
     /// its strip stands. Nothing has two owners.
     pub fn owners(&self) -> Result<Vec<Owned>, AllocError>
         ensures value { IfOk result (λ list. ListsOwnersOf self.now list.items) }
-        ensures exact { IsExactBook self.now }
+        ensures exact { HasOneOwner self.now }
         ensures alone { AreAlone self.now }
     {
         self.book.owned(self.alloc)

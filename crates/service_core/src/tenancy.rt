@@ -4,9 +4,9 @@ ghost use Rattle.rr_graph.specs.Resources.{has, is_there, moved_resource};
 ghost use Rattle.grid.specs.Sizes.{IsStripSize};
 ghost use Rattle.tenant_slot.specs.Answer.{Answers};
 ghost use Rattle.tenant_slot.specs.Slot.{IsOrigin, is_takeable};
-ghost use Rattle.service_core.specs.History.{closed, slot_of, state_of};
+ghost use Rattle.service_core.specs.History.{slot_of, state_of};
 ghost use Rattle.tenant_slot.specs.RoutedSet.{routed_set};
-ghost use Rattle.service_core.specs.Tenancy.{GivesHistoryBack, GivesUp, GivesUpOrKeeps, PutsHistory, ServesHistory, StandsIn, TakesHistory};
+ghost use Rattle.service_core.specs.Tenancy.{GivesHistoryBack, GivesUp, GivesUpOrKeeps, PutsHistory, ServesHistory, StandsIn, TakesHistory, closed};
 
 use crate::entry::Entry;
 use arch_file::SharedArch;

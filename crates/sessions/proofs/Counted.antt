@@ -14,9 +14,10 @@ use Rattle.service_core.specs.declared.entry.Entry.{Entry}
 use Rattle.service_core.specs.declared.put_reply.PutReply.TheVariants.{Recorded as PutRecorded}
 use Rattle.service_core.specs.Calls.{IsNextStep, IsPut, IsStepOf, IsTaken, step_entry, step_event}
 use Rattle.service_core.specs.History.{History, slot_of, state_of, with_entry, with_here}
+use Rattle.service_core.specs.Tenancy.{if_live}
 use Rattle.service_core.specs.Run.{Call, Run}
 use Rattle.service_core.specs.Run.Call.{Take, Put}
-use Rattle.service_core.specs.Service.{ServiceState, history_of, if_live, live_of, modified}
+use Rattle.service_core.specs.Service.{ServiceState, history_of, live_of, modified}
 use Rattle.service_core.proofs.Histories.{state_after-push}
 use Rattle.service_core.proofs.Lists.{history_of-modified}
 use Rattle.tenant_slot.specs.SingleUser.{start}

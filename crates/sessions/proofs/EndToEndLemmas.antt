@@ -1,24 +1,23 @@
 -- A line is told what the service for a single user tells.
 use Rattle.std.proofs.Common.{◌≡◌, ◌∙◌, ℕ, ◌-◌, List, [], ◌∷◌, ◌++◌, length, length-append, take, Option, Some, None, Result, Ok, Err, inl, inr, refl, sym, ap, subst, arith}
-use Rattle.std.specs.Prelude.{◌⊎◌, IfSome, IsSomeAnd, option_map}
+use Rattle.std.specs.Prelude.{◌⊎◌, IsSomeAnd, option_map}
 use Rattle.std.proofs.lemmas.List.{take-append-le, take_all}
 use Rattle.tenant_slot.specs.declared.command.Command.{Command as TenantCommand}
 use Rattle.tenant_slot.specs.declared.command.Command.TheVariants.{Status}
 use Rattle.tenant_slot.specs.declared.event.Event.TheVariants.{Command as Asked}
 use Rattle.tenant_slot.specs.declared.reply.Reply.{Reply}
-use Rattle.tenant_slot.specs.SingleUser.{State, run, step}
+use Rattle.tenant_slot.specs.SingleUser.{State, step}
 use Rattle.tenant_slot.proofs.Runs.{step-full}
 use Rattle.service_core.specs.declared.device.Device.{Device}
 use Rattle.service_core.specs.declared.not_served.NotServed.{NotServed}
 use Rattle.service_core.specs.declared.not_served.NotServed.TheVariants.{NoMemory as NotServedNoMemory, JournalFull, NoSuchTenancy}
 use Rattle.service_core.specs.Calls.{IsReceipt, IsServed}
 use Rattle.service_core.specs.History.{History, state_of}
-use Rattle.service_core.specs.OwnEvents.{own_events, own_replies}
 use Rattle.service_core.specs.Receipt.{Noted, Receipted}
 use Rattle.service_core.specs.Run.{Call, Run}
 use Rattle.service_core.specs.Run.Call.{Tenant}
-use Rattle.service_core.specs.Service.{IsAloneOn, ServiceState, empty, history_of, live_of, live_width, strip_on}
-use Rattle.service_core.proofs.Alone.{each_alone}
+use Rattle.service_core.specs.Service.{IsAloneOn, ServiceState, empty, history_of, live_of, live_width}
+use Rattle.service_core.proofs.Alone.{state_alone}
 use Rattle.service_core.proofs.Effects.{Kept, run_keeps}
 use Rattle.service_core.proofs.Keeps.{IsService-empty, if_live_some}
 use Rattle.service_core.proofs.Lists.{All-history_of}
@@ -28,19 +27,11 @@ use Rattle.sessions.specs.declared.steps.StepOutcome.{StepOutcome}
 use Rattle.sessions.specs.declared.steps.StepOutcome.TheVariants.{Recorded, Full, Gone, NoMemory as StepNoMemory, Nothing, Unfit}
 use Rattle.sessions.specs.declared.told.Answer.{Answer}
 use Rattle.sessions.specs.declared.told.Answer.TheVariants.{Served}
-use Rattle.sessions.specs.EndToEnd.{IsToldAlone, LineIsToldAlone, alone_after, alone_text, told_text}
+use Rattle.sessions.specs.EndToEnd.{IsToldAlone, LineIsToldAlone, alone_text, told_text}
 use Rattle.sessions.specs.SessionAnswer.{Asks, AsksCommand, EndsWait}
 use Rattle.sessions.specs.SessionText.{answer_text}
 use Rattle.sessions.proofs.StepLemmas.{Run-append}
 use Rattle.sessions.proofs.Stepping.{steps_width, wait_stepping}
-
--- a live tenancy is in the state that its own events lead to alone
-state_alone : (device : Device) (calls : List Call) (state : ServiceState) (id : ℕ) (h : History) → Run (empty device) calls state → live_of state.histories id ≡ Some h → state_of h ≡ alone_after device h.strip.width id calls
-state_alone device calls state id h runs live =
-    let here : history_of state.histories id ≡ Some h = if_live_some (history_of state.histories id) h live in
-    let P : Option History → Type 0 = λ o. IfSome o (λ h. (state_of h, own_replies id calls) ≡ run device.arch (strip_on device h.strip.width) (own_events id calls)) in
-    let alone : (state_of h, own_replies id calls) ≡ run device.arch (strip_on device h.strip.width) (own_events id calls) = subst P here (each_alone device calls state runs id) in
-    ap (λ (p : State × List (Option Reply)). p.0) alone
 
 -- a full journal has no reply
 full_alone : (device : Device) (calls : List Call) (state : ServiceState) (id : ℕ) (h : History) (command : TenantCommand) → Run (empty device) calls state → live_of state.histories id ≡ Some h → length h.entries ≡ 65536 →

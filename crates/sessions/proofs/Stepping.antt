@@ -6,9 +6,10 @@ use Rattle.job_state.specs.Job.{JobState}
 use Rattle.service_core.specs.declared.put_reply.PutReply.TheVariants.{Recorded as PutRecorded, Full as PutFull, Gone as PutGone}
 use Rattle.service_core.specs.Calls.{IsGivenBackTo, step_entry}
 use Rattle.service_core.specs.History.{History, with_entry, with_here}
+use Rattle.service_core.specs.Tenancy.{if_live}
 use Rattle.service_core.specs.Run.{Call, Happens, Run}
-use Rattle.service_core.specs.Run.Call.{Admit, Evict, Move, Tenant, Take, Put, GiveBack}
-use Rattle.service_core.specs.Service.{ServiceState, history_of, if_live, live_of, live_width, modified}
+use Rattle.service_core.specs.Run.Call.{Admit, Evict, Move, Tenant, Take, Put, GiveBack, Owners}
+use Rattle.service_core.specs.Service.{ServiceState, history_of, live_of, live_width, modified}
 use Rattle.service_core.proofs.Lists.{history_of-modified}
 use Rattle.sessions.specs.declared.steps.StepOutcome.{StepOutcome}
 use Rattle.sessions.specs.declared.steps.StepOutcome.TheVariants.{Recorded, Full, Gone, NoMemory as StepNoMemory, Nothing, Unfit}
@@ -106,6 +107,7 @@ stepping_width id old (Admit width answer) new steps is = absurd steps
 stepping_width id old (Evict t answer) new steps is = absurd steps
 stepping_width id old (Move t offset answer) new steps is = absurd steps
 stepping_width id old (Tenant t command served) new steps is = absurd steps
+stepping_width id old (Owners list) new steps is = absurd steps
 
 pub steps_width : (id : ℕ) (old : ServiceState) (calls : List Call) (new : ServiceState) → AreStepping calls → Run old calls new → SameWidth id old new
 steps_width id old [] new are run = unchanged id old new run

@@ -1,6 +1,6 @@
 -- Where the steps of a wait end.
 use Rattle.std.proofs.Common.{◌≡◌, ◌∙◌, ℕ, ◌+◌, List, [], ◌∷◌, ◌++◌, Bool, true, false, Option, Some, None, Ok, Err, Result, inl, inr, refl, sym, ap, subst, arith}
-use Rattle.std.specs.Prelude.{◌⊎◌, ◌&&◌, is_some, nat_lt, if◌then◌else◌}
+use Rattle.std.specs.Prelude.{◌⊎◌, ◌&&◌, IfSome, is_some, nat_lt, if◌then◌else◌}
 use Rattle.std.proofs.lemmas.Bool.Decides.{nat_tests}
 use Rattle.std.specs.declared.alloc.AllocError.{AllocError}
 use Rattle.std.specs.List.{flat_map}
@@ -57,10 +57,15 @@ put_left old new id job calls more answer stays put is runs =
     let run : Run old (Take id (Some job) ∷ Put job.step put.0 answer ∷ []) new = (let P : List Call → Type 0 = λ cs. Run old cs new in subst P all runs) in
     same_left run.0 new id (stays put.0 run.0 new run.2) (taken_left old run.0 id job run.1)
 
+-- no step to take is none that is takeable
+none_left : (o : Option History) → IfSome o (λ h. is_takeable (slot_of h) ≡ false) → takeable_in o ≡ false
+none_left None none = refl
+none_left (Some h) none = none
+
 nothing_left : (old new : ServiceState) (id : ℕ) (calls : List Call) → calls ≡ Take id None ∷ [] → Run old calls new → NothingLeft new id
 nothing_left old new id calls is runs =
     let run : Run old (Take id None ∷ []) new = (let P : List Call → Type 0 = λ cs. Run old cs new in subst P is runs) in
-    same_left old new id (run.2 ∙ run.1.1) run.1.0
+    same_left old new id (run.2 ∙ run.1.1) (none_left (live_of old.histories id) run.1.0)
 
 step_left : (old new : ServiceState) (id : ℕ) (calls : List Call) (last : StepOutcome) → MakesStep id calls last → EndsSteps last → Run old calls new → (last ≡ NoMemory) ⊎ ((last ≡ Unfit) ⊎ NothingLeft new id)
 step_left old new id calls (Recorded reply) makes ends runs = absurd ends

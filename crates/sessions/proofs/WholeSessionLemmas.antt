@@ -1,7 +1,6 @@
 -- What a whole session is told is what the service for a single user replies.
-use Rattle.std.proofs.Common.{◌≡◌, ◌≢◌, ◌∙◌, ℕ, ◌+◌, List, [], ◌∷◌, ◌++◌, length, map, Bool, true, false, eqb, Option, Some, None, Result, Ok, Err, inl, inr, suc, refl, sym, ap, subst, append_assoc, append-nil, arith}
-use Rattle.std.specs.Prelude.{All, ⊤, option_map, if◌then◌else◌}
-use Rattle.std.specs.List.{flat_map}
+use Rattle.std.proofs.Common.{◌≡◌, ◌≢◌, ◌∙◌, ℕ, ◌+◌, List, [], ◌∷◌, ◌++◌, length, map, Bool, true, false, eqb, Option, Some, None, Result, Ok, Err, refl, sym, ap, subst, append_assoc, append-nil, arith}
+use Rattle.std.specs.Prelude.{⊤, option_map, if◌then◌else◌}
 use Rattle.std.proofs.lemmas.Bool.Decides.{nat_tests, Decides-eqb}
 use Rattle.std.proofs.lemmas.Grind.{flat_map-append}
 use Rattle.std.proofs.lemmas.List.{map-append}
@@ -18,12 +17,13 @@ use Rattle.service_core.specs.declared.not_served.NotServed.{NotServed}
 use Rattle.service_core.specs.declared.not_served.NotServed.TheVariants.{NoMemory as NotServedNoMemory, JournalFull, NoSuchTenancy}
 use Rattle.service_core.specs.declared.put_reply.PutReply.TheVariants.{Recorded as PutRecorded, Full as PutFull, Gone as PutGone}
 use Rattle.service_core.specs.Calls.{IsGivenBackTo, IsServed, step_entry, step_event}
-use Rattle.service_core.specs.History.{History, closed, with_entry, with_here}
+use Rattle.service_core.specs.History.{History, with_entry, with_here}
+use Rattle.service_core.specs.Tenancy.{closed}
 use Rattle.service_core.specs.OwnEvents.{if_own, own_events, own_exchange, own_exchanges}
 use Rattle.service_core.specs.Receipt.{Receipted}
 use Rattle.service_core.specs.Run.{Call, Happens, Run}
-use Rattle.service_core.specs.Run.Call.{Admit, Evict, Move, Tenant, Take, Put, GiveBack}
-use Rattle.service_core.specs.Service.{ServiceState, empty, history_of, if_live, live_of, live_width, modified, strip_on, with_tenancy}
+use Rattle.service_core.specs.Run.Call.{Admit, Evict, Move, Tenant, Take, Put, GiveBack, Owners}
+use Rattle.service_core.specs.Service.{ServiceState, empty, history_of, live_of, live_width, modified, strip_on, with_tenancy}
 use Rattle.service_core.proofs.MovedStrips.{same_histories}
 use Rattle.service_core.proofs.Lists.{history_of-modified, history_of-past, history_of-push}
 use Rattle.sessions.specs.declared.line.SessionLine.{SessionLine}
@@ -35,7 +35,7 @@ use Rattle.sessions.specs.declared.told.Answer.TheVariants.{Served}
 use Rattle.sessions.specs.EndToEnd.{alone_after, alone_text, told_text}
 use Rattle.sessions.specs.SessionAnswer.{Asks, AsksCommand, EndsWait}
 use Rattle.sessions.specs.SessionText.{answer_text}
-use Rattle.sessions.specs.Steps.{MadeStep, MakesStep, StepsAndPuts, Waits}
+use Rattle.sessions.specs.Steps.{Waits}
 use Rattle.sessions.specs.WholeSession.{Heard, IsOthers, Turn, Turns, aside, events_in, heard, session_text, written}
 use Rattle.sessions.specs.WholeSession.Heard.{Happened}
 use Rattle.sessions.specs.WholeSession.Turn.{Item, Meanwhile}
@@ -89,6 +89,7 @@ others_steps id (Evict t answer) is = tt
 others_steps id (Move t offset answer) is = tt
 others_steps id (Take t answer) is = tt
 others_steps id (GiveBack job) is = tt
+others_steps id (Owners list) is = tt
 
 abbrev AreOthers : ℕ → List Call → Type 0
 AreOthers id [] = ⊤
@@ -114,6 +115,7 @@ stepping_others id (call ∷ calls) are = (one call are.0, stepping_others id ca
     one (Move t offset answer) is = absurd is
     one (Tenant t command served) is = absurd is
     one (Admit width answer) is = absurd is
+    one (Owners list) is = absurd is
 
 wait_others : (id : ℕ) (calls : List Call) (last : StepOutcome) → Waits id calls last → AreOthers id calls
 wait_others id calls last is = stepping_others id calls (wait_stepping id calls last is)
@@ -176,6 +178,7 @@ call_stays id width old (Put done foreign (Ok PutFull)) new spares is was = unch
 call_stays id width old (Put done foreign (Ok PutGone)) new spares is was = unchanged id width old new is.1 was
 call_stays id width old (Put done foreign (Err back)) new spares is was = unchanged id width old new is.2 was
 call_stays id width old (GiveBack job) new spares is was = given_back id width (live_of old.histories job.step.id) old new job is was
+call_stays id width old (Owners list) new spares is was = unchanged id width old new is.1 was
 
 abbrev AreSparing : ℕ → List Call → Type 0
 AreSparing id [] = ⊤
@@ -193,6 +196,7 @@ others_spare id (call ∷ calls) are = (one call are.0, others_spare id calls ar
     one (Take t answer) is = tt
     one (Put done foreign answer) is = tt
     one (GiveBack job) is = tt
+    one (Owners list) is = tt
 
 run_stays : (id width : ℕ) (old : ServiceState) (calls : List Call) (new : ServiceState) → AreSparing id calls → Run old calls new → Stays id width old → Stays id width new
 run_stays id width old [] new are run was = unchanged id width old new run was

@@ -13,8 +13,9 @@ use Rattle.service_core.specs.declared.not_served.NotServed.TheVariants.{NoMemor
 use Rattle.service_core.specs.declared.put_reply.PutReply.{PutReply}
 use Rattle.service_core.specs.declared.put_reply.PutReply.TheVariants.{Recorded, Full, Gone}
 use Rattle.service_core.specs.History.{History, with_entry, with_here}
+use Rattle.service_core.specs.Tenancy.{if_live}
 use Rattle.service_core.specs.Receipt.{Receipted}
-use Rattle.service_core.specs.Service.{ServiceState, entries_in, history_of, if_live, live_of, modified, with_entry_of, with_here_of}
+use Rattle.service_core.specs.Service.{ServiceState, entries_in, history_of, live_of, modified, with_entry_of, with_here_of}
 use Rattle.service_core.specs.Calls.{IsGivenBack, IsGivenBackTo, IsPut, IsReceipt, IsServed, IsTaken, Puts, step_entry}
 use Rattle.service_core.proofs.Lists.{history_of-modified}
 use Rattle.shared_core.specs.CoreState.{is_put, puts_among, puts_in}

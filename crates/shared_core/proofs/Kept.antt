@@ -6,13 +6,14 @@ use Rattle.strips.specs.Plan.{strip_of}
 use Rattle.tenant_slot.specs.declared.command.Command.{Command}
 use Rattle.tenant_slot.specs.declared.event.Event.TheVariants.{Command as Asked}
 use Rattle.tenant_slot.proofs.Runs.{step-served}
-use Rattle.service_core.specs.History.{History, closed, state_of}
+use Rattle.service_core.specs.History.{History, state_of}
+use Rattle.service_core.specs.Tenancy.{closed, if_live}
 use Rattle.service_core.specs.declared.not_served.NotServed.{NotServed}
 use Rattle.service_core.specs.declared.not_served.NotServed.TheVariants.{NoMemory, JournalFull, NoSuchTenancy}
 use Rattle.service_core.specs.declared.op_refusal.OpRefusal.{OpRefusal}
 use Rattle.service_core.specs.declared.op_refusal.OpRefusal.TheVariants.{BadWidth, IdsSpent, NoMemory as OpNoMemory, NoRoom, NoSuchTenancy as OpNoSuchTenancy, TooManyStrips}
 use Rattle.service_core.specs.Receipt.{Receipted}
-use Rattle.service_core.specs.Service.{AreAlone, IsAloneOn, ServiceState, admitted, entries_in, history_of, if_live, live_of, modified, placed_width, live_width, with_tenancy, without_tenancy}
+use Rattle.service_core.specs.Service.{AreAlone, IsAloneOn, ServiceState, admitted, entries_in, history_of, live_of, modified, placed_width, live_width, with_tenancy, without_tenancy}
 use Rattle.service_core.specs.Calls.{IsAdmitted, IsEvicted, IsMoved, IsReceipt, IsServed}
 use Rattle.service_core.specs.Headline.{AreParted}
 use Rattle.service_core.proofs.MovedStrips.{same_histories}

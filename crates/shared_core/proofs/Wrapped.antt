@@ -9,7 +9,8 @@ use Rattle.strips.specs.Plan.{strip_of, without}
 use Rattle.strips.proofs.Laid.{strip_of-without}
 use Rattle.service_core.specs.declared.entry.Entry.{Entry}
 use Rattle.service_core.specs.History.{History}
-use Rattle.service_core.specs.Service.{AreAlone, IsAloneOn, ServiceState, entries_in, history_of, if_live, journal_of}
+use Rattle.service_core.specs.Tenancy.{if_live}
+use Rattle.service_core.specs.Service.{AreAlone, IsAloneOn, ServiceState, entries_in, history_of, journal_of}
 use Rattle.service_core.proofs.Lists.{All-history_of, history_of-past}
 use Rattle.shared_core.specs.CoreState.{AreSlotted, Marked, handed, is_live, number_of, puts_among, puts_in, unmarked}
 use Rattle.shared_core.specs.Accounts.{IsAccount}

@@ -14,8 +14,9 @@ use Rattle.tenant_slot.specs.declared.reply.Reply.TheVariants.{Accepted, Status 
 use Rattle.tenant_slot.specs.declared.reply.Refusal.TheVariants.{WrongState, BadBlif, CannotPack, DoesNotFit, BadEffort}
 use Rattle.tenant_slot.specs.declared.reply.Misfit.TheVariants.{Blocks}
 use Rattle.tenant_slot.specs.declared.failure.RoutingFailure.TheVariants.{GaveUp}
-use Rattle.tenant_slot.specs.SingleUser.{State, load, pack_unless, place, place_unless, routed_unless, run, start, step}
+use Rattle.tenant_slot.specs.SingleUser.{State, pack_unless, place, place_unless, routed_unless, run, start, step}
 use Rattle.tenant_slot.specs.Slot.{after_event, is_takeable, next_job}
+use Rattle.tenant_slot.proofs.Leading.{load}
 
 -- a tenancy whose packing has made two steps, in its fourth generation
 abbrev packing : Arch → Strip → List ℕ → State
@@ -103,7 +104,7 @@ abbrev placed : Arch → Strip → List ℕ → State
 placed arch strip text = record (start arch strip) { name = Placed; text = text; seed = 7; effort = 1; generation = 4; entries = 9 }
 
 -- an effort above 100 is refused before the places are counted, and then too few places are
-bad_effort : (state : State) (circuit : Circuit) → place state 1 101 (Ok circuit) ≡ (None, Refused BadEffort)
+bad_effort : (state : State) (circuit : Circuit) → place state 1 101 circuit ≡ (None, Refused BadEffort)
 bad_effort state circuit = refl
 
 does_not_fit : (state : State) → place_unless state 1 0 (Some (Blocks 2 3)) ≡ (None, Refused (DoesNotFit (Blocks 2 3)))

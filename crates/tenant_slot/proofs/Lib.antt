@@ -1,3 +1,4 @@
+pub mod Leading
 pub mod Runs
 mod Kept
 mod Serving

@@ -23,8 +23,9 @@ use Rattle.tenant_slot.specs.declared.reply.StateName.TheVariants.{Empty as Empt
 use Rattle.tenant_slot.specs.Answer.{Answers, Outcome}
 use Rattle.tenant_slot.specs.Content.{IsNetlist}
 use Rattle.tenant_slot.specs.Outcomes.{job_begun, load_outcome, pack_outcome, place_outcome}
-use Rattle.tenant_slot.specs.SingleUser.{State, is_lawful, keeping, load, loaded, misfit_of, risen, pack, pack_unless, place, place_unless, serve}
+use Rattle.tenant_slot.specs.SingleUser.{State, is_lawful, keeping, loaded, misfit_of, risen, pack_unless, place_unless, serve}
 use Rattle.tenant_slot.specs.Slot.{SlotState}
+use Rattle.tenant_slot.proofs.Leading.{load, pack, placing}
 
 -- a call that answers so, or finds no memory
 answers_so : (slot : SlotState) (command : Command) (result : Result Outcome NotServed) (outcome : Outcome) → slot.state.entries < 65536 → IfOk result (λ a. a ≡ outcome) → IfErr result (λ e. e ≡ NoMemory) →
@@ -69,26 +70,26 @@ module _ (slot : SlotState) (netlist : Netlist) (text : netlist.text ≡ slot.st
       misfit_of (fit_of slot.state.strip (packed_of netlist.circuit slot.state.arch)) ≡ misfit →
       Answers slot (Place seed effort) (Ok (place_outcome slot.state.arch.lut_size (job_begun slot.id (slot.state.generation + 1) (placing_sources slot.state.arch slot.state.strip netlist.text slot.state.kept seed effort)) great misfit))
   place_answers seed effort lawful true is_great misfit is =
-      let asked = ap (λ b. if b then place slot.state seed effort (circuit_of slot.state.text slot.state.arch.lut_size) else (None, Refused (WrongState slot.state.name))) lawful in (
+      let asked = ap (λ b. if b then placing slot.state seed effort (circuit_of slot.state.text slot.state.arch.lut_size) else (None, Refused (WrongState slot.state.name))) lawful in (
         record { lut_size = refl; room = room; begins = tt },
-        asked ∙ ap (place slot.state seed effort) its_circuit
+        asked ∙ ap (placing slot.state seed effort) its_circuit
             ∙ ap (λ b. if b then (None, Refused BadEffort) else place_unless slot.state seed effort (misfit_of (fit_of slot.state.strip (packed_of netlist.circuit slot.state.arch)))) is_great,
       )
   place_answers seed effort lawful false is_great None is =
-      let asked = ap (λ b. if b then place slot.state seed effort (circuit_of slot.state.text slot.state.arch.lut_size) else (None, Refused (WrongState slot.state.name))) lawful in (
+      let asked = ap (λ b. if b then placing slot.state seed effort (circuit_of slot.state.text slot.state.arch.lut_size) else (None, Refused (WrongState slot.state.name))) lawful in (
         record {
           lut_size = refl;
           room = room;
           begins = (lawful, refl, record { sources = ap (λ t. placing_sources slot.state.arch slot.state.strip t slot.state.kept seed effort) text; ready = refl });
         },
-        asked ∙ ap (place slot.state seed effort) its_circuit
+        asked ∙ ap (placing slot.state seed effort) its_circuit
             ∙ ap (λ b. if b then (None, Refused BadEffort) else place_unless slot.state seed effort (misfit_of (fit_of slot.state.strip (packed_of netlist.circuit slot.state.arch)))) is_great
             ∙ ap (place_unless slot.state seed effort) is,
       )
   place_answers seed effort lawful false is_great (Some misfit) is =
-      let asked = ap (λ b. if b then place slot.state seed effort (circuit_of slot.state.text slot.state.arch.lut_size) else (None, Refused (WrongState slot.state.name))) lawful in (
+      let asked = ap (λ b. if b then placing slot.state seed effort (circuit_of slot.state.text slot.state.arch.lut_size) else (None, Refused (WrongState slot.state.name))) lawful in (
         record { lut_size = refl; room = room; begins = tt },
-        asked ∙ ap (place slot.state seed effort) its_circuit
+        asked ∙ ap (placing slot.state seed effort) its_circuit
             ∙ ap (λ b. if b then (None, Refused BadEffort) else place_unless slot.state seed effort (misfit_of (fit_of slot.state.strip (packed_of netlist.circuit slot.state.arch)))) is_great
             ∙ ap (place_unless slot.state seed effort) is,
       )

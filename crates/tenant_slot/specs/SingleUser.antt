@@ -161,20 +161,15 @@ finished state RoutingJob = routed_unless state (failure_of (end_value (sources_
 abbrev pub circuit_in : State → Result Circuit BlifFault
 circuit_in state = circuit_of state.text state.arch.lut_size
 
--- an upload or a change, by what the text says
-abbrev pub load : State → List ℕ → Result Circuit BlifFault → Option State × Reply
-load state text (Ok circuit) = (Some (loaded state text), Accepted Loaded)
-load state text (Err fault) = (None, Refused (BadBlif fault))
+-- what a text's circuit leads to; a text with a fault is refused
+abbrev pub with_circuit : Result Circuit BlifFault → (Circuit → Option State × Reply) → Option State × Reply
+with_circuit (Ok circuit) leads = leads circuit
+with_circuit (Err fault) leads = (None, Refused (BadBlif fault))
 
 -- a packing begins, unless that is the least BLE that fits into no cluster alone
 abbrev pub pack_unless : State → Option ℕ → Option State × Reply
 pack_unless state None = (Some (begun state Packing), Accepted Packing)
 pack_unless state (Some ble) = (None, Refused (CannotPack ble))
-
--- the packing of what the text says
-abbrev pub pack : State → Result Circuit BlifFault → Option State × Reply
-pack state (Ok circuit) = pack_unless state (unfit_of circuit state.arch)
-pack state (Err fault) = (None, Refused (BadBlif fault))
 
 -- what a strip has too little of
 abbrev pub misfit_of : Fit → Option Misfit
@@ -187,36 +182,23 @@ abbrev pub place_unless : State → ℕ → ℕ → Option Misfit → Option Sta
 place_unless state seed effort None = (Some (begun_placing state seed effort), Accepted Placing)
 place_unless state seed effort (Some misfit) = (None, Refused (DoesNotFit misfit))
 
--- the placing of the packing of what the text says; an effort above 100 is refused first
-abbrev pub place : State → ℕ → ℕ → Result Circuit BlifFault → Option State × Reply
-place state seed effort (Ok circuit) = if nat_lt 100 effort then (None, Refused BadEffort) else place_unless state seed effort (misfit_of (fit_of state.strip (packed_of circuit state.arch)))
-place state seed effort (Err fault) = (None, Refused (BadBlif fault))
+-- the placing of the packing of a circuit; an effort above 100 is refused first
+abbrev pub place : State → ℕ → ℕ → Circuit → Option State × Reply
+place state seed effort circuit = if nat_lt 100 effort then (None, Refused BadEffort) else place_unless state seed effort (misfit_of (fit_of state.strip (packed_of circuit state.arch)))
 
--- the `.net` file of the packing of what the text says
-abbrev pub net : State → Result Circuit BlifFault → Option State × Reply
-net state (Ok circuit) = (None, File NetFile (net_text_of (packed_of circuit state.arch)))
-net state (Err fault) = (None, Refused (BadBlif fault))
-
--- what the last placing has made, and what its routing has
-abbrev pub placed_in : State → List ℕ
-placed_in state = place_file_of (end_value (sources_of state PlacingJob))
-
-abbrev pub routed_in : State → List ℕ
-routed_in state = route_file_of (end_value (sources_of state PlacingJob)) (end_value (sources_of state RoutingJob))
-
--- a lawful command: the new state, if it changes, and the reply
+-- a lawful command: the new state, if it changes, and the reply. The files are what the last placing has made, and what its routing has
 abbrev pub serve : State → Command → Option State × Reply
-serve state (Upload text) = load state text (circuit_of text state.arch.lut_size)
-serve state (Change text) = load (keeping (risen state)) text (circuit_of text state.arch.lut_size)
-serve state Pack = pack state (circuit_in state)
-serve state (Place seed effort) = place state seed effort (circuit_in state)
+serve state (Upload text) = with_circuit (circuit_of text state.arch.lut_size) (λ circuit. (Some (loaded state text), Accepted Loaded))
+serve state (Change text) = with_circuit (circuit_of text state.arch.lut_size) (λ circuit. (Some (loaded (keeping (risen state)) text), Accepted Loaded))
+serve state Pack = with_circuit (circuit_in state) (λ circuit. pack_unless state (unfit_of circuit state.arch))
+serve state (Place seed effort) = with_circuit (circuit_in state) (place state seed effort)
 serve state Route = (Some (begun state Routing), Accepted Routing)
 serve state Cancel = (Some (stopped state), Accepted (at_rest state.name))
 serve state Withdraw = (Some (emptied state), Accepted Empty)
 serve state Status = (None, InState (record { state = state.name; steps = state.steps; ending = option_and_then (ending_told (circuit_in state) state.arch) state.ending }))
-serve state Net = net state (circuit_in state)
-serve state PlaceFile = (None, File PlacesFile (placed_in state))
-serve state RouteFile = (None, File RoutesFile (routed_in state))
+serve state Net = with_circuit (circuit_in state) (λ circuit. (None, File NetFile (net_text_of (packed_of circuit state.arch))))
+serve state PlaceFile = (None, File PlacesFile (place_file_of (end_value (sources_of state PlacingJob))))
+serve state RouteFile = (None, File RoutesFile (route_file_of (end_value (sources_of state PlacingJob)) (end_value (sources_of state RoutingJob))))
 
 -- a step that was made is the next one of the running job: of its generation, with its number and its sources
 abbrev pub is_next : State → Advance → Bool

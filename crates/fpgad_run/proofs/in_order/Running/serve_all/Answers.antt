@@ -28,4 +28,4 @@ returns c = λ options arch starts own.
     let P : ServiceState → Type 0 = λ s. Progress (record { names = []; jobs = []; service = s; graph = c.args.self.now.graph.now }) c.loop-act.self (map named_act c.loop-act.yielded) in
     let Q : Basis → Type 0 = λ g. Progress (record { names = []; jobs = []; service = empty (device_of options arch); graph = g }) c.loop-act.self (map named_act c.loop-act.yielded) in
     let progress = subst Q own (subst P starts c.loop-act.invariant) in
-    on_ok_value c.output.result (λ output is. replies_all options arch c.args.script c.loop-act.self (map named_act c.loop-act.yielded) output.items (record { alone = c.headline.ensures.alone; parted = c.headline.ensures.parted; exact = c.headline.ensures.exact; line = c.end_to_end.ensures }) progress all is) c.output.ensures
+    on_ok_value c.output.result (λ output is. replies_all options arch c.args.script c.loop-act.self (map named_act c.loop-act.yielded) output.items (record { alone = c.headline.ensures.alone; parted = c.headline.ensures.parted; journals = c.headline.ensures.journals; book = c.headline.ensures.book; exact = c.headline.ensures.exact; line = c.end_to_end.ensures }) progress all is) c.output.ensures

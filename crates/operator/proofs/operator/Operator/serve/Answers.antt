@@ -1,5 +1,5 @@
 use Rattle.std.proofs.Common.{ℕ, ◌≡◌, [], ◌∷◌, ◌++◌, None, refl, sym, ap, subst, ◌∙◌}
-use Rattle.service_core.specs.Run.Call.{Evict as EvictCall, Move as MoveCall, Take}
+use Rattle.service_core.specs.Run.Call.{Evict as EvictCall, Move as MoveCall, Owners as OwnersCall, Take}
 use Rattle.operator.specs.OwnersText.{owners_text}
 use Rattle.operator.specs.OperatorText.{evicted_text, list_text, moved_text, outcome_text, taken_text}
 use Rattle.operator.proofs.OperatorLemmas.{on_ok, lengths-evicted, lengths-moved, evicts, moves}
@@ -47,7 +47,7 @@ returns-in_ok-owners-in-Owners c =
     rw c.in-Owners.is
     (on_ok c.push_owners.result
     (λ appended. (
-      [],
+      OwnersCall owners ∷ [],
       owners_text c.args.core.now.device.rows owners,
       (owners, c.in_ok-owners-in-Owners.ensures.value, refl, refl, refl),
       appended ∙ ap (λ t. held c.args.reply.now ++ t) told,

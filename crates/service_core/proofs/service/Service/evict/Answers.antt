@@ -1,6 +1,7 @@
 use Rattle.std.proofs.Common.{◌≡◌, ◌-◌, get_or, rules, refl}
 use Rattle.device_book.specs.Owners.{Releases}
-use Rattle.service_core.specs.History.{History, closed, state_of}
+use Rattle.service_core.specs.History.{History, state_of}
+use Rattle.service_core.specs.Tenancy.{closed}
 use Rattle.service_core.specs.Kept.{IsLiveIn, IsPlaceOf, held_at}
 use Rattle.tenant_slot.specs.RoutedSet.{routed_set}
 use Rattle.service_core.proofs.Booking.{in_book_there, released_held, sound_evicted, stand_in}

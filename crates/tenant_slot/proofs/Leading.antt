@@ -1,0 +1,27 @@
+-- What the text of a netlist leads to.
+use Rattle.std.specs.Prelude.{ℕ, List, Result, Option, Some, None}
+use Rattle.blif.specs.declared.circuit.Circuit.{Circuit}
+use Rattle.blif.specs.declared.fault.BlifFault.{BlifFault}
+use Rattle.cluster.specs.Clusters.{packed_of, unfit_of}
+use Rattle.tenant_slot.specs.declared.reply.FileKind.TheVariants.{Net as NetFile}
+use Rattle.tenant_slot.specs.declared.reply.Reply.{Reply}
+use Rattle.tenant_slot.specs.declared.reply.Reply.TheVariants.{Accepted, File}
+use Rattle.tenant_slot.specs.declared.reply.StateName.TheVariants.{Loaded}
+use Rattle.tenant_slot.specs.SingleUser.{State, loaded, pack_unless, place, with_circuit}
+use Rattle.vpr_files.specs.NetFile.{net_text_of}
+
+-- an upload or a change
+abbrev pub load : State → List ℕ → Result Circuit BlifFault → Option State × Reply
+load state text said = with_circuit said (λ circuit. (Some (loaded state text), Accepted Loaded))
+
+-- a packing
+abbrev pub pack : State → Result Circuit BlifFault → Option State × Reply
+pack state said = with_circuit said (λ circuit. pack_unless state (unfit_of circuit state.arch))
+
+-- a placing
+abbrev pub placing : State → ℕ → ℕ → Result Circuit BlifFault → Option State × Reply
+placing state seed effort said = with_circuit said (place state seed effort)
+
+-- the `.net` file
+abbrev pub net : State → Result Circuit BlifFault → Option State × Reply
+net state said = with_circuit said (λ circuit. (None, File NetFile (net_text_of (packed_of circuit state.arch))))
