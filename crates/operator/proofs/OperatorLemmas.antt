@@ -1,6 +1,6 @@
 -- The names of all ids, and the last id of each.
 use Rattle.std.proofs.Common.{◌≡◌, ℕ, suc, add-one, ◌+◌, ◌-◌, eqb, if◌then◌else◌, Result, Ok, Err, None, codes, length-append, List, [], ◌∷◌, ◌++◌, true, false, cond, Option, Some, length, refl, sym, ap, ◌∙◌, subst}
-use Rattle.std.specs.Prelude.{reverse, unwrap_or, option_map, is_some, OnOk}
+use Rattle.std.specs.Prelude.{reverse, unwrap_or, option_map, is_some, OnErr, OnOk}
 use Rattle.std.specs.Borrow.{Bor}
 use Rattle.std.specs.Map.{lookup}
 use Rattle.std.specs.Str.{bytes_eq}
@@ -49,6 +49,14 @@ AreLastIds-insert old new names name id updates is_next were = λ asked.
 pub on_ok : {E : Type 0} {P Q : Type 0} (r : Result (Unit {0}) E) → (P → Q) → OnOk r P → OnOk r Q
 on_ok (Ok u) f p = f p
 on_ok (Err e) f p = tt
+
+pub on_err : {E : Type 0} {P : Type 0} (r : Result (Unit {0}) E) → P → OnErr r P
+on_err (Ok u) p = tt
+on_err (Err e) p = p
+
+pub on_err_more : {E : Type 0} {P Q : Type 0} (r : Result (Unit {0}) E) → (P → Q) → OnErr r P → OnErr r Q
+on_err_more (Ok u) f p = tt
+on_err_more (Err e) f p = f p
 
 -- a name that is in use
 pub refuses : (live : Option History) (state : Option StateName) (old : Stage) (name : List ℕ) (width : ℕ) →

@@ -26,8 +26,8 @@ use Rattle.sessions.proofs.Fitting.{own_after}
 use Rattle.sessions.proofs.StepLemmas.{Run-append}
 use Rattle.operator.specs.HeldJobs.{Holds, PutsHeld}
 use Rattle.operator.specs.OperatorText.{outcome_text}
-use Rattle.operator.specs.Operators.{Steps}
-use Rattle.operator.specs.Serving.{tried_calls, tried_text}
+use Rattle.operator.specs.Operators.{Steps, Tries}
+use Rattle.operator.specs.Serving.{Tried, tried_calls, tried_text}
 use Rattle.operator.proofs.OperatorLemmas.{length-modified}
 
 -- calls that admit no one
@@ -137,25 +137,36 @@ steady_take id None calls (inr is) = to_steady calls _ is.1 (tt, (tt, tt))
 
 -- none is tried
 pub steps_none : (graph : Basis) (service : ServiceState) (id : ℕ) (before : List ℕ) → Steps graph service id 0 before before service
-steps_none graph service id before =
-    record { tried = []; counted = refl; makes = λ k d within. absurd (omega arith); runs = refl; told = sym (append-nil before); even = refl; fits = λ own k d within. absurd (omega arith) }
+steps_none graph service id before = record {
+  tries = record { tried = []; counted = refl; makes = λ k d within. absurd (omega arith); runs = refl; even = refl; fits = λ own k d within. absurd (omega arith) };
+  told = sym (append-nil before);
+}
 
 -- one more
-pub steps_more : (graph : Basis) (old mid new : ServiceState) (id count : ℕ) (before middle after : List ℕ) (calls : List Call) (outcome : StepOutcome) →
-    Steps graph old id count before middle mid → MakesStep id calls outcome → Run mid calls new → after ≡ middle ++ outcome_text outcome → (graph ≡ own_graph mid.device → outcome ≢ Unfit) →
-    Steps graph old id (count + 1) before after new
-steps_more graph old mid new id count before middle after calls outcome s makes runs told fits =
+pub tries_more : (graph : Basis) (old mid new : ServiceState) (id count : ℕ) (calls : List Call) (outcome : StepOutcome) →
+    Tries graph old id count mid → MakesStep id calls outcome → Run mid calls new → (graph ≡ own_graph mid.device → outcome ≢ Unfit) → Tries graph old id (count + 1) new
+tries_more graph old mid new id count calls outcome s makes runs fits =
     let t : List Call × StepOutcome = (calls, outcome) in
     let flat : tried_calls (s.tried ++ t ∷ []) ≡ tried_calls s.tried ++ calls =
     flat_map-append (λ (t : List Call × StepOutcome). t.0) s.tried (t ∷ []) ∙ ap (λ cs. tried_calls s.tried ++ cs) (append-nil calls) in
-    let text : tried_text (s.tried ++ t ∷ []) ≡ tried_text s.tried ++ outcome_text outcome =
-    flat_map-append (λ (t : List Call × StepOutcome). outcome_text t.1) s.tried (t ∷ []) ∙ ap (λ line. tried_text s.tried ++ line) (append-nil (outcome_text outcome)) in
     record {
       tried = s.tried ++ t ∷ [];
       counted = length-append s.tried (t ∷ []) ∙ ap (λ n. n + 1) s.counted;
       makes = All-push (λ (t : List Call × StepOutcome). MakesStep id t.0 t.1) s.tried t s.makes makes;
       runs = (let P : List Call → Type 0 = λ cs. Run old cs new in subst P (sym flat) (Run-append old (tried_calls s.tried) mid calls new s.runs runs));
-      told = told ∙ ap (λ line. line ++ outcome_text outcome) s.told ∙ append_assoc before (tried_text s.tried) (outcome_text outcome) ∙ ap (λ line. before ++ line) (sym text);
       even = sym (lengths-run mid new calls (steady_step id calls outcome makes) runs) ∙ s.even;
       fits = λ own. All-push (λ (t : List Call × StepOutcome). t.1 ≢ Unfit) s.tried t (s.fits own) (fits (own_after old (tried_calls s.tried) mid graph s.runs own));
+    }
+
+pub steps_more : (graph : Basis) (old mid new : ServiceState) (id count : ℕ) (before middle after : List ℕ) (calls : List Call) (outcome : StepOutcome) →
+    Steps graph old id count before middle mid → MakesStep id calls outcome → Run mid calls new → after ≡ middle ++ outcome_text outcome → (graph ≡ own_graph mid.device → outcome ≢ Unfit) →
+    Steps graph old id (count + 1) before after new
+steps_more graph old mid new id count before middle after calls outcome s makes runs told fits =
+    let tried : Tried = s.tries.tried in
+    let t : List Call × StepOutcome = (calls, outcome) in
+    let text : tried_text (tried ++ t ∷ []) ≡ tried_text tried ++ outcome_text outcome =
+    flat_map-append (λ (t : List Call × StepOutcome). outcome_text t.1) tried (t ∷ []) ∙ ap (λ line. tried_text tried ++ line) (append-nil (outcome_text outcome)) in
+    record {
+      tries = tries_more graph old mid new id count calls outcome s.tries makes runs fits;
+      told = told ∙ ap (λ line. line ++ outcome_text outcome) s.told ∙ append_assoc before (tried_text tried) (outcome_text outcome) ∙ ap (λ line. before ++ line) (sym text);
     }

@@ -1,5 +1,5 @@
 -- What the lines of the operator are answered.
-use Rattle.std.specs.Prelude.{ℕ, ◌≡◌, ◌≢◌, ◌+◌, All, option_map, List, [], ◌∷◌, length, codes, Result, Option, Some, None}
+use Rattle.std.specs.Prelude.{ℕ, ◌≡◌, ◌≢◌, ◌⊎◌, ◌≤◌, ◌+◌, All, option_map, List, [], ◌∷◌, length, codes, Result, Option, Some, None}
 use Rattle.std.specs.List.{flat_map}
 use Rattle.rr_graph.specs.Graph.{Basis}
 use Rattle.job_state.specs.Job.{JobState}
@@ -75,3 +75,8 @@ IsServed old (Put number) calls text new = (outcome : StepOutcome)
 IsServed old ListAll calls text new = (calls ≡ []) × (text ≡ list_text old.service old.names) × (new ≡ old)
 IsServed old Owners calls text new = (owners : List Owned)
     × ListsOwnersOf old.service owners × (calls ≡ OwnersCall owners ∷ []) × (text ≡ owners_text old.service.device.rows owners) × (new ≡ old)
+
+-- what stands where memory lacked: nothing was done, or the line was, and isn't told or not all of it; of steps some were made
+abbrev pub Leaves : Stage → OperatorLine (List ℕ) → Stage → Type 0
+Leaves old (Step name count) new = (made : ℕ) × (made ≤ count) × (calls : List Call) × (text : List ℕ) × IsServed old (Step name made) calls text new
+Leaves old line new = (new ≡ old) ⊎ ((calls : List Call) × (text : List ℕ) × IsServed old line calls text new)

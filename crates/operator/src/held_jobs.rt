@@ -1,4 +1,4 @@
-ghost use Rattle.std.specs.Prelude.{◌≡◌, ◌≢◌, ◌+◌, ◌∷◌, [], List, None, length, option_map, IfOk, Option};
+ghost use Rattle.std.specs.Prelude.{◌≡◌, ◌≢◌, ◌+◌, ◌∷◌, [], List, None, length, option_map, IfOk, OnErr, Option};
 ghost use Rattle.job_state.specs.Job.{JobState};
 ghost use Rattle.service_core.specs.Run.{Call, Run};
 ghost use Rattle.service_core.specs.Run.Call.{Take};
@@ -38,14 +38,15 @@ impl<'g> HeldJobs<'g> {
     }
 
     /// Takes the next step of that tenancy's job, if there is one to take, and tells its number. One that the graph doesn't fit is
-    /// given back; the device's own graph fits each.
+    /// given back; the device's own graph fits each. Without memory nothing is taken.
     pub fn take(
         &mut self,
         core: &mut Service,
         graph: &'g DeviceGraph,
         id: u32,
     ) -> Result<Option<usize>, AllocError>
-        ensures { IfOk result (λ number. (job : Option JobState) × (calls : List Call) × Holds id job calls × Run core.old calls core.new × (self.new ≡ with_job self.old job) × (number ≡ option_map (λ _. length self.old + 1) job) × (graph.now ≡ own_graph core.old.device → job ≡ None → calls ≡ Take id None ∷ [])) }
+        ensures taken { IfOk result (λ number. (job : Option JobState) × (calls : List Call) × Holds id job calls × Run core.old calls core.new × (self.new ≡ with_job self.old job) × (number ≡ option_map (λ _. length self.old + 1) job) × (graph.now ≡ own_graph core.old.device → job ≡ None → calls ≡ Take id None ∷ [])) }
+        ensures stands { OnErr result ((core.new ≡ core.old) × (self.new ≡ self.old)) }
     {
         self.jobs.reserve(1)?;
         match core.take(id) {

@@ -1,7 +1,9 @@
-ghost use Rattle.std.specs.Prelude.{◌≡◌, ◌+◌, ◌<◌, ◌∷◌, ◌++◌, ◌↔◌, [], length, IsTrue, OnOk};
+ghost use Rattle.std.specs.Prelude.{◌≡◌, ◌+◌, ◌<◌, ◌∷◌, ◌++◌, ◌↔◌, [], length, vec_capacity, vec_len, IsTrue, OnErr, OnOk};
 ghost use Rattle.operator.specs.OperatorText.{last_id, list_text};
+ghost use Rattle.indexmap.specs.IndexMap.{spare};
 ghost use Rattle.operator.specs.Held.{held};
-ghost use Rattle.operator.specs.Operators.{Steps};
+ghost use Rattle.operator.specs.Ids.{AreLastIds, newest_first};
+ghost use Rattle.operator.specs.Operators.{Steps, TriesSome};
 
 use crate::held_jobs::HeldJobs;
 use crate::owners::push_owners;
@@ -37,7 +39,7 @@ impl<'t> Model for Operator<'t> {
 }
 
 impl<'t> Operator<'t> {
-    ghost use Rattle.operator.specs.Operators.{Admits, Answers};
+    ghost use Rattle.operator.specs.Operators.{AdmissionStands, Admits, Answers, Stands};
 
     pub fn new(alloc: Global) -> Self
         ensures { result ≡ [] }
@@ -66,6 +68,8 @@ impl<'t> Operator<'t> {
     }
 
     /// Does what a line of the operator asks, steps on the device's graph, and appends its reply. The device's own graph fits each job.
+    /// Without memory nothing was done, or the line was done and its reply is missing, or not whole; of several steps some are made. Each
+    /// tenancy has its name then too.
     pub fn serve<'g>(
         &mut self,
         core: &mut Service,
@@ -75,7 +79,8 @@ impl<'t> Operator<'t> {
         reply: &mut MemorySink,
     ) -> Result<(), AllocError>
         requires { length self.old ≡ length core.old.histories }
-        ensures { OnOk result (Answers graph.now self.old jobs.old core.old line.entry (held reply.old) (held reply.new) self.new jobs.new core.new) }
+        ensures told { OnOk result (Answers graph.now self.old jobs.old core.old line.entry (held reply.old) (held reply.new) self.new jobs.new core.new) }
+        ensures stands { OnErr result (Stands graph.now self.old jobs.old core.old line.entry self.new jobs.new core.new) }
     {
         match line {
             OperatorLine::Admit(name, width) => self.admit(core, name, width, reply),
@@ -104,6 +109,7 @@ impl<'t> Operator<'t> {
         }
     }
 
+    /// Admits a tenancy under that name, unless it is in use. Room for the name comes first, so that no tenancy is without one.
     fn admit(
         &mut self,
         core: &mut Service,
@@ -112,30 +118,22 @@ impl<'t> Operator<'t> {
         reply: &mut MemorySink,
     ) -> Result<(), AllocError>
         requires { length self.old ≡ length core.old.histories }
-        ensures { OnOk result (Admits self.old core.old name.now width (held reply.old) (held reply.new) self.new core.new) }
+        ensures told { OnOk result (Admits self.old core.old name.now width (held reply.old) (held reply.new) self.new core.new) }
+        ensures stands { OnErr result (AdmissionStands self.old core.old name.now width self.new core.new) }
     {
         if core.state(self.last_id(name)).is_some() {
             return push_refused(reply, 7, "NameInUse");
         }
+        self.ids.reserve(1)?;
+        self.admitted.reserve(1)?;
         let answer = core.admit(width);
         match &answer {
             Ok((id, _)) => {
-                self.add(name, *id)?;
+                note(&mut self.ids, &mut self.admitted, name, *id);
                 push_admitted(reply, &answer)
             }
             Err(_) => push_admitted(reply, &answer),
         }
-    }
-
-    /// Notes the id that a name was given.
-    fn add(&mut self, name: &'t [u8], id: u32) -> Result<(), AllocError>
-        requires { id ≡ length self.old + 1 }
-        ensures { OnOk result (self.new ≡ name.now ∷ self.old) }
-    {
-        self.admitted.reserve(1)?;
-        self.ids.insert(name, id)?;
-        self.admitted.push(name).unwrap();
-        Ok(())
     }
 
     /// Appends a line for each live tenancy, by id.
@@ -151,6 +149,24 @@ impl<'t> Operator<'t> {
     }
 }
 
+/// Notes the next id and the name that it was given, where there is room for both.
+fn note<'t>(
+    ids: &mut IndexMap<&'t [u8], u32>,
+    admitted: &mut Vec<&'t [u8]>,
+    name: &'t [u8],
+    id: u32,
+)
+    requires room { 0 < spare ids.old }
+    requires place { vec_len admitted.old < vec_capacity admitted.old }
+    requires next { id ≡ length (newest_first admitted.old.items) + 1 }
+    requires last { AreLastIds ids.old.entries (newest_first admitted.old.items) }
+    ensures names { newest_first admitted.new.items ≡ name.now ∷ newest_first admitted.old.items }
+    ensures last { AreLastIds ids.new.entries (newest_first admitted.new.items) }
+{
+    ids.insert(name, id).unwrap();
+    admitted.push(name).unwrap();
+}
+
 /// Makes the next step of a tenancy's job so many times, and appends the outcome of each as a line.
 fn step(
     core: &mut Service,
@@ -159,7 +175,8 @@ fn step(
     count: u32,
     reply: &mut MemorySink,
 ) -> Result<(), AllocError>
-    ensures { OnOk result (Steps graph.now core.old id count (held reply.old) (held reply.new) core.new) }
+    ensures told { OnOk result (Steps graph.now core.old id count (held reply.old) (held reply.new) core.new) }
+    ensures stands { OnErr result (TriesSome graph.now core.old id count core.new) }
 {
     for number in 0..count {
         let outcome = make_step(core, graph, id);

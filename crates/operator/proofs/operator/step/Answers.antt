@@ -1,7 +1,7 @@
-use Rattle.std.proofs.Common.{◌≡◌, ◌++◌, rules}
+use Rattle.std.proofs.Common.{◌≡◌, ◌+◌, ◌++◌, arith, rules}
 use Rattle.operator.specs.Held.{held}
 use Rattle.operator.specs.OperatorText.{outcome_text}
-use Rattle.operator.proofs.Stepping.{steps_more, steps_none}
+use Rattle.operator.proofs.Stepping.{steps_more, steps_none, tries_more}
 use Rattle.operator.proofs.operator.step.Goals as goal
 
 pub loop-number-init : goal.loop-number-init
@@ -13,3 +13,12 @@ loop-number-preserved c =
     let told : held c.push_outcome.new.reply ≡ held c.loop-number.reply ++ outcome_text c.make_step-outcome.result = search rules in
     steps_more c.args.graph.now c.args.core.now c.loop-number.core c.make_step-outcome.new.core c.args.id c.loop-number.number (held c.args.reply.now) (held c.loop-number.reply) (held c.push_outcome.new.reply)
     step.0 c.make_step-outcome.result c.loop-number.invariant step.1 step.2 told c.make_step-outcome.ensures.own
+
+-- the step that isn't told is made
+pub returns-in_err-push_outcome-clause-stands : goal.returns-in_err-push_outcome-clause-stands
+returns-in_err-push_outcome-clause-stands c =
+    let step = c.make_step-outcome.ensures.made in (
+      c.loop-number.number + 1,
+      omega arith,
+      tries_more c.args.graph.now c.args.core.now c.loop-number.core c.make_step-outcome.new.core c.args.id c.loop-number.number step.0 c.make_step-outcome.result c.loop-number.invariant.tries step.1 step.2 c.make_step-outcome.ensures.own,
+    )

@@ -14,7 +14,7 @@ pub loop-line-preserved : goal.loop-line-preserved
 loop-line-preserved c =
     let start = stage c.args.graph.now c.args.operator.now c.args.jobs.now c.args.core.now in
     let told = map named_operator c.loop-line.yielded in
-    let served = c.in_ok-serve.ensures in
+    let served = c.in_ok-serve.ensures.told in
     let mid = stage c.args.graph.now c.loop-line.operator c.loop-line.jobs c.loop-line.core in
     let next = stage c.args.graph.now c.serve.new.self c.serve.new.jobs c.serve.new.core in
     let more = replies_more start told (held c.args.reply.now) (held c.loop-line.reply) (held c.serve.new.reply) mid (named_operator c.in-Some.line) served.0 served.1 next c.loop-line.invariant served.2 served.3 served.4 in

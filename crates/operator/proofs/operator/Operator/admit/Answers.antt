@@ -1,12 +1,13 @@
-use Rattle.std.proofs.Common.{◌≡◌, [], ◌∷◌, codes, length, refl, ap, ◌∙◌}
+use Rattle.std.proofs.Common.{◌≡◌, [], ◌∷◌, codes, length, inl, inr, refl, ap, ◌∙◌}
 use Rattle.service_core.specs.Run.Call.{Admit as AdmitCall}
 use Rattle.service_core.specs.Service.{live_of}
+use Rattle.operator.specs.Ids.{newest_first}
 use Rattle.operator.specs.OperatorText.{admitted_text, last_id, names_after, refused_text}
-use Rattle.operator.proofs.OperatorLemmas.{on_ok, refuses, admits, lengths-admitted}
+use Rattle.operator.proofs.OperatorLemmas.{on_err, on_ok, refuses, admits, lengths-admitted}
 use Rattle.operator.proofs.operator.Operator.admit.Goals as goal
 
-pub returns-then-is_some : goal.returns-then-is_some
-returns-then-is_some c =
+pub returns-then-is_some-clause-told : goal.returns-then-is_some-clause-told
+returns-then-is_some-clause-told c =
     on_ok c.push_refused.result
     (λ appended jobs graph. (
       [],
@@ -18,23 +19,41 @@ returns-then-is_some c =
     ))
     c.push_refused.ensures
 
-pub returns-in_ok-add-in-Ok : goal.returns-in_ok-add-in-Ok
-returns-in_ok-add-in-Ok c =
-    let names : c.add.new.self ≡ names_after c.args.self.now c.args.name.now c.admit-answer.result = rw c.in-Ok.is c.in_ok-add-in-Ok.ensures in
+pub returns-then-is_some-clause-stands : goal.returns-then-is_some-clause-stands
+returns-then-is_some-clause-stands c = on_err c.push_refused.result (λ jobs graph. (inl refl, c.requires))
+
+pub returns-in-Ok-clause-told : goal.returns-in-Ok-clause-told
+returns-in-Ok-clause-told c =
+    let names : newest_first c.note.new.admitted.items ≡ names_after c.args.self.now c.args.name.now c.admit-answer.result = rw (c.in-Ok.is, c.note.ensures.names) (rw c.self.view_is refl) in
     on_ok c.push_admitted.result
     (λ appended jobs graph. (
       AdmitCall c.args.width c.admit-answer.result ∷ [],
       admitted_text c.admit-answer.result,
       admits (live_of c.args.core.now.histories (last_id c.args.self.now c.args.name.now)) c.state.result (record { names = c.args.self.now; jobs = jobs; service = c.args.core.now; graph = graph })
-          (record { names = c.add.new.self; jobs = jobs; service = c.admit-answer.new.self; graph = graph }) c.args.name.now c.args.width c.admit-answer.result
+          (record { names = newest_first c.note.new.admitted.items; jobs = jobs; service = c.admit-answer.new.self; graph = graph }) c.args.name.now c.args.width c.admit-answer.result
           (rw (← c.last_id.ensures) c.state.ensures.value) c.if-is_some.ensures c.admit-answer.ensures names refl refl,
       appended,
-      rw names (lengths-admitted c.args.core.now c.admit-answer.new.self c.args.width c.admit-answer.result c.args.self.now c.args.name.now c.requires c.admit-answer.ensures),
+      ap length names ∙ lengths-admitted c.args.core.now c.admit-answer.new.self c.args.width c.admit-answer.result c.args.self.now c.args.name.now c.requires c.admit-answer.ensures,
     ))
     c.push_admitted.ensures
 
-pub returns-in-Err : goal.returns-in-Err
-returns-in-Err c =
+pub returns-in-Ok-clause-stands : goal.returns-in-Ok-clause-stands
+returns-in-Ok-clause-stands c =
+    let names : newest_first c.note.new.admitted.items ≡ names_after c.args.self.now c.args.name.now c.admit-answer.result = rw (c.in-Ok.is, c.note.ensures.names) (rw c.self.view_is refl) in
+    on_err c.push_admitted.result
+    (λ jobs graph. (
+      inr (
+        AdmitCall c.args.width c.admit-answer.result ∷ [],
+        admitted_text c.admit-answer.result,
+        admits (live_of c.args.core.now.histories (last_id c.args.self.now c.args.name.now)) c.state.result (record { names = c.args.self.now; jobs = jobs; service = c.args.core.now; graph = graph })
+            (record { names = newest_first c.note.new.admitted.items; jobs = jobs; service = c.admit-answer.new.self; graph = graph }) c.args.name.now c.args.width c.admit-answer.result
+            (rw (← c.last_id.ensures) c.state.ensures.value) c.if-is_some.ensures c.admit-answer.ensures names refl refl,
+      ),
+      ap length names ∙ lengths-admitted c.args.core.now c.admit-answer.new.self c.args.width c.admit-answer.result c.args.self.now c.args.name.now c.requires c.admit-answer.ensures,
+    ))
+
+pub returns-in-Err-clause-told : goal.returns-in-Err-clause-told
+returns-in-Err-clause-told c =
     let names : c.args.self.now ≡ names_after c.args.self.now c.args.name.now c.admit-answer.result = rw c.in-Err.is refl in
     on_ok c.push_admitted-in-Err.result
     (λ appended jobs graph. (
@@ -47,3 +66,18 @@ returns-in-Err c =
       ap length names ∙ lengths-admitted c.args.core.now c.admit-answer.new.self c.args.width c.admit-answer.result c.args.self.now c.args.name.now c.requires c.admit-answer.ensures,
     ))
     c.push_admitted-in-Err.ensures
+
+pub returns-in-Err-clause-stands : goal.returns-in-Err-clause-stands
+returns-in-Err-clause-stands c =
+    let names : c.args.self.now ≡ names_after c.args.self.now c.args.name.now c.admit-answer.result = rw c.in-Err.is refl in
+    on_err c.push_admitted-in-Err.result
+    (λ jobs graph. (
+      inr (
+        AdmitCall c.args.width c.admit-answer.result ∷ [],
+        admitted_text c.admit-answer.result,
+        admits (live_of c.args.core.now.histories (last_id c.args.self.now c.args.name.now)) c.state.result (record { names = c.args.self.now; jobs = jobs; service = c.args.core.now; graph = graph })
+            (record { names = c.args.self.now; jobs = jobs; service = c.admit-answer.new.self; graph = graph }) c.args.name.now c.args.width c.admit-answer.result
+            (rw (← c.last_id.ensures) c.state.ensures.value) c.if-is_some.ensures c.admit-answer.ensures names refl refl,
+      ),
+      ap length names ∙ lengths-admitted c.args.core.now c.admit-answer.new.self c.args.width c.admit-answer.result c.args.self.now c.args.name.now c.requires c.admit-answer.ensures,
+    ))
