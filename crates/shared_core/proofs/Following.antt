@@ -3,8 +3,10 @@ use Rattle.std.proofs.Common.{◌≡◌, ℕ, ◌+◌, List, [], ◌∷◌, ◌+
 use Rattle.std.specs.Prelude.{if◌then◌else◌, IsSomeAnd, is_some, option_map}
 use Rattle.std.proofs.lemmas.Bool.Decides.{nat_tests}
 use Rattle.service_core.specs.declared.entry.Entry.{Entry}
-use Rattle.service_core.specs.History.{History, closed, with_entry, with_here}
-use Rattle.service_core.specs.Service.{ServiceState, history_of, if_live, modified, with_offset_of, without_tenancy}
+use Rattle.strips.specs.Plan.{with_moved}
+use Rattle.service_core.specs.History.{History, with_entry, with_here}
+use Rattle.service_core.specs.Tenancy.{closed, if_live}
+use Rattle.service_core.specs.Service.{ServiceState, history_of, modified, without_tenancy}
 use Rattle.service_core.proofs.Lists.{history_of-modified, history_of-past, history_of-push, length-modified}
 use Rattle.shared_core.specs.Following.{Follows, GoesOn, Stays}
 
@@ -93,7 +95,7 @@ Follows-without s id =
     let kept = Follows-changed s id closed GoesOn-closed in record { device = refl; each = kept.each }
 
 -- a strip moved
-pub Follows-moved : (s : ServiceState) (id offset : ℕ) → Follows s (with_offset_of s id offset)
+pub Follows-moved : (s : ServiceState) (id offset : ℕ) → Follows s (record s { plan = with_moved s.plan id offset })
 Follows-moved s id offset = let same = Follows-same s in record { device = refl; each = same.each }
 
 -- a tenancy more
