@@ -1,5 +1,5 @@
 //! The sessions of a script, run on threads beside the workers.
-ghost use Rattle.std.specs.Prelude.{◌≡◌, List, ℕ, true, map, All, IfOk};
+ghost use Rattle.std.specs.Prelude.{◌≡◌, ◌≤◌, List, ℕ, true, map, All, IfOk};
 ghost use Rattle.script_text.specs.Threaded.{Said, said_by};
 ghost use Rattle.script_threads.specs.Served.{Ran, section_told};
 ghost use Rattle.script_threads.specs.Sessions.{asked_of};
@@ -34,6 +34,8 @@ pub(crate) fn run_sessions<
     operator: &Operator<'t>,
     sessions: Vec<SessionInput<'t>>,
 ) -> Result<(Service, Vec<Section<'t>>), Unserved>
+    requires workers { workers ≤ 16 }
+    requires shares { core.shares ≡ 0 }
     requires begun { C.begun ≡ core.service }
     requires stay { C.stay ≡ true }
     ensures ok { IfOk result (λ r. Ran operator.now core.service (map said_by sessions.entry.items) (map section_told r.1.items) r.0) }
@@ -64,6 +66,8 @@ fn prepare<'t, C: Begun, P: Ledger>(
     operator: &Operator<'t>,
     sessions: Vec<SessionInput<'t>>,
 ) -> Result<Prepared<'t, C, P>, Unserved>
+    requires workers { workers ≤ 16 }
+    requires shares { core.old.shares ≡ 0 }
     ensures seats { IfOk result (λ p. All (λ s. s.of ≡ p.ready) p.workers.0.items) }
     ensures passes { IfOk result (λ p. All (λ s. s.of ≡ p.ready) p.sessions.0.items) }
     ensures seated { IfOk result (λ p. p.sessions.1.items ≡ map (asked_of operator.now core.old.service.histories) (map said_by sessions.entry.items)) }

@@ -1,5 +1,5 @@
 //! Sessions, each with its tenancy's lease where that is live.
-ghost use Rattle.std.specs.Prelude.{◌≡◌, map, IfOk};
+ghost use Rattle.std.specs.Prelude.{◌≡◌, ◌≤◌, map, IfOk};
 ghost use Rattle.script_text.specs.Threaded.{said_by};
 ghost use Rattle.script_threads.specs.Sessions.{asked_of};
 
@@ -8,7 +8,7 @@ use operator::Operator;
 use script_text::SessionInput;
 use settling::Cause;
 use shared_core::{Begun, Core, Lease, Share};
-use std::alloc::Global;
+use std::alloc::{AllocError, Global};
 use std::marker::Model;
 use std::sync::ledger::Ledger;
 
@@ -79,22 +79,22 @@ fn seat<'t, C: Begun, P: Ledger>(
     }
 }
 
-/// A share for each worker.
+/// A share for each worker, of the 16 that there are.
 pub(crate) fn shares<C: Begun, P: Ledger>(
     alloc: Global,
     core: &mut Core<C, P>,
     workers: u32,
-) -> Result<Vec<Share<P>>, Unserved>
+) -> Result<Vec<Share<P>>, AllocError>
+    requires workers { workers ≤ 16 }
+    requires none { core.old.shares ≡ 0 }
     ensures service { core.new.service ≡ core.old.service }
 {
     let mut shares = Vec::new(alloc);
     for _worker in 0..workers {
         let Some(share) = core.share() else {
-            return Err(Unserved::NotSettled(Cause::Missing));
+            unreachable!()
         };
-        if shares.push(share).is_err() {
-            return Err(Unserved::NoMemory);
-        }
+        shares.push(share)?;
     }
     Ok(shares)
 }

@@ -23,13 +23,14 @@ use std::sync::ledger::{Blank, Ledger};
 use std::thread::Threads;
 use strips::DeviceGraph;
 
-/// Serves a script with so many workers, from an empty device.
+/// Serves a script with so many workers, at most 16, from an empty device.
 pub fn serve_on_threads<'t, R: Threads + Wait + AllocGlobal + Sync>(
     rt: &R,
     workers: u32,
     device: Device,
     script: ThreadedScript<'t>,
 ) -> Result<Answered<'t>, Unserved>
+    requires workers { workers ≤ 16 }
     requires arch { IsArch device.arch }
     requires has_columns { 1 ≤ device.columns }
     requires columns { device.columns ≤ 256 }
@@ -59,6 +60,7 @@ fn serve_over<'t, R: Threads + Wait + AllocGlobal + Sync>(
     device: Device,
     script: ThreadedScript<'t>,
 ) -> Result<Answered<'t>, Unserved>
+    requires workers { workers ≤ 16 }
     requires arch { IsArch device.arch }
     requires has_columns { 1 ≤ device.columns }
     requires columns { device.columns ≤ 256 }
@@ -84,6 +86,7 @@ fn serve_script<'t, R: Threads + Wait + AllocGlobal + Sync>(
     service: Service,
     script: ThreadedScript<'t>,
 ) -> Result<Answered<'t>, Unserved>
+    requires workers { workers ≤ 16 }
     requires unused { service.histories ≡ [] }
     ensures ok { IfOk result (λ answered. IsServedFrom graph.now service (parts_of script.entry) (map section_told answered.sections.items) answered.operator.items) }
 {
@@ -122,6 +125,7 @@ fn serve_parts<'t, R: Threads + Wait + AllocGlobal + Sync>(
     script: ThreadedScript<'t>,
     reply: &mut MemorySink,
 ) -> Result<Vec<Section<'t>>, Unserved>
+    requires workers { workers ≤ 16 }
     requires unused { service.histories ≡ [] }
     requires names { operator.old ≡ [] }
     requires reply { held reply.old ≡ [] }
@@ -168,6 +172,7 @@ fn serve_sessions<
     puts: Blank,
     reply: &mut MemorySink,
 ) -> Result<Vec<Section<'t>>, Unserved>
+    requires workers { workers ≤ 16 }
     requires commands { (commands.name ≡ C.name) × (commands.parts ≡ C.parts) × (commands.parts ≡ 65536) }
     requires puts { (puts.name ≡ P.name) × (puts.parts ≡ P.parts) × (puts.parts ≡ 17) }
     requires begun { C.begun ≡ service }

@@ -1,5 +1,5 @@
 //! A session's input, line by line.
-ghost use Rattle.std.specs.Prelude.{◌≡◌, [], None, List, IfOk};
+ghost use Rattle.std.specs.Prelude.{◌≡◌, [], None, List, IfOk, IsSome, OnErr};
 ghost use Rattle.sessions.specs.declared.line.SessionLine.{SessionLine};
 ghost use Rattle.sessions.specs.Items.{items_of, with_item};
 ghost use Rattle.sessions.specs.Reading.{FormGives, GivesItem, item_and, items_to_come};
@@ -37,9 +37,11 @@ impl SessionReader {
         SessionReader { alloc, text: None }
     }
 
-    /// Takes the next line, without its LF. Without memory the item is lost.
+    /// Takes the next line, without its LF. Memory can lack within a text only: the text is lost then, and the next line stands
+    /// outside of texts.
     pub fn take_line(&mut self, line: &[u8]) -> Result<Option<SessionLine>, AllocError>
-        ensures { IfOk result (λ item. GivesItem self.old line.now item self.new) }
+        ensures given { IfOk result (λ item. GivesItem self.old line.now item self.new) }
+        ensures lost { OnErr result (IsSome self.old × (self.new ≡ None)) }
     {
         let line = without_cr(line);
         match self.text.take() {

@@ -211,7 +211,7 @@ impl<C: Begun, P: Ledger> Core<C, P> {
 
 impl<C: Begun, P: Ledger> Core<C, P> {
     /// Admits a tenancy, at the least offset that parts its strip from the others, with a slot number that is nobody's.
-    /// Answers its id and offset.
+    /// Answers its id and offset. Owed: `stay` is false.
     pub fn admit(&mut self, width: u32) -> Result<(u32, u32), OpRefusal>
         requires { C.stay ≡ false }
         ensures admitted { IsAdmitted self.old.service width result self.new.service }
@@ -229,7 +229,8 @@ impl<C: Begun, P: Ledger> Core<C, P> {
         Ok((id, offset))
     }
 
-    /// Ends a tenancy. Its strip and its slot number are free again, and its journal stays. Takes no memory.
+    /// Ends a tenancy. Its strip and its slot number are free again, and its journal stays. Takes no memory. Owed:
+    /// `stay` is false.
     pub fn evict(&mut self, id: u32) -> Result<(), OpRefusal>
         requires { C.stay ≡ false }
         ensures evicted { IsEvicted self.old.service id result self.new.service }
@@ -241,6 +242,7 @@ impl<C: Begun, P: Ledger> Core<C, P> {
     }
 
     /// Moves a live tenancy's strip to that offset, with all that the tenancy owns. Jobs that are out go on. Takes no memory.
+    /// Owed: `stay` is false.
     pub fn move_strip(&mut self, id: u32, offset: u32) -> Result<(), OpRefusal>
         requires { C.stay ≡ false }
         ensures moved { IsMoved self.old.service id offset result self.new.service }

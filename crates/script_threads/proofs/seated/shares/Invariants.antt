@@ -1,5 +1,9 @@
 use Rattle.std.proofs.Common.{◌≡◌}
 use Rattle.script_threads.proofs.seated.shares.Given as goal
 
+-- so many shares were given
 abbrev pub invariant-loop-worker : goal.invariant-loop-worker
-invariant-loop-worker g l = l.core.service ≡ l.fn.core.service
+invariant-loop-worker g l = record {
+  service : l.core.service ≡ l.fn.core.service;
+  given : l.core.shares ≡ l._worker-index;
+}
