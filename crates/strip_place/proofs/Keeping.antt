@@ -22,7 +22,7 @@ use Rattle.kept_places.specs.declared.table.KeptPlace.{KeptPlace}
 use Rattle.kept_places.specs.Kept.{KeptPlaces, in_order, kept_place}
 use Rattle.kept_places.specs.Table.{entries_of, entry_of}
 use Rattle.kept_places.proofs.Entries.{find-in_order, tied}
-use Rattle.strip_place.specs.KeptSites.{AreKeptOn, kept_of, kind_for}
+use Rattle.strip_place.specs.Keeping.{AreKeptOn, kept_of, kind_for}
 use Rattle.strip_place.specs.Placed.{ArePlaced, block_at, place_of}
 
 -- what is found by a key
