@@ -1,5 +1,5 @@
 -- The sites of places that are kept.
-use Rattle.std.proofs.Common.{ℕ, zero, suc, ◌≡◌, ◌≢◌, ◌+◌, ◌-◌, ◌<◌, ◌≤◌, ◌⊎◌, inl, inr, Bool, true, false, not, cond, ◌&&◌, List, [], ◌∷◌, Option, Some, None, length, map, get_or, slice_get, refl, sym, ap, subst, ◌∙◌, arith}
+use Rattle.std.proofs.Common.{ℕ, zero, suc, ◌≡◌, ◌≢◌, ◌+◌, ◌-◌, ◌<◌, inl, inr, Bool, true, false, not, cond, List, [], ◌∷◌, Option, Some, None, length, map, get_or, slice_get, refl, sym, ap, subst, ◌∙◌, arith}
 use Rattle.std.specs.Prelude.{AllPairs, Contains, option_map}
 use Rattle.std.specs.List.{position_or_len}
 use Rattle.std.proofs.lemmas.Bool.{cases_order}
@@ -14,7 +14,7 @@ use Rattle.cluster.specs.declared.block.Block.TheVariants.{InputPad, OutputPad, 
 use Rattle.cluster.specs.declared.block.BlockKind.{BlockKind}
 use Rattle.grid.specs.declared.Strip.{Strip}
 use Rattle.grid.specs.declared.place.Kind.{Kind}
-use Rattle.grid.specs.declared.place.Kind.TheVariants.{Logic, Pad}
+use Rattle.grid.specs.declared.place.Kind.TheVariants.{Logic}
 use Rattle.grid.specs.declared.place.Place.{Place}
 use Rattle.grid.specs.Fits.{kind_of}
 use Rattle.grid.specs.Places.{place_at, places_of}
@@ -22,7 +22,7 @@ use Rattle.kept_places.specs.Kept.{KeptPlaces, kept_place}
 use Rattle.strip_place.specs.Keeping.{AreKeptOn, kind_for}
 use Rattle.strip_place.specs.Placed.{is_same_place}
 use Rattle.strip_place.specs.KeptSites.{kept_sites_of, site_of}
-use Rattle.strip_place.specs.Sites.{IsSiteFor, first_site, site_place, site_count}
+use Rattle.strip_place.specs.Sites.{IsSiteFor, first_site, site_place}
 use Rattle.strip_place.specs.Starting.{AreKeptSites}
 use Rattle.strip_place.proofs.Standing.{place_is}
 

@@ -1,6 +1,6 @@
 -- The places at the start are those of the sites at the start.
-use Rattle.std.proofs.Common.{◌≡◌, ◌≢◌, ℕ, zero, suc, ◌+◌, ◌-◌, ◌<◌, ◌≤◌, All, Bool, true, false, not, cond, ◌||◌, List, [], ◌∷◌, ◌++◌, Option, Some, None, nat_eq, find, length, get_or, map, slice_get, refl, sym, ap, subst, ◌∙◌, arith}
-use Rattle.std.specs.Prelude.{AllPairs, Contains, option_map, unwrap_or}
+use Rattle.std.proofs.Common.{◌≡◌, ◌≢◌, ℕ, zero, suc, ◌+◌, ◌-◌, ◌<◌, ◌≤◌, All, Bool, true, false, not, cond, ◌||◌, List, [], ◌∷◌, ◌++◌, Option, Some, None, nat_eq, find, length, get_or, map, slice_get, refl, sym, ap, ◌∙◌, arith}
+use Rattle.std.specs.Prelude.{AllPairs, option_map, unwrap_or}
 use Rattle.std.specs.List.{flat_map, range_with_len, zip}
 use Rattle.std.specs.Option.{option_to_list}
 use Rattle.std.proofs.lemmas.List.{append-nil, append_assoc, get_or-append_right, length_push, map_push}
@@ -19,7 +19,7 @@ use Rattle.strip_place.specs.Boards.{places_on}
 use Rattle.strip_place.specs.Keeping.{AreKeptOn, kind_for}
 use Rattle.strip_place.specs.KeptSites.{kept_sites_of, site_of}
 use Rattle.strip_place.specs.Placed.{is_same_place}
-use Rattle.strip_place.specs.Sites.{AreDistinct, first_site, is_among, kept_sites, least_free, seated_behind, site_count, site_for, site_place, sites_of, start_of}
+use Rattle.strip_place.specs.Sites.{AreDistinct, first_site, is_among, kept_sites, least_free, seated_behind, site_count, site_place, sites_of, start_of}
 use Rattle.strip_place.specs.Start.{first_free, has_place, is_kept_one, kept_by_block, placed_behind, placed_first}
 use Rattle.strip_place.specs.Starting.{AreKeptSites, HaveRoom}
 use Rattle.strip_place.proofs.Carrying.{Inside, test_carried}

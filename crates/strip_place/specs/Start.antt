@@ -1,5 +1,5 @@
 -- Where blocks start.
-use Rattle.std.specs.Prelude.{ℕ, Bool, false, not, List, [], ◌∷◌, ◌++◌, map, find, Option, Some, None, unwrap_or}
+use Rattle.std.specs.Prelude.{Bool, false, not, List, [], ◌∷◌, ◌++◌, map, find, Option, Some, None, unwrap_or}
 use Rattle.std.specs.List.{flat_map, list_any, zip}
 use Rattle.std.specs.Option.{option_to_list}
 use Rattle.cluster.specs.Clusters.{PackedCircuit}

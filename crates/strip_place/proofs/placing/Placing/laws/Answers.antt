@@ -1,6 +1,4 @@
-use Rattle.std.proofs.Common.{◌≡◌, ℕ, List, map, ap, sym, ◌∙◌, subst}
-use Rattle.grid.specs.declared.place.Place.{Place}
-use Rattle.strip_place.specs.Boards.{places_on}
+use Rattle.std.proofs.Common.{◌≡◌, ap, sym, ◌∙◌, subst}
 use Rattle.strip_place.specs.Start.{places_at_start}
 use Rattle.strip_place.specs.Task.{Task, task_of}
 use Rattle.strip_place.specs.Sites.{AreOneToOne}
