@@ -1,7 +1,7 @@
 //! How a test packs a netlist, and places it.
 ghost use Rattle.std.specs.Prelude.{◌≡◌, ◌≤◌, IfSome};
 ghost use Rattle.grid.specs.Sizes.{IsStripSize};
-ghost use Rattle.strip_place.specs.KeptSites.{AreKeptOn};
+ghost use Rattle.strip_place.specs.Keeping.{AreKeptOn};
 
 use arch_file::{SharedArch, read_arch};
 use blif::{SharedCircuit, read_blif};

@@ -1,7 +1,7 @@
 //! Where blocks stand at the start, where places are kept from another netlist.
 ghost use Rattle.std.specs.Prelude.{IfSome};
 ghost use Rattle.grid.specs.Sizes.{IsStripSize};
-ghost use Rattle.strip_place.specs.KeptSites.{AreKeptOn};
+ghost use Rattle.strip_place.specs.Keeping.{AreKeptOn};
 
 use crate::circuits::{packed, placed, placed_anew};
 use cluster::SharedPacked;

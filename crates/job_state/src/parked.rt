@@ -10,7 +10,7 @@ ghost use Rattle.job_state.specs.Ends.{IsEndOf, IsOfNets};
 ghost use Rattle.job_state.specs.Held.{HasFewSteps};
 ghost use Rattle.job_state.specs.Job.{first_step, is_over};
 ghost use Rattle.job_state.specs.RoutedSet.{resources_of};
-ghost use Rattle.strip_place.specs.KeptSites.{AreKeptOn};
+ghost use Rattle.strip_place.specs.Keeping.{AreKeptOn};
 ghost use Rattle.rr_graph.specs.declared.resource.Resource.{Resource};
 ghost use Rattle.rr_graph.specs.Resources.{IsEarlier, has, is_there};
 ghost use Rattle.job_state.specs.JobValue.{circuit_in, end_value, is_whole, job_value, packing_sources, pass_count, placing_at, placing_sources};

@@ -1,11 +1,11 @@
 -- What a tenancy holds of its strip stands in the strip's columns.
-use Rattle.std.proofs.Common.{◌≡◌, ℕ, zero, suc, ◌+◌, ◌≤◌, inl, inr, List, [], ◌∷◌, ◌++◌, length, get_or, map, ◌&&◌, ◌||◌, nat_le, true, Result, Ok, Err, arith}
-use Rattle.std.specs.Prelude.{All}
-use Rattle.std.specs.List.{flat_map, range_with_len}
+use Rattle.std.proofs.Common.{◌≡◌, ℕ, zero, suc, ◌+◌, ◌%◌, ◌≤◌, inl, inr, Bool, true, false, cond, Option, Some, None, List, [], ◌∷◌, ◌++◌, length, get_or, map, ◌&&◌, ◌||◌, nat_le, Result, Ok, Err, refl, arith}
+use Rattle.std.specs.Prelude.{All, IfSome, find, unwrap_or}
+use Rattle.std.specs.List.{flat_map, range_with_len, zip}
 use Rattle.std.specs.Option.{option_to_list}
 use Rattle.std.proofs.lemmas.Bool.{and_parts, cases_lt, false≢true, leb-true}
 use Rattle.std.proofs.lemmas.List.{get_or_past}
-use Rattle.std.proofs.lemmas.List.Elements.{All-append, All-cons, All-nil, filter_passes}
+use Rattle.std.proofs.lemmas.List.Elements.{All-append, All-cons, All-head, All-nil, All-tail, filter_passes}
 use Rattle.arch_file.specs.declared.arch.Arch.{Arch}
 use Rattle.blif.specs.declared.circuit.Circuit.{Circuit}
 use Rattle.blif.specs.declared.fault.BlifFault.{BlifFault}
@@ -13,6 +13,7 @@ use Rattle.cluster.specs.declared.block.Block.{Block}
 use Rattle.cluster.specs.declared.block.Block.TheVariants.{InputPad, OutputPad, Cluster}
 use Rattle.cluster.specs.Clusters.{PackedCircuit, packed_of}
 use Rattle.cluster.specs.Blocks.{blocks_of}
+use Rattle.cluster.specs.Keys.{keys_of}
 use Rattle.grid.specs.declared.Strip.{Strip}
 use Rattle.grid.specs.declared.place.Kind.{Kind}
 use Rattle.grid.specs.declared.place.Kind.TheVariants.{Logic, Pad}
@@ -25,16 +26,18 @@ use Rattle.rr_graph.specs.declared.resource.Resource.{Resource}
 use Rattle.rr_graph.specs.Geometry.{is_chan_y, is_node, is_slot}
 use Rattle.rr_graph.specs.Graph.{graph_of, make_node, nodes_of}
 use Rattle.rr_graph.specs.Resources.{has, resource_of}
-use Rattle.strip_place.specs.Anneal.{sites_by_block}
-use Rattle.strip_place.specs.Placed.{block_at}
-use Rattle.strip_place.specs.Placed.{place_of as place_of_block}
-use Rattle.strip_place.specs.Sites.{place_of, sites_of}
+use Rattle.strip_place.specs.Anneal.{PlacingUnderWay, draws_of, placed_after, places_by_block, temperature_at}
+use Rattle.strip_place.specs.Keeping.{kind_for}
+use Rattle.strip_place.specs.Pass.{Draw, after_draw, after_move, cost_of, drawn, drawn_block, exchanged, is_kept, pass_of}
+use Rattle.strip_place.specs.Placed.{block_at, is_same_place, place_of}
+use Rattle.strip_place.specs.Start.{first_free, is_kept_one, kept_by_block, place_for, placed_behind, placed_first, places_at_start}
+use Rattle.strip_place.specs.Task.{Task, task_of}
 use Rattle.pathfinder.specs.Negotiation.{Tree, Standing, More, Done, GaveUp as GivenUp, NoPath as WithoutPath, Routed as RoutedTrees, routed_after}
 use Rattle.pathfinder.specs.PlacedNets.{wiring_of}
 use Rattle.pathfinder.specs.Routings.{told_by_node}
 use Rattle.pathfinder.specs.Wiring.{Net}
 use Rattle.job_state.specs.declared.sources.Sources.{Sources}
-use Rattle.kept_places.specs.Kept.{KeptPlaces}
+use Rattle.kept_places.specs.Kept.{KeptPlaces, kept_place}
 use Rattle.job_state.specs.JobValue.{basis_in, circuit_in, nets_in, pads_in, pass_count, placing_at, routing_sources, routing_stands, step_count, value_of}
 use Rattle.job_state.specs.RoutedCircuits.{on_path, on_tree, on_trees, pad_of, pads_of}
 use Rattle.job_state.specs.RoutedSet.{held_at_end, resources_of}
@@ -75,17 +78,87 @@ module _ (strip : Strip) where
   unfolding places_of
   places_in kind = in_columns_from kind 1 strip.width (omega arith)
 
-  site_in : (site : ℕ) → Stands (place_of strip site)
-  unfolding sites_of
-  site_in site = at_any Stands (places_of strip Logic ++ places_of strip Pad) site (place_at 0 0 0) (All-append Stands (places_of strip Logic) (places_of strip Pad) (places_in Logic) (places_in Pad)) (omega arith)
+  -- a draw leaves each block on a place of the strip
+  placed_in : (places : List Place) (block : ℕ) → All Stands places → Stands (place_of places block)
+  placed_in places block all = at_any Stands places block (place_at 0 0 0) all (omega arith)
+
+  chosen : (b c : Bool) (target home place : Place) → Stands target → Stands home → Stands place → Stands (cond b target (cond c home place))
+  chosen true c target home place t h low = t
+  chosen false true target home place t h low = h
+  chosen false false target home place t h low = low
+
+  exchanged_in : (home target : Place) (places : List Place) → Stands home → Stands target → All Stands places → All Stands (map (exchanged home target) places)
+  exchanged_in home target [] h t all = All-nil Stands
+  exchanged_in home target (place ∷ places) h t all =
+      All-cons Stands (exchanged home target place) (map (exchanged home target) places) (chosen (is_same_place place home) (is_same_place place target) target home place t h (All-head Stands place places all)) (exchanged_in home target places h t (All-tail Stands place places all))
+
+  draw_in : (task : Task) (temperature : ℕ) (draw : Draw) (places : List Place) → All Stands places → All Stands (after_draw strip task temperature draw places)
+  unfolding after_draw
+  draw_in task temperature draw places all = by (is_kept temperature (cost_of task.nets places) (cost_of task.nets (after_move strip task draw places)) draw.a)
+    where
+      moved : All Stands (after_move strip task draw places)
+      moved =
+          let block = drawn_block task.kinds draw in
+          let kind = get_or task.kinds block Logic in
+          exchanged_in (place_of places block) (drawn strip kind draw.v) places (placed_in places block all) (placed_in (places_of strip kind) (draw.v % length (places_of strip kind)) (places_in kind)) all
+
+      by : (b : Bool) → All Stands (cond b (after_move strip task draw places) places)
+      by true = moved
+      by false = all
+
+  pass_in : (task : Task) (temperature : ℕ) (draws : ℕ → Draw) (count : ℕ) (places : List Place) → All Stands places → All Stands (pass_of strip task temperature draws count places)
+  unfolding pass_of
+  pass_in task temperature draws zero places all = all
+  pass_in task temperature draws (suc count) places all = draw_in task temperature (draws count) (pass_of strip task temperature draws count places) (pass_in task temperature draws count places all)
+
+  passes_in : (task : Task) (start : List Place) (seed effort passes : ℕ) → All Stands start → All Stands (placed_after strip task start seed effort passes)
+  unfolding placed_after
+  passes_in task start seed effort zero all = all
+  passes_in task start seed effort (suc passes) all = pass_in task (temperature_at strip passes) _ (draws_of task effort) (placed_after strip task start seed effort passes) (passes_in task start seed effort passes all)
+
+  -- so does the start
+  abbrev MayStand : Option Place → Type 0
+  MayStand found = IfSome found Stands
+
+  found_in : (test : Place → Bool) (places : List Place) → All Stands places → MayStand (find test places)
+  found_in test [] all = tt
+  found_in test (place ∷ places) all = by (test place) (found_in test places (All-tail Stands place places all))
+    where
+      by : (b : Bool) → MayStand (find test places) → MayStand (cond b (Some place) (find test places))
+      by true rest = All-head Stands place places all
+      by false rest = rest
+
+  some_place : (found : Option Place) (other : Place) → MayStand found → Stands other → Stands (unwrap_or found other)
+  some_place None other may low = low
+  some_place (Some place) other may low = may
+
+  behind_in : (taken : List Place) (blocks : List (Kind × Option Place)) → All (λ block. MayStand block.1) blocks → All Stands (placed_behind strip taken blocks)
+  behind_in taken [] all = All-nil Stands
+  behind_in taken (block ∷ blocks) all =
+      let free : Stands (first_free strip block.0 taken) = some_place _ (place_at 0 0 0) (found_in _ (places_of strip block.0) (places_in block.0)) (omega arith) in
+      let here : Stands (place_for strip taken block) = some_place block.1 _ (All-head (λ (b : Kind × Option Place). MayStand b.1) block blocks all) free in
+      All-cons Stands (place_for strip taken block) _ here (behind_in (taken ++ place_for strip taken block ∷ []) blocks (All-tail (λ (b : Kind × Option Place). MayStand b.1) block blocks all))
+
+  zip_in : (kinds : List Kind) (kept : List (Option Place)) → All MayStand kept → All (λ block. MayStand block.1) (zip kinds kept)
+  zip_in [] kept all = All-nil (λ (b : Kind × Option Place). MayStand b.1)
+  zip_in (kind ∷ kinds) [] all = All-nil (λ (b : Kind × Option Place). MayStand b.1)
+  zip_in (kind ∷ kinds) (place ∷ kept) all = All-cons (λ (b : Kind × Option Place). MayStand b.1) (kind, place) (zip kinds kept) (All-head MayStand place kept all) (zip_in kinds kept (All-tail MayStand place kept all))
+
+  start_in : (packed : PackedCircuit) (kept : KeptPlaces) → All Stands (places_at_start strip packed kept)
+  unfolding placed_first
+  start_in packed kept = behind_in _ _ (zip_in (task_of packed).kinds (kept_by_block strip packed kept)
+      (all_map MayStand (λ key. find (is_kept_one (kept_place kept key)) (places_of strip (kind_for key.kind))) (keys_of packed) (λ key. found_in _ (places_of strip (kind_for key.kind)) (places_in (kind_for key.kind)))))
+
+  blocks_in : (placing : PlacingUnderWay) → placing.strip ≡ strip → All Stands (places_by_block placing)
+  blocks_in placing same = rw same (passes_in (task_of placing.packed) (places_at_start strip placing.packed placing.kept) placing.seed placing.effort placing.passes (start_in placing.packed placing.kept))
 
   -- resources
   abbrev IsIn : Resource → Type 0
   IsIn resource = resource.x ≤ strip.width
 
-  pads_in_columns : (packed : PackedCircuit) (sites : List ℕ) → All IsIn (pads_of packed (map (place_of strip) sites))
-  pads_in_columns packed sites = all_flat IsIn (λ block. pad_of (block_at packed block) (place_of_block (map (place_of strip) sites) block)) (range_with_len 0 (length (blocks_of packed)))
-      (λ block. one (block_at packed block) (place_of_block (map (place_of strip) sites) block) (at_any Stands (map (place_of strip) sites) block (place_at 0 0 0) (all_map Stands (place_of strip) sites site_in) (omega arith)))
+  pads_in_columns : (packed : PackedCircuit) (places : List Place) → All Stands places → All IsIn (pads_of packed places)
+  pads_in_columns packed places all = all_flat IsIn (λ block. pad_of (block_at packed block) (place_of places block)) (range_with_len 0 (length (blocks_of packed)))
+      (λ block. one (block_at packed block) (place_of places block) (placed_in places block all))
     where
       one : (block : Block) (place : Place) → Stands place → All IsIn (pad_of block place)
       one (InputPad net) place low = All-cons IsIn _ [] low (All-nil IsIn)
@@ -141,7 +214,7 @@ module _ (strip : Strip) where
   value_in arch text kept seed effort steps (Ok circuit) =
       let sources : Sources = routing_sources arch strip text kept seed effort in
       let after = routed_after (wiring_of (basis_in sources)) (nets_in sources circuit) steps in
-      standing_in arch (pads_in sources circuit) (nets_in sources circuit) steps after after.standing (pads_in_columns (packed_of circuit arch) (sites_by_block (placing_at sources circuit (pass_count strip))))
+      standing_in arch (pads_in sources circuit) (nets_in sources circuit) steps after after.standing (pads_in_columns (packed_of circuit arch) (places_by_block (placing_at sources circuit (pass_count strip))) (blocks_in (placing_at sources circuit (pass_count strip)) refl))
 
   resources_in : (arch : Arch) (text : List ℕ) (kept : KeptPlaces) (seed effort : ℕ) → All IsIn (resources_of (routing_sources arch strip text kept seed effort))
   unfolding resources_of

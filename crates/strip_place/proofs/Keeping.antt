@@ -1,5 +1,5 @@
 -- Places that are kept.
-use Rattle.std.proofs.Common.{ℕ, zero, suc, ◌≡◌, ◌≢◌, ◌+◌, ◌<◌, ◌≤◌, Bool, true, false, cond, List, [], ◌∷◌, ◌++◌, Option, Some, None, Result, Ok, Err, IfOk, length, take, map, get_or, slice_get, refl, sym, ap, subst, ◌∙◌, arith}
+use Rattle.std.proofs.Common.{ℕ, zero, suc, ◌≡◌, ◌≢◌, ◌+◌, ◌<◌, ◌≤◌, Bool, true, false, cond, List, [], ◌∷◌, ◌++◌, Some, Result, Ok, Err, IfOk, length, take, get_or, slice_get, refl, sym, ap, subst, ◌∙◌, arith}
 use Rattle.std.specs.Prelude.{AllPairs, Contains}
 use Rattle.std.specs.List.{IsDistinct, zip}
 use Rattle.std.specs.Map as entries
@@ -19,11 +19,11 @@ use Rattle.grid.specs.declared.place.Place.{Place}
 use Rattle.grid.specs.Fits.{kind_of}
 use Rattle.grid.specs.Places.{place_at, places_of}
 use Rattle.kept_places.specs.declared.table.KeptPlace.{KeptPlace}
-use Rattle.kept_places.specs.Kept.{KeptPlaces, in_order, kept_place}
+use Rattle.kept_places.specs.Kept.{KeptPlaces, in_order}
 use Rattle.kept_places.specs.Table.{entries_of, entry_of}
 use Rattle.kept_places.proofs.Entries.{find-in_order, tied}
-use Rattle.strip_place.specs.KeptSites.{AreKeptOn, kept_of, kind_for}
-use Rattle.strip_place.specs.Placed.{ArePlaced, block_at, place_of}
+use Rattle.strip_place.specs.Keeping.{AreKeptOn, kept_of, kind_for}
+use Rattle.strip_place.specs.Placed.{ArePlaced, block_at}
 
 -- what is found by a key
 zip_found : (keys : List BlockKey) (places : List Place) (key : BlockKey) (place : Place) → find key_order key (zip keys places) ≡ Some place →

@@ -1,5 +1,5 @@
 -- The sites of places that are kept.
-use Rattle.std.proofs.Common.{ℕ, zero, suc, ◌≡◌, ◌≢◌, ◌+◌, ◌-◌, ◌<◌, ◌≤◌, ◌⊎◌, inl, inr, Bool, true, false, not, cond, ◌&&◌, List, [], ◌∷◌, Option, Some, None, length, map, get_or, slice_get, refl, sym, ap, subst, ◌∙◌, arith}
+use Rattle.std.proofs.Common.{ℕ, zero, suc, ◌≡◌, ◌≢◌, ◌+◌, ◌-◌, ◌<◌, inl, inr, Bool, true, false, not, cond, List, [], ◌∷◌, Option, Some, None, length, map, get_or, slice_get, refl, sym, ap, subst, ◌∙◌, arith}
 use Rattle.std.specs.Prelude.{AllPairs, Contains, option_map}
 use Rattle.std.specs.List.{position_or_len}
 use Rattle.std.proofs.lemmas.Bool.{cases_order}
@@ -14,47 +14,49 @@ use Rattle.cluster.specs.declared.block.Block.TheVariants.{InputPad, OutputPad, 
 use Rattle.cluster.specs.declared.block.BlockKind.{BlockKind}
 use Rattle.grid.specs.declared.Strip.{Strip}
 use Rattle.grid.specs.declared.place.Kind.{Kind}
-use Rattle.grid.specs.declared.place.Kind.TheVariants.{Logic, Pad}
+use Rattle.grid.specs.declared.place.Kind.TheVariants.{Logic}
 use Rattle.grid.specs.declared.place.Place.{Place}
 use Rattle.grid.specs.Fits.{kind_of}
 use Rattle.grid.specs.Places.{place_at, places_of}
 use Rattle.kept_places.specs.Kept.{KeptPlaces, kept_place}
-use Rattle.strip_place.specs.KeptSites.{AreKeptOn, is_place, kept_by_block, kind_for, site_of}
-use Rattle.strip_place.specs.Sites.{IsSiteFor, first_site, place_of, site_count}
+use Rattle.strip_place.specs.Keeping.{AreKeptOn, kind_for}
+use Rattle.strip_place.specs.Placed.{is_same_place}
+use Rattle.strip_place.specs.KeptSites.{kept_sites_of, site_of}
+use Rattle.strip_place.specs.Sites.{IsSiteFor, first_site, site_place}
 use Rattle.strip_place.specs.Starting.{AreKeptSites}
 use Rattle.strip_place.proofs.Standing.{place_is}
 
-same_parts : (a b : Place) → a.x ≡ b.x → a.y ≡ b.y → a.subblock ≡ b.subblock → a ≡ b
+pub same_parts : (a b : Place) → a.x ≡ b.x → a.y ≡ b.y → a.subblock ≡ b.subblock → a ≡ b
 same_parts a b x y n = ap (λ t. place_at t a.y a.subblock) x ∙ (ap (λ t. place_at b.x t a.subblock) y ∙ ap (place_at b.x b.y) n)
 
-is_itself : (a : Place) → is_place a a ≡ true
+pub is_itself : (a : Place) → is_same_place a a ≡ true
 is_itself a = grind (arith, nat_tests)
 
-told_apart : (a b : Place) → b ≢ a → is_place a b ≡ false
-told_apart a b differs = by (is_place a b) refl
+pub told_apart : (a b : Place) → b ≢ a → is_same_place a b ≡ false
+told_apart a b differs = by (is_same_place a b) refl
   where
-    by : (t : Bool) → is_place a b ≡ t → t ≡ false
+    by : (t : Bool) → is_same_place a b ≡ t → t ≡ false
     by false is = refl
     by true is = absurd (differs (sym (same_parts a b (grind (arith, nat_tests, is)) (grind (arith, nat_tests, is)) (grind (arith, nat_tests, is)))))
 
 -- the place stands at its number
-pub position_at : (places : List Place) (number : ℕ) (place : Place) → AllPairs (λ place next. place ≢ next) places → slice_get places number ≡ Some place → position_or_len (is_place place) places ≡ number
+pub position_at : (places : List Place) (number : ℕ) (place : Place) → AllPairs (λ place next. place ≢ next) places → slice_get places number ≡ Some place → position_or_len (is_same_place place) places ≡ number
 position_at [] number place apart is = absurd (let lt = slice_get_within [] number place is in omega (arith, lt))
 position_at (first ∷ places) zero place apart is =
     let same : first ≡ place = cc in
-    ap (λ (t : Bool). cond {A = ℕ} (not t) (1 + position_or_len (is_place place) places) 0) (ap (is_place place) same ∙ is_itself place)
+    ap (λ (t : Bool). cond {A = ℕ} (not t) (1 + position_or_len (is_same_place place) places) 0) (ap (is_same_place place) same ∙ is_itself place)
 position_at (first ∷ places) (suc number) place apart is =
     let lt = slice_get_within places number place is in
     let other : first ≢ place = λ e. apart 0 (suc number) place (omega arith) (omega (arith, lt)) (e ∙ sym (get_or_from_slice_get places number place place is)) in
     let rest = position_at places number place (λ i j d before small. apart (suc i) (suc j) d (omega (arith, before)) (omega (arith, small))) is in
-    ap (λ (t : Bool). cond {A = ℕ} (not t) (1 + position_or_len (is_place place) places) 0) (told_apart place first other) ∙ omega (arith, rest)
+    ap (λ (t : Bool). cond {A = ℕ} (not t) (1 + position_or_len (is_same_place place) places) 0) (told_apart place first other) ∙ omega (arith, rest)
 
 -- the site of a place of the strip
 module _ (strip : Strip) (apart : (kind : Kind) → AllPairs (λ place next. place ≢ next) (places_of strip kind)) where
   pub site_is : (kind : BlockKind) (number : ℕ) (place : Place) → slice_get (places_of strip (kind_for kind)) number ≡ Some place → site_of strip kind place ≡ first_site strip (kind_for kind) + number
   site_is kind number place is = ap (λ n. first_site strip (kind_for kind) + n) (position_at (places_of strip (kind_for kind)) number place (apart (kind_for kind)) is)
 
-  number_of : (kind : Kind) (place : Place) → Contains (places_of strip kind) place → slice_get (places_of strip kind) (position_or_len (is_place place) (places_of strip kind)) ≡ Some place
+  pub number_of : (kind : Kind) (place : Place) → Contains (places_of strip kind) place → slice_get (places_of strip kind) (position_or_len (is_same_place place) (places_of strip kind)) ≡ Some place
   number_of kind place there =
       let is : slice_get (places_of strip kind) there.0 ≡ Some place = slice_get-get_or (places_of strip kind) there.0 place there.1 ∙ ap (λ (p : Place). let o : Option Place = Some p in o) there.2 in
       ap (slice_get (places_of strip kind)) (position_at (places_of strip kind) there.0 place (apart kind) is) ∙ is
@@ -64,9 +66,9 @@ module _ (strip : Strip) (apart : (kind : Kind) → AllPairs (λ place next. pla
       let small = slice_get_within (places_of strip (kind_for kind)) _ place (number_of (kind_for kind) place there) in
       record { from = omega arith; below = omega (arith, small) }
 
-  site_place : (kind : BlockKind) (place : Place) → Contains (places_of strip (kind_for kind)) place → place_of strip (site_of strip kind place) ≡ place
-  site_place kind place there =
-      let number = position_or_len (is_place place) (places_of strip (kind_for kind)) in
+  pub place_back : (kind : BlockKind) (place : Place) → Contains (places_of strip (kind_for kind)) place → site_place strip (site_of strip kind place) ≡ place
+  place_back kind place there =
+      let number = position_or_len (is_same_place place) (places_of strip (kind_for kind)) in
       let cut : site_of strip kind place - first_site strip (kind_for kind) ≡ number = omega arith in
       place_is strip (kind_for kind) (site_of strip kind place) (site_for kind place there)
       ∙ (ap (λ n. get_or (places_of strip (kind_for kind)) n (place_at 0 0 0)) cut
@@ -88,7 +90,7 @@ module _ (strip : Strip) (apart : (kind : Kind) → AllPairs (λ place next. pla
     abbrev site_by : BlockKey → Option ℕ
     site_by key = option_map (site_of strip key.kind) (kept_place kept key)
 
-    here : (block : ℕ) → block < length (blocks_of packed) → get_or (kept_by_block strip packed kept) block None ≡ site_by (key_of packed (get_or (blocks_of packed) block no_block))
+    here : (block : ℕ) → block < length (blocks_of packed) → get_or (kept_sites_of strip packed kept) block None ≡ site_by (key_of packed (get_or (blocks_of packed) block no_block))
     here block lt =
         get_or-map site_by (keys_of packed) block (key_of packed no_block) None (omega (arith, lt, length-map (blocks_of packed) (key_of packed)))
         ∙ ap site_by (get_or-map (key_of packed) (blocks_of packed) block no_block (key_of packed no_block) lt)
@@ -96,7 +98,7 @@ module _ (strip : Strip) (apart : (kind : Kind) → AllPairs (λ place next. pla
     kinds_long : length (map kind_of (blocks_of packed)) ≡ length (blocks_of packed)
     kinds_long = length-map (blocks_of packed) kind_of
 
-    place_by : (block site : ℕ) → block < length (blocks_of packed) → get_or (kept_by_block strip packed kept) block None ≡ Some site →
+    place_by : (block site : ℕ) → block < length (blocks_of packed) → get_or (kept_sites_of strip packed kept) block None ≡ Some site →
         (place : Place) × (kept_place kept (key_of packed (get_or (blocks_of packed) block no_block)) ≡ Some place) × (site_of strip (key_of packed (get_or (blocks_of packed) block no_block)).kind place ≡ site)
     place_by block site lt is = some_of (key_of packed (get_or (blocks_of packed) block no_block)).kind _ site (sym (here block lt) ∙ is)
 
@@ -116,7 +118,7 @@ module _ (strip : Strip) (apart : (kind : Kind) → AllPairs (λ place next. pla
         at block lt = get_or-map (key_of packed) (blocks_of packed) block no_block (key_of packed no_block) lt
 
     -- the sites that blocks keep are of their kinds, and no two the same
-    pub kept_lawful_by : AreKeptSites strip (map kind_of (blocks_of packed)) (kept_by_block strip packed kept)
+    pub kept_lawful_by : AreKeptSites strip (map kind_of (blocks_of packed)) (kept_sites_of strip packed kept)
     kept_lawful_by = record {
       long = length-map (keys_of packed) site_by ∙ (length-map (blocks_of packed) (key_of packed) ∙ sym kinds_long);
       by_kind = λ block site lt is.
@@ -133,11 +135,11 @@ module _ (strip : Strip) (apart : (kind : Kind) → AllPairs (λ place next. pla
           let two = place_by other site second also in
           let key = key_of packed (get_or (blocks_of packed) block no_block) in
           let last = key_of packed (get_or (blocks_of packed) other no_block) in
-          let same : one.0 ≡ two.0 = sym (site_place key.kind one.0 (lawful.by_kind key one.0 one.1)) ∙ (ap (place_of strip) (one.2 ∙ sym two.2) ∙ site_place last.kind two.0 (lawful.by_kind last two.0 two.1)) in
+          let same : one.0 ≡ two.0 = sym (place_back key.kind one.0 (lawful.by_kind key one.0 one.1)) ∙ (ap (site_place strip) (one.2 ∙ sym two.2) ∙ place_back last.kind two.0 (lawful.by_kind last two.0 two.1)) in
           one_block block other small second (lawful.one_to_one key last one.0 one.1 (two.1 ∙ ap (λ (p : Place). let o : Option Place = Some p in o) (sym same))));
     }
 
-pub kept_lawful : (strip : Strip) (packed : PackedCircuit) (kept : KeptPlaces) → ((kind : Kind) → AllPairs (λ place next. place ≢ next) (places_of strip kind)) → AllPairs (λ key other. key ≢ other) (keys_of packed) → AreKeptOn strip kept → AreKeptSites strip (map kind_of (blocks_of packed)) (kept_by_block strip packed kept)
+pub kept_lawful : (strip : Strip) (packed : PackedCircuit) (kept : KeptPlaces) → ((kind : Kind) → AllPairs (λ place next. place ≢ next) (places_of strip kind)) → AllPairs (λ key other. key ≢ other) (keys_of packed) → AreKeptOn strip kept → AreKeptSites strip (map kind_of (blocks_of packed)) (kept_sites_of strip packed kept)
 kept_lawful strip packed kept apart keys lawful = kept_lawful_by strip apart packed kept keys lawful
 
 -- where none is kept

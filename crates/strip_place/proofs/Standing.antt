@@ -1,9 +1,9 @@
 -- Where blocks stand one to one on sites, they have places one to one.
-use Rattle.std.proofs.Common.{◌≡◌, ◌≢◌, ℕ, ◌-◌, ◌⊎◌, inl, inr, ◌<◌, List, length, map, get_or, refl, sym, ap, ◌∙◌, subst, arith}
+use Rattle.std.proofs.Common.{◌≡◌, ◌≢◌, ℕ, ◌-◌, ◌⊎◌, inl, inr, ◌<◌, ◌≤◌, List, length, map, get_or, refl, sym, ap, ◌∙◌, subst, arith}
 use Rattle.std.specs.Prelude.{Contains, AllPairs}
 use Rattle.std.proofs.lemmas.List.{get_or-map, get_or-append_right, get_or_append_left, length-map}
 use Rattle.std.proofs.lemmas.List.Elements.{Contains-get_or}
-use Rattle.std.proofs.lemmas.Bool.{cases_order}
+use Rattle.std.proofs.lemmas.Bool.{cases_lt, cases_order}
 use Rattle.cluster.specs.declared.block.Block.TheVariants.{Cluster}
 use Rattle.cluster.specs.Clusters.{PackedCircuit}
 use Rattle.cluster.specs.Blocks.{blocks_of}
@@ -14,23 +14,24 @@ use Rattle.grid.specs.declared.place.Place.{Place}
 use Rattle.grid.specs.Places.{place_at, places_of}
 use Rattle.grid.specs.Fits.{kind_of}
 use Rattle.strip_place.specs.Task.{task_of}
-use Rattle.strip_place.specs.Sites.{sites_of, first_site, place_of, IsSiteFor, AreOneToOne}
+use Rattle.strip_place.specs.Sites.{sites_of, first_site, site_place, IsSiteFor, AreDistinct, AreOneToOne}
 use Rattle.strip_place.specs.Placed.{ArePlaced, block_at}
+use Rattle.strip_place.proofs.Starts.{length-sites_of}
 
 -- a site's place is the one of its kind by the number in that kind
-pub place_is : (strip : Strip) (kind : Kind) (site : ℕ) → IsSiteFor strip kind site → place_of strip site ≡ get_or (places_of strip kind) (site - first_site strip kind) (place_at 0 0 0)
+pub place_is : (strip : Strip) (kind : Kind) (site : ℕ) → IsSiteFor strip kind site → site_place strip site ≡ get_or (places_of strip kind) (site - first_site strip kind) (place_at 0 0 0)
 unfolding sites_of
 place_is strip Logic site is =
     get_or_append_left (places_of strip Logic) (places_of strip Pad) (place_at 0 0 0) site (omega (arith, is.below))
     ∙ (let e : site ≡ site - 0 = omega arith in ap (λ n. get_or (places_of strip Logic) n (place_at 0 0 0)) e)
 place_is strip Pad site is = get_or-append_right (places_of strip Logic) (places_of strip Pad) (length (places_of strip Logic)) site (place_at 0 0 0) refl is.from
 
-among : (strip : Strip) (kind : Kind) (site : ℕ) → IsSiteFor strip kind site → Contains (places_of strip kind) (place_of strip site)
+among : (strip : Strip) (kind : Kind) (site : ℕ) → IsSiteFor strip kind site → Contains (places_of strip kind) (site_place strip site)
 among strip kind site is =
     subst (Contains (places_of strip kind)) (sym (place_is strip kind site is)) (Contains-get_or (places_of strip kind) (site - first_site strip kind) (place_at 0 0 0) (omega (arith, is.from, is.below)))
 
 -- two sites of a kind have two places
-pub same_site : (strip : Strip) (kind : Kind) (site other : ℕ) → AllPairs (λ place next. place ≢ next) (places_of strip kind) → IsSiteFor strip kind site → IsSiteFor strip kind other → place_of strip site ≡ place_of strip other → site ≡ other
+pub same_site : (strip : Strip) (kind : Kind) (site other : ℕ) → AllPairs (λ place next. place ≢ next) (places_of strip kind) → IsSiteFor strip kind site → IsSiteFor strip kind other → site_place strip site ≡ site_place strip other → site ≡ other
 same_site strip kind site other apart is there same = by (cases_order site other)
   where
     places : get_or (places_of strip kind) (site - first_site strip kind) (place_at 0 0 0) ≡ get_or (places_of strip kind) (other - first_site strip kind) (place_at 0 0 0)
@@ -43,16 +44,32 @@ same_site strip kind site other apart is there same = by (cases_order site other
 
 module _ (strip : Strip) (apart : (kind : Kind) → AllPairs (λ place other. place ≢ other) (places_of strip kind)) (kinds_apart : (place : Place) → Contains (places_of strip Logic) place → Contains (places_of strip Pad) place → ⊥) where
   -- two sites, of whichever kinds
-  one_site : (kind next : Kind) (site other : ℕ) → IsSiteFor strip kind site → IsSiteFor strip next other → place_of strip site ≡ place_of strip other → site ≡ other
+  one_site : (kind next : Kind) (site other : ℕ) → IsSiteFor strip kind site → IsSiteFor strip next other → site_place strip site ≡ site_place strip other → site ≡ other
   one_site Logic Logic site other is there same = same_site strip Logic site other (apart Logic) is there same
   one_site Pad Pad site other is there same = same_site strip Pad site other (apart Pad) is there same
-  one_site Logic Pad site other is there same = absurd (kinds_apart (place_of strip other) (subst (Contains (places_of strip Logic)) same (among strip Logic site is)) (among strip Pad other there))
-  one_site Pad Logic site other is there same = absurd (kinds_apart (place_of strip site) (subst (Contains (places_of strip Logic)) (sym same) (among strip Logic other there)) (among strip Pad site is))
+  one_site Logic Pad site other is there same = absurd (kinds_apart (site_place strip other) (subst (Contains (places_of strip Logic)) same (among strip Logic site is)) (among strip Pad other there))
+  one_site Pad Logic site other is there same = absurd (kinds_apart (site_place strip site) (subst (Contains (places_of strip Logic)) (sym same) (among strip Logic other there)) (among strip Pad site is))
 
-  pub placed_by : (packed : PackedCircuit) (sites : List ℕ) → AreOneToOne strip (task_of packed).kinds sites → ArePlaced strip packed (map (place_of strip) sites)
+  -- no two sites have the same place
+  pub distinct_by : AreDistinct strip
+  distinct_by site other lt within same = by (cases_lt site (length (places_of strip Logic))) (cases_lt other (length (places_of strip Logic)))
+    where
+      logic : (s : ℕ) → s < length (places_of strip Logic) → IsSiteFor strip Logic s
+      logic s less = record { from = omega arith; below = omega (arith, less) }
+
+      pad : (s : ℕ) → s < length (sites_of strip) → length (places_of strip Logic) ≤ s → IsSiteFor strip Pad s
+      pad s less past = record { from = past; below = omega (arith, less, length-sites_of strip) }
+
+      by : (site < length (places_of strip Logic)) ⊎ (length (places_of strip Logic) ≤ site) → (other < length (places_of strip Logic)) ⊎ (length (places_of strip Logic) ≤ other) → site ≡ other
+      by (inl a) (inl b) = one_site Logic Logic site other (logic site a) (logic other b) same
+      by (inl a) (inr b) = one_site Logic Pad site other (logic site a) (pad other within b) same
+      by (inr a) (inl b) = one_site Pad Logic site other (pad site lt a) (logic other b) same
+      by (inr a) (inr b) = one_site Pad Pad site other (pad site lt a) (pad other within b) same
+
+  pub placed_by : (packed : PackedCircuit) (sites : List ℕ) → AreOneToOne strip (task_of packed).kinds sites → ArePlaced strip packed (map (site_place strip) sites)
   unfolding task_of
   placed_by packed sites standing = record {
-    long = length-map sites (place_of strip) ∙ long;
+    long = length-map sites (site_place strip) ∙ long;
     by_kind = λ block lt. subst (Contains (places_of strip (kind_of (block_at packed block)))) (sym (stands block lt)) (among strip (kind_of (block_at packed block)) (get_or sites block 0) (is_for block lt));
     one_to_one = λ block other lt within same.
         standing.apart block other (omega (arith, kinds_long)) (omega (arith, kinds_long))
@@ -65,8 +82,8 @@ module _ (strip : Strip) (apart : (kind : Kind) → AllPairs (λ place other. pl
       long : length sites ≡ length (blocks_of packed)
       long = standing.long ∙ kinds_long
 
-      stands : (block : ℕ) → block < length (blocks_of packed) → get_or (map (place_of strip) sites) block (place_at 0 0 0) ≡ place_of strip (get_or sites block 0)
-      stands block lt = get_or-map (place_of strip) sites block 0 (place_at 0 0 0) (omega (arith, long))
+      stands : (block : ℕ) → block < length (blocks_of packed) → get_or (map (site_place strip) sites) block (place_at 0 0 0) ≡ site_place strip (get_or sites block 0)
+      stands block lt = get_or-map (site_place strip) sites block 0 (place_at 0 0 0) (omega (arith, long))
 
       is_for : (block : ℕ) → block < length (blocks_of packed) → IsSiteFor strip (kind_of (block_at packed block)) (get_or sites block 0)
       is_for block lt =

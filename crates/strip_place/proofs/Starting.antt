@@ -1,16 +1,14 @@
 -- The start, block by block, with marks on the sites that are taken.
-use Rattle.std.proofs.Common.{ℕ, zero, suc, ◌≡◌, ◌≢◌, ◌+◌, ◌-◌, ◌<◌, ◌≤◌, ◌⊎◌, inl, inr, Bool, true, false, List, [], ◌∷◌, ◌++◌, Option, Some, None, drop, length, get_or, set, refl, sym, ap, subst, ◌∙◌, arith}
-use Rattle.std.specs.Prelude.{replicate}
-use Rattle.std.specs.List.{zip}
+use Rattle.std.proofs.Common.{ℕ, zero, suc, ◌≡◌, ◌+◌, ◌-◌, ◌<◌, ◌≤◌, inl, inr, Bool, true, false, List, [], ◌∷◌, ◌++◌, Option, Some, None, drop, length, get_or, set, refl, sym, ap, subst, ◌∙◌, arith}
 use Rattle.std.proofs.lemmas.Bool.{cases_eq, cases_lt}
 use Rattle.std.proofs.lemmas.List.{append-nil, append_assoc, drop_all, drop_more, get_or-set_same, get_or-set_other, length-set}
 use Rattle.std.proofs.lemmas.List.Sums.{prefix_len-drop_no, prefix_len-drop_yes}
 use Rattle.grid.specs.declared.Strip.{Strip}
 use Rattle.grid.specs.declared.place.Kind.{Kind}
 use Rattle.grid.specs.declared.place.Kind.TheVariants.{Logic, Pad}
-use Rattle.strip_place.specs.Sites.{IsSiteFor, first_site, is_among, kept_sites, least_free, seated_behind, site_count, site_for, start_of}
+use Rattle.strip_place.specs.Sites.{IsSiteFor, first_site, is_among, kept_sites, least_free, seated_behind, site_count, site_for}
 use Rattle.strip_place.specs.Starting.{AreKeptSites}
-use Rattle.strip_place.specs.Vacancies.{Vacancies, all_free, first_from, lowest, mark_at, marked, without_lowest}
+use Rattle.strip_place.specs.Vacancies.{Vacancies, all_free, first_from, lowest, marked, without_lowest}
 use Rattle.strip_place.proofs.Vacant.{IsLeast, among_before, among_last, among_other}
 use Rattle.strip_place.proofs.Seatings.{Comer, HasRoom, least_seat, nobody, room_more}
 

@@ -1,5 +1,5 @@
 -- Blocks of a packed circuit on places of a strip.
-use Rattle.std.specs.Prelude.{ℕ, ◌≡◌, ◌<◌, List, length, slice_index_or, Contains}
+use Rattle.std.specs.Prelude.{ℕ, ◌≡◌, ◌<◌, ◌==◌, ◌&&◌, Bool, List, length, slice_index_or, Contains}
 use Rattle.cluster.specs.declared.block.Block.{Block}
 use Rattle.cluster.specs.declared.block.Block.TheVariants.{Cluster}
 use Rattle.cluster.specs.Clusters.{PackedCircuit}
@@ -15,6 +15,10 @@ block_at packed block = slice_index_or (blocks_of packed) block (Cluster 0)
 
 abbrev pub place_of : List Place → ℕ → Place
 place_of places block = slice_index_or places block (place_at 0 0 0)
+
+-- the two places are the same
+abbrev pub is_same_place : Place → Place → Bool
+is_same_place place other = place.x == other.x && (place.y == other.y && place.subblock == other.subblock)
 
 -- each block of a packed circuit has a place of its kind in the strip, by number, and no two have the same
 pub record ArePlaced (strip : Strip) (packed : PackedCircuit) (places : List Place) : Type 0 where

@@ -2,7 +2,7 @@
 ghost use Rattle.std.specs.Prelude.{◌≡◌, ◌+◌, ◌≤◌, ℕ, true, false, []};
 ghost use Rattle.grid.specs.declared.Strip.{Strip};
 ghost use Rattle.strip_place.specs.Anneal.{is_past_last};
-ghost use Rattle.strip_place.specs.KeptSites.{AreKeptOn};
+ghost use Rattle.strip_place.specs.Keeping.{AreKeptOn};
 
 /// Laws of the passes of a placing.
 pub fn laws_of_passes()

@@ -4,11 +4,9 @@ ghost use Rattle.cluster.specs.Blocks.{blocks_of};
 ghost use Rattle.grid.specs.declared.fit.Fit.TheVariants.{Fits};
 ghost use Rattle.grid.specs.Fits.{fit_of};
 ghost use Rattle.grid.specs.Sizes.{IsStripSize};
-ghost use Rattle.strip_place.specs.Task.{task_of};
-ghost use Rattle.strip_place.specs.Anneal.{one_more, end_of, after_words, draw_of, places_by_block, sites_by_block};
-ghost use Rattle.strip_place.specs.Sites.{AreOneToOne};
+ghost use Rattle.strip_place.specs.Anneal.{one_more, end_of, after_words, draw_of, places_by_block};
 ghost use Rattle.strip_place.specs.Placed.{ArePlaced};
-ghost use Rattle.strip_place.specs.KeptSites.{AreKeptOn, kept_of};
+ghost use Rattle.strip_place.specs.Keeping.{AreKeptOn, kept_of};
 ghost use Rattle.strip_place.specs.Pass.{pass_of};
 
 use crate::board::{Board, Words};
@@ -132,8 +130,7 @@ impl Placing {
     /// The place of a block.
     pub fn place_of(&self, block: usize) -> Place
         requires { block < length (blocks_of self.now.packed) }
-        ensures value { slice_get (places_by_block self.now) block ≡ Some result }
-        ensures one_to_one { AreOneToOne self.now.strip (task_of self.now.packed).kinds (sites_by_block self.now) }
+        ensures { slice_get (places_by_block self.now) block ≡ Some result }
     {
         self.board.place(block)
     }
@@ -169,7 +166,7 @@ impl Placing {
 /// Makes so many draws.
 fn make_draws(board: &mut Board, words: &mut Pcg32, temperature: u32, draws: usize)
     requires { 0 < draws → 0 < length board.old.task.kinds }
-    ensures board { board.new ≡ record board.old { sites = pass_of board.old.strip board.old.task temperature (draw_of words.old) draws board.old.sites } }
+    ensures board { board.new ≡ record board.old { places = pass_of board.old.strip board.old.task temperature (draw_of words.old) draws board.old.places } }
     ensures words { words.new ≡ after_words words.old (3 * draws) }
 {
     for _ in 0..draws {

@@ -8,7 +8,7 @@ use Rattle.job_state.specs.declared.sources.JobKind.TheVariants.{Packing as Pack
 use Rattle.job_state.specs.declared.sources.Sources.{Sources}
 use Rattle.job_state.specs.Job.{JobState, first_step}
 use Rattle.kept_places.specs.Kept.{KeptPlaces}
-use Rattle.strip_place.specs.KeptSites.{AreKeptOn}
+use Rattle.strip_place.specs.Keeping.{AreKeptOn}
 use Rattle.tenant_slot.specs.declared.content.Content.{Content}
 use Rattle.tenant_slot.specs.declared.content.Content.TheVariants.{Empty, Loaded, Packed, Placed, Routed, Unrouted}
 use Rattle.tenant_slot.specs.declared.reply.StateName.TheVariants.{Packed as PackedName}

@@ -31,7 +31,7 @@ use Rattle.tenant_slot.specs.Results.{failure_of}
 use Rattle.tenant_slot.specs.SingleUser.{State, advance, advanced, after, answer_to, finished, go_on, is_next, routed_unless, running, sources_from, sources_of, step}
 use Rattle.tenant_slot.specs.Slot.{IsAdvanceOf, SlotState, after_event, here_after, running_sources}
 use Rattle.tenant_slot.specs.Standing.{IsSlot, put_in, put_reply, seen, seen_state}
-use Rattle.strip_place.specs.KeptSites.{AreKeptOn}
+use Rattle.strip_place.specs.Keeping.{AreKeptOn}
 use Rattle.tenant_slot.proofs.Runs.{step-room}
 
 abbrev pub standing_of : Content → Option Running → KeptPlaces → ℕ → ℕ → ℕ → ℕ → Standing

@@ -5,7 +5,7 @@ use Rattle.blif.specs.CircuitOf.{circuit_of}
 use Rattle.blif.specs.declared.circuit.Circuit.{Circuit}
 use Rattle.blif.specs.declared.fault.BlifFault.{BlifFault}
 use Rattle.kept_places.specs.Kept.{KeptPlaces}
-use Rattle.strip_place.specs.KeptSites.{AreKeptOn}
+use Rattle.strip_place.specs.Keeping.{AreKeptOn}
 use Rattle.cluster.specs.Clusters.{packed_of, unfit_of}
 use Rattle.grid.specs.Fits.{fit_of}
 use Rattle.job_state.specs.JobValue.{packing_sources, placing_sources}

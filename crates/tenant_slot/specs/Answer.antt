@@ -12,7 +12,7 @@ use Rattle.tenant_slot.specs.declared.reply.Reply.{Reply}
 use Rattle.tenant_slot.specs.declared.not_served.NotServed.{NotServed}
 use Rattle.tenant_slot.specs.declared.not_served.NotServed.TheVariants.{NoMemory, JournalFull}
 use Rattle.tenant_slot.specs.SingleUser.{State, after, answer_to, begun, begun_placing, emptied, is_lawful, keeping, loaded, risen, sources_of, stopped}
-use Rattle.strip_place.specs.KeptSites.{AreKeptOn}
+use Rattle.strip_place.specs.Keeping.{AreKeptOn}
 use Rattle.tenant_slot.specs.Slot.{SlotState, here_after}
 use Rattle.tenant_slot.specs.JobNames.{before, during}
 

@@ -10,7 +10,7 @@ use Rattle.job_state.specs.declared.work.Work.{Work}
 use Rattle.job_state.specs.declared.work.Work.TheVariants.{Placed, Routed, GaveUp as GivenUp, NoPath as WithoutPath}
 use Rattle.kept_places.specs.Kept.{KeptPlaces}
 use Rattle.strip_place.specs.Anneal.{places_by_block}
-use Rattle.strip_place.specs.KeptSites.{kept_of}
+use Rattle.strip_place.specs.Keeping.{kept_of}
 use Rattle.tenant_slot.specs.declared.failure.RoutingFailure.{RoutingFailure}
 use Rattle.tenant_slot.specs.declared.failure.RoutingFailure.TheVariants.{GaveUp as FailedAll, NoPath as FailedNet}
 use Rattle.tenant_slot.specs.declared.reply.Ending.{Ending}

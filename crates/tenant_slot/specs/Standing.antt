@@ -1,5 +1,5 @@
 -- Private: what a slot carries along, what it is seen as, and what ties the two.
-use Rattle.strip_place.specs.KeptSites.{AreKeptOn}
+use Rattle.strip_place.specs.Keeping.{AreKeptOn}
 use Rattle.std.specs.Prelude.{ℕ, ◌≡◌, ◌+◌, ◌≤◌, [], ⊤, Bool, true, false, is_some, Option, Some, None, option_map, IfSome}
 use Rattle.arch_file.specs.declared.arch.Arch.{Arch}
 use Rattle.grid.specs.declared.Strip.{Strip}

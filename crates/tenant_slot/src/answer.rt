@@ -10,7 +10,7 @@ ghost use Rattle.strip_place.specs.Anneal.{places_by_block};
 ghost use Rattle.vpr_files.specs.NetFile.{net_text_of};
 ghost use Rattle.vpr_files.specs.PlaceFile.{place_text_of};
 ghost use Rattle.vpr_files.specs.RouteFile.{route_text_of};
-ghost use Rattle.strip_place.specs.KeptSites.{AreKeptOn};
+ghost use Rattle.strip_place.specs.Keeping.{AreKeptOn};
 ghost use Rattle.tenant_slot.specs.Content.{IsMadeOf, IsNetlist};
 ghost use Rattle.tenant_slot.specs.Outcomes.{file_outcome, job_begun, load_outcome, loading, pack_outcome, place_outcome, route_outcome};
 ghost use Rattle.tenant_slot.specs.SingleUser.{misfit_of};

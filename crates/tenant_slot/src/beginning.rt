@@ -5,7 +5,7 @@ ghost use Rattle.grid.specs.declared.fit.Fit.TheVariants.{Fits};
 ghost use Rattle.grid.specs.Fits.{fit_of};
 ghost use Rattle.grid.specs.Sizes.{IsStripSize};
 ghost use Rattle.job_state.specs.JobValue.{is_last, packing_sources, placing_sources, routing_sources};
-ghost use Rattle.strip_place.specs.KeptSites.{AreKeptOn};
+ghost use Rattle.strip_place.specs.Keeping.{AreKeptOn};
 ghost use Rattle.tenant_slot.specs.Content.{IsMadeOf, IsNetlist};
 ghost use Rattle.tenant_slot.specs.Outcomes.{job_begun};
 

@@ -6,7 +6,7 @@ ghost use Rattle.rr_graph.specs.Resources.{IsEarlier, has, is_there};
 ghost use Rattle.tenant_slot.specs.Results.{ending_told};
 ghost use Rattle.tenant_slot.specs.RoutedSet.{routed_set};
 ghost use Rattle.tenant_slot.specs.SingleUser.{circuit_in, is_lawful, is_next, keeping, start};
-ghost use Rattle.strip_place.specs.KeptSites.{AreKeptOn};
+ghost use Rattle.strip_place.specs.Keeping.{AreKeptOn};
 ghost use Rattle.tenant_slot.specs.Answer.{Answers, IsAnswerTo, accepted};
 ghost use Rattle.tenant_slot.specs.Slot.{GivesBack, IsAdvanceOf, IsOrigin, Puts, Serves, Takes, is_takeable};
 

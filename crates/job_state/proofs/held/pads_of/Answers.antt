@@ -18,7 +18,7 @@ loop-block-preserved c =
     let places = places_by_block c.args.placing.now in
     let block = c.loop-block.block in
     let of_block : block_at packed block ≡ c.block.result = get_or_from_slice_get (blocks_of packed) block c.block.result (Cluster 0) (rw c.packed-in-loop-block.ensures at c.block.ensures) in
-    let of_place : place_of places block ≡ c.place_of.result = get_or_from_slice_get places block c.place_of.result (place_at 0 0 0) c.place_of.ensures.value in
+    let of_place : place_of places block ≡ c.place_of.result = get_or_from_slice_get places block c.place_of.result (place_at 0 0 0) c.place_of.ensures in
     c.in_ok-pads.ensures ∙ (ap (λ t. t ++ pad_of c.block.result c.place_of.result) c.loop-block.invariant
     ∙ (ap (λ t. pads_below packed places block ++ pad_of t c.place_of.result) (sym of_block) ∙ (ap (λ t. pads_below packed places block ++ pad_of (block_at packed block) t) (sym of_place)
     ∙ gathered_to (λ number. pad_of (block_at packed number) (place_of places number)) block)))

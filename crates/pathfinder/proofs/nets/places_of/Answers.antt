@@ -13,7 +13,7 @@ loop-block-preserved c =
     let place = c.place_of.result in
     let many = ap (λ (packed : PackedCircuit). length (blocks_of packed)) c.packed.ensures in
     let within : c.loop-block.block < length all = omega (arith, c.loop-block-test.true, c.laws.ensures.long, c.block_count-block-end.ensures, many) in
-    let is : get_or all c.loop-block.block place ≡ place = get_or_from_slice_get all c.loop-block.block place place c.place_of.ensures.value in
+    let is : get_or all c.loop-block.block place ≡ place = get_or_from_slice_get all c.loop-block.block place place c.place_of.ensures in
     c.in_ok-push.ensures.items ∙ ap (λ (places : List Place). places ++ place ∷ []) c.loop-block.invariant
     ∙ sym (take_more all c.loop-block.block place within ∙ ap (λ (p : Place). take c.loop-block.block all ++ p ∷ []) is)
 

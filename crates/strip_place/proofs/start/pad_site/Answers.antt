@@ -1,4 +1,4 @@
-use Rattle.std.proofs.Common.{◌≡◌, ◌+◌, ◌∙◌, List, Some, length, slice_get, ap, arith, sym}
+use Rattle.std.proofs.Common.{◌≡◌, ◌∙◌, List, Some, length, slice_get, ap, arith, sym}
 use Rattle.cluster.specs.declared.block.BlockKind.TheVariants as block
 use Rattle.grid.specs.declared.place.Place.{Place}
 use Rattle.grid.specs.declared.place.Kind.TheVariants.{Pad}

@@ -1,4 +1,3 @@
-use Rattle.std.proofs.Common.{arith, rules}
 use Rattle.strip_place.proofs.Marks.{searching_all, searching_free, searching_more, searching_none}
 use Rattle.strip_place.proofs.vacancies.first_free.Goals as goal
 

@@ -1,5 +1,4 @@
-use Rattle.std.proofs.Common.{length, ◌-◌, ◌≡◌, ◌+◌, ◌≤◌, Bool, drop}
-use Rattle.std.specs.List.{prefix_len}
+use Rattle.std.proofs.Common.{length, ◌-◌}
 use Rattle.strip_place.proofs.Marks.{IsSearching}
 use Rattle.strip_place.proofs.vacancies.first_free.Given as goal
 

@@ -1,4 +1,4 @@
-use Rattle.std.proofs.Common.{◌≡◌, ◌+◌, ◌∙◌, Bool, List, Option, Some, None, drop, ap, sym}
+use Rattle.std.proofs.Common.{◌+◌, ◌∙◌, Bool, List, None, drop, ap, sym}
 use Rattle.strip_place.specs.Vacancies.{mark_at, marked}
 use Rattle.strip_place.proofs.Marks.{marked_all, marked_more}
 use Rattle.strip_place.proofs.vacancies.mark.Goals as goal

@@ -26,7 +26,7 @@ returns-in_err-write_place g c =
     writes_part c.from_residual.result c.from_residual.ensures.0
     (part_same
     (part_loop (λ one. line packed one (place_of places one)) (range_with_len 0 (length (blocks_of packed))) block block (place_at (length (blocks_of packed)) block within) c.loop-block.invariant
-    (part_same c.in_err-write_place.ensures (at_its_place line packed c.packed-in-loop-block.result.now places block c.place_of.result c.packed-in-loop-block.ensures c.place_of.ensures.value)))
+    (part_same c.in_err-write_place.ensures (at_its_place line packed c.packed-in-loop-block.result.now places block c.place_of.result c.packed-in-loop-block.ensures c.place_of.ensures)))
     (sym (flat_map-map line_of (λ one. placed_line packed one (place_of places one)) (range_with_len 0 (length (blocks_of packed))))))
 
 pub loop-block-preserved : goal.loop-block-preserved
@@ -37,7 +37,7 @@ loop-block-preserved g c =
     let count : c.block_count-block-end.result ≡ length (blocks_of packed) = c.block_count-block-end.ensures ∙ ap (λ (p : PackedCircuit). length (blocks_of p)) c.packed.ensures in
     let within : block < length (blocks_of packed) = (let t = c.loop-block-test.true in omega (arith, t, count)) in
     all_loop (λ one. line packed one (place_of places one)) (range_with_len 0 (length (blocks_of packed))) block block (place_at (length (blocks_of packed)) block within) c.loop-block.invariant
-    (all_same c.in_ok-write_place.ensures (at_its_place line packed c.packed-in-loop-block.result.now places block c.place_of.result c.packed-in-loop-block.ensures c.place_of.ensures.value))
+    (all_same c.in_ok-write_place.ensures (at_its_place line packed c.packed-in-loop-block.result.now places block c.place_of.result c.packed-in-loop-block.ensures c.place_of.ensures))
 
 pub returns : goal.returns
 returns g c =

@@ -18,11 +18,11 @@ returns-in_err-write_block g c =
     let places = places_by_block placing in
     writes_part c.from_residual.result c.from_residual.ensures.0
     (part_first (text_of (connected_lines placing.packed places c.args.readers.now))
-    (part_same c.in_err-write_block.ensures (at_its_place line placing.packed c.packed.result.now places c.args.driver c.place_of.result c.packed.ensures c.place_of.ensures.value)))
+    (part_same c.in_err-write_block.ensures (at_its_place line placing.packed c.packed.result.now places c.args.driver c.place_of.result c.packed.ensures c.place_of.ensures)))
 
 pub returns : goal.returns
 returns g c =
     let placing = c.args.placing.now in
     let places = places_by_block placing in
-    writes_then (all_same c.in_ok-write_block.ensures (at_its_place line placing.packed c.packed.result.now places c.args.driver c.place_of.result c.packed.ensures c.place_of.ensures.value))
+    writes_then (all_same c.in_ok-write_block.ensures (at_its_place line placing.packed c.packed.result.now places c.args.driver c.place_of.result c.packed.ensures c.place_of.ensures))
     c.write_readers.new.sink (text_of (connected_lines placing.packed places c.args.readers.now)) c.write_readers.result c.write_readers.ensures

@@ -25,7 +25,7 @@ returns-in_err-write_block g c =
     writes_part c.from_residual.result c.from_residual.ensures.0
     (part_same
     (part_loop (λ one. line packed one (place_of places one)) readers at block (slice_get-get_or readers at 0 c.loop-reader-test.true) c.loop-reader.invariant
-    (part_same c.in_err-write_block.ensures (at_its_place line packed c.packed.result.now places block c.place_of.result c.packed.ensures c.place_of.ensures.value)))
+    (part_same c.in_err-write_block.ensures (at_its_place line packed c.packed.result.now places block c.place_of.result c.packed.ensures c.place_of.ensures)))
     (sym (flat_map-map line_of (λ one. connected_line packed one (place_of places one)) readers)))
 
 pub loop-reader-preserved : goal.loop-reader-preserved
@@ -36,7 +36,7 @@ loop-reader-preserved g c =
     let at = c.loop-reader.reader-index in
     let block = get_or readers at 0 in
     all_loop (λ one. line packed one (place_of places one)) readers at block (slice_get-get_or readers at 0 c.loop-reader-test.true) c.loop-reader.invariant
-    (all_same c.in_ok-write_block.ensures (at_its_place line packed c.packed.result.now places block c.place_of.result c.packed.ensures c.place_of.ensures.value))
+    (all_same c.in_ok-write_block.ensures (at_its_place line packed c.packed.result.now places block c.place_of.result c.packed.ensures c.place_of.ensures))
 
 pub returns : goal.returns
 returns g c =

@@ -13,7 +13,7 @@ pub loop-block-preserved : goal.loop-block-preserved
 loop-block-preserved c =
     ap entries_of c.in_ok-push.ensures.items
     ∙ gathered c.args.self.now.packed (places_by_block c.args.self.now) c.loop-block.block c.loop-block.entries.items (record { key = c.key.result; place = c.place_of.result }) c.loop-block.invariant
-    (ap (λ (p : PackedCircuit). slice_get (keys_of p) c.loop-block.block) (sym c.packed-packed.ensures) ∙ c.key.ensures) c.place_of.ensures.value
+    (ap (λ (p : PackedCircuit). slice_get (keys_of p) c.loop-block.block) (sym c.packed-packed.ensures) ∙ c.key.ensures) c.place_of.ensures
 
 pub of-requires : goal.of-requires
 of-requires c =

@@ -1,6 +1,5 @@
-use Rattle.std.proofs.Common.{◌≡◌, ◌<◌, ◌≤◌, ◌^◌, ◌∙◌, Bool, List, length, ap, arith, subst, sym}
-use Rattle.grid.specs.declared.place.Kind.{Kind}
-use Rattle.strip_place.specs.Vacancies.{Vacancies, first_from, lowest, without_lowest}
+use Rattle.std.proofs.Common.{◌≡◌, ◌<◌, ◌∙◌, Bool, List, length, ap, arith, subst, sym}
+use Rattle.strip_place.specs.Vacancies.{Vacancies, first_from, lowest}
 use Rattle.strip_place.proofs.vacancies.Vacancies.take.Goals as goal
 
 pub index_mut-requires : goal.index_mut-requires

@@ -1,0 +1,107 @@
+-- Sites are carried to their places: what is done to the one is done to the other.
+use Rattle.std.proofs.Common.{◌≡◌, ℕ, ◌+◌, ◌-◌, ◌%◌, ◌<◌, All, Bool, true, false, cond, eqb, List, [], ◌∷◌, length, get_or, map, refl, sym, ap, ◌∙◌, ◌⊎◌, arith, inl, inr, eq-eqb}
+use Rattle.std.proofs.lemmas.List.{get_or-map}
+use Rattle.std.proofs.lemmas.List.Elements.{All-head, All-tail}
+use Rattle.std.proofs.lemmas.Bool.{cases_eq, ne_eqb}
+use Rattle.grid.specs.declared.Strip.{Strip}
+use Rattle.grid.specs.declared.place.Kind.{Kind}
+use Rattle.grid.specs.declared.place.Kind.TheVariants.{Logic}
+use Rattle.grid.specs.declared.place.Place.{Place}
+use Rattle.grid.specs.Places.{place_at, places_of}
+use Rattle.strip_place.specs.Task.{Task}
+use Rattle.strip_place.specs.Boards.{places_on}
+use Rattle.strip_place.specs.Placed.{is_same_place, place_of}
+use Rattle.strip_place.specs.Seating.{exchanged_site}
+use Rattle.strip_place.specs.Sites.{AreDistinct, AreOneToOne, IsSiteFor, drawn_for, first_site, site_count, site_place, sites_of}
+use Rattle.strip_place.specs.Pass.{Draw, exchanged, drawn, after_draw, after_move, is_kept, cost_of, drawn_block}
+use Rattle.strip_place.proofs.Boarding.{map_itself}
+use Rattle.strip_place.proofs.KeptSites.{is_itself, told_apart}
+use Rattle.strip_place.proofs.Standing.{place_is}
+use Rattle.strip_place.proofs.Starts.{site_inside, start_inside}
+
+-- the place of a site that is drawn is the one that is drawn
+past_first : (target first number : ℕ) → target ≡ first + number → target - first ≡ number
+past_first target first number is = omega (arith, is)
+
+drawn_here : (strip : Strip) (kind : Kind) (target word : ℕ) → IsSiteFor strip kind target → target ≡ drawn_for strip kind word → site_place strip target ≡ drawn strip kind word
+drawn_here strip kind target word inside goes =
+    place_is strip kind target inside
+    ∙ ap (λ n. get_or (places_of strip kind) n (place_at 0 0 0)) (past_first target (first_site strip kind) (word % site_count strip kind) goes)
+
+module _ (strip : Strip) (distinct : AreDistinct strip) where
+  abbrev pub Inside : ℕ → Type 0
+  Inside site = site < length (sites_of strip)
+
+  pub test_carried : (site other : ℕ) → Inside site → Inside other → is_same_place (site_place strip site) (site_place strip other) ≡ eqb site other
+  test_carried site other lt within = by (cases_eq site other)
+    where
+      by : (site ≡ other) ⊎ (site ≡ other → ⊥) → is_same_place (site_place strip site) (site_place strip other) ≡ eqb site other
+      by (inl e) = ap (λ s. is_same_place (site_place strip s) (site_place strip other)) e ∙ is_itself (site_place strip other) ∙ sym (eq-eqb site other e)
+      by (inr ne) = told_apart (site_place strip site) (site_place strip other) (λ e. ne (distinct site other lt within (sym e))) ∙ sym (ne_eqb site other ne)
+
+  chosen : (b c : Bool) (home target site : ℕ) → site_place strip (cond b target (cond c home site)) ≡ cond b (site_place strip target) (cond c (site_place strip home) (site_place strip site))
+  chosen true c home target site = refl
+  chosen false true home target site = refl
+  chosen false false home target site = refl
+
+  exchange_carried : (home target site : ℕ) → Inside home → Inside target → Inside site → site_place strip (exchanged_site home target site) ≡ exchanged (site_place strip home) (site_place strip target) (site_place strip site)
+  exchange_carried home target site h t s =
+      chosen (eqb site home) (eqb site target) home target site
+      ∙ ap (λ (b : Bool). cond b (site_place strip target) (cond (eqb site target) (site_place strip home) (site_place strip site))) (sym (test_carried site home s h))
+      ∙ ap (λ (b : Bool). cond (is_same_place (site_place strip site) (site_place strip home)) (site_place strip target) (cond b (site_place strip home) (site_place strip site))) (sym (test_carried site target s t))
+
+  map_carried : (home target : ℕ) (sites : List ℕ) → Inside home → Inside target → All Inside sites → places_on strip (map (exchanged_site home target) sites) ≡ map (exchanged (site_place strip home) (site_place strip target)) (places_on strip sites)
+  map_carried home target [] h t all = refl
+  map_carried home target (site ∷ sites) h t all =
+      let head = exchange_carried home target site h t (All-head Inside site sites all) in
+      let rest = map_carried home target sites h t (All-tail Inside site sites all) in
+      cc
+
+-- a draw that keeps what it did, one that undoes it, and one of the block's own place
+draw_kept : (strip : Strip) (task : Task) (temperature : ℕ) (draw : Draw) (places : List Place) → is_kept temperature (cost_of task.nets places) (cost_of task.nets (after_move strip task draw places)) draw.a ≡ true → after_draw strip task temperature draw places ≡ after_move strip task draw places
+unfolding after_draw
+draw_kept strip task temperature draw places kept = ap (λ (b : Bool). cond b (after_move strip task draw places) places) kept
+
+draw_undone : (strip : Strip) (task : Task) (temperature : ℕ) (draw : Draw) (places : List Place) → is_kept temperature (cost_of task.nets places) (cost_of task.nets (after_move strip task draw places)) draw.a ≡ false → after_draw strip task temperature draw places ≡ places
+unfolding after_draw
+draw_undone strip task temperature draw places undone = ap (λ (b : Bool). cond b (after_move strip task draw places) places) undone
+
+draw_own : (strip : Strip) (task : Task) (temperature : ℕ) (draw : Draw) (places : List Place) → after_move strip task draw places ≡ places → after_draw strip task temperature draw places ≡ places
+unfolding after_draw
+draw_own strip task temperature draw places same = by (is_kept temperature (cost_of task.nets places) (cost_of task.nets (after_move strip task draw places)) draw.a)
+  where
+    by : (b : Bool) → cond b (after_move strip task draw places) places ≡ places
+    by true = same
+    by false = refl
+
+-- a block is drawn, and a site of its kind
+module _ (strip : Strip) (distinct : AreDistinct strip) (task : Task) (temperature : ℕ) (draw : Draw) (sites : List ℕ) (block target : ℕ) (standing : AreOneToOne strip task.kinds sites) (within : block < length task.kinds)
+    (inside : IsSiteFor strip (get_or task.kinds block Logic) target) (is : block ≡ drawn_block task.kinds draw) (goes : target ≡ drawn_for strip (get_or task.kinds block Logic) draw.v) where
+  abbrev places : List Place
+  places = places_on strip sites
+
+  abbrev moved : List ℕ
+  moved = map (exchanged_site (get_or sites block 0) target) sites
+
+  here : block < length sites
+  here = omega (arith, within, standing.long)
+
+  -- what was drawn is the definition's
+  drawn_is : places_on strip moved ≡ after_move strip task draw places
+  drawn_is =
+      map_carried strip distinct (get_or sites block 0) target sites (start_inside strip task.kinds sites standing block 0 here) (site_inside strip (get_or task.kinds block Logic) target inside) (start_inside strip task.kinds sites standing)
+      ∙ ap (λ (p : Place). map (exchanged p (site_place strip target)) places) (sym (get_or-map (site_place strip) sites block 0 (place_at 0 0 0) here))
+      ∙ ap (λ (p : Place). map (exchanged (place_of places block) p) places) (drawn_here strip (get_or task.kinds block Logic) target draw.v inside goes)
+      ∙ ap (λ b. map (exchanged (place_of places b) (drawn strip (get_or task.kinds b Logic) draw.v)) places) is
+
+  pub draw_stays : target ≡ get_or sites block 0 → after_draw strip task temperature draw places ≡ places
+  draw_stays same =
+      draw_own strip task temperature draw places (sym drawn_is ∙ ap (λ t. places_on strip (map (exchanged_site (get_or sites block 0) t) sites)) same ∙ ap (places_on strip) (map_itself (get_or sites block 0) sites))
+
+  -- a draw of another site: the move is kept or not, by what it costs
+  pub draw_decided : (kept : Bool) → kept ≡ is_kept temperature (cost_of task.nets places) (cost_of task.nets (places_on strip moved)) draw.a → places_on strip (cond kept moved sites) ≡ after_draw strip task temperature draw places
+  draw_decided kept decided = by kept (decided ∙ ap (λ (p : List Place). is_kept temperature (cost_of task.nets places) (cost_of task.nets p) draw.a) drawn_is)
+    where
+      by : (b : Bool) → b ≡ is_kept temperature (cost_of task.nets places) (cost_of task.nets (after_move strip task draw places)) draw.a → places_on strip (cond b moved sites) ≡ after_draw strip task temperature draw places
+      by true e = drawn_is ∙ sym (draw_kept strip task temperature draw places (sym e))
+      by false e = sym (draw_undone strip task temperature draw places (sym e))

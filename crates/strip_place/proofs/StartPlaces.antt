@@ -1,0 +1,179 @@
+-- The places at the start are those of the sites at the start.
+use Rattle.std.proofs.Common.{◌≡◌, ◌≢◌, ℕ, zero, suc, ◌+◌, ◌-◌, ◌<◌, ◌≤◌, All, Bool, true, false, not, cond, ◌||◌, List, [], ◌∷◌, ◌++◌, Option, Some, None, nat_eq, find, length, get_or, map, slice_get, refl, sym, ap, ◌∙◌, arith}
+use Rattle.std.specs.Prelude.{AllPairs, option_map, unwrap_or}
+use Rattle.std.specs.List.{flat_map, range_with_len, zip}
+use Rattle.std.specs.Option.{option_to_list}
+use Rattle.std.proofs.lemmas.List.{append-nil, append_assoc, get_or-append_right, length_push, map_push}
+use Rattle.std.proofs.lemmas.List.Elements.{All-append, All-cons, All-head, All-nil, All-tail}
+use Rattle.std.proofs.lemmas.Bool.Decides.{nat_tests}
+use Rattle.std.proofs.lemmas.Option.{slice_get_within}
+use Rattle.cluster.specs.Clusters.{PackedCircuit}
+use Rattle.cluster.specs.Keys.{BlockKey, keys_of}
+use Rattle.grid.specs.declared.Strip.{Strip}
+use Rattle.grid.specs.declared.place.Kind.{Kind}
+use Rattle.grid.specs.declared.place.Kind.TheVariants.{Logic, Pad}
+use Rattle.grid.specs.declared.place.Place.{Place}
+use Rattle.grid.specs.Places.{place_at, places_of}
+use Rattle.kept_places.specs.Kept.{KeptPlaces, kept_place}
+use Rattle.strip_place.specs.Boards.{places_on}
+use Rattle.strip_place.specs.Keeping.{AreKeptOn, kind_for}
+use Rattle.strip_place.specs.KeptSites.{kept_sites_of, site_of}
+use Rattle.strip_place.specs.Placed.{is_same_place}
+use Rattle.strip_place.specs.Sites.{AreDistinct, first_site, is_among, kept_sites, least_free, seated_behind, site_count, site_place, sites_of, start_of}
+use Rattle.strip_place.specs.Start.{first_free, has_place, is_kept_one, kept_by_block, placed_behind, placed_first}
+use Rattle.strip_place.specs.Starting.{AreKeptSites, HaveRoom}
+use Rattle.strip_place.proofs.Carrying.{Inside, test_carried}
+use Rattle.strip_place.proofs.KeptSites.{is_itself, number_of, place_back, same_parts}
+use Rattle.strip_place.proofs.Seatings.{Comer, HasRoom, least_seat, long, nobody, room_first, room_more, zipped}
+use Rattle.strip_place.proofs.Starting.{kept_inside}
+use Rattle.strip_place.proofs.Starts.{length-sites_of}
+use Rattle.strip_place.proofs.Vacant.{IsLeast}
+
+-- places among others, by their numbers
+abbrev at_number : List Place → ℕ → Place
+at_number places n = get_or places n (place_at 0 0 0)
+
+numbered : (before places after : List Place) → map (at_number (before ++ (places ++ after))) (range_with_len (length before) (length places)) ≡ places
+numbered before [] after = refl
+numbered before (place ∷ places) after =
+    let whole = before ++ (place ∷ (places ++ after)) in
+    let none : length before - length before ≡ 0 = omega arith in
+    let first : at_number (place ∷ (places ++ after)) (length before - length before) ≡ at_number (place ∷ (places ++ after)) 0 = ap (at_number (place ∷ (places ++ after))) none in
+    let head : at_number whole (length before) ≡ place = get_or-append_right before (place ∷ (places ++ after)) (length before) (length before) (place_at 0 0 0) refl (omega arith) ∙ first in
+    let joined : (before ++ place ∷ []) ++ (places ++ after) ≡ whole = append_assoc before (place ∷ []) (places ++ after) in
+    let one : map (at_number whole) (range_with_len (length before + 1) (length places)) ≡ map (at_number ((before ++ place ∷ []) ++ (places ++ after))) (range_with_len (length before + 1) (length places)) =
+    ap (λ (all : List Place). map (at_number all) (range_with_len (length before + 1) (length places))) (sym joined) in
+    let two : map (at_number ((before ++ place ∷ []) ++ (places ++ after))) (range_with_len (length before + 1) (length places)) ≡ map (at_number ((before ++ place ∷ []) ++ (places ++ after))) (range_with_len (length (before ++ place ∷ [])) (length places)) =
+    ap (λ n. map (at_number ((before ++ place ∷ []) ++ (places ++ after))) (range_with_len n (length places))) (sym (length_push before place)) in
+    let rest : map (at_number whole) (range_with_len (length before + 1) (length places)) ≡ places = one ∙ two ∙ numbered (before ++ place ∷ []) places after in
+    ap (λ (p : Place). p ∷ map (at_number whole) (range_with_len (length before + 1) (length places))) head
+    ∙ ap (λ (all : List Place). place ∷ all) rest
+
+places_are : (strip : Strip) (kind : Kind) → places_of strip kind ≡ map (site_place strip) (range_with_len (first_site strip kind) (site_count strip kind))
+unfolding sites_of
+places_are strip Logic = sym (numbered [] (places_of strip Logic) (places_of strip Pad))
+places_are strip Pad =
+    sym (ap (λ (all : List Place). map (at_number (places_of strip Logic ++ all)) (range_with_len (length (places_of strip Logic)) (length (places_of strip Pad)))) (sym (append-nil (places_of strip Pad)))
+    ∙ numbered (places_of strip Logic) (places_of strip Pad) [])
+
+module _ (strip : Strip) (distinct : AreDistinct strip) where
+  among_carried : (taken : List ℕ) (site : ℕ) → All (Inside strip distinct) taken → Inside strip distinct site → has_place (places_on strip taken) (site_place strip site) ≡ is_among taken site
+  among_carried [] site all lt = refl
+  among_carried (other ∷ taken) site all lt =
+      let head = test_carried strip distinct site other lt (All-head (Inside strip distinct) other taken all) in
+      let rest = among_carried taken site (All-tail (Inside strip distinct) other taken all) lt in
+      ap (λ (b : Bool). b || has_place (places_on strip taken) (site_place strip site)) head
+      ∙ ap (λ (b : Bool). nat_eq site other || b) rest
+
+  chosen : (b : Bool) (site : ℕ) (o : Option ℕ) → cond b (Some (site_place strip site)) (option_map (site_place strip) o) ≡ option_map (site_place strip) (cond b (Some site) o)
+  chosen true site o = refl
+  chosen false site o = refl
+
+  find_carried : (taken : List ℕ) (start count : ℕ) → All (Inside strip distinct) taken → start + count ≤ length (sites_of strip) →
+      find (λ place. not (has_place (places_on strip taken) place)) (map (site_place strip) (range_with_len start count)) ≡ option_map (site_place strip) (find (λ site. not (is_among taken site)) (range_with_len start count))
+  find_carried taken start zero all few = refl
+  find_carried taken start (suc count) all few =
+      let same = among_carried taken start all (omega (arith, few)) in
+      let rest = find_carried taken (start + 1) count all (omega (arith, few)) in
+      ap (λ (b : Bool). cond (not b) (Some (site_place strip start)) (find (λ place. not (has_place (places_on strip taken) place)) (map (site_place strip) (range_with_len (start + 1) count)))) same
+      ∙ ap (λ (o : Option Place). cond (not (is_among taken start)) (Some (site_place strip start)) o) rest
+      ∙ chosen (not (is_among taken start)) start (find (λ site. not (is_among taken site)) (range_with_len (start + 1) count))
+
+  kind_inside : (kind : Kind) → first_site strip kind + site_count strip kind ≤ length (sites_of strip)
+  kind_inside Logic = omega (arith, length-sites_of strip)
+  kind_inside Pad = omega (arith, length-sites_of strip)
+
+  free_carried : (kind : Kind) (taken : List ℕ) → All (Inside strip distinct) taken → IsLeast taken (first_site strip kind) (site_count strip kind) (least_free strip kind taken) → site_place strip (least_free strip kind taken) ≡ first_free strip kind (places_on strip taken)
+  free_carried kind taken all least =
+      sym (ap (λ (places : List Place). unwrap_or (find (λ place. not (has_place (places_on strip taken) place)) places) (place_at 0 0 0)) (places_are strip kind)
+      ∙ ap (λ (o : Option Place). unwrap_or o (place_at 0 0 0)) (find_carried taken (first_site strip kind) (site_count strip kind) all (kind_inside kind))
+      ∙ ap (λ (o : Option ℕ). unwrap_or (option_map (site_place strip) o) (place_at 0 0 0)) least.found)
+
+  -- a block with the place of the site that it keeps
+  abbrev with_place : Comer → Kind × Option Place
+  with_place block = (block.0, option_map (site_place strip) block.1)
+
+  all_more : (taken : List ℕ) (site : ℕ) → All (Inside strip distinct) taken → Inside strip distinct site → All (Inside strip distinct) (taken ++ site ∷ [])
+  all_more taken site all lt = All-append (Inside strip distinct) taken (site ∷ []) all (All-cons (Inside strip distinct) site [] lt (All-nil (Inside strip distinct)))
+
+  seated_carried : (taken : List ℕ) (blocks : List Comer) → All (Inside strip distinct) taken → ((block site : ℕ) → block < length blocks → (get_or blocks block nobody).1 ≡ Some site → Inside strip distinct site) → HasRoom strip taken blocks →
+      places_on strip (seated_behind strip taken blocks) ≡ placed_behind strip (places_on strip taken) (map with_place blocks)
+  seated_carried taken [] all inside room = refl
+  seated_carried taken ((kind, Some site) ∷ blocks) all inside room =
+      let lt = inside 0 site (omega arith) refl in
+      let rest = seated_carried (taken ++ site ∷ []) blocks (all_more taken site all lt) (λ b s less is. inside (suc b) s (omega (arith, less)) is) (room_more strip taken (kind, Some site) blocks room) in
+      ap (λ (places : List Place). site_place strip site ∷ places) (rest ∙ ap (λ (t : List Place). placed_behind strip t (map with_place blocks)) (map_push (site_place strip) taken site))
+  seated_carried taken ((kind, None) ∷ blocks) all inside room =
+      let least = least_seat strip kind taken blocks room in
+      let site = least_free strip kind taken in
+      let lt : Inside strip distinct site = omega (arith, least.below, kind_inside kind) in
+      let rest = seated_carried (taken ++ site ∷ []) blocks (all_more taken site all lt) (λ b s less is. inside (suc b) s (omega (arith, less)) is) (room_more strip taken (kind, None) blocks room) in
+      ap (λ (places : List Place). site_place strip site ∷ places) (rest ∙ ap (λ (t : List Place). placed_behind strip t (map with_place blocks)) (map_push (site_place strip) taken site))
+      ∙ ap (λ (p : Place). p ∷ placed_behind strip (places_on strip taken ++ p ∷ []) (map with_place blocks)) (free_carried kind taken all least)
+
+  kept_all : (kept : List (Option ℕ)) → ((block site : ℕ) → block < length kept → get_or kept block None ≡ Some site → Inside strip distinct site) → All (Inside strip distinct) (kept_sites kept)
+  kept_all [] inside = All-nil (Inside strip distinct)
+  kept_all (None ∷ kept) inside = kept_all kept (λ b s lt is. inside (suc b) s (omega (arith, lt)) is)
+  kept_all (Some site ∷ kept) inside = All-cons (Inside strip distinct) site (kept_sites kept) (inside 0 site (omega arith) refl) (kept_all kept (λ b s lt is. inside (suc b) s (omega (arith, lt)) is))
+
+  kept_places : (kept : List (Option ℕ)) → places_on strip (kept_sites kept) ≡ flat_map option_to_list (map (option_map (site_place strip)) kept)
+  kept_places [] = refl
+  kept_places (None ∷ kept) = kept_places kept
+  kept_places (Some site ∷ kept) = ap (λ (places : List Place). site_place strip site ∷ places) (kept_places kept)
+
+  zip_carried : (kinds : List Kind) (kept : List (Option ℕ)) → map with_place (zip kinds kept) ≡ zip kinds (map (option_map (site_place strip)) kept)
+  zip_carried [] kept = refl
+  zip_carried (kind ∷ kinds) [] = refl
+  zip_carried (kind ∷ kinds) (site ∷ kept) = ap (λ (blocks : List (Kind × Option Place)). (kind, option_map (site_place strip) site) ∷ blocks) (zip_carried kinds kept)
+
+  -- the start by sites is the start by places
+  start_carried : (kinds : List Kind) (kept : List (Option ℕ)) → AreKeptSites strip kinds kept → HaveRoom strip kinds → places_on strip (start_of strip kinds kept) ≡ placed_first strip kinds (map (option_map (site_place strip)) kept)
+  unfolding start_of placed_first
+  start_carried kinds kept lawful room =
+      let inside : (block site : ℕ) → block < length kept → get_or kept block None ≡ Some site → Inside strip distinct site = λ b s lt is. omega (arith, kept_inside strip kinds kept lawful b s lt is, length-sites_of strip) in
+      seated_carried (kept_sites kept) (zip kinds kept) (kept_all kept inside)
+      (λ b s lt is. (let small : b < length kinds = omega (arith, lt, long strip kinds kept lawful) in inside b s (omega (arith, small, lawful.long)) (sym (ap (λ (c : Comer). c.1) (zipped strip kinds kept lawful b small)) ∙ is)))
+      (room_first strip kinds kept lawful room)
+      ∙ ap (λ (taken : List Place). placed_behind strip taken (map with_place (zip kinds kept))) (kept_places kept)
+      ∙ ap (placed_behind strip (flat_map option_to_list (map (option_map (site_place strip)) kept))) (zip_carried kinds kept)
+
+-- what is kept is found in the strip
+find_none : (places : List Place) → find (is_kept_one None) places ≡ None
+find_none [] = refl
+find_none (place ∷ places) = find_none places
+
+found : (a b : Place) → is_same_place a b ≡ true → b ≡ a
+found a b same = sym (same_parts a b (grind (arith, nat_tests, same)) (grind (arith, nat_tests, same)) (grind (arith, nat_tests, same)))
+
+find_kept : (places : List Place) (number : ℕ) (place : Place) → slice_get places number ≡ Some place → find (is_kept_one (Some place)) places ≡ Some place
+find_kept [] number place is = absurd (let lt = slice_get_within [] number place is in omega (arith, lt))
+find_kept (first ∷ places) zero place is =
+    let same : first ≡ place = cc in
+    ap (λ (b : Bool). cond b (Some first) (find (is_kept_one (Some place)) places)) (ap (is_same_place place) same ∙ is_itself place) ∙ ap (λ (p : Place). let o : Option Place = Some p in o) same
+find_kept (first ∷ places) (suc number) place is = by (is_same_place place first) refl (find_kept places number place is)
+  where
+    by : (b : Bool) → is_same_place place first ≡ b → find (is_kept_one (Some place)) places ≡ Some place → cond (is_same_place place first) (Some first) (find (is_kept_one (Some place)) places) ≡ Some place
+    by true same rest = ap (λ (b : Bool). cond b (Some first) (find (is_kept_one (Some place)) places)) same ∙ ap (λ (p : Place). let o : Option Place = Some p in o) (found place first same)
+    by false differs rest = ap (λ (b : Bool). cond b (Some first) (find (is_kept_one (Some place)) places)) differs ∙ rest
+
+module _ (strip : Strip) (apart : (kind : Kind) → AllPairs (λ place next. place ≢ next) (places_of strip kind)) (kept : KeptPlaces) (lawful : AreKeptOn strip kept) where
+  one_kept : (key : BlockKey) (o : Option Place) → kept_place kept key ≡ o → option_map (site_place strip) (option_map (site_of strip key.kind) o) ≡ find (is_kept_one o) (places_of strip (kind_for key.kind))
+  one_kept key None is = sym (find_none (places_of strip (kind_for key.kind)))
+  one_kept key (Some place) is =
+      let there = lawful.by_kind key place is in
+      ap (λ (p : Place). let o : Option Place = Some p in o) (place_back strip apart key.kind place there)
+      ∙ sym (find_kept (places_of strip (kind_for key.kind)) _ place (number_of strip apart (kind_for key.kind) place there))
+
+  all_kept : (keys : List BlockKey) → map (option_map (site_place strip)) (map (λ key. option_map (site_of strip key.kind) (kept_place kept key)) keys) ≡ map (λ key. find (is_kept_one (kept_place kept key)) (places_of strip (kind_for key.kind))) keys
+  all_kept [] = refl
+  all_kept (key ∷ keys) =
+      let head = one_kept key (kept_place kept key) refl in
+      let rest = all_kept keys in
+      cc
+
+-- the places of the sites at the start
+pub start_places : (strip : Strip) (packed : PackedCircuit) (kept : KeptPlaces) (kinds : List Kind) → AreDistinct strip → ((kind : Kind) → AllPairs (λ place next. place ≢ next) (places_of strip kind)) → AreKeptOn strip kept → AreKeptSites strip kinds (kept_sites_of strip packed kept) → HaveRoom strip kinds →
+    places_on strip (start_of strip kinds (kept_sites_of strip packed kept)) ≡ placed_first strip kinds (kept_by_block strip packed kept)
+start_places strip packed kept kinds distinct apart lawful theirs room =
+    start_carried strip distinct kinds (kept_sites_of strip packed kept) theirs room
+    ∙ ap (placed_first strip kinds) (all_kept strip apart kept lawful (keys_of packed))

@@ -1,0 +1,8 @@
+use Rattle.std.proofs.Common.{refl, subst}
+use Rattle.strip_place.specs.Boards.{IsLawfulBoard}
+use Rattle.strip_place.proofs.board.Board.len.Goals as goal
+
+pub returns-clause-lawful : goal.returns-clause-lawful
+returns-clause-lawful c =
+    let b = c.self.inside in
+    subst IsLawfulBoard c.self.view_is (record { size = c.self.invariant.size; sites = b.seats.sites; shown = refl; standing = c.self.invariant.standing })
