@@ -5,7 +5,7 @@ ghost use Rattle.thread_tests.specs.Devices.{IsSmall};
 
 use crate::cores::{new_core, new_device, new_graph};
 use crate::moving::moves_under_a_held_job;
-use crate::waiting::waits;
+use crate::same_told::tells_the_same;
 use crate::workers::is_worked;
 use service_core::Device;
 use shared_core::{Begun, Core};
@@ -20,7 +20,8 @@ use strips::DeviceGraph;
 #[derive(Clone, Copy)]
 enum Shown {
     Worked(Worked),
-    WaitWaits,
+    /// Beside so many workers.
+    SessionsTellTheSame(usize),
     StripMoves,
 }
 
@@ -43,7 +44,7 @@ fn is_shown<
 {
     match shown {
         Shown::Worked(worked) => is_worked(rt, core, graph, worked),
-        Shown::WaitWaits => waits(rt, core, graph),
+        Shown::SessionsTellTheSame(workers) => tells_the_same(rt, core, graph, workers),
         Shown::StripMoves => moves_under_a_held_job(rt, core, graph),
     }
 }
@@ -120,8 +121,18 @@ fn a_step_is_made_without_the_lock(rt: HostRuntime) {
 }
 
 #[test]
-fn a_session_waits_for_its_worker(rt: HostRuntime) {
-    assert!(rt; shows(&rt, Shown::WaitWaits));
+fn one_worker_tells_the_same(rt: HostRuntime) {
+    assert!(rt; shows(&rt, Shown::SessionsTellTheSame(1)));
+}
+
+#[test]
+fn three_workers_tell_the_same(rt: HostRuntime) {
+    assert!(rt; shows(&rt, Shown::SessionsTellTheSame(3)));
+}
+
+#[test]
+fn sixteen_workers_tell_the_same(rt: HostRuntime) {
+    assert!(rt; shows(&rt, Shown::SessionsTellTheSame(16)));
 }
 
 #[test]
