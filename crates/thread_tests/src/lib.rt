@@ -4,12 +4,15 @@
 //! - `showing`: what is shown, each of a core of its own.
 //! - `workers`: a worker that drains a closed queue, two steps at once, and a step without the lock.
 //! - `same_told`: four sessions beside workers are told what they are told alone.
+//! - `failing`: sessions whose reader or writer fails at each call in turn.
 //! - `moving`: a strip that moves while a worker holds a step.
 //! - `cores`, `gates`, `seats`, `telling`: what these share.
 #![tactic(auto)]
 
 #[cfg(test)]
 mod cores;
+#[cfg(test)]
+mod failing;
 #[cfg(test)]
 mod gates;
 #[cfg(test)]

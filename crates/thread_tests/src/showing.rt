@@ -4,6 +4,7 @@ ghost use Rattle.service_core.specs.Service.{empty};
 ghost use Rattle.thread_tests.specs.Devices.{IsSmall};
 
 use crate::cores::{new_core, new_device, new_graph};
+use crate::failing::all_end_so;
 use crate::moving::moves_under_a_held_job;
 use crate::same_told::tells_the_same;
 use crate::workers::is_worked;
@@ -23,6 +24,7 @@ enum Shown {
     /// Beside so many workers.
     SessionsTellTheSame(usize),
     StripMoves,
+    FailingDevices,
 }
 
 /// What is shown of workers.
@@ -46,6 +48,7 @@ fn is_shown<
         Shown::Worked(worked) => is_worked(rt, core, graph, worked),
         Shown::SessionsTellTheSame(workers) => tells_the_same(rt, core, graph, workers),
         Shown::StripMoves => moves_under_a_held_job(rt, core, graph),
+        Shown::FailingDevices => all_end_so(rt, core),
     }
 }
 
@@ -138,4 +141,9 @@ fn sixteen_workers_tell_the_same(rt: HostRuntime) {
 #[test]
 fn a_strip_moves_under_a_held_step(rt: HostRuntime) {
     assert!(rt; shows(&rt, Shown::StripMoves));
+}
+
+#[test]
+fn a_session_ends_where_its_device_fails(rt: HostRuntime) {
+    assert!(rt; shows(&rt, Shown::FailingDevices));
 }
