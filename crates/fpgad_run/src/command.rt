@@ -6,9 +6,10 @@ use crate::outcome::Outcome;
 use crate::program::run;
 use clap::Error;
 use clap::error::ErrorKind;
-use line_text::{ReadError, Sink, Source, StdSource, read_all};
+use line_text::{MAX_TEXT, ReadError, Sink, Source, StdSource, read_all};
 use std::convert::AsStr;
 use std::fs::File;
+use std::io::Read;
 use std::rt::Files;
 use std::sync::Wait;
 use std::thread::Threads;
@@ -43,10 +44,7 @@ pub fn run_line<H: Files + Threads + Wait + AllocGlobal + Sync, R: Source, W: Si
     let Some(path) = line.arch else {
         return run(rt, options, Architecture::InScript, reader, writer);
     };
-    let Ok(file) = File::open(rt, path) else {
-        return run(rt, options, Architecture::Unreadable, reader, writer);
-    };
-    match read_all(rt.alloc(), &mut StdSource::new(file)) {
+    match read_architecture(rt, path) {
         Ok(text) => run(
             rt,
             options,
@@ -56,5 +54,17 @@ pub fn run_line<H: Files + Threads + Wait + AllocGlobal + Sync, R: Source, W: Si
         ),
         Err(ReadError::Failed) => run(rt, options, Architecture::Unreadable, reader, writer),
         Err(ReadError::NoMemory) => Outcome::NoMemory,
+    }
+}
+
+/// The text of the architecture's file. Of a file that is longer than a text may be, the first byte above that is the last that
+/// is read: it is refused whatever else it holds. The file is closed again, so that its number is never taken for standard input's.
+fn read_architecture<H: Files + AllocGlobal>(rt: &H, path: &str) -> Result<Vec<u8>, ReadError> {
+    match File::open(rt, path) {
+        Ok(file) => read_all(
+            rt.alloc(),
+            &mut StdSource::new(file.take(MAX_TEXT as u64 + 1)),
+        ),
+        Err(_) => Err(ReadError::Failed),
     }
 }

@@ -7,11 +7,27 @@ use service_core::Device;
 use std::alloc::Global;
 use std::convert::AsStr;
 
+/// What stands behind the options where help is asked.
+const HELP: &str = "\
+Lines of a script, in any order; NAME is 1 to 32 letters, digits and `_`:
+  op admit NAME WIDTH | evict NAME | move NAME OFFSET | list | owners
+  op step NAME N | take NAME | put JOB                     (without workers)
+  @NAME upload | change, then a BLIF netlist and a line that is `.` alone
+  @NAME pack | place SEED EFFORT | route | wait | cancel | withdraw
+  @NAME status | net | placefile | routefile
+  # a comment
+
+Status: 0 served, 1 the architecture or a device failed, 2 the options are refused,
+  3 the script has a fault, 4 memory lacks, 5 sessions and journals disagree
+
+Example: fpgad --arch my.arch --tracks 8 --columns 20 --rows 10 < my.script
+All of it: docs/SERVICE.md, the files docs/FORMATS.md, a first circuit docs/TUTORIAL.md";
+
 /// The program for its options.
 const PROGRAM: Program = Program {
     name: "fpgad",
     about: "Place and route for one shared FPGA: serves the script on standard input",
-    after_help: "Example: fpgad --arch my.arch --tracks 8 --columns 20 --rows 10 < my.script",
+    after_help: HELP,
     options: &[
         OptionWord {
             name: "arch",

@@ -244,12 +244,14 @@ fn start_sessions<
         let Some(pass) = a_pass(&mut passes, ready) else {
             return false;
         };
+        // (one that runs and that nobody waits for would find the queue closed, and its job never stepped)
+        if started.reserve(1).is_err() {
+            return false;
+        }
         let Some(session) = start_session(rt, scope, shared, ready, pass, seat) else {
             return false;
         };
-        if started.push(session).is_err() {
-            return false;
-        }
+        started.push(session).unwrap();
     }
     true
 }

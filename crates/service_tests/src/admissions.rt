@@ -79,3 +79,32 @@ fn all_is_so(alloc: Global) -> bool {
 fn a_tenancy_comes_and_goes(rt: HostRuntime) {
     assert!(rt; all_is_so(rt.alloc()));
 }
+
+/// Whether each id but 0 that 16 bits hold is given once, to tenancies that come and go, and then none: also where there is no room.
+fn spends_all_ids(core: &mut Service) -> bool {
+    for id in 1..65_536 {
+        if core.admit(1) != Ok((id, 0)) || (id < 65_535 && core.evict(id) != Ok(())) {
+            return false;
+        }
+    }
+    core.admit(1) == Err(OpRefusal::IdsSpent)
+        && core.evict(65_535) == Ok(())
+        && core.admit(1) == Err(OpRefusal::IdsSpent)
+        && core.admissions() == 65_535
+}
+
+fn all_are_spent(alloc: Global) -> bool {
+    match new_core(alloc, 1) {
+        Some(mut core) => {
+            let is_so = spends_all_ids(&mut core);
+            drop(core);
+            is_so
+        }
+        None => false,
+    }
+}
+
+#[test]
+fn ids_are_spent(rt: HostRuntime) {
+    assert!(rt; all_are_spent(rt.alloc()));
+}

@@ -3,8 +3,8 @@ use Rattle.std.specs.Prelude.{◌≡◌}
 use Rattle.arch_file.specs.Arch.{IsArch}
 use Rattle.service_core.specs.declared.device.Device.{Device}
 
--- a device of five columns and one row
+-- a device of eight columns and one row
 pub record IsSmall (device : Device) : Type 0 where
   pub arch : IsArch device.arch
-  pub columns : device.columns ≡ 5
+  pub columns : device.columns ≡ 8
   pub rows : device.rows ≡ 1

@@ -17,7 +17,7 @@ use strips::{DeviceGraph, Window};
 use tenant_slot::{Command, SharedText};
 
 /// The device has so many columns, one row and two tracks.
-const COLUMNS: u32 = 5;
+const COLUMNS: u32 = 8;
 
 /// The smallest architecture, with two tracks.
 fn architecture(alloc: Global) -> Option<Arch>

@@ -3,22 +3,27 @@
 //!
 //! - `showing`: what is shown, each of a core of its own.
 //! - `workers`: a worker that drains a closed queue, two steps at once, and a step without the lock.
-//! - `waiting`: a session that waits for a worker, and what it is told.
+//! - `same_told`: four sessions beside workers are told what they are told alone.
+//! - `failing`: sessions whose reader or writer fails at each call in turn.
 //! - `moving`: a strip that moves while a worker holds a step.
-//! - `cores`, `gates`, `seats`: what these share.
+//! - `cores`, `gates`, `seats`, `telling`: what these share.
 #![tactic(auto)]
 
 #[cfg(test)]
 mod cores;
 #[cfg(test)]
+mod failing;
+#[cfg(test)]
 mod gates;
 #[cfg(test)]
 mod moving;
+#[cfg(test)]
+mod same_told;
 #[cfg(test)]
 mod seats;
 #[cfg(test)]
 mod showing;
 #[cfg(test)]
-mod waiting;
+mod telling;
 #[cfg(test)]
 mod workers;

@@ -17,7 +17,7 @@ use tenant_slot::StateName;
 use worker_pool::{Shared, run_worker};
 
 /// Where the strip is moved to: the device's last column.
-const OFFSET: u32 = 4;
+const OFFSET: u32 = 7;
 
 /// Whether the tenancy begins to route, and the queue is closed with its number.
 fn begins<C: Begun, P: Ledger, R: Wait + AllocGlobal>(

@@ -46,25 +46,31 @@ pub(crate) fn a_worker<C: Begun, P: Ledger>(
     }
 }
 
-/// What a session holds.
+/// What a session holds, and what it says.
 #[derive(Drop)]
 pub(crate) struct Speaker<C: Begun> {
     pub(crate) pass: Pass,
     pub(crate) lease: Lease<C>,
+    pub(crate) input: String,
 }
 
-/// The session of a tenancy.
+/// The session of a tenancy, which says that.
 pub(crate) fn a_speaker<C: Begun, P: Ledger>(
     core: &mut Core<C, P>,
     ready: &Ready,
     passes: &mut Vec<Pass>,
     id: u32,
+    input: String,
 ) -> Option<Speaker<C>>
     requires { All (λ p. p.of ≡ ready.now) passes.old.items }
-    ensures { IfSome result (λ s. (s.pass.of ≡ ready.now) × (s.lease.made ≡ 0)) }
+    ensures rest { All (λ p. p.of ≡ ready.now) passes.new.items }
+    ensures of { IfSome result (λ s. (s.pass.of ≡ ready.now) × (s.lease.made ≡ 0)) }
 {
     match (a_pass(passes, ready), core.lease(id)) {
-        (Some(pass), Some(lease)) => Some(Speaker { pass, lease }),
-        _ => None,
+        (Some(pass), Some(lease)) => Some(Speaker { pass, lease, input }),
+        _ => {
+            drop(input);
+            None
+        }
     }
 }

@@ -4,8 +4,9 @@ ghost use Rattle.service_core.specs.Service.{empty};
 ghost use Rattle.thread_tests.specs.Devices.{IsSmall};
 
 use crate::cores::{new_core, new_device, new_graph};
+use crate::failing::all_end_so;
 use crate::moving::moves_under_a_held_job;
-use crate::waiting::waits;
+use crate::same_told::tells_the_same;
 use crate::workers::is_worked;
 use service_core::Device;
 use shared_core::{Begun, Core};
@@ -20,8 +21,10 @@ use strips::DeviceGraph;
 #[derive(Clone, Copy)]
 enum Shown {
     Worked(Worked),
-    WaitWaits,
+    /// Beside so many workers.
+    SessionsTellTheSame(usize),
     StripMoves,
+    FailingDevices,
 }
 
 /// What is shown of workers.
@@ -43,8 +46,9 @@ fn is_shown<
 {
     match shown {
         Shown::Worked(worked) => is_worked(rt, core, graph, worked),
-        Shown::WaitWaits => waits(rt, core, graph),
+        Shown::SessionsTellTheSame(workers) => tells_the_same(rt, core, graph, workers),
         Shown::StripMoves => moves_under_a_held_job(rt, core, graph),
+        Shown::FailingDevices => all_end_so(rt, core),
     }
 }
 
@@ -120,11 +124,26 @@ fn a_step_is_made_without_the_lock(rt: HostRuntime) {
 }
 
 #[test]
-fn a_session_waits_for_its_worker(rt: HostRuntime) {
-    assert!(rt; shows(&rt, Shown::WaitWaits));
+fn one_worker_tells_the_same(rt: HostRuntime) {
+    assert!(rt; shows(&rt, Shown::SessionsTellTheSame(1)));
+}
+
+#[test]
+fn three_workers_tell_the_same(rt: HostRuntime) {
+    assert!(rt; shows(&rt, Shown::SessionsTellTheSame(3)));
+}
+
+#[test]
+fn sixteen_workers_tell_the_same(rt: HostRuntime) {
+    assert!(rt; shows(&rt, Shown::SessionsTellTheSame(16)));
 }
 
 #[test]
 fn a_strip_moves_under_a_held_step(rt: HostRuntime) {
     assert!(rt; shows(&rt, Shown::StripMoves));
+}
+
+#[test]
+fn a_session_ends_where_its_device_fails(rt: HostRuntime) {
+    assert!(rt; shows(&rt, Shown::FailingDevices));
 }

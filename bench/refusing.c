@@ -1,0 +1,77 @@
+// To be loaded before a program's libraries. Refuses one kind of call, REFUSE=allocation, thread, read or write: the one of number NUMBER,
+// from 1, and with LASTING=1 each later one too. At the end it writes to the file COUNTED, if that is given, how many there were.
+#define _GNU_SOURCE
+#include <dlfcn.h>
+#include <errno.h>
+#include <pthread.h>
+#include <stdatomic.h>
+#include <stdio.h>
+#include <stdlib.h>
+#include <string.h>
+#include <unistd.h>
+
+enum kind { ALLOCATION, THREAD, READ, WRITE, NONE };
+static const char *const names[] = {"allocation", "thread", "read", "write"};
+static enum kind refused = NONE;
+static atomic_long count;
+static long number;
+static int lasting;
+
+__attribute__((constructor)) static void begin(void) {
+    const char *name = getenv("REFUSE"), *which = getenv("NUMBER"), *always = getenv("LASTING");
+    number = which ? atol(which) : 0;
+    lasting = always && *always == '1';
+    for (enum kind it = ALLOCATION; name && it < NONE; it++)
+        if (strcmp(name, names[it]) == 0) refused = it;
+}
+
+__attribute__((destructor)) static void end(void) {
+    const char *name = getenv("COUNTED");
+    long counted = count;
+    refused = NONE;
+    FILE *file = name ? fopen(name, "w") : NULL;
+    if (!file) return;
+    fprintf(file, "%ld\n", counted);
+    fclose(file);
+}
+
+static int is_refused(enum kind kind) {
+    if (kind != refused) return 0;
+    long it = ++count;
+    return lasting ? it >= number && number > 0 : it == number;
+}
+
+#define NEXT(name) static __typeof__(&name) next; if (!next) next = (__typeof__(&name))dlsym(RTLD_NEXT, #name)
+
+void *malloc(size_t size) {
+    NEXT(malloc);
+    if (!is_refused(ALLOCATION)) return next(size);
+    errno = ENOMEM;
+    return NULL;
+}
+
+void *realloc(void *old, size_t size) {
+    NEXT(realloc);
+    if (size == 0 || !is_refused(ALLOCATION)) return next(old, size);
+    errno = ENOMEM;
+    return NULL;
+}
+
+int pthread_create(pthread_t *thread, const pthread_attr_t *with, void *(*run)(void *), void *given) {
+    NEXT(pthread_create);
+    return is_refused(THREAD) ? EAGAIN : next(thread, with, run, given);
+}
+
+ssize_t read(int from, void *into, size_t size) {
+    NEXT(read);
+    if (!is_refused(READ)) return next(from, into, size);
+    errno = EIO;
+    return -1;
+}
+
+ssize_t write(int into, const void *from, size_t size) {
+    NEXT(write);
+    if (!is_refused(WRITE)) return next(into, from, size);
+    errno = EIO;
+    return -1;
+}
