@@ -161,6 +161,7 @@ tries_more graph old mid new id count calls outcome s makes runs fits =
 pub steps_more : (graph : Basis) (old mid new : ServiceState) (id count : ℕ) (before middle after : List ℕ) (calls : List Call) (outcome : StepOutcome) →
     Steps graph old id count before middle mid → MakesStep id calls outcome → Run mid calls new → after ≡ middle ++ outcome_text outcome → (graph ≡ own_graph mid.device → outcome ≢ Unfit) →
     Steps graph old id (count + 1) before after new
+unfolding tries_more
 steps_more graph old mid new id count before middle after calls outcome s makes runs told fits =
     let tried : Tried = s.tries.tried in
     let t : List Call × StepOutcome = (calls, outcome) in

@@ -1,4 +1,4 @@
-ghost use Rattle.std.specs.Prelude.{◌≡◌, ◌+◌, ◌<◌, ◌∷◌, ◌++◌, [], length, vec_capacity, vec_len, OnErr, OnOk};
+ghost use Rattle.std.specs.Prelude.{◌≡◌, ◌+◌, ◌<◌, ◌∷◌, ◌++◌, ◌↔◌, [], length, vec_capacity, vec_len, IsTrue, OnErr, OnOk};
 ghost use Rattle.operator.specs.OperatorText.{last_id, list_text};
 ghost use Rattle.indexmap.specs.IndexMap.{spare};
 ghost use Rattle.operator.specs.Held.{held};
@@ -58,6 +58,13 @@ impl<'t> Operator<'t> {
             Some(id) => *id,
             None => 0,
         }
+    }
+
+    /// Whether the names are those of all tenancies that the core has admitted.
+    pub fn is_of(&self, core: &Service) -> bool
+        ensures { IsTrue result ↔ (length self.now ≡ length core.now.histories) }
+    {
+        self.admitted.len() == core.admissions() as usize
     }
 
     /// Does what a line of the operator asks, steps on the device's graph, and appends its reply. The device's own graph fits each job.

@@ -9,4 +9,4 @@ pub returns-clause-last : goal.returns-clause-last
 returns-clause-last c =
     let updates = rw c.unwrap.ensures at c.insert.ensures.updates in
     rw (c.push.ensures.items, c.unwrap-2.ensures, newest_first-push)
-    (AreLastIds-insert c.args.ids.now.entries c.insert.new.ids.entries (newest_first c.args.admitted.now.items) c.args.name c.args.id updates.0 c.requires.next c.requires.last)
+    (AreLastIds-insert c.args.ids.now.entries c.insert.new.self.entries (newest_first c.args.admitted.now.items) c.args.name c.args.id updates.0 c.requires.next c.requires.last)

@@ -1,6 +1,8 @@
-use Rattle.std.proofs.Common.{◌≡◌, ◌+◌, ◌++◌, arith, rules}
+use Rattle.std.proofs.Common.{ℕ, ◌≡◌, ◌+◌, ◌++◌, arith, rules, subst}
 use Rattle.operator.specs.Held.{held}
 use Rattle.operator.specs.OperatorText.{outcome_text}
+use Rattle.operator.specs.Operators.{Steps}
+use Rattle.operator.proofs.OperatorLemmas.{on_err}
 use Rattle.operator.proofs.Stepping.{steps_more, steps_none, tries_more}
 use Rattle.operator.proofs.operator.step.Goals as goal
 
@@ -17,8 +19,15 @@ loop-number-preserved c =
 -- the step that isn't told is made
 pub returns-in_err-push_outcome-clause-stands : goal.returns-in_err-push_outcome-clause-stands
 returns-in_err-push_outcome-clause-stands c =
-    let step = c.make_step-outcome.ensures.made in (
+    let step = c.make_step-outcome.ensures.made in
+    on_err c.from_residual.result (
       c.loop-number.number + 1,
       omega arith,
       tries_more c.args.graph.now c.args.core.now c.loop-number.core c.make_step-outcome.new.core c.args.id c.loop-number.number step.0 c.make_step-outcome.result c.loop-number.invariant.tries step.1 step.2 c.make_step-outcome.ensures.own,
     )
+
+pub returns-clause-told : goal.returns-clause-told
+returns-clause-told c =
+    let P : ℕ → Type 0 = λ n. Steps c.args.graph.now c.args.core.now c.args.id n (held c.args.reply.now) (held c.loop-number.reply) c.loop-number.core in
+    let all : c.loop-number.number ≡ c.args.count = omega arith in
+    subst P all c.loop-number.invariant

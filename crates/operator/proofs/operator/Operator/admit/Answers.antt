@@ -24,7 +24,7 @@ returns-then-is_some-clause-stands c = on_err c.push_refused.result (λ jobs gra
 
 pub returns-in-Ok-clause-told : goal.returns-in-Ok-clause-told
 returns-in-Ok-clause-told c =
-    let names : newest_first c.note.new.admitted.items ≡ names_after c.args.self.now c.args.name.now c.admit-answer.result = rw (c.in-Ok.is, c.note.ensures.names) (rw c.self.view_is refl) in
+    let names : newest_first c.note.new.admitted.items ≡ names_after c.args.self.now c.args.name.now c.admit-answer.result = rw (c.in-Ok.is, c.note.ensures.names, c.reserve-2.ensures.items, ← c.self.view_is) refl in
     on_ok c.push_admitted.result
     (λ appended jobs graph. (
       AdmitCall c.args.width c.admit-answer.result ∷ [],
@@ -39,7 +39,7 @@ returns-in-Ok-clause-told c =
 
 pub returns-in-Ok-clause-stands : goal.returns-in-Ok-clause-stands
 returns-in-Ok-clause-stands c =
-    let names : newest_first c.note.new.admitted.items ≡ names_after c.args.self.now c.args.name.now c.admit-answer.result = rw (c.in-Ok.is, c.note.ensures.names) (rw c.self.view_is refl) in
+    let names : newest_first c.note.new.admitted.items ≡ names_after c.args.self.now c.args.name.now c.admit-answer.result = rw (c.in-Ok.is, c.note.ensures.names, c.reserve-2.ensures.items, ← c.self.view_is) refl in
     on_err c.push_admitted.result
     (λ jobs graph. (
       inr (
@@ -54,13 +54,13 @@ returns-in-Ok-clause-stands c =
 
 pub returns-in-Err-clause-told : goal.returns-in-Err-clause-told
 returns-in-Err-clause-told c =
-    let names : c.args.self.now ≡ names_after c.args.self.now c.args.name.now c.admit-answer.result = rw c.in-Err.is refl in
+    let names : newest_first c.reserve-2.new.self.items ≡ names_after c.args.self.now c.args.name.now c.admit-answer.result = rw (c.in-Err.is, c.reserve-2.ensures.items, ← c.self.view_is) refl in
     on_ok c.push_admitted-in-Err.result
     (λ appended jobs graph. (
       AdmitCall c.args.width c.admit-answer.result ∷ [],
       admitted_text c.admit-answer.result,
       admits (live_of c.args.core.now.histories (last_id c.args.self.now c.args.name.now)) c.state.result (record { names = c.args.self.now; jobs = jobs; service = c.args.core.now; graph = graph })
-          (record { names = c.args.self.now; jobs = jobs; service = c.admit-answer.new.self; graph = graph }) c.args.name.now c.args.width c.admit-answer.result
+          (record { names = newest_first c.reserve-2.new.self.items; jobs = jobs; service = c.admit-answer.new.self; graph = graph }) c.args.name.now c.args.width c.admit-answer.result
           (rw (← c.last_id.ensures) c.state.ensures.value) c.if-is_some.ensures c.admit-answer.ensures names refl refl,
       appended,
       ap length names ∙ lengths-admitted c.args.core.now c.admit-answer.new.self c.args.width c.admit-answer.result c.args.self.now c.args.name.now c.requires c.admit-answer.ensures,
@@ -69,14 +69,14 @@ returns-in-Err-clause-told c =
 
 pub returns-in-Err-clause-stands : goal.returns-in-Err-clause-stands
 returns-in-Err-clause-stands c =
-    let names : c.args.self.now ≡ names_after c.args.self.now c.args.name.now c.admit-answer.result = rw c.in-Err.is refl in
+    let names : newest_first c.reserve-2.new.self.items ≡ names_after c.args.self.now c.args.name.now c.admit-answer.result = rw (c.in-Err.is, c.reserve-2.ensures.items, ← c.self.view_is) refl in
     on_err c.push_admitted-in-Err.result
     (λ jobs graph. (
       inr (
         AdmitCall c.args.width c.admit-answer.result ∷ [],
         admitted_text c.admit-answer.result,
         admits (live_of c.args.core.now.histories (last_id c.args.self.now c.args.name.now)) c.state.result (record { names = c.args.self.now; jobs = jobs; service = c.args.core.now; graph = graph })
-            (record { names = c.args.self.now; jobs = jobs; service = c.admit-answer.new.self; graph = graph }) c.args.name.now c.args.width c.admit-answer.result
+            (record { names = newest_first c.reserve-2.new.self.items; jobs = jobs; service = c.admit-answer.new.self; graph = graph }) c.args.name.now c.args.width c.admit-answer.result
             (rw (← c.last_id.ensures) c.state.ensures.value) c.if-is_some.ensures c.admit-answer.ensures names refl refl,
       ),
       ap length names ∙ lengths-admitted c.args.core.now c.admit-answer.new.self c.args.width c.admit-answer.result c.args.self.now c.args.name.now c.requires c.admit-answer.ensures,

@@ -141,7 +141,7 @@ pub returns-in_ok-owners-in-Owners-clause-stands : goal.returns-in_ok-owners-in-
 returns-in_ok-owners-in-Owners-clause-stands c = rw c.in-Owners.is (on_err c.push_owners.result (inl refl, c.requires))
 
 pub returns-in_err-owners-in-Owners-clause-stands : goal.returns-in_err-owners-in-Owners-clause-stands
-returns-in_err-owners-in-Owners-clause-stands c = rw c.in-Owners.is (inl refl, c.requires)
+returns-in_err-owners-in-Owners-clause-stands c = rw c.in-Owners.is (on_err c.from_residual.result (inl refl, c.requires))
 
 pub returns-in-Admit-clause-stands : goal.returns-in-Admit-clause-stands
 returns-in-Admit-clause-stands c = rw c.in-Admit.is (on_err_more c.admit.result (λ stands. stands c.args.jobs.now c.args.graph.now) c.admit.ensures.stands)
@@ -198,4 +198,4 @@ returns-in_ok-number-in-Take-clause-stands c =
 pub returns-in_err-number-in-Take-clause-stands : goal.returns-in_err-number-in-Take-clause-stands
 returns-in_err-number-in-Take-clause-stands c =
     let same = c.in_err-number-in-Take.ensures.stands in
-    rw (c.in-Take.is, same.0, same.1) (inl refl, c.requires)
+    rw (c.in-Take.is, same.0, same.1) (on_err c.from_residual-in_err-number-in-Take.result (inl refl, c.requires))
