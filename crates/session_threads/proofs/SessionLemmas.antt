@@ -17,9 +17,9 @@ use Rattle.session_threads.specs.declared.items.Within.TheVariants.{Session}
 use Rattle.session_threads.specs.Inputs.{is_one_line}
 use Rattle.session_threads.specs.Told.{AreTold, noted_all, told_texts}
 use Rattle.session_threads.specs.Outcomes.{IsWithin}
-use Rattle.session_threads.specs.WholeSession.{GoesOn, HaveEnded, LastToldOf, Stops, ToldOf, WholeSession, Wrote}
+use Rattle.session_threads.specs.WholeSession.{GoesOn, HaveEnded, KeepsNoneAhead, LastToldOf, Stops, ToldOf, WholeSession, Wrote}
 use Rattle.session_threads.proofs.ItemLemmas.{line_then}
-use Rattle.session_threads.proofs.KnownLemmas.{consumes_both}
+use Rattle.session_threads.proofs.KnownLemmas.{consumes_both, prepend_none}
 use Rattle.session_threads.proofs.ToldLemmas.{noted_all-append, noted_all-id, told-append}
 use Rattle.session_threads.proofs.TurnLemmas.{line_items, wrote_texts}
 
@@ -82,18 +82,22 @@ goes_on contents has_failed w x y id now_id old now new input a b p q own same g
     }
 
 -- what the whole input is told
-whole : (id : ℕ) (end : End) (input ahead : Option (List ℕ)) (final : Option (List ℕ)) (read last : List ℕ) (items : List SessionLine) (text : Option TextSoFar) (told more : List (Option Place)) → Consumes input ahead read → Consumes ahead final last → HaveEnded read items text → AreTold id items told → LastToldOf id text last final end more → IfSome input (λ bytes. ToldOf id bytes end (told ++ more))
-whole id end None ahead final read last items text told more a b ended are its = tt
-whole id end (Some bytes) None final read last items text told more a b ended are its = absurd a
-whole id end (Some bytes) (Some ahead) None read last items text told more a b ended are its = absurd b
-whole id Ended (Some bytes) (Some ahead) (Some rest) read last items text told more a b ended are its =
+whole : (id : ℕ) (end : End) (input ahead : Option (List ℕ)) (final : Option (List ℕ)) (read last : List ℕ) (items : List SessionLine) (text : Option TextSoFar) (told more : List (Option Place)) (bs : List ℕ) (left : Option (List ℕ)) → Consumes input ahead read → Consumes ahead final last → HaveEnded read items text → AreTold id items told → LastToldOf id text last final end more →
+    final ≡ prepend_known bs left → KeepsNoneAhead end bs → IfSome input (λ bytes. ToldOf id bytes left end (told ++ more))
+whole id end None ahead final read last items text told more bs left a b ended are its is_left none = tt
+whole id end (Some bytes) None final read last items text told more bs left a b ended are its is_left none = absurd a
+whole id end (Some bytes) (Some ahead) None read last items text told more bs left a b ended are its is_left none = absurd b
+whole id Ended (Some bytes) (Some ahead) (Some rest) read last items text told more bs left a b ended are its is_left none =
     let all : bytes ≡ read ++ last = a ∙ ap (λ t. read ++ t) (b ∙ (ap (λ t. last ++ t) its.0 ∙ append-nil last)) in
     let is : items_of bytes ≡ items ++ items_to_come text (physical_lines last) = ap items_of all ∙ ended last in
     let P : List SessionLine → Type 0 = λ items. AreTold id items (told ++ more) in subst P (sym is) (told-append id items (items_to_come text (physical_lines last)) told more are its.1)
-whole id ReaderFailed (Some bytes) (Some ahead) (Some rest) read last items text told more a b ended are its =
+whole id ReaderFailed (Some bytes) (Some ahead) (Some rest) read last items text told more bs left a b ended are its is_left none =
     let same : told ++ more ≡ told = ap (λ t. told ++ t) its.1 ∙ append-nil told in
-    let P : List (Option Place) → Type 0 = λ t. ToldOf id bytes ReaderFailed t in subst P (sym same) (read, last, rest, items, text, a ∙ (ap (λ t. read ++ t) b ∙ sym (append_assoc read last rest)), its.0, ended, are)
-whole id WriterFailed (Some bytes) (Some ahead) (Some rest) read last items text told more a b ended are its =
+    let all : bytes ≡ (read ++ last) ++ rest = a ∙ (ap (λ t. read ++ t) b ∙ sym (append_assoc read last rest)) in
+    let is : Some rest ≡ left = is_left ∙ (ap (λ b. prepend_known b left) none ∙ prepend_none left) in
+    let Q : Option (List ℕ) → Type 0 = λ known. Consumes (Some bytes) known (read ++ last) in
+    let P : List (Option Place) → Type 0 = λ t. ToldOf id bytes left ReaderFailed t in subst P (sym same) (read, last, items, text, subst Q is all, its.0, ended, are)
+whole id WriterFailed (Some bytes) (Some ahead) (Some rest) read last items text told more bs left a b ended are its is_left none =
     let is : items_of bytes ≡ items ++ items_to_come text (physical_lines (last ++ rest)) = ap items_of (a ∙ ap (λ t. read ++ t) b) ∙ ended (last ++ rest) in (
       items ++ its.0,
       its.1,
@@ -101,14 +105,14 @@ whole id WriterFailed (Some bytes) (Some ahead) (Some rest) read last items text
       told-append id items its.0 told more are its.3,
     )
 
-pub stops : {W : Type 0} (contents : W → Option (List ℕ)) (has_failed : W → Bool) (w x y : W) (id now_id : ℕ) (old now new : TranscriptState) (input a b : Option (List ℕ)) (p : Within) (end : End) → old.id ≡ id → now_id ≡ now.id →
-    Going id old now input a p contents has_failed w x → Stops now_id a b p (λ text how. Wrote contents has_failed x y text how) now end new → WholeSession id input (λ text how. Wrote contents has_failed w y text how) old end new
-stops contents has_failed w x y id now_id old now new input a b p end own same going turn =
+pub stops : {W : Type 0} (contents : W → Option (List ℕ)) (has_failed : W → Bool) (w x y : W) (id now_id : ℕ) (old now new : TranscriptState) (input a b : Option (List ℕ)) (p : Within) (end : End) (bs : List ℕ) (left : Option (List ℕ)) → old.id ≡ id → now_id ≡ now.id →
+    Going id old now input a p contents has_failed w x → Stops now_id a b p (λ text how. Wrote contents has_failed x y text how) now end new → b ≡ prepend_known bs left → KeepsNoneAhead end bs → WholeSession id input left (λ text how. Wrote contents has_failed w y text how) old end new
+stops contents has_failed w x y id now_id old now new input a b p end bs left own same going turn is_left none =
     let ids : now_id ≡ id = same ∙ (ap (λ (t : TranscriptState). t.id) going.noted_is ∙ (noted_all-id old going.told ∙ own)) in
     let P : ℕ → Type 0 = λ i. LastToldOf i going.text turn.bytes b end turn.told in
     record {
       told = going.told ++ turn.told;
       noted = turn.noted ∙ (ap (λ t. noted_all t turn.told) going.noted_is ∙ sym (noted_all-append old going.told turn.told));
       written = wrote_texts contents has_failed w x y going.told turn.told end going.written turn.written;
-      asked = whole id end input a b going.read turn.bytes going.items going.text going.told turn.told going.consumed turn.read going.ended going.are (subst P ids (turn.asked going.text going.text_is));
+      asked = whole id end input a b going.read turn.bytes going.items going.text going.told turn.told bs left going.consumed turn.read going.ended going.are (subst P ids (turn.asked going.text going.text_is)) is_left none;
     }

@@ -18,7 +18,7 @@ use Rattle.session_threads.specs.Inputs.{ReadsLine}
 use Rattle.session_threads.specs.Lines.{IsLine, LineSoFar}
 use Rattle.session_threads.specs.Told.{AreTold, noted_all, told_texts}
 use Rattle.session_threads.specs.Outcomes.{LineIsTold}
-use Rattle.session_threads.specs.WholeSession.{EndsInput, EndsReading, Finishes, FirstAreTold, GoesOn, LastToldOf, ServesLine, Stops, ToldAtEnd, Wrote}
+use Rattle.session_threads.specs.WholeSession.{EndsInput, EndsReading, Finishes, FirstAreTold, GoesOn, KeepsNoneAhead, LastToldOf, ServesLine, Stops, ToldAtEnd, Wrote}
 use Rattle.session_threads.proofs.ItemLemmas.{last_line, line_then}
 use Rattle.session_threads.proofs.ToldLemmas.{noted_all-append, noted_all-id, texts-append, told-append}
 
@@ -148,6 +148,12 @@ last_line_unwritten contents has_failed a b id within after kept old new failed 
       let its = serves.asked line is text there in
       (item_and its.item [], items_to_come its.next [], ap (items_to_come text) (last_line line one (some line is)) ∙ line_items id text line after serves.told its [], its.are);
 }
+
+-- the reader didn't fail
+pub none_ahead : (end : End) (ahead : List ℕ) → end ≢ ReaderFailed → KeepsNoneAhead end ahead
+none_ahead Ended ahead not = tt
+none_ahead ReaderFailed ahead not = absurd (not refl)
+none_ahead WriterFailed ahead not = tt
 
 -- the reader is at its end
 pub ends_reading : (known : Option (List ℕ)) (failed : Bool) (end : End) → IsAtEnd known → end ≢ ReaderFailed → EndsReading known failed end

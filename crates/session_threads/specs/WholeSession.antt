@@ -32,13 +32,13 @@ abbrev pub HaveEnded : List ℕ → List SessionLine → Option TextSoFar → Ty
 HaveEnded read items text = (more : List ℕ) → items_of (read ++ more) ≡ items ++ items_to_come text (physical_lines more)
 
 -- each item of the input is told, in order, if the session came to its end; where the reader failed, each item that ended before
--- the line that it failed in; and where the writer failed, the first of them
-abbrev pub ToldOf : ℕ → List ℕ → End → List (Option Place) → Type 0
-ToldOf id input Ended told = AreTold id (items_of input) told
-ToldOf id input ReaderFailed told =
-    (read : List ℕ) × (line : List ℕ) × (rest : List ℕ) × (items : List SessionLine) × (text : Option TextSoFar)
-    × (input ≡ read ++ line ++ rest) × (is_one_line line ≡ true) × HaveEnded read items text × AreTold id items told
-ToldOf id input WriterFailed told = FirstAreTold id (items_of input) told
+-- the line that it failed in, and no more was read than up to there and of that line; and where the writer failed, the first of them
+abbrev pub ToldOf : ℕ → List ℕ → Option (List ℕ) → End → List (Option Place) → Type 0
+ToldOf id input left Ended told = AreTold id (items_of input) told
+ToldOf id input left ReaderFailed told =
+    (read : List ℕ) × (line : List ℕ) × (items : List SessionLine) × (text : Option TextSoFar)
+    × Consumes (Some input) left (read ++ line) × (is_one_line line ≡ true) × HaveEnded read items text × AreTold id items told
+ToldOf id input left WriterFailed told = FirstAreTold id (items_of input) told
 
 -- how the devices stand then: the reader is at its end, or has failed
 abbrev pub EndsReading : Option (List ℕ) → Bool → End → Type 0
@@ -46,23 +46,23 @@ EndsReading input failed Ended = IsAtEnd input
 EndsReading input failed ReaderFailed = failed ≡ true
 EndsReading input failed WriterFailed = ⊤
 
--- the items were told those things: the transcript has them, they were written, and they are what the input asked. An item that
--- found no memory is told so, and counted
-pub record WholeSession (id : ℕ) (input : Option (List ℕ)) (wrote : List ℕ → End → Type 0) (old : TranscriptState) (end : End) (new : TranscriptState) : Type 0 where
+-- the items were told those things: the transcript has them, they were written, and they are what the input asked, of which the reader
+-- has so much left. An item that found no memory is told so, and counted
+pub record WholeSession (id : ℕ) (input left : Option (List ℕ)) (wrote : List ℕ → End → Type 0) (old : TranscriptState) (end : End) (new : TranscriptState) : Type 0 where
   pub told : List (Option Place)
   pub noted : new ≡ noted_all old told
   pub written : wrote (told_texts told) end
-  pub asked : IfSome input (λ bytes. ToldOf id bytes end told)
+  pub asked : IfSome input (λ bytes. ToldOf id bytes left end told)
 
 -- a session's transcript, from its begin on
 abbrev pub fresh : ℕ → TranscriptState
 fresh id = record { id = id; items = []; no_memory = 0; end = None }
 
-pub record IsSession (id : ℕ) (input : Option (List ℕ)) (wrote : List ℕ → End → Type 0) (result : TranscriptState) : Type 0 where
+pub record IsSession (id : ℕ) (input left : Option (List ℕ)) (wrote : List ℕ → End → Type 0) (result : TranscriptState) : Type 0 where
   pub how : End
   pub before : TranscriptState
   pub ends : result ≡ record before { end = Some how }
-  pub session : WholeSession id input wrote (fresh id) how before
+  pub session : WholeSession id input left wrote (fresh id) how before
 
 -- private: a line was served, and the session goes on
 pub record GoesOn (id : ℕ) (input ahead : Option (List ℕ)) (within after : Within) (wrote : List ℕ → Type 0) (old new : TranscriptState) : Type 0 where
@@ -73,6 +73,12 @@ pub record GoesOn (id : ℕ) (input ahead : Option (List ℕ)) (within after : W
   pub is_line : is_one_line line ≡ true
   pub read : Consumes input ahead (line ++ 10 ∷ [])
   pub asked : TellsLine id within line after told
+
+-- private: where the reader failed, nothing was read ahead that no line has
+abbrev pub KeepsNoneAhead : End → List ℕ → Type 0
+KeepsNoneAhead Ended ahead = ⊤
+KeepsNoneAhead ReaderFailed ahead = ahead ≡ []
+KeepsNoneAhead WriterFailed ahead = ⊤
 
 -- private: what the items of the last bytes that were read are told
 abbrev pub LastToldOf : ℕ → Option TextSoFar → List ℕ → Option (List ℕ) → End → List (Option Place) → Type 0

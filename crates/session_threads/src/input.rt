@@ -42,6 +42,7 @@ impl Input {
     /// The next byte. None at the source's end.
     pub(crate) fn next_byte<S: Source>(&mut self, source: &mut S) -> Result<Option<u8>, Failed>
         ensures byte { GivesByte (prepend_known self.old (S.remaining source.old)) (prepend_known self.new (S.remaining source.new)) result }
+        ensures ahead { OnErr result (self.new ≡ []) }
         ensures fails { OnErr result (S.has_failed source.new ≡ true) }
     {
         if self.is_empty() {

@@ -4,7 +4,7 @@ ghost use Rattle.std.specs.Io.KnownBytes.{prepend_known};
 ghost use Rattle.line_text.specs.Writing.{Writes};
 ghost use Rattle.session_threads.specs.Outcomes.{IsItem, is_item};
 ghost use Rattle.session_threads.specs.Told.{AnswersCommand, AnswersItem, NotesBy};
-ghost use Rattle.session_threads.specs.WholeSession.{EndsInput, EndsReading, Finishes, IsSession, Serves, ServesLine, TellsItem, Turns, WholeSession, Wrote};
+ghost use Rattle.session_threads.specs.WholeSession.{EndsInput, EndsReading, Finishes, IsSession, KeepsNoneAhead, Serves, ServesLine, TellsItem, Turns, WholeSession, Wrote};
 
 use crate::items::{ItemReader, Outcome};
 use crate::line::Line;
@@ -35,7 +35,7 @@ pub fn run_session<C: Begun, P: Ledger, S: Source, W: Sink, R: Wait + AllocGloba
 ) -> Transcript<C>
     requires of { pass.of ≡ ready.now }
     requires new { lease.made ≡ 0 }
-    ensures session { IsSession lease.id (S.remaining reader.old) (λ text end. Wrote W.contents W.has_failed writer.old writer.new text end) result }
+    ensures session { IsSession lease.id (S.remaining reader.old) (S.remaining reader.new) (λ text end. Wrote W.contents W.has_failed writer.old writer.new text end) result }
     ensures reader { IfSome result.end (λ end. EndsReading (S.remaining reader.new) (S.has_failed reader.new) end) }
 {
     let mut session = Session {
@@ -75,7 +75,7 @@ impl<C: Begun> Session<C> {
     ) -> End
         requires { self.old.pass.of ≡ ready.now }
         ensures of { self.new.pass.of ≡ self.old.pass.of }
-        ensures session { WholeSession self.old.transcript.id (S.remaining reader.old) (λ text end. Wrote W.contents W.has_failed writer.old writer.new text end) self.old.transcript result self.new.transcript }
+        ensures session { WholeSession self.old.transcript.id (S.remaining reader.old) (S.remaining reader.new) (λ text end. Wrote W.contents W.has_failed writer.old writer.new text end) self.old.transcript result self.new.transcript }
         ensures reader { EndsReading (S.remaining reader.new) (S.has_failed reader.new) result }
     {
         let mut lines = LineReader::new(rt.alloc());
@@ -103,6 +103,7 @@ impl<C: Begun> Session<C> {
         requires { self.old.pass.of ≡ ready.now }
         ensures of { self.new.pass.of ≡ self.old.pass.of }
         ensures turn { Turns self.old.transcript.id (prepend_known lines.old.input (S.remaining reader.old)) (prepend_known lines.new.input (S.remaining reader.new)) items.old.within items.new.within (λ text end. Wrote W.contents W.has_failed writer.old writer.new text end) self.old.transcript result self.new.transcript }
+        ensures ahead { IfSome result (λ end. KeepsNoneAhead end lines.new.input) }
         ensures reader { IfSome result (λ end. EndsReading (S.remaining reader.new) (S.has_failed reader.new) end) }
     {
         let Ok(end) = lines.read_line(rt, reader) else {

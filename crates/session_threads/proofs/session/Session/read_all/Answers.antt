@@ -11,7 +11,7 @@ loop-init g c = record {
 
 pub returns-in-Some-turn-clause-session : goal.returns-in-Some-turn-clause-session
 returns-in-Some-turn-clause-session g c =
-    stops g.W.Sink.contents g.W.Sink.has_failed c.args.writer.now c.loop.writer c.turn-turn.new.writer c.args.self.now.transcript.id c.loop.self.transcript.id c.args.self.now.transcript c.loop.self.transcript c.turn-turn.new.self.transcript _ _ _ c.loop.items.within c.in-Some-turn.end refl refl c.loop.invariant.going c.in-Some-turn.ensures.turn
+    stops g.W.Sink.contents g.W.Sink.has_failed c.args.writer.now c.loop.writer c.turn-turn.new.writer c.args.self.now.transcript.id c.loop.self.transcript.id c.args.self.now.transcript c.loop.self.transcript c.turn-turn.new.self.transcript _ _ _ c.loop.items.within c.in-Some-turn.end c.turn-turn.new.lines.input (g.S.Source.remaining c.turn-turn.new.reader) refl refl c.loop.invariant.going c.in-Some-turn.ensures.turn refl c.in-Some-turn.ensures.ahead
 
 pub loop-preserved : goal.loop-preserved
 loop-preserved g c = record {
