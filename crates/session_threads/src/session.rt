@@ -58,7 +58,7 @@ pub fn run_session<C: Begun, P: Ledger, S: Source, W: Sink, R: Wait + AllocGloba
 #[derive(Drop)]
 struct Session<C: Begun> {
     pass: Pass,
-    /// A slot number that came back from the queue. It is pushed again before each further item, and in each turn of a `wait`.
+    /// A slot number that came back from the queue, or that the workers gave up. It is pushed again before each further item.
     kept: Option<u32>,
     transcript: Transcript<C>,
 }
@@ -247,8 +247,11 @@ impl<C: Begun> Session<C> {
             SessionLine::Refused(refusal) => self.transcript.refuse(refusal),
             SessionLine::Command(command) => self.ask(rt, shared, ready, command),
             SessionLine::Wait => {
-                self.wait(rt, shared, ready);
-                self.ask(rt, shared, ready, Command::Status)
+                if self.wait(rt, shared, ready) {
+                    return self.ask(rt, shared, ready, Command::Status);
+                }
+                self.transcript.count_no_memory();
+                false
             }
         }
     }
@@ -306,20 +309,30 @@ impl<C: Begun> Session<C> {
         }
     }
 
-    /// Waits until no job of the tenancy runs, its journal is full, or it isn't live.
-    fn wait<P: Ledger, R: Wait>(&mut self, rt: &R, shared: &Shared<C, P>, ready: &Ready)
+    /// Waits until no job of the tenancy runs, its journal is full, or it isn't live, and tells whether it came to that. It doesn't where
+    /// memory lacks: for the number in the queue, or for the job's next step, so that the workers gave the number up. The number is kept
+    /// then.
+    fn wait<P: Ledger, R: Wait>(&mut self, rt: &R, shared: &Shared<C, P>, ready: &Ready) -> bool
         requires { self.old.pass.of ≡ ready.now }
         ensures of { self.new.pass.of ≡ self.old.pass.of }
         ensures transcript { self.new.transcript ≡ self.old.transcript }
     {
+        self.push_ready(rt, shared, ready);
+        let id = self.transcript.id();
         for _ in rt.forever() {
-            self.push_kept(rt, ready);
-            let core = shared.core.lock(rt);
-            if core.idle(self.transcript.id()) {
-                return;
+            let mut core = shared.core.lock(rt);
+            if core.idle(id) {
+                return true;
+            }
+            if self.kept.is_none() {
+                self.kept = core.mark_ready(id);
+            }
+            if self.kept.is_some() {
+                return false;
             }
             drop(shared.changed.wait(rt, core));
         }
+        unreachable!()
     }
 }
 
