@@ -1,19 +1,21 @@
 // To be loaded before a program's libraries. Refuses one kind of call, REFUSE=allocation, thread, read or write: the one of number NUMBER,
-// from 1, and with LASTING=1 each later one too. At the end it writes to the file COUNTED, if that is given, how many there were.
+// from 1, and with LASTING=1 each later one too. The file COUNTED, if there is one, has to be of eight bytes, and holds how many there were.
 #define _GNU_SOURCE
 #include <dlfcn.h>
 #include <errno.h>
+#include <fcntl.h>
 #include <pthread.h>
 #include <stdatomic.h>
 #include <stdio.h>
 #include <stdlib.h>
 #include <string.h>
+#include <sys/mman.h>
 #include <unistd.h>
 
 enum kind { ALLOCATION, THREAD, READ, WRITE, NONE };
 static const char *const names[] = {"allocation", "thread", "read", "write"};
 static enum kind refused = NONE;
-static atomic_long count;
+static atomic_long own_count, *count = &own_count;
 static long number;
 static int lasting;
 
@@ -21,23 +23,18 @@ __attribute__((constructor)) static void begin(void) {
     const char *name = getenv("REFUSE"), *which = getenv("NUMBER"), *always = getenv("LASTING");
     number = which ? atol(which) : 0;
     lasting = always && *always == '1';
+    const char *counted = getenv("COUNTED");
+    int file = counted ? open(counted, O_RDWR) : -1;
+    void *kept = file < 0 ? MAP_FAILED : mmap(NULL, sizeof *count, PROT_READ | PROT_WRITE, MAP_SHARED, file, 0);
+    if (file >= 0) close(file);
+    if (kept != MAP_FAILED) count = kept;
     for (enum kind it = ALLOCATION; name && it < NONE; it++)
         if (strcmp(name, names[it]) == 0) refused = it;
 }
 
-__attribute__((destructor)) static void end(void) {
-    const char *name = getenv("COUNTED");
-    long counted = count;
-    refused = NONE;
-    FILE *file = name ? fopen(name, "w") : NULL;
-    if (!file) return;
-    fprintf(file, "%ld\n", counted);
-    fclose(file);
-}
-
 static int is_refused(enum kind kind) {
     if (kind != refused) return 0;
-    long it = ++count;
+    long it = ++*count;
     return lasting ? it >= number && number > 0 : it == number;
 }
 
