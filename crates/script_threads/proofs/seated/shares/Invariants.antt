@@ -5,5 +5,5 @@ use Rattle.script_threads.proofs.seated.shares.Given as goal
 abbrev pub invariant-loop-worker : goal.invariant-loop-worker
 invariant-loop-worker g l = record {
   service : l.core.service ≡ l.fn.core.service;
-  given : l.core.shares ≡ l._worker-index;
+  given : l.core.shares ≡ l._worker;
 }
