@@ -16,7 +16,7 @@ own_step slot step (Some from) is =
 
 -- it is the slot's own, and there is room for its entry
 taken_so : (old : SlotState) (job : JobState) (new : SlotState) → Takes old (Some job) new → (job.step.id ≡ old.id) × (old.state.entries < 65536) × (new.id ≡ old.id) × (new.state.entries ≡ old.state.entries)
-taken_so old job new takes = (own_step old job.step (running_sources old.state) takes.1, grind (arith, nat_tests, takes.0), ap (λ (s : SlotState). s.id) takes.2, ap (λ (s : SlotState). s.state.entries) takes.3)
+taken_so old job new takes = (own_step old job.step (running_sources old.state) takes.1, grind (arith, nat_tests, takes.0), ap (λ (s : SlotState). s.id) takes.3, ap (λ (s : SlotState). s.state.entries) takes.3)
 
 -- so it is once the job is out
 pub out_so : (old : SlotState) (job : JobState) (new : SlotState) → Takes old (Some job) new → (job.step.id ≡ new.id) × (new.state.entries < 65536)
