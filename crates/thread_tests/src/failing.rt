@@ -276,7 +276,7 @@ fn reads_end_so<C: Begun, P: Ledger, R: Wait + AllocGlobal>(
 {
     let mut core = core;
     let mut are_so = true;
-    for start in (0..command_ends()[2] + STRIDE).step_by(STRIDE) {
+    for start in (0..command_ends()[2].saturating_add(STRIDE)).step_by(STRIDE) {
         let (back, is_so) = ends_so(rt, core, Failing::Read((start / STRIDE) as u64 + 1));
         core = back;
         are_so &= is_so;
