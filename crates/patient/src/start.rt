@@ -11,7 +11,9 @@ use strips::DeviceGraph;
 
 /// The device's columns, its rows and the tracks of each channel.
 const COLUMNS: u32 = 1;
+
 const ROWS: u32 = 1;
+
 const TRACKS: u32 = 2;
 
 /// The device of that architecture, and a service on it.
