@@ -1,0 +1,49 @@
+//! The program: serves the script on standard input by the calls that the service's program makes, and makes each line and each step
+//! again for which memory lacked. So it writes the same whichever allocation is refused.
+//!
+//! The device has one column, one row and two tracks. Of the operator's lines `admit`, `evict`, `owners`, `step`, `take` and `put` are
+//! served. Where anything else is in the way, nothing is written and the status is 1.
+#![tactic(auto)]
+
+mod again;
+mod held;
+mod patient;
+mod section;
+mod start;
+
+use crate::patient::told_by;
+use line_text::{Source, StdSink, StdSource, write_all};
+use std::io;
+use std::process::ExitCode;
+
+/// The most bytes of a script.
+const MOST: usize = 4096;
+
+fn main(rt: HostRuntime) -> ExitCode {
+    let mut room = [0u8; MOST];
+    let Some(length) = read_script(&mut StdSource::new(rt.reader()), &mut room) else {
+        return ExitCode::from(1);
+    };
+    let Some(told) = told_by(rt.alloc(), &room[..length]) else {
+        return ExitCode::from(1);
+    };
+    let written = write_all(&mut StdSink::new(io::writer(&rt)), told.as_slice());
+    drop(told);
+    match written {
+        Ok(()) => ExitCode::SUCCESS,
+        Err(_) => ExitCode::from(1),
+    }
+}
+
+/// Reads a script into the room, and tells its length, if it is shorter than the room.
+fn read_script<S: Source>(source: &mut S, room: &mut [u8; MOST]) -> Option<usize> {
+    let mut length = 0;
+    while length < MOST {
+        let count = source.read(&mut room[length..]).ok()?;
+        if count == 0 {
+            return Some(length);
+        }
+        length += count;
+    }
+    None
+}

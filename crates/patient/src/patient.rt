@@ -1,0 +1,174 @@
+//! A script that is served until memory suffices for each of its lines.
+ghost use Rattle.std.specs.Prelude.{◌<◌, ◌^◌, length};
+
+use crate::again::{TIMES, same_line};
+use crate::held::{Held, give_back, put, take};
+use crate::section::{Section, Sections};
+use crate::start::{Start, make_start, script_of};
+use itoa::Buffer;
+use line_text::{MemorySink, write_parts};
+use operator::{HeldJobs, Operator};
+use script_text::{Act, OperatorLine, Script, cut_text};
+use service_core::{NotServed, Service};
+use sessions::{Answer, SessionLine, answer};
+use std::alloc::Global;
+use std::mem::replace;
+use strips::DeviceGraph;
+
+/// What the script's sections hold in the end, if each of its lines was served at last.
+pub(crate) fn told_by(alloc: Global, script: &[u8]) -> Option<Vec<u8>>
+    requires { length script.now < 2 ^ 32 }
+{
+    let cut = cut_text(script, 1)?;
+    let Start { graph, core } = make_start(alloc, cut.ahead)?;
+    let script = script_of(alloc, cut.rest, cut.number)?;
+    let mut sections = Sections::new(alloc)?;
+    let mut patient = Patient {
+        alloc,
+        graph: &graph,
+        core,
+        operator: Operator::new(alloc),
+    };
+    let mut held = None;
+    let is_served = patient.serve_all(script, &mut held, &mut sections);
+    give_back(&mut patient.core, held);
+    match is_served {
+        Some(()) => sections.whole(),
+        None => None,
+    }
+}
+
+/// A service that is asked again.
+#[derive(Drop)]
+struct Patient<'t, 'g> {
+    alloc: Global,
+    graph: &'g DeviceGraph,
+    core: Service,
+    operator: Operator<'t>,
+}
+
+impl<'t> Patient<'t, '_> {
+    /// Serves the lines of a script.
+    fn serve_all(
+        &mut self,
+        script: Script<'t>,
+        held: &mut Option<Held>,
+        sections: &mut Sections<'t>,
+    ) -> Option<()> {
+        for act in script.into_acts() {
+            match act {
+                Act::Operator(line) => self.operate(line, held, sections)?,
+                Act::Session(name, line) => self.answer(name, line, sections)?,
+            }
+        }
+        Some(())
+    }
+
+    /// Answers a line of that name's session.
+    fn answer(
+        &mut self,
+        name: &'t [u8],
+        line: SessionLine,
+        sections: &mut Sections<'t>,
+    ) -> Option<()> {
+        let id = self.operator.last_id(name);
+        let section = sections.of(name)?;
+        for _ in 0..TIMES {
+            let start = section.bytes.len();
+            let Ok(same) = same_line(&line) else {
+                continue;
+            };
+            let (answer, written) = answer(&mut self.core, self.graph, id, same, section);
+            let lacks_memory = matches!(&answer, Answer::Served(Err(NotServed::NoMemory)));
+            drop(answer);
+            if !lacks_memory {
+                return written.ok();
+            }
+            section.bytes.truncate(start);
+        }
+        None
+    }
+
+    /// Does what a line of the operator asks.
+    fn operate(
+        &mut self,
+        line: OperatorLine<&'t [u8]>,
+        held: &mut Option<Held>,
+        sections: &mut Sections<'t>,
+    ) -> Option<()> {
+        let section = sections.of(b"op")?;
+        match line {
+            OperatorLine::Step(name, count) => {
+                let id = self.operator.last_id(name);
+                for _ in 0..count {
+                    let word = match take(&mut self.core, id) {
+                        Some(it) => put(&mut self.core, self.graph, it)?,
+                        None => b"none",
+                    };
+                    write_parts(section, &[word, b"\n"]).ok()?;
+                }
+                Some(())
+            }
+            OperatorLine::Take(name) => {
+                let taken = take(&mut self.core, self.operator.last_id(name));
+                give_back(&mut self.core, replace(held, taken));
+                write_parts(section, &[b"ok job 1\n"]).ok()
+            }
+            OperatorLine::Put(_) => {
+                let word = put(&mut self.core, self.graph, held.take()?)?;
+                write_parts(section, &[word, b"\n"]).ok()
+            }
+            OperatorLine::Evict(name) => {
+                self.core.evict(self.operator.last_id(name)).ok()?;
+                write_parts(section, &[b"ok\n"]).ok()
+            }
+            OperatorLine::Admit(name, width) => self.admit(name, width, section),
+            OperatorLine::Owners => self.tell_owners(section),
+            OperatorLine::Move(..) | OperatorLine::List => None,
+        }
+    }
+
+    /// Admits a tenancy, and tells its id and its offset.
+    fn admit(&mut self, name: &'t [u8], width: u32, section: &mut Section<'t>) -> Option<()> {
+        for _ in 0..TIMES {
+            drop(self.ask(OperatorLine::Admit(name, width)));
+            let id = self.operator.last_id(name);
+            if let Some(offset) = self.core.offset(id) {
+                let (mut ids, mut offsets) = (Buffer::new(), Buffer::new());
+                let id = ids.format(id).as_bytes();
+                let offset = offsets.format(offset).as_bytes();
+                return write_parts(section, &[b"ok ", id, b" ", offset, b"\n"]).ok();
+            }
+        }
+        None
+    }
+
+    /// Tells who owns what.
+    fn tell_owners(&mut self, section: &mut Section<'t>) -> Option<()> {
+        for _ in 0..TIMES {
+            if let Some(reply) = self.ask(OperatorLine::Owners) {
+                let written = write_parts(section, &[reply.as_bytes()]);
+                drop(reply);
+                return written.ok();
+            }
+        }
+        None
+    }
+
+    /// What the operator is answered, unless memory lacks.
+    fn ask(&mut self, line: OperatorLine<&'t [u8]>) -> Option<MemorySink> {
+        if !self.operator.is_of(&self.core) {
+            return None;
+        }
+        let mut reply = MemorySink::new(self.alloc);
+        let mut jobs = HeldJobs::new(self.alloc);
+        let answered = self
+            .operator
+            .serve(&mut self.core, self.graph, &mut jobs, line, &mut reply);
+        jobs.give_back(&mut self.core);
+        match answered {
+            Ok(()) => Some(reply),
+            Err(_) => None,
+        }
+    }
+}
