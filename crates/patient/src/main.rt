@@ -5,6 +5,8 @@
 //! served. Where anything else is in the way, nothing is written and the status is 1.
 #![tactic(auto)]
 
+ghost use Rattle.std.specs.Prelude.{◌<◌, IfSome};
+
 mod again;
 mod held;
 mod patient;
@@ -36,9 +38,14 @@ fn main(rt: HostRuntime) -> ExitCode {
 }
 
 /// Reads a script into the room, and tells its length, if it is shorter than the room.
-fn read_script<S: Source>(source: &mut S, room: &mut [u8; MOST]) -> Option<usize> {
+fn read_script<S: Source>(source: &mut S, room: &mut [u8; MOST]) -> Option<usize>
+    ensures { IfSome result (λ count. count < 4096) }
+{
     let mut length = 0;
-    while length < MOST {
+    for _ in 0..MOST {
+        if length >= MOST {
+            return None;
+        }
         let count = source.read(&mut room[length..]).ok()?;
         if count == 0 {
             return Some(length);
