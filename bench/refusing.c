@@ -1,5 +1,5 @@
 // To be loaded before a program's libraries. Refuses one kind of call, REFUSE=allocation, thread, read or write: the one of number NUMBER,
-// from 1, and with LASTING=1 each later one too. The file COUNTED, if there is one, has to be of eight bytes, and holds how many there were.
+// from 1, and with LASTING=1 each later one too. With SHORT=1 each read and each write is of one byte. The file COUNTED, if there is one, has to be of eight bytes, and holds how many there were.
 #define _GNU_SOURCE
 #include <dlfcn.h>
 #include <errno.h>
@@ -17,10 +17,11 @@ static const char *const names[] = {"allocation", "thread", "read", "write"};
 static enum kind refused = NONE;
 static atomic_long own_count, *count = &own_count;
 static long number;
-static int lasting;
+static int lasting, is_short;
 
 __attribute__((constructor)) static void begin(void) {
-    const char *name = getenv("REFUSE"), *which = getenv("NUMBER"), *always = getenv("LASTING");
+    const char *name = getenv("REFUSE"), *which = getenv("NUMBER"), *always = getenv("LASTING"), *bytewise = getenv("SHORT");
+    is_short = bytewise && *bytewise == '1';
     number = which ? atol(which) : 0;
     lasting = always && *always == '1';
     const char *counted = getenv("COUNTED");
@@ -61,14 +62,14 @@ int pthread_create(pthread_t *thread, const pthread_attr_t *with, void *(*run)(v
 
 ssize_t read(int from, void *into, size_t size) {
     NEXT(read);
-    if (!is_refused(READ)) return next(from, into, size);
+    if (!is_refused(READ)) return next(from, into, is_short && size > 1 ? 1 : size);
     errno = EIO;
     return -1;
 }
 
 ssize_t write(int into, const void *from, size_t size) {
     NEXT(write);
-    if (!is_refused(WRITE)) return next(into, from, size);
+    if (!is_refused(WRITE)) return next(into, from, is_short && size > 1 ? 1 : size);
     errno = EIO;
     return -1;
 }

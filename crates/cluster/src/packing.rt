@@ -119,7 +119,8 @@ impl Packing {
             Err(_) => return Err(self),
             Ok(()) => {}
         }
-        if self.grower.has_free() {
+        let more = self.grower.has_free();
+        if more {
             self.made += 1;
             return Ok(PackEnd::More(self));
         }

@@ -1,4 +1,5 @@
 mod AheadLemmas
+mod ApartLemmas
 mod Examples
 mod InputLemmas
 mod LineLemmas

@@ -1,5 +1,5 @@
 -- What a script says as threads run it: the operator's lines, and what each name's session says.
-use Rattle.std.specs.Prelude.{ℕ, ◌≡◌, ◌+◌, List, [], ◌∷◌, ◌++◌, length, map, Bool, true, false, ◌==◌, Option, Some, None, Result, Ok, Err, ⊤, if◌then◌else◌}
+use Rattle.std.specs.Prelude.{ℕ, ◌≡◌, ◌≢◌, ◌+◌, List, [], ◌∷◌, ◌++◌, length, map, AllPairs, Bool, true, false, ◌==◌, Option, Some, None, Result, Ok, Err, ⊤, if◌then◌else◌}
 use Rattle.std.specs.List.{after_first}
 use Rattle.std.specs.Str.{bytes_eq}
 use Rattle.line_text.specs.Lines.{physical_lines}
@@ -20,6 +20,10 @@ use Rattle.script_text.specs.Script.{form_of, named_operator, without_blanks}
 pub record Said : Type 0 where
   pub name : List ℕ
   pub input : List ℕ
+
+-- no two sessions are of one name
+abbrev pub AreApart : List Said → Type 0
+AreApart said = AllPairs (λ a b. a.name ≢ b.name) said
 
 -- the operator's lines before the first session's line, what each name's session says, in the order of their first lines, and the
 -- operator's other lines

@@ -1,6 +1,6 @@
 //! A script as threads run it.
-ghost use Rattle.std.specs.Prelude.{◌≡◌, ◌+◌, ◌<◌, ◌^◌, length, OnOk};
-ghost use Rattle.script_text.specs.Threaded.{GivesThreaded, is_by_hand, nothing_said, parts_of, threaded_of};
+ghost use Rattle.std.specs.Prelude.{◌≡◌, ◌+◌, ◌<◌, ◌^◌, length, map, IfOk, OnOk};
+ghost use Rattle.script_text.specs.Threaded.{AreApart, GivesThreaded, is_by_hand, nothing_said, parts_of, said_by, threaded_of};
 ghost use Rattle.script_text.specs.Script.{named_operator};
 
 use crate::act::Act;
@@ -31,7 +31,8 @@ pub fn read_threaded<'t>(
     number: usize,
 ) -> Result<ThreadedScript<'t>, ScriptError>
     requires { number + length text.now < 2 ^ 64 }
-    ensures { GivesThreaded (threaded_of number text.now) result }
+    ensures gives { GivesThreaded (threaded_of number text.now) result }
+    ensures apart { IfOk result (λ script. AreApart (map said_by script.sessions.items)) }
 {
     let mut reader = ThreadedReader::new(alloc);
     let mut rest = text;

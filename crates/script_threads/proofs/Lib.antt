@@ -3,5 +3,6 @@ mod FinishLemmas
 mod LineLemmas
 mod OneOfList
 mod PartLemmas
+mod SeatLemmas
 mod ServeLemmas
 mod SettledLemmas

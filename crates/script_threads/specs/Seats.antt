@@ -1,6 +1,7 @@
 -- Private: sessions that are seated.
-use Rattle.std.specs.Prelude.{ℕ, ◌≡◌, Option, Some, None, true, ⊤}
-use Rattle.shared_core.specs.CoreState.{LeaseState}
+use Rattle.std.specs.Prelude.{ℕ, ◌≡◌, ◌⊎◌, List, [], ◌∷◌, Option, Some, None, true, false, ⊤, ⊥}
+use Rattle.operator.specs.OperatorText.{last_id}
+use Rattle.shared_core.specs.CoreState.{LeaseState, Marked, is_leased}
 use Rattle.script_text.specs.Threaded.{Said}
 use Rattle.script_threads.specs.Sessions.{Asked}
 
@@ -12,3 +13,16 @@ HasLease id (Some lease) = (lease.id ≡ id) × (lease.made ≡ 0)
 -- a session of that id
 abbrev pub asked_by : Said → ℕ → Asked
 asked_by said id = record { name = said.name; input = said.input; id = id; live = true }
+
+-- no lease was given
+abbrev pub AreFree : List Marked → Type 0
+AreFree marks = (id : ℕ) → is_leased marks id ≡ false
+
+-- no lease more is given than that tenancy's
+abbrev pub GivesOneLease : List Marked → ℕ → List Marked → Type 0
+GivesOneLease old id new = (other : ℕ) → is_leased new other ≡ true → (is_leased old other ≡ true) ⊎ (other ≡ id)
+
+-- it is the last tenancy of one of the sessions' names
+abbrev pub HasSeat : List (List ℕ) → List Said → ℕ → Type 0
+HasSeat names [] id = ⊥
+HasSeat names (s ∷ said) id = (id ≡ last_id names s.name) ⊎ HasSeat names said id

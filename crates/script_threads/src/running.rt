@@ -1,6 +1,7 @@
 //! The sessions of a script, run on threads beside the workers.
 ghost use Rattle.std.specs.Prelude.{◌≡◌, ◌≤◌, List, ℕ, true, map, All, IfOk};
-ghost use Rattle.script_text.specs.Threaded.{Said, said_by};
+ghost use Rattle.script_text.specs.Threaded.{AreApart, Said, said_by};
+ghost use Rattle.script_threads.specs.Seats.{AreFree};
 ghost use Rattle.script_threads.specs.Served.{Ran, section_told};
 ghost use Rattle.script_threads.specs.Sessions.{asked_of};
 
@@ -13,7 +14,7 @@ use operator::Operator;
 use script_text::SessionInput;
 use service_core::Service;
 use shared_core::{Begun, Core, Share};
-use std::alloc::{AllocGlobal, Global};
+use std::alloc::{AllocError, AllocGlobal, Global};
 use std::sync::Wait;
 use std::sync::ledger::Ledger;
 use std::thread::Threads;
@@ -36,6 +37,8 @@ pub(crate) fn run_sessions<
 ) -> Result<(Service, Vec<Section<'t>>), Unserved>
     requires workers { workers ≤ 16 }
     requires shares { core.shares ≡ 0 }
+    requires free { AreFree core.marks }
+    requires apart { AreApart (map said_by sessions.items) }
     requires begun { C.begun ≡ core.service }
     requires stay { C.stay ≡ true }
     ensures ok { IfOk result (λ r. Ran operator.now core.service (map said_by sessions.entry.items) (map section_told r.1.items) r.0) }
@@ -43,9 +46,9 @@ pub(crate) fn run_sessions<
     let mut core = core;
     match prepare(rt.alloc(), workers, &mut core, operator, sessions) {
         Ok(prepared) => run_prepared(rt, graph, core, prepared),
-        Err(unserved) => {
+        Err(error) => {
             drop(core);
-            Err(unserved)
+            Err(Unserved::from(error))
         }
     }
 }
@@ -65,9 +68,11 @@ fn prepare<'t, C: Begun, P: Ledger>(
     core: &mut Core<C, P>,
     operator: &Operator<'t>,
     sessions: Vec<SessionInput<'t>>,
-) -> Result<Prepared<'t, C, P>, Unserved>
+) -> Result<Prepared<'t, C, P>, AllocError>
     requires workers { workers ≤ 16 }
     requires shares { core.old.shares ≡ 0 }
+    requires free { AreFree core.old.marks }
+    requires apart { AreApart (map said_by sessions.items) }
     ensures seats { IfOk result (λ p. All (λ s. s.of ≡ p.ready) p.workers.0.items) }
     ensures passes { IfOk result (λ p. All (λ s. s.of ≡ p.ready) p.sessions.0.items) }
     ensures seated { IfOk result (λ p. p.sessions.1.items ≡ map (asked_of operator.now core.old.service.histories) (map said_by sessions.entry.items)) }

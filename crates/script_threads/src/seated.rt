@@ -1,12 +1,13 @@
 //! Sessions, each with its tenancy's lease where that is live.
-ghost use Rattle.std.specs.Prelude.{◌≡◌, ◌≤◌, map, IfOk};
-ghost use Rattle.script_text.specs.Threaded.{said_by};
+ghost use Rattle.std.specs.Prelude.{◌≡◌, ◌≤◌, false, map, IfOk};
+ghost use Rattle.operator.specs.OperatorText.{last_id};
+ghost use Rattle.script_text.specs.Threaded.{AreApart, said_by};
+ghost use Rattle.shared_core.specs.CoreState.{is_leased};
+ghost use Rattle.script_threads.specs.Seats.{AreFree, GivesOneLease};
 ghost use Rattle.script_threads.specs.Sessions.{asked_of};
 
-use crate::answered::Unserved;
 use operator::Operator;
 use script_text::SessionInput;
-use settling::Cause;
 use shared_core::{Begun, Core, Lease, Share};
 use std::alloc::{AllocError, Global};
 use std::marker::Model;
@@ -32,51 +33,40 @@ impl<'t, C: Begun> Model for Seated<'t, C> {
     ghost invariant = { λ s. HasLease s.id s.lease };
 }
 
-/// Seats each name's session.
+/// Seats each name's session, where no lease was given before.
 pub(crate) fn seat_all<'t, C: Begun, P: Ledger>(
     alloc: Global,
     operator: &Operator<'t>,
     core: &mut Core<C, P>,
     sessions: Vec<SessionInput<'t>>,
-) -> Result<Vec<Seated<'t, C>>, Unserved>
+) -> Result<Vec<Seated<'t, C>>, AllocError>
+    requires apart { AreApart (map said_by sessions.items) }
+    requires free { AreFree core.old.marks }
     ensures service { core.new.service ≡ core.old.service }
     ensures seats { IfOk result (λ seats. seats.items ≡ map (asked_of operator.now core.old.service.histories) (map said_by sessions.entry.items)) }
 {
     let mut seats = Vec::new(alloc);
     for said in sessions {
-        let seated = seat(operator, core, said)?;
-        if seats.push(seated).is_err() {
-            return Err(Unserved::NoMemory);
-        }
+        let seated = seat(operator, core, said);
+        seats.push(seated)?;
     }
     Ok(seats)
 }
 
-/// Seats a name's session.
+/// Seats a name's session, whose tenancy's lease wasn't given before.
 fn seat<'t, C: Begun, P: Ledger>(
     operator: &Operator<'t>,
     core: &mut Core<C, P>,
     said: SessionInput<'t>,
-) -> Result<Seated<'t, C>, Unserved>
+) -> Seated<'t, C>
+    requires free { is_leased core.old.marks (last_id operator.now said.name.now) ≡ false }
     ensures service { core.new.service ≡ core.old.service }
-    ensures seat { IfOk result (λ seat. seat ≡ asked_of operator.now core.old.service.histories (said_by said.entry)) }
+    ensures seat { result ≡ asked_of operator.now core.old.service.histories (said_by said.entry) }
+    ensures leased { GivesOneLease core.old.marks (last_id operator.now said.entry.name.now) core.new.marks }
 {
     let id = operator.last_id(said.name);
-    if core.state(id).is_none() {
-        return Ok(Seated {
-            said,
-            id,
-            lease: None,
-        });
-    }
-    match core.lease(id) {
-        Some(lease) => Ok(Seated {
-            said,
-            id,
-            lease: Some(lease),
-        }),
-        None => Err(Unserved::NotSettled(Cause::Missing)),
-    }
+    let lease = core.lease(id);
+    Seated { said, id, lease }
 }
 
 /// A share for each worker, of the 16 that there are.
@@ -88,6 +78,7 @@ pub(crate) fn shares<C: Begun, P: Ledger>(
     requires workers { workers ≤ 16 }
     requires none { core.old.shares ≡ 0 }
     ensures service { core.new.service ≡ core.old.service }
+    ensures marks { core.new.marks ≡ core.old.marks }
 {
     let mut shares = Vec::new(alloc);
     for _worker in 0..workers {

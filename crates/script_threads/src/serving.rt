@@ -3,7 +3,7 @@ ghost use Rattle.std.specs.Prelude.{◌≡◌, ◌≤◌, [], true, length, map,
 ghost use Rattle.arch_file.specs.Arch.{IsArch};
 ghost use Rattle.operator.specs.Held.{held};
 ghost use Rattle.script_text.specs.Script.{named_operator};
-ghost use Rattle.script_text.specs.Threaded.{parts_of, said_by};
+ghost use Rattle.script_text.specs.Threaded.{AreApart, parts_of, said_by};
 ghost use Rattle.sessions.specs.Fitting.{own_graph};
 ghost use Rattle.script_threads.specs.Served.{Ends, IsServedFrom, IsServedOnThreads, RunsOn, section_told};
 
@@ -23,7 +23,7 @@ use std::sync::ledger::{Blank, Ledger};
 use std::thread::Threads;
 use strips::DeviceGraph;
 
-/// Serves a script with so many workers, at most 16, from an empty device.
+/// Serves a script of sessions of different names with so many workers, at most 16, from an empty device.
 pub fn serve_on_threads<'t, R: Threads + Wait + AllocGlobal + Sync>(
     rt: &R,
     workers: u32,
@@ -31,6 +31,7 @@ pub fn serve_on_threads<'t, R: Threads + Wait + AllocGlobal + Sync>(
     script: ThreadedScript<'t>,
 ) -> Result<Answered<'t>, Unserved>
     requires workers { workers ≤ 16 }
+    requires apart { AreApart (map said_by script.sessions.items) }
     requires arch { IsArch device.arch }
     requires has_columns { 1 ≤ device.columns }
     requires columns { device.columns ≤ 256 }
@@ -61,6 +62,7 @@ fn serve_over<'t, R: Threads + Wait + AllocGlobal + Sync>(
     script: ThreadedScript<'t>,
 ) -> Result<Answered<'t>, Unserved>
     requires workers { workers ≤ 16 }
+    requires apart { AreApart (map said_by script.sessions.items) }
     requires arch { IsArch device.arch }
     requires has_columns { 1 ≤ device.columns }
     requires columns { device.columns ≤ 256 }
@@ -87,6 +89,7 @@ fn serve_script<'t, R: Threads + Wait + AllocGlobal + Sync>(
     script: ThreadedScript<'t>,
 ) -> Result<Answered<'t>, Unserved>
     requires workers { workers ≤ 16 }
+    requires apart { AreApart (map said_by script.sessions.items) }
     requires unused { service.histories ≡ [] }
     ensures ok { IfOk result (λ answered. IsServedFrom graph.now service (parts_of script.entry) (map section_told answered.sections.items) answered.operator.items) }
 {
@@ -126,6 +129,7 @@ fn serve_parts<'t, R: Threads + Wait + AllocGlobal + Sync>(
     reply: &mut MemorySink,
 ) -> Result<Vec<Section<'t>>, Unserved>
     requires workers { workers ≤ 16 }
+    requires apart { AreApart (map said_by script.sessions.items) }
     requires unused { service.histories ≡ [] }
     requires names { operator.old ≡ [] }
     requires reply { held reply.old ≡ [] }
@@ -173,6 +177,7 @@ fn serve_sessions<
     reply: &mut MemorySink,
 ) -> Result<Vec<Section<'t>>, Unserved>
     requires workers { workers ≤ 16 }
+    requires apart { AreApart (map said_by sessions.items) }
     requires commands { (commands.name ≡ C.name) × (commands.parts ≡ C.parts) × (commands.parts ≡ 65536) }
     requires puts { (puts.name ≡ P.name) × (puts.parts ≡ P.parts) × (puts.parts ≡ 17) }
     requires begun { C.begun ≡ service }

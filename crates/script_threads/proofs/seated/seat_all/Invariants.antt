@@ -1,12 +1,15 @@
-use Rattle.std.proofs.Common.{◌≡◌}
+use Rattle.std.proofs.Common.{◌≡◌, ℕ, true}
 use Rattle.std.specs.Prelude.{map}
 use Rattle.script_text.specs.Threaded.{said_by}
+use Rattle.shared_core.specs.CoreState.{is_leased}
+use Rattle.script_threads.specs.Seats.{HasSeat}
 use Rattle.script_threads.specs.Sessions.{asked_of}
 use Rattle.script_threads.proofs.seated.seat_all.Given as goal
 
--- the sessions so far are seated
+-- the sessions so far are seated, and no lease is another's
 abbrev pub invariant-loop-said : goal.invariant-loop-said
 invariant-loop-said g l = record {
   service : l.core.service ≡ l.fn.core.service;
   seats : l.seats.items ≡ map (asked_of l.operator l.fn.core.service.histories) (map said_by l.yielded);
+  leased : (id : ℕ) → is_leased l.core.marks id ≡ true → HasSeat l.operator (map said_by l.yielded) id;
 }

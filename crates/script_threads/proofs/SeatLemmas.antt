@@ -1,0 +1,96 @@
+-- Sessions of different names are seated each with a lease of its own.
+use Rattle.std.proofs.Common.{◌≡◌, ◌≢◌, ◌⊎◌, inl, inr, ⊥, ℕ, ◌+◌, ◌<◌, ◌≤◌, List, [], ◌∷◌, ◌++◌, Bool, true, false, zero, suc, length, map, get_or, eqb, Option, Some, None, refl, sym, ap, ◌∙◌, subst, arith, replicate}
+use Rattle.std.specs.Prelude.{AllPairs, option_map, if◌then◌else◌}
+use Rattle.std.specs.Str.{bytes_eq}
+use Rattle.std.proofs.lemmas.Bool.Decides.{nat_tests, Decides-eqb}
+use Rattle.std.proofs.lemmas.Slice.Eq.{bytes_eq-Decides}
+use Rattle.operator.specs.OperatorText.{last_id}
+use Rattle.script_text.specs.Threaded.{AreApart, Said}
+use Rattle.shared_core.specs.CoreState.{Marked, given, given_in, is_leased, marked_of, remarked, unmarked}
+use Rattle.shared_core.proofs.Marks.{marked_of-remarked, marked_of-zero}
+use Rattle.script_threads.specs.Seats.{AreFree, GivesOneLease, HasSeat}
+
+last_id-most : (names : List (List ℕ)) (a : List ℕ) → last_id names a ≤ length names
+last_id-most [] a = omega arith
+last_id-most (newest ∷ older) a = by_test (bytes_eq newest a) (last_id-most older a)
+  where
+    by_test : (b : Bool) → last_id older a ≤ length older → (if b then length older + 1 else last_id older a) ≤ length (newest ∷ older)
+    by_test true most = omega arith
+    by_test false most = omega arith
+
+-- two names with one last id are one
+last_id-same : (names : List (List ℕ)) (a b : List ℕ) → 1 ≤ last_id names a → last_id names a ≡ last_id names b → a ≡ b
+last_id-same [] a b least same = absurd (omega arith)
+last_id-same (newest ∷ older) a b least same = by_tests (bytes_eq newest a) (bytes_eq newest b) refl refl least same (last_id-same older a b)
+  where
+    by_tests : (x y : Bool) → bytes_eq newest a ≡ x → bytes_eq newest b ≡ y → 1 ≤ (if x then length older + 1 else last_id older a)
+      → (if x then length older + 1 else last_id older a) ≡ (if y then length older + 1 else last_id older b) → (1 ≤ last_id older a → last_id older a ≡ last_id older b → a ≡ b) → a ≡ b
+    by_tests true true ea eb l s ih = sym ((bytes_eq-Decides newest a).0 ea) ∙ (bytes_eq-Decides newest b).0 eb
+    by_tests true false ea eb l s ih = let most = last_id-most older b in absurd (omega arith)
+    by_tests false true ea eb l s ih = let most = last_id-most older a in absurd (omega arith)
+    by_tests false false ea eb l s ih = ih l s
+
+at_middle : (before : List Said) (s : Said) (rest : List Said) (d : Said) → get_or (before ++ s ∷ rest) (length before) d ≡ s
+at_middle [] s rest d = refl
+at_middle (t ∷ before) s rest d = at_middle before s rest d
+
+length-middle : (before : List Said) (s : Said) (rest : List Said) → length before < length (before ++ s ∷ rest)
+length-middle [] s rest = omega arith
+length-middle (t ∷ before) s rest = let ih = length-middle before s rest in omega arith
+
+-- the next of sessions of different names has no seat yet
+absent : (names : List (List ℕ)) (before : List Said) (s : Said) (rest : List Said) → AreApart (before ++ s ∷ rest) → 1 ≤ last_id names s.name → HasSeat names before (last_id names s.name) → ⊥
+absent names [] s rest apart least has = has
+absent names (t ∷ before) s rest apart least (inl same) =
+    let differ : t.name ≢ s.name = subst (λ (u : Said). t.name ≢ u.name) (at_middle before s rest s) (apart 0 (suc (length before)) s (omega arith) (let l = length-middle before s rest in omega arith)) in
+    differ (sym (last_id-same names s.name t.name least same))
+absent names (t ∷ before) s rest apart least (inr later) =
+    absent names before s rest (λ i j d below within. apart (suc i) (suc j) d (omega arith) (omega arith)) least later
+
+-- so its lease wasn't given
+pub free_next : (names : List (List ℕ)) (marks : List Marked) (before : List Said) (s : Said) (rest : List Said) → AreApart (before ++ s ∷ rest)
+    → ((id : ℕ) → is_leased marks id ≡ true → HasSeat names before id) → is_leased marks (last_id names s.name) ≡ false
+free_next names marks before s rest apart seated = by_test (is_leased marks (last_id names s.name)) refl
+  where
+    least : (id : ℕ) → is_leased marks id ≡ true → 1 ≤ id
+    least zero leased = let none = ap given_in (marked_of-zero marks) in cc
+    least (suc id) leased = omega arith
+    by_test : (b : Bool) → is_leased marks (last_id names s.name) ≡ b → b ≡ false
+    by_test true e = absurd (absent names before s rest apart (least (last_id names s.name) e) (seated (last_id names s.name) e))
+    by_test false e = refl
+
+has_seat-more : (names : List (List ℕ)) (before : List Said) (s : Said) (id : ℕ) → HasSeat names before id → HasSeat names (before ++ s ∷ []) id
+has_seat-more names [] s id has = absurd has
+has_seat-more names (t ∷ before) s id (inl same) = inl same
+has_seat-more names (t ∷ before) s id (inr later) = inr (has_seat-more names before s id later)
+
+has_seat-last : (names : List (List ℕ)) (before : List Said) (s : Said) → HasSeat names (before ++ s ∷ []) (last_id names s.name)
+has_seat-last names [] s = inl refl
+has_seat-last names (t ∷ before) s = inr (has_seat-last names before s)
+
+-- once it is seated, just those that are seated have leases
+pub seated_more : (names : List (List ℕ)) (old new : List Marked) (before : List Said) (s : Said) → ((id : ℕ) → is_leased old id ≡ true → HasSeat names before id)
+    → GivesOneLease old (last_id names s.name) new → (id : ℕ) → is_leased new id ≡ true → HasSeat names (before ++ s ∷ []) id
+seated_more names old new before s seated gives id leased = by_case (gives id leased)
+  where
+    by_case : (is_leased old id ≡ true) ⊎ (id ≡ last_id names s.name) → HasSeat names (before ++ s ∷ []) id
+    by_case (inl before_it) = has_seat-more names before s id (seated id before_it)
+    by_case (inr same) = subst (λ n. HasSeat names (before ++ s ∷ []) n) (sym same) (has_seat-last names before s)
+
+given_in-mapped : (m : Option Marked) (other id : ℕ) (b : Bool) → eqb other id ≡ b → given_in (if b then option_map given m else m) ≡ true → (given_in m ≡ true) ⊎ (other ≡ id)
+given_in-mapped m other id true e leased = inr ((Decides-eqb other id).0 e)
+given_in-mapped m other id false e leased = inl leased
+
+pub gives_one : (marks : List Marked) (id : ℕ) → GivesOneLease marks id (remarked marks id given)
+gives_one marks id other leased = given_in-mapped (marked_of marks other) other id (eqb other id) refl (sym (ap given_in (marked_of-remarked marks id other given)) ∙ leased)
+
+pub gives_none : (marks : List Marked) (id : ℕ) → GivesOneLease marks id marks
+gives_none marks id other leased = inl leased
+
+pub none_given : (count : ℕ) → AreFree (replicate count unmarked)
+none_given zero id = refl
+none_given (suc count) id = by_test (eqb id 1)
+  where
+    by_test : (b : Bool) → given_in (if b then Some unmarked else marked_of (replicate count unmarked) (id - 1)) ≡ false
+    by_test true = refl
+    by_test false = none_given count (id - 1)
