@@ -5,42 +5,42 @@ use Rattle.cluster.proofs.packing.Packing.next.Goals as goal
 pub add_cluster-requires-clause-fit : goal.add_cluster-requires-clause-fit
 add_cluster-requires-clause-fit c = rw c.arch.ensures.value (fit_among c.self.inside.circuit c.self.inside.arch c.self.inside.grower.elements c.self.invariant.fit c.self.invariant.elements)
 
-pub invariant_of-self-then-has_free : goal.invariant_of-self-then-has_free
-invariant_of-self-then-has_free c =
+pub invariant_of-self-then-more : goal.invariant_of-self-then-more
+invariant_of-self-then-more c =
     let old = c.self.inside in
     let step = stepped old.circuit old.arch old.grower c.add_cluster.new.grower old.clusters c.add_cluster.new.clusters old.made c.self.invariant c.in-Ok.ensures.elements (rw c.arch.ensures.value at c.in-Ok.ensures.added) (rw c.arch.ensures.value at c.in-Ok.ensures.free) in
-    (goes_further old.circuit old.arch c.add_cluster.new.grower c.add_cluster.new.clusters old.made step (c.has_free.ensures.0 c.if-has_free.true)).way
+    (goes_further old.circuit old.arch c.add_cluster.new.grower c.add_cluster.new.clusters old.made step (c.has_free-more.ensures.0 c.if-more.true)).way
 
-pub returns-then-has_free : goal.returns-then-has_free
-returns-then-has_free c =
+pub returns-then-more : goal.returns-then-more
+returns-then-more c =
     let old = c.self.inside in
     let step = stepped old.circuit old.arch old.grower c.add_cluster.new.grower old.clusters c.add_cluster.new.clusters old.made c.self.invariant c.in-Ok.ensures.elements (rw c.arch.ensures.value at c.in-Ok.ensures.added) (rw c.arch.ensures.value at c.in-Ok.ensures.free) in
-    rw (← c.self.view_is) (refl, (goes_further old.circuit old.arch c.add_cluster.new.grower c.add_cluster.new.clusters old.made step (c.has_free.ensures.0 c.if-has_free.true)).more)
+    rw (← c.self.view_is) (refl, (goes_further old.circuit old.arch c.add_cluster.new.grower c.add_cluster.new.clusters old.made step (c.has_free-more.ensures.0 c.if-more.true)).more)
 
 pub new-tables-requires-clause-packed : goal.new-tables-requires-clause-packed
 new-tables-requires-clause-packed c =
     let old = c.self.inside in
     let step = stepped old.circuit old.arch old.grower c.add_cluster.new.grower old.clusters c.add_cluster.new.clusters old.made c.self.invariant c.in-Ok.ensures.elements (rw c.arch.ensures.value at c.in-Ok.ensures.added) (rw c.arch.ensures.value at c.in-Ok.ensures.free) in
-    let end = ends old.circuit old.arch c.add_cluster.new.grower c.add_cluster.new.clusters old.made step (none_left c.add_cluster.new.grower.free c.has_free.result c.has_free.ensures.1 c.if-has_free.false) in
+    let end = ends old.circuit old.arch c.add_cluster.new.grower c.add_cluster.new.clusters old.made step (none_left c.add_cluster.new.grower.free c.has_free-more.result c.has_free-more.ensures.1 c.if-more.false) in
     rw (c.circuit.ensures.value, c.arch-2.ensures.value) (ends_lawful old.circuit old.arch c.add_cluster.new.clusters c.circuit.ensures.lawful c.arch.ensures.lawful c.self.invariant.fit end.packed)
 
 pub invariant_of-self-in-Err-tables : goal.invariant_of-self-in-Err-tables
 invariant_of-self-in-Err-tables c =
     let old = c.self.inside in
     let step = stepped old.circuit old.arch old.grower c.add_cluster.new.grower old.clusters c.add_cluster.new.clusters old.made c.self.invariant c.in-Ok.ensures.elements (rw c.arch.ensures.value at c.in-Ok.ensures.added) (rw c.arch.ensures.value at c.in-Ok.ensures.free) in
-    let end = ends old.circuit old.arch c.add_cluster.new.grower c.add_cluster.new.clusters old.made step (none_left c.add_cluster.new.grower.free c.has_free.result c.has_free.ensures.1 c.if-has_free.false) in
+    let end = ends old.circuit old.arch c.add_cluster.new.grower c.add_cluster.new.clusters old.made step (none_left c.add_cluster.new.grower.free c.has_free-more.result c.has_free-more.ensures.1 c.if-more.false) in
     end.way
 
 pub new-requires-clause-packed : goal.new-requires-clause-packed
 new-requires-clause-packed c =
     let old = c.self.inside in
     let step = stepped old.circuit old.arch old.grower c.add_cluster.new.grower old.clusters c.add_cluster.new.clusters old.made c.self.invariant c.in-Ok.ensures.elements (rw c.arch.ensures.value at c.in-Ok.ensures.added) (rw c.arch.ensures.value at c.in-Ok.ensures.free) in
-    let end = ends old.circuit old.arch c.add_cluster.new.grower c.add_cluster.new.clusters old.made step (none_left c.add_cluster.new.grower.free c.has_free.result c.has_free.ensures.1 c.if-has_free.false) in
+    let end = ends old.circuit old.arch c.add_cluster.new.grower c.add_cluster.new.clusters old.made step (none_left c.add_cluster.new.grower.free c.has_free-more.result c.has_free-more.ensures.1 c.if-more.false) in
     ends_lawful old.circuit old.arch c.add_cluster.new.clusters c.circuit.ensures.lawful c.arch.ensures.lawful c.self.invariant.fit end.packed
 
 pub returns-in-Ok-tables : goal.returns-in-Ok-tables
 returns-in-Ok-tables c =
     let old = c.self.inside in
     let step = stepped old.circuit old.arch old.grower c.add_cluster.new.grower old.clusters c.add_cluster.new.clusters old.made c.self.invariant c.in-Ok.ensures.elements (rw c.arch.ensures.value at c.in-Ok.ensures.added) (rw c.arch.ensures.value at c.in-Ok.ensures.free) in
-    let end = ends old.circuit old.arch c.add_cluster.new.grower c.add_cluster.new.clusters old.made step (none_left c.add_cluster.new.grower.free c.has_free.result c.has_free.ensures.1 c.if-has_free.false) in
+    let end = ends old.circuit old.arch c.add_cluster.new.grower c.add_cluster.new.clusters old.made step (none_left c.add_cluster.new.grower.free c.has_free-more.result c.has_free-more.ensures.1 c.if-more.false) in
     rw (← c.self.view_is) (c.new.ensures ∙ sym end.packed, end.steps)
