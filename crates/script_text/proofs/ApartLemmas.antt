@@ -1,6 +1,6 @@
 -- No two sessions of a threaded script are of one name.
-use Rattle.std.proofs.Common.{◌≡◌, ◌≢◌, ℕ, ◌+◌, ◌<◌, List, [], ◌∷◌, ◌++◌, Bool, true, false, length, refl, sym, subst, arith}
-use Rattle.std.specs.Prelude.{All, Result, Ok, Err, Some, None, Option, IfOk, IfSome, ◌==◌, if◌then◌else◌}
+use Rattle.std.proofs.Common.{◌≡◌, ◌≢◌, ℕ, ◌+◌, List, [], ◌∷◌, ◌++◌, Bool, true, false, length, refl, sym, subst, arith}
+use Rattle.std.specs.Prelude.{All, Ok, Some, None, Option, IfOk, IfSome, ◌==◌, if◌then◌else◌}
 use Rattle.std.specs.Str.{bytes_eq}
 use Rattle.std.proofs.lemmas.List.Elements.{All-cons, All-nil}
 use Rattle.std.proofs.lemmas.List.Kept.{AllPairs-cons}
@@ -11,7 +11,7 @@ use Rattle.script_text.specs.declared.form.Form.TheVariants.{Skipped, Faulty, As
 use Rattle.script_text.specs.declared.operator_line.OperatorLine.{OperatorLine}
 use Rattle.line_text.specs.Lines.{physical_lines}
 use Rattle.script_text.specs.Script.{form_of}
-use Rattle.script_text.specs.Threaded.{AreApart, Heard, Parts, Said, Threaded, Within, behind_line, behind_word, ended, goes_on, heard, hears, hears_form, hears_in, is_by_hand, nothing_said, threaded_from, threaded_of, with_input, with_operator}
+use Rattle.script_text.specs.Threaded.{AreApart, Heard, Parts, Said, Threaded, Within, behind_word, ended, goes_on, heard, hears, hears_form, hears_in, is_by_hand, nothing_said, threaded_from, threaded_of, with_input, with_operator}
 use Rattle.script_text.specs.Threaded.Within.{Script, Head, Upload}
 
 -- none of them has the name
@@ -68,7 +68,7 @@ lines-apart number h [] a = a
 lines-apart number h (line ∷ lines) a = by_heard (hears h line) (line-apart h.within h.parts line a) (λ next b. lines-apart (number + 1) next lines b)
   where
     by_heard : (o : Option Heard) → IfSome o (λ next. Apart next.parts.sessions) → ((next : Heard) → Apart next.parts.sessions → IfOk (threaded_from (number + 1) next lines) (λ parts. Apart parts.sessions))
-      → IfOk (goes_on number o (λ next. threaded_from (number + 1) next lines)) (λ parts. Apart parts.sessions)
+        → IfOk (goes_on number o (λ next. threaded_from (number + 1) next lines)) (λ parts. Apart parts.sessions)
     by_heard None s rest = tt
     by_heard (Some next) s rest = rest next s
 
