@@ -1,12 +1,15 @@
 -- Sessions of different names are seated each with a lease of its own.
-use Rattle.std.proofs.Common.{◌≡◌, ◌≢◌, ◌⊎◌, inl, inr, ⊥, ℕ, ◌+◌, ◌<◌, ◌≤◌, List, [], ◌∷◌, ◌++◌, Bool, true, false, zero, suc, length, map, get_or, eqb, Option, Some, None, refl, sym, ap, ◌∙◌, subst, arith, replicate}
-use Rattle.std.specs.Prelude.{AllPairs, option_map, if◌then◌else◌}
+use Rattle.std.proofs.Common.{◌≡◌, ◌≢◌, ◌⊎◌, inl, inr, ℕ, ◌+◌, ◌-◌, ◌<◌, ◌≤◌, List, [], ◌∷◌, ◌++◌, Bool, true, false, zero, suc, length, map, get_or, eqb, Option, Some, None, refl, sym, ap, ◌∙◌, subst, take, arith, replicate}
+use Rattle.std.specs.Prelude.{option_map, if◌then◌else◌}
 use Rattle.std.specs.Str.{bytes_eq}
-use Rattle.std.proofs.lemmas.Bool.Decides.{nat_tests, Decides-eqb}
+use Rattle.std.proofs.lemmas.Bool.Decides.{Decides-eqb}
+use Rattle.std.proofs.lemmas.List.{map-append, map-id}
 use Rattle.std.proofs.lemmas.Slice.Eq.{bytes_eq-Decides}
 use Rattle.operator.specs.OperatorText.{last_id}
-use Rattle.script_text.specs.Threaded.{AreApart, Said}
-use Rattle.shared_core.specs.CoreState.{Marked, given, given_in, is_leased, marked_of, remarked, unmarked}
+use Rattle.script_text.specs.declared.inputs.SessionInput.{SessionInput}
+use Rattle.script_text.specs.Threaded.{AreApart, Said, said_by}
+use Rattle.shared_core.specs.CoreCalls.{GivesLease}
+use Rattle.shared_core.specs.CoreState.{CoreState, LeaseState, Marked, given, given_in, is_leased, marked_of, remarked, unmarked}
 use Rattle.shared_core.proofs.Marks.{marked_of-remarked, marked_of-zero}
 use Rattle.script_threads.specs.Seats.{AreFree, GivesOneLease, HasSeat}
 
@@ -89,8 +92,27 @@ gives_none marks id other leased = inl leased
 
 pub none_given : (count : ℕ) → AreFree (replicate count unmarked)
 none_given zero id = refl
-none_given (suc count) id = by_test (eqb id 1)
+none_given (suc count) id = by_test (eqb id 1) (none_given count (id - 1))
   where
-    by_test : (b : Bool) → given_in (if b then Some unmarked else marked_of (replicate count unmarked) (id - 1)) ≡ false
-    by_test true = refl
-    by_test false = none_given count (id - 1)
+    by_test : (b : Bool) → is_leased (replicate count unmarked) (id - 1) ≡ false → given_in (if b then Some unmarked else marked_of (replicate count unmarked) (id - 1)) ≡ false
+    by_test true rest = refl
+    by_test false rest = rest
+
+pub lease_gives : (old : CoreState) (id : ℕ) (result : Option LeaseState) (new : CoreState) → GivesLease old id result new → GivesOneLease old.marks id new.marks
+lease_gives old id None new gives = subst (λ (c : CoreState). GivesOneLease old.marks id c.marks) (sym gives.1) (gives_none old.marks id)
+lease_gives old id (Some lease) new gives = subst (λ (c : CoreState). GivesOneLease old.marks id c.marks) (sym gives.2) (gives_one old.marks id)
+
+split : {X : Type 0} (all : List X) (k : ℕ) (x : X) → k < length all → x ≡ get_or all k x → (rest : List X) × (all ≡ take k all ++ x ∷ rest)
+split [] k x within is = absurd (omega arith)
+split (y ∷ all) zero x within is = (all, ap (λ z. z ∷ all) (sym is))
+split (y ∷ all) (suc k) x within is = let more = split all k x (omega arith) is in (more.0, ap (λ zs. y ∷ zs) more.1)
+
+-- of sessions of different names, some of which are seated, the next one's lease wasn't given
+pub free_at : (names : List (List ℕ)) (marks : List Marked) (all before : List SessionInput) (s : SessionInput) → AreApart (map said_by all)
+    → map (λ t. t) before ≡ take (length before) all → length before < length all → s ≡ get_or all (length before) s
+    → ((id : ℕ) → is_leased marks id ≡ true → HasSeat names (map said_by before) id) → is_leased marks (last_id names s.name.now) ≡ false
+free_at names marks all before s apart so_far within is seated =
+    let more = split all (length before) s within is in
+    let whole : all ≡ before ++ s ∷ more.0 = more.1 ∙ ap (λ ts. ts ++ s ∷ more.0) (sym so_far ∙ map-id before) in
+    let said : map said_by all ≡ map said_by before ++ said_by s ∷ map said_by more.0 = ap (map said_by) whole ∙ map-append said_by before (s ∷ more.0) in
+    free_next names marks (map said_by before) (said_by s) (map said_by more.0) (subst AreApart said apart) seated

@@ -1,5 +1,5 @@
 -- Private: sessions that are seated.
-use Rattle.std.specs.Prelude.{ℕ, ◌≡◌, ◌⊎◌, List, [], ◌∷◌, Option, Some, None, true, false, ⊤, ⊥}
+use Rattle.std.specs.Prelude.{ℕ, ◌≡◌, ◌⊎◌, List, [], ◌∷◌, Option, Some, None, true, false, ⊤}
 use Rattle.operator.specs.OperatorText.{last_id}
 use Rattle.shared_core.specs.CoreState.{LeaseState, Marked, is_leased}
 use Rattle.script_text.specs.Threaded.{Said}
