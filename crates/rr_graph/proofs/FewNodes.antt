@@ -1,5 +1,5 @@
 -- A strip has few nodes.
-use Rattle.std.proofs.Common.{ℕ, zero, suc, ◌≡◌, ◌+◌, ◌-◌, ◌*◌, ◌^◌, ◌<◌, ◌≤◌, List, [], ◌∷◌, ◌++◌, map, length, sym, ap, ◌∙◌, subst, inl, inr, arith, Bool, true, ◌&&◌, ◌||◌, nat_le}
+use Rattle.std.proofs.Common.{ℕ, zero, suc, ◌≡◌, ◌+◌, ◌-◌, ◌*◌, ◌^◌, ◌<◌, ◌≤◌, List, [], ◌∷◌, map, length, sym, ap, ◌∙◌, subst, inl, inr, arith, Bool, true, ◌&&◌, ◌||◌, nat_le}
 use Rattle.std.specs.Prelude.{filter}
 use Rattle.std.specs.List.{flat_map, range_with_len}
 use Rattle.std.proofs.lemmas.Bool.{and_parts, cases_Bool, cond-true, cond-false}
@@ -47,10 +47,11 @@ module _ (basis : Basis) (lawful : IsBasis basis) where
 
   few_in_row : (x : ℕ) (kind : NodeKind) (y : ℕ) → length (filter is_there (map (make_node x kind y) (range_with_len 0 145))) ≤ most_of kind
   few_in_row x kind y =
-      few_numbers is_there (make_node x kind y) (most_of kind) 0 145 (λ n is.
+      let few = few_numbers is_there (make_node x kind y) (most_of kind) 0 145 (λ n is.
       let outer = and_parts (nat_le x basis.strip.width) ((nat_le 1 x || is_chan_y kind) && is_slot basis.arch basis.strip kind y n) is in
       let inner = and_parts (nat_le 1 x || is_chan_y kind) (is_slot basis.arch basis.strip kind y n) outer.1 in
-      (member_bounds basis.arch basis.strip kind y n lawful.arch lawful.strip inner.1).1)
+      (member_bounds basis.arch basis.strip kind y n lawful.arch lawful.strip inner.1).1) in
+      omega (arith, few)
 
   few_of_kind : (x : ℕ) (kind : NodeKind) → length (filter is_there (of_kind basis.strip x kind)) ≤ 66 * most_of kind
   few_of_kind x kind =
