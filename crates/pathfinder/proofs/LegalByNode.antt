@@ -8,6 +8,7 @@ use Rattle.std.proofs.lemmas.List.Elements.{All-tail}
 use Rattle.cluster.specs.Clusters.{PackedCircuit}
 use Rattle.cluster.specs.Blocks.{BlockNet, block_nets}
 use Rattle.grid.specs.declared.place.Place.{Place}
+use Rattle.strip_place.specs.Placed.{block_at, place_of}
 use Rattle.rr_graph.specs.declared.node.Node.{Node}
 use Rattle.rr_graph.specs.Geometry.{is_node, is_edge, capacity_of}
 use Rattle.rr_graph.specs.Graph.{Basis, IsRoutingGraph, graph_of}
@@ -15,7 +16,7 @@ use Rattle.pathfinder.specs.Wiring.{Net, IsNet, IsWiring, AreNets}
 use Rattle.pathfinder.specs.Negotiation.{Tree, Done, occupancy, routed_after}
 use Rattle.pathfinder.specs.Terminals.{sink_at, net_source, net_sinks, is_same_node}
 use Rattle.pathfinder.specs.PlacedNets.{wiring_of, number_of, net_to_route, nets_to_route}
-use Rattle.pathfinder.specs.LegalRoutes.{pairs_of, IsLeaf, LeadsOver, IsTree, IsRoute, IsRouted, IsLegal}
+use Rattle.pathfinder.specs.LegalRoutes.{path_nodes, pairs_of, IsLeaf, LeadsOver, IsTree, IsRoute, IsRouted, IsLegal}
 use Rattle.pathfinder.specs.LegalTrees.{IsNumberTree, IsNetTree, IsTreeFor, AreLegal}
 use Rattle.pathfinder.specs.Routings.{told_by_node}
 use Rattle.pathfinder.proofs.Steps.{in_first, in_later}
@@ -24,7 +25,7 @@ use Rattle.pathfinder.proofs.Found.{any_from, occupancy-cons}
 use Rattle.pathfinder.proofs.Growing.{LeastPathLaws, IsWithin}
 use Rattle.pathfinder.proofs.Rounds.{HoldsWithin, beyond, done_sound}
 use Rattle.pathfinder.proofs.NodeNumbers.{number_found, number_there, is_number}
-use Rattle.pathfinder.proofs.ToldTrees.{to_map, from_map, all_mapped, concat_told, to_nodes, from_nodes, to_pairs, from_pairs, leads_told}
+use Rattle.pathfinder.proofs.ToldTrees.{to_map, from_map, all_mapped, nodes_told, to_nodes, from_nodes, to_pairs, from_pairs, leads_told}
 
 module _ (basis : Basis) (lawful : IsRoutingGraph basis (graph_of basis)) where
   abbrev node_at : ℕ → Node
@@ -59,9 +60,11 @@ module _ (basis : Basis) (lawful : IsRoutingGraph basis (graph_of basis)) where
           sym q.3 ∙ (ap (graph_of basis).node (t.one_way q.0 r.0 q.1 q.2 (subst (λ b. Contains (pairs_of tree) (r.0, b)) same r.2)) ∙ r.3);
       reached = λ n c.
           let q = from_nodes (graph_of basis).node tree n c in
-          let way = t.reached q.0 q.1 in
-          (map (graph_of basis).node way.0, subst (λ last. LeadsOver (pairs_of (told tree)) last ((graph_of basis).node root) (map (graph_of basis).node way.0)) q.2
-          (leads_told (graph_of basis).node (pairs_of tree) (pairs_of (told tree)) (to_pairs (graph_of basis).node tree) q.0 root way.0 way.1));
+          let way = t.reached q.0 q.1 in (
+            map (graph_of basis).node way.0,
+            subst (λ last. LeadsOver (pairs_of (told tree)) last ((graph_of basis).node root) (map (graph_of basis).node way.0)) q.2
+                (leads_told (graph_of basis).node (pairs_of tree) (pairs_of (told tree)) (to_pairs (graph_of basis).node tree) q.0 root way.0 way.1),
+          );
     }
 
     route_told : (source : ℕ) (sinks : List ℕ) → IsNetTree (wiring_of basis) (record { source = source; sinks = sinks }) tree → IsRoute basis.arch basis.strip ((graph_of basis).node source) (map (graph_of basis).node sinks) (told tree)
@@ -82,9 +85,8 @@ module _ (basis : Basis) (lawful : IsRoutingGraph basis (graph_of basis)) where
             subst (λ a. Contains (map (graph_of basis).node sinks) a) q.2 (to_map (graph_of basis).node sinks q.0 ((route.leaves q.0).0 (q.1, leaf)))),
         (λ c.
             let q = from_map (graph_of basis).node sinks n c in
-            let back = (route.leaves q.0).1 q.1 in
-            (
-              subst (λ a. Contains (concat (told tree)) a) q.2 (to_nodes (graph_of basis).node tree q.0 back.0),
+            let back = (route.leaves q.0).1 q.1 in (
+              subst (λ a. Contains (path_nodes (told tree)) a) q.2 (to_nodes (graph_of basis).node tree q.0 back.0),
               λ next d.
                   let p = from_pairs (graph_of basis).node tree n next d in
                   let same : p.0 ≡ q.0 = one_number p.0 q.0 (route.is_tree.edges p.0 p.1 p.2).from (within q.0 back.0) (p.3 ∙ sym q.2) in
@@ -94,7 +96,7 @@ module _ (basis : Basis) (lawful : IsRoutingGraph basis (graph_of basis)) where
     }
 
     routed_told : (source : ℕ) (sinks : List ℕ) → IsTreeFor (wiring_of basis) source sinks tree → IsRouted basis.arch basis.strip ((graph_of basis).node source) (map (graph_of basis).node sinks) (told tree)
-    routed_told source [] none = concat_told (graph_of basis).node tree ∙ ap (map (graph_of basis).node) none
+    routed_told source [] none = nodes_told (graph_of basis).node tree ∙ ap (map (graph_of basis).node) none
     routed_told source (sink ∷ sinks) route = route_told source (sink ∷ sinks) route
 
   -- ---- the nets of placed blocks
@@ -131,8 +133,7 @@ module _ (basis : Basis) (lawful : IsRoutingGraph basis (graph_of basis)) where
     all_told [] (tree ∷ trees) each within zip = absurd zip
     all_told (net ∷ nets) [] each within zip = absurd zip
     all_told (net ∷ nets) (tree ∷ trees) each within zip =
-        let here : HoldsWithin (wiring_of basis) tree = within 0 tree (omega arith) in
-        (
+        let here : HoldsWithin (wiring_of basis) tree = within 0 tree (omega arith) in (
           net_told net tree (each 0 (net_to_route basis packed places net) (omega arith)) (λ node c. here node (any_from node (concat tree) c)) zip.0,
           all_told nets trees (All-tail (IsNet (wiring_of basis)) (net_to_route basis packed places net) (map (net_to_route basis packed places) nets) each)
               (All-tail (HoldsWithin (wiring_of basis)) tree trees within) zip.1,
@@ -148,16 +149,16 @@ module _ (basis : Basis) (lawful : IsRoutingGraph basis (graph_of basis)) where
       ∙ ap (λ rest. eqb x (number_of (graph_of basis) node) || rest) (held_told node xs (λ y c. within y (in_later x y xs c)))
 
   counts_told : (node : Node) (trees : List Tree) → All (HoldsWithin (wiring_of basis)) trees →
-      count_by (λ paths. list_any (is_same_node node) (concat paths)) (map told trees) ≡ occupancy trees (number_of (graph_of basis) node)
+      count_by (λ paths. list_any (is_same_node node) (path_nodes paths)) (map told trees) ≡ occupancy trees (number_of (graph_of basis) node)
   counts_told node [] within = refl
   counts_told node (tree ∷ trees) within =
       let number = number_of (graph_of basis) node in
       let here : HoldsWithin (wiring_of basis) tree = within 0 tree (omega arith) in
-      let same : list_any (is_same_node node) (concat (told tree)) ≡ list_any (λ other. eqb other number) (concat tree) =
-      ap (λ nodes. list_any (is_same_node node) nodes) (concat_told (graph_of basis).node tree) ∙ held_told node (concat tree) (λ x c. here x (any_from x (concat tree) c)) in
+      let same : list_any (is_same_node node) (path_nodes (told tree)) ≡ list_any (λ other. eqb other number) (concat tree) =
+      ap (λ nodes. list_any (is_same_node node) nodes) (nodes_told (graph_of basis).node tree) ∙ held_told node (concat tree) (λ x c. here x (any_from x (concat tree) c)) in
       let rest = counts_told node trees (All-tail (HoldsWithin (wiring_of basis)) tree trees within) in
-      sum_by-cons (λ paths. cond (list_any (is_same_node node) (concat paths)) 1 0) (told tree) (map told trees)
-      ∙ (ap (λ b. cond b 1 0 + count_by (λ paths. list_any (is_same_node node) (concat paths)) (map told trees)) same
+      sum_by-cons (λ paths. cond (list_any (is_same_node node) (path_nodes paths)) 1 0) (told tree) (map told trees)
+      ∙ (ap (λ b. cond b 1 0 + count_by (λ paths. list_any (is_same_node node) (path_nodes paths)) (map told trees)) same
       ∙ (ap (λ k. cond (list_any (λ other. eqb other number) (concat tree)) 1 0 + k) rest ∙ sym (occupancy-cons tree trees number)))
 
   -- ---- all nets
@@ -179,15 +180,16 @@ module _ (basis : Basis) (lawful : IsRoutingGraph basis (graph_of basis)) where
   }
 
   -- trees of numbers of the graph go over nodes of the strip
-  pub nodes_told : (trees : List Tree) → All (All (All (λ number. number < (graph_of basis).count))) trees → All (All (All (λ node. is_node basis.arch basis.strip node ≡ true))) (told_by_node (graph_of basis) trees)
-  nodes_told trees within =
-      all_mapped (All (All IsNumber)) (All (All IsNodeHere)) told (all_mapped (All IsNumber) (All IsNodeHere) (map (graph_of basis).node) (all_mapped IsNumber IsNodeHere (graph_of basis).node lawful.nodes)) trees within
-    where
-      IsNumber : ℕ → Type 0
-      IsNumber number = number < (graph_of basis).count
+  abbrev IsNumber : ℕ → Type 0
+  IsNumber number = number < (graph_of basis).count
 
-      IsNodeHere : Node → Type 0
-      IsNodeHere node = is_node basis.arch basis.strip node ≡ true
+  abbrev IsThere : Node → Type 0
+  IsThere node = is_node basis.arch basis.strip node ≡ true
+
+  pub all_there : (trees : List Tree) → All (All (All IsNumber)) trees → All (All (All IsThere)) (told_by_node (graph_of basis) trees)
+  all_there trees within =
+      all_mapped (All (All IsNumber)) (All (All IsThere)) (map (map (graph_of basis).node))
+      (all_mapped (All IsNumber) (All IsThere) (map (graph_of basis).node) (all_mapped IsNumber IsThere (graph_of basis).node lawful.nodes)) trees within
 
   -- finished routes are legal
   pub done_told : IsWiring (wiring_of basis) → LeastPathLaws → (packed : PackedCircuit) (places : List Place) (nets : List Net) → nets ≡ nets_to_route basis packed places → AreNets (wiring_of basis) nets → (iterations : ℕ) →

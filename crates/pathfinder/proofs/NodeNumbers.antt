@@ -54,7 +54,7 @@ pub number_there : (g : RoutingGraph) (node : Node) → number_of g node < g.cou
 number_there g node few =
     let numbers = range_with_len 0 g.count in
     let passes = passes_at_first (λ number. is_same_node (g.node number) node) numbers 0 (omega (arith, length-range_with_len 0 g.count, few)) in
-    let at : get_or numbers (number_of g node) 0 ≡ number_of g node = get_or-range_with_len 0 g.count (number_of g node) 0 few in
+    let at : get_or numbers (number_of g node) 0 ≡ number_of g node = get_or-range_with_len 0 g.count (number_of g node) 0 few ∙ omega arith in
     same_node (g.node (number_of g node)) node (subst (λ k. is_same_node (g.node k) node ≡ true) at passes)
 
 -- whether a number of the graph is a node's

@@ -1,12 +1,12 @@
 -- Trees with each node in place of its number.
-use Rattle.std.proofs.Common.{◌≡◌, ℕ, refl, List, [], ◌∷◌, ◌++◌, length, map, arith, ◌∙◌, inl, inr, sym, ap, subst}
+use Rattle.std.proofs.Common.{◌≡◌, ℕ, refl, List, [], ◌∷◌, ◌++◌, map, arith, ◌∙◌, inl, inr, sym, ap, subst}
 use Rattle.std.specs.Prelude.{All}
-use Rattle.std.specs.List.{Contains, concat, flat_map}
+use Rattle.std.specs.List.{Contains, concat}
 use Rattle.std.proofs.lemmas.List.{get_or-map, length-map, map-append}
 use Rattle.std.proofs.lemmas.List.Concat.{flat_map-cons}
 use Rattle.std.proofs.lemmas.List.Elements.{All-cons, All-nil, All-tail}
 use Rattle.rr_graph.specs.declared.node.Node.{Node}
-use Rattle.pathfinder.specs.LegalRoutes.{steps_of, pairs_of, LeadsOver}
+use Rattle.pathfinder.specs.LegalRoutes.{path_nodes, steps_of, pairs_of, LeadsOver}
 use Rattle.pathfinder.proofs.Steps.{in_none, in_first, in_later, in_cases}
 
 -- ---- members of a list that is mapped
@@ -28,9 +28,11 @@ all_mapped P Q f keeps (x ∷ xs) each = All-cons Q (f x) (map f xs) (keeps x (e
 -- ---- trees
 
 module _ (f : ℕ → Node) where
-  pub concat_told : (tree : List (List ℕ)) → concat (map (map f) tree) ≡ map f (concat tree)
-  concat_told [] = refl
-  concat_told (path ∷ tree) = ap (λ rest. map f path ++ rest) (concat_told tree) ∙ sym (map-append f path (concat tree))
+  pub nodes_told : (tree : List (List ℕ)) → path_nodes (map (map f) tree) ≡ map f (concat tree)
+  nodes_told [] = refl
+  nodes_told (path ∷ tree) =
+      flat_map-cons (λ (nodes : List Node). nodes) (map f path) (map (map f) tree)
+      ∙ (ap (λ rest. map f path ++ rest) (nodes_told tree) ∙ sym (map-append f path (concat tree)))
 
   abbrev both : ℕ × ℕ → Node × Node
   both pair = (f pair.0, f pair.1)
@@ -48,11 +50,11 @@ module _ (f : ℕ → Node) where
       ∙ (ap (λ rest. map both (steps_of path) ++ rest) (pairs_told tree)
       ∙ (sym (map-append both (steps_of path) (pairs_of tree)) ∙ ap (map both) (sym (flat_map-cons steps_of path tree)))))
 
-  pub to_nodes : (tree : List (List ℕ)) (x : ℕ) → Contains (concat tree) x → Contains (concat (map (map f) tree)) (f x)
-  to_nodes tree x c = subst (λ nodes. Contains nodes (f x)) (sym (concat_told tree)) (to_map f (concat tree) x c)
+  pub to_nodes : (tree : List (List ℕ)) (x : ℕ) → Contains (concat tree) x → Contains (path_nodes (map (map f) tree)) (f x)
+  to_nodes tree x c = subst (λ nodes. Contains nodes (f x)) (sym (nodes_told tree)) (to_map f (concat tree) x c)
 
-  pub from_nodes : (tree : List (List ℕ)) (y : Node) → Contains (concat (map (map f) tree)) y → (x : ℕ) × Contains (concat tree) x × (f x ≡ y)
-  from_nodes tree y c = from_map f (concat tree) y (subst (λ nodes. Contains nodes y) (concat_told tree) c)
+  pub from_nodes : (tree : List (List ℕ)) (y : Node) → Contains (path_nodes (map (map f) tree)) y → (x : ℕ) × Contains (concat tree) x × (f x ≡ y)
+  from_nodes tree y c = from_map f (concat tree) y (subst (λ nodes. Contains nodes y) (nodes_told tree) c)
 
   pub to_pairs : (tree : List (List ℕ)) (a b : ℕ) → Contains (pairs_of tree) (a, b) → Contains (pairs_of (map (map f) tree)) (f a, f b)
   to_pairs tree a b c = subst (λ pairs. Contains pairs (f a, f b)) (sym (pairs_told tree)) (to_map both (pairs_of tree) (a, b) c)
