@@ -4,7 +4,6 @@ pub mod Sorted
 pub mod Pads
 pub mod There
 pub mod HeldAtEnd
-pub mod Legal
 pub mod Stands
 pub mod FewSteps
 pub mod NextStep

@@ -10,7 +10,8 @@ use Rattle.rr_graph.specs.declared.resource.Resource.{Resource}
 use Rattle.job_state.specs.declared.work.Work.{Work}
 use Rattle.job_state.specs.declared.work.Work.TheVariants.{Routing, Routed}
 use Rattle.job_state.specs.JobValue.{routing_after, routing_stands}
-use Rattle.job_state.specs.UnderWay.{GoesOn}
+use Rattle.job_state.specs.UnderWay.{GoesOn, RoutingUnderWay}
+use Rattle.job_state.specs.RoutedCircuits.{RoutedCircuit}
 use Rattle.job_state.proofs.Iterations.{of_nets}
 
 -- the value of a routing whose trees are known
@@ -37,6 +38,17 @@ is_routed basis pads old routes done =
   where
     routed_of : Basis → List Resource → List (List (List Node)) → Work
     routed_of basis pads routes = Routed (record { basis = basis; routes = routes; pads = pads })
+
+-- the same by the routing that it was, on its own strip
+pub found_on : (basis own : Basis) (old : RoutingUnderWay) (pads : List Resource) (state : RoutingState) (routes : List (List (List Node))) (routed : RoutedCircuit) → IsDone basis state routes → basis ≡ own → basis ≡ old.basis → pads ≡ old.pads → state ≡ old.state →
+    routed ≡ record { basis = own; routes = routes; pads = pads } → Routed routed ≡ routing_after old.basis old.pads old.state.nets (old.state.iterations + 1)
+found_on basis own old pads state routes routed done here there same_pads same is =
+    ap Routed is
+    ∙ (ap (λ other. Routed (record { basis = other; routes = routes; pads = pads })) (sym here)
+    ∙ (is_routed basis pads state routes done
+    ∙ (ap (λ other. routing_after other pads state.nets (state.iterations + 1)) there
+    ∙ (ap (λ other. routing_after old.basis other state.nets (state.iterations + 1)) same_pads
+    ∙ ap (λ (other : RoutingState). routing_after old.basis old.pads other.nets (other.iterations + 1)) same))))
 
 -- the number of a net without a path is small
 pub few_nets : (basis : Basis) (old : RoutingState) (net : ℕ) → GoesOn basis old → FindsNoPath (wiring_of basis) old net → net ≤ 8192

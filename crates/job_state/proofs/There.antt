@@ -20,7 +20,6 @@ use Rattle.pathfinder.specs.Wiring.{IsWiring}
 use Rattle.pathfinder.specs.Routings.{IsDone, RoutingState, told_by_node}
 use Rattle.job_state.specs.RoutedCircuits.{AreThere, ListsAll, on_path, on_tree, on_trees}
 use Rattle.job_state.specs.UnderWay.{GoesOn}
-use Rattle.job_state.proofs.Legal.{legal_within}
 use Rattle.job_state.proofs.InOrder.{is_itself, same_is}
 
 -- what holds of each of them holds of one that they have
@@ -64,25 +63,9 @@ module _ (basis : Basis) where
   on_trees_there [] each = All-nil IsThere
   on_trees_there (tree ∷ trees) each = All-append IsThere (on_tree tree) (on_trees trees) (on_tree_there tree (each 0 tree (omega arith))) (on_trees_there trees (All-tail (All (All IsNodeOf)) tree trees each))
 
-  -- trees of the graph's nodes, by number
-  abbrev IsWithin : ℕ → Type 0
-  IsWithin number = number < (graph_of basis).count
-
-  told_nodes : {X Y : Type 0} (P : X → Type 0) (Q : Y → Type 0) (f : X → Y) → ((x : X) → P x → Q (f x)) → (xs : List X) → All P xs → All Q (map f xs)
-  told_nodes P Q f keeps [] each = All-nil Q
-  told_nodes P Q f keeps (x ∷ xs) each = All-cons Q (f x) (map f xs) (keeps x (each 0 x (omega arith))) (told_nodes P Q f keeps xs (All-tail P x xs each))
-
-  pub routes_there : IsRoutingGraph basis (graph_of basis) → (trees : List Tree) → All (All (All IsWithin)) trees → AreThere basis (on_trees (told_by_node (graph_of basis) trees))
-  routes_there lawful trees within =
-      on_trees_there (told_by_node (graph_of basis) trees)
-      (told_nodes (All (All IsWithin)) (All (All IsNodeOf)) (λ tree. map (λ path. map (graph_of basis).node path) tree)
-      (told_nodes (All IsWithin) (All IsNodeOf) (λ path. map (graph_of basis).node path) (told_nodes IsWithin IsNodeOf (graph_of basis).node lawful.nodes)) trees within)
-
   -- the routes of a routing that is done
-  pub done_there : IsRoutingGraph basis (graph_of basis) → IsWiring (wiring_of basis) → (old : RoutingState) → GoesOn basis old → (routes : List (List (List Node))) → IsDone basis old routes → AreThere basis (on_trees routes)
-  done_there lawful law old after routes done =
-      let trees : List Tree = (routed_after (wiring_of basis) old.nets (old.iterations + 1)).trees in
-      subst (λ other. AreThere basis (on_trees other)) (sym done.exact) (routes_there lawful trees (legal_within (wiring_of basis) law old.nets trees after.are_nets.each done.legal))
+  pub done_there : (old : RoutingState) (routes : List (List (List Node))) → IsDone basis old routes → AreThere basis (on_trees routes)
+  done_there old routes done = on_trees_there routes done.there
 
 -- what routes hold, and pads
 pub both_there : (basis : Basis) (arch : Arch) (strip : Strip) (on_routes pads : List Resource) → arch ≡ basis.arch → strip ≡ basis.strip → AreThere basis on_routes → AreThere basis pads → AreThere (record { arch = arch; strip = strip }) (on_routes ++ pads)

@@ -13,7 +13,7 @@ use crate::stage::Stage;
 use crate::work::{Work, ended};
 use arch_file::SharedArch;
 use grid::Strip;
-use pathfinder::{IterEnd, Routes, strip_wiring};
+use pathfinder::{IterEnd, Routes};
 use rr_graph::{Resource, StripGraph};
 use std::alloc::Global;
 use std::marker::Model;
@@ -77,8 +77,6 @@ impl RoutingJob {
             pads,
             stage,
         } = self;
-        let _count = graph.count();
-        strip_wiring();
         let routing = match stage.on(alloc, graph) {
             Ok(routing) => routing,
             Err(stage) => {

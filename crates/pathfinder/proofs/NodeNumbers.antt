@@ -1,13 +1,15 @@
 -- The number of a node.
-use Rattle.std.proofs.Common.{◌≡◌, ℕ, ◌<◌, Bool, true, false, eqb, get_or, refl, ap, subst, ◌∙◌, inl, inr, arith, eq-eqb}
+use Rattle.std.proofs.Common.{◌≡◌, ℕ, ◌<◌, Bool, true, false, eqb, get_or, refl, sym, ap, subst, ◌∙◌, inl, inr, arith, eq-eqb}
 use Rattle.std.specs.List.{range_with_len}
-use Rattle.std.proofs.lemmas.Bool.{and_parts, eqb-true}
+use Rattle.std.proofs.lemmas.Bool.{and_parts, cases_Bool, eqb-true, false≢true, ne_eqb}
 use Rattle.std.proofs.lemmas.List.FromFn.{length-range_with_len, get_or-range_with_len}
-use Rattle.std.proofs.lemmas.List.Sums.{position_or_len_is}
+use Rattle.std.proofs.lemmas.List.Sums.{passes_at_first, position_or_len_is}
 use Rattle.rr_graph.specs.declared.node.Node.{Node}
 use Rattle.rr_graph.specs.Node.{IsBefore, rank_of}
-use Rattle.rr_graph.specs.Graph.{RoutingGraph}
-use Rattle.pathfinder.specs.PlacedNets.{is_same_node, number_of}
+use Rattle.rr_graph.specs.Graph.{RoutingGraph, make_node}
+use Rattle.rr_graph.proofs.Columns.{same_kind}
+use Rattle.pathfinder.specs.Terminals.{is_same_node}
+use Rattle.pathfinder.specs.PlacedNets.{number_of}
 
 not_before : (a b : Node) → a.x ≡ b.x → rank_of a.kind ≡ rank_of b.kind → a.y ≡ b.y → a.n ≡ b.n → IsBefore a b → ⊥
 not_before a b x k y n (inl l) = omega (arith, l, x)
@@ -36,3 +38,30 @@ number_found g ordered i node within is =
       | false ↦ λ e. refl
     ] refl)
     (λ l. ap test (at i within) ∙ ap (λ (n : Node). is_same_node n node) is ∙ same_itself node)
+
+-- nodes that pass the test are one
+pub same_node : (a b : Node) → is_same_node a b ≡ true → a ≡ b
+same_node a b is =
+    let column = and_parts (eqb a.x b.x) _ is in
+    let kind = and_parts (eqb (rank_of a.kind) (rank_of b.kind)) _ column.1 in
+    let row = and_parts (eqb a.y b.y) _ kind.1 in
+    ap (λ x. make_node x a.kind a.y a.n) (eqb-true a.x b.x column.0)
+    ∙ (ap (λ kind. make_node b.x kind a.y a.n) (same_kind a.kind b.kind (eqb-true (rank_of a.kind) (rank_of b.kind) kind.0))
+    ∙ (ap (λ y. make_node b.x b.kind y a.n) (eqb-true a.y b.y row.0) ∙ ap (λ n. make_node b.x b.kind b.y n) (eqb-true a.n b.n row.1)))
+
+-- a number of the graph that a node has is its own
+pub number_there : (g : RoutingGraph) (node : Node) → number_of g node < g.count → g.node (number_of g node) ≡ node
+number_there g node few =
+    let numbers = range_with_len 0 g.count in
+    let passes = passes_at_first (λ number. is_same_node (g.node number) node) numbers 0 (omega (arith, length-range_with_len 0 g.count, few)) in
+    let at : get_or numbers (number_of g node) 0 ≡ number_of g node = get_or-range_with_len 0 g.count (number_of g node) 0 few ∙ omega arith in
+    same_node (g.node (number_of g node)) node (subst (λ k. is_same_node (g.node k) node ≡ true) at passes)
+
+-- whether a number of the graph is a node's
+pub is_number : (g : RoutingGraph) → ((i j : ℕ) → i < j → j < g.count → IsBefore (g.node i) (g.node j)) → (node : Node) (i : ℕ) → i < g.count → is_same_node node (g.node i) ≡ eqb i (number_of g node)
+is_number g ordered node i few = elim (cases_Bool (is_same_node node (g.node i))) [
+  | inl is ↦ is ∙ sym (eq-eqb i (number_of g node) (sym (number_found g ordered i node few (sym (same_node node (g.node i) is)))))
+  | inr isn't ↦ isn't ∙ sym (ne_eqb i (number_of g node) (λ e.
+      let there : g.node i ≡ node = ap g.node e ∙ number_there g node (subst (λ k. k < g.count) e few) in
+      false≢true (sym isn't ∙ subst (λ other. is_same_node node other ≡ true) (sym there) (same_itself node))))
+]

@@ -26,7 +26,8 @@ use Rattle.rr_graph.specs.Geometry.{is_node}
 use Rattle.rr_graph.specs.Graph.{Basis, IsBasis, IsRoutingGraph, graph_of}
 use Rattle.pathfinder.specs.Wiring.{IsNet, AreNets}
 use Rattle.strip_place.specs.Placed.{block_at, place_of, ArePlaced}
-use Rattle.pathfinder.specs.PlacedNets.{wiring_of, number_of, source_at, sink_at, net_to_route, nets_to_route}
+use Rattle.pathfinder.specs.Terminals.{source_at, sink_at}
+use Rattle.pathfinder.specs.PlacedNets.{wiring_of, number_of, net_to_route, nets_to_route}
 use Rattle.pathfinder.proofs.NodeNumbers.{number_found}
 
 -- ---- they are nodes

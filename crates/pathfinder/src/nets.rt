@@ -4,7 +4,8 @@ ghost use Rattle.cluster.specs.Blocks.{blocks_of};
 ghost use Rattle.rr_graph.specs.Geometry.{is_node};
 ghost use Rattle.rr_graph.specs.Graph.{graph_of};
 ghost use Rattle.strip_place.specs.Placed.{ArePlaced, block_at, place_of};
-ghost use Rattle.pathfinder.specs.PlacedNets.{number_of, source_at, sink_at, net_to_route, nets_to_route};
+ghost use Rattle.pathfinder.specs.Terminals.{source_at, sink_at};
+ghost use Rattle.pathfinder.specs.PlacedNets.{number_of, net_to_route, nets_to_route};
 ghost use Rattle.strip_place.specs.Anneal.{places_by_block};
 ghost use Rattle.cluster.specs.PackingLaws.{IsBlockNet};
 

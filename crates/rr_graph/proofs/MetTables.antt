@@ -9,7 +9,7 @@ use Rattle.arch_file.specs.declared.arch.Arch.{Arch}
 use Rattle.grid.specs.declared.Strip.{Strip}
 use Rattle.rr_graph.specs.declared.node.Node.{Node}
 use Rattle.rr_graph.specs.declared.node.NodeKind.TheVariants.{Sink}
-use Rattle.rr_graph.specs.Geometry.{is_read, meets_track, is_node, is_slot, is_terminal, is_chan_y, is_pad_row, is_block_row, is_block_number}
+use Rattle.rr_graph.specs.Geometry.{is_read, meets_track, is_node, is_slot, is_chan_y, is_pad_row, is_block_row, is_block_number}
 use Rattle.rr_graph.specs.Met.{met_by, IsMetTable}
 
 pub met_none : (arch : Arch) → IsMetTable arch []
@@ -42,7 +42,7 @@ pub sink_row : (arch : Arch) (strip : Strip) (sink : Node) → sink.kind ≡ Sin
 sink_row arch strip sink kind there =
     let outer = and_parts (nat_le sink.x strip.width) ((nat_le 1 sink.x || is_chan_y sink.kind) && is_slot arch strip sink.kind sink.y sink.n) there in
     let slot = (and_parts (nat_le 1 sink.x || is_chan_y sink.kind) (is_slot arch strip sink.kind sink.y sink.n) outer.1).1 in
-    let terminal : is_terminal arch strip Sink sink.y sink.n ≡ true = subst (λ k. is_slot arch strip k sink.y sink.n ≡ true) kind slot in
+    let terminal : is_slot arch strip Sink sink.y sink.n ≡ true = subst (λ k. is_slot arch strip k sink.y sink.n ≡ true) kind slot in
     elim (or_cases (is_pad_row strip sink.y && nat_lt sink.n strip.io_rat) (is_block_row strip sink.y && is_block_number arch Sink sink.n) terminal) [
       | inl pad ↦ (let few = ltb-true sink.n strip.io_rat (and_parts (is_pad_row strip sink.y) (nat_lt sink.n strip.io_rat) pad).1 in either (is_block_row strip sink.y) sink.n strip.io_rat few)
       | inr block ↦ (let on = (and_parts (is_block_row strip sink.y) (is_block_number arch Sink sink.n) block).0 in rw on (omega arith))

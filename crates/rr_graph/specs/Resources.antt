@@ -4,7 +4,7 @@ use Rattle.std.specs.List.{list_any}
 use Rattle.arch_file.specs.declared.arch.Arch.{Arch}
 use Rattle.grid.specs.declared.Strip.{Strip}
 use Rattle.rr_graph.specs.declared.node.NodeKind.{NodeKind}
-use Rattle.rr_graph.specs.declared.node.NodeKind.TheVariants.{Source, Sink, Opin, Ipin, ChanX, ChanY}
+use Rattle.rr_graph.specs.declared.node.NodeKind.TheVariants.{Opin, Ipin, ChanX, ChanY}
 use Rattle.rr_graph.specs.declared.node.Node.{Node}
 use Rattle.rr_graph.specs.declared.resource.ResourceKind.{ResourceKind}
 use Rattle.rr_graph.specs.declared.resource.ResourceKind.TheVariants.{Opin as OpinHeld, Ipin as IpinHeld, ChanX as ChanXHeld, ChanY as ChanYHeld, Pad}
@@ -13,12 +13,11 @@ use Rattle.rr_graph.specs.Geometry.{is_node, is_pad_row}
 
 -- the kind of a node, where it is a pin or a wire
 abbrev pub resource_kind_of : NodeKind → Option ResourceKind
-resource_kind_of Source = None
-resource_kind_of Sink = None
 resource_kind_of Opin = Some OpinHeld
 resource_kind_of Ipin = Some IpinHeld
 resource_kind_of ChanX = Some ChanXHeld
 resource_kind_of ChanY = Some ChanYHeld
+resource_kind_of _ = None
 
 -- the pin or the wire that a node stands for
 abbrev pub resource_of : Node → Option Resource

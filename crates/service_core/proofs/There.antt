@@ -1,6 +1,7 @@
 -- What a strip has stands in the book.
 use Rattle.std.proofs.Common.{◌≡◌, ◌⊎◌, inl, inr, ℕ, ◌+◌, ◌<◌, ◌≤◌, List, length, Bool, true, false, ◌&&◌, ◌||◌, nat_le, nat_lt, Option, Some, None, refl, subst, arith}
 use Rattle.std.specs.Prelude.{max, slice_get, ◌==◌, if◌then◌else◌, replicate, slice_index_or}
+use Rattle.std.specs.Option.{option_map_or}
 use Rattle.std.proofs.lemmas.Bool.{and_parts, and_from, or_cases, eqb-true, leb-true, ltb-true, le-leb, lt-ltb, false≢true}
 use Rattle.std.proofs.lemmas.List.{get_or-replicate}
 use Rattle.std.proofs.lemmas.Option.{slice_get_within}
@@ -12,7 +13,7 @@ use Rattle.rr_graph.specs.declared.node.NodeKind.TheVariants as Nodes
 use Rattle.rr_graph.specs.declared.resource.ResourceKind.{ResourceKind}
 use Rattle.rr_graph.specs.declared.resource.ResourceKind.TheVariants.{Opin, Ipin, ChanX, ChanY, Pad}
 use Rattle.rr_graph.specs.declared.resource.Resource.{Resource}
-use Rattle.rr_graph.specs.Geometry.{is_block_number, is_block_row, is_pad_row, is_slot, pin_passes}
+use Rattle.rr_graph.specs.Geometry.{is_block_number, is_block_row, is_pad_row, is_slot}
 use Rattle.rr_graph.specs.Resources.{is_there, moved_resource}
 use Rattle.device_book.specs.declared.book.Extent.{Extent}
 use Rattle.device_book.specs.Owners.{extent_of, in_book, nobody, number_of, owner_of, size_of}
@@ -37,10 +38,10 @@ pad_row strip y is = by_row (or_cases (y == 0) (y == strip.rows + 1) is)
 block_row : (strip : Strip) (y : ℕ) → is_block_row strip y ≡ true → y ≤ strip.rows + 1
 block_row strip y is = let both = and_parts (nat_le 1 y) (nat_le y strip.rows) is in let high : y ≤ strip.rows = leb-true y strip.rows both.1 in omega (arith, high)
 
-pin_within : (test : Pin → Bool) (pins : List Pin) (n : ℕ) → pin_passes test (slice_get pins n) ≡ true → n < length pins
+pin_within : (test : Pin → Bool) (pins : List Pin) (n : ℕ) → option_map_or test (slice_get pins n) false ≡ true → n < length pins
 pin_within test pins n is = by_pin (slice_get pins n) refl is
   where
-    by_pin : (o : Option Pin) → slice_get pins n ≡ o → pin_passes test o ≡ true → n < length pins
+    by_pin : (o : Option Pin) → slice_get pins n ≡ o → option_map_or test o false ≡ true → n < length pins
     by_pin None e is = absurd (false≢true is)
     by_pin (Some pin) e is = slice_get_within pins n pin e
 

@@ -5,7 +5,8 @@ use Rattle.cluster.specs.Blocks.{blocks_of}
 use Rattle.rr_graph.specs.Geometry.{is_node}
 use Rattle.rr_graph.specs.Graph.{graph_of}
 use Rattle.strip_place.specs.Placed.{block_at, place_of}
-use Rattle.pathfinder.specs.PlacedNets.{number_of, source_at}
+use Rattle.pathfinder.specs.PlacedNets.{number_of}
+use Rattle.pathfinder.specs.Terminals.{source_at}
 use Rattle.pathfinder.proofs.PlacedTerminals.{block_source}
 use Rattle.pathfinder.proofs.nets.source_of.Goals as goal
 

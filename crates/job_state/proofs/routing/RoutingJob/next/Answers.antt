@@ -1,12 +1,14 @@
-use Rattle.std.proofs.Common.{◌≡◌, ◌≤◌, ◌^◌, ◌∙◌, arith, ap, sym, subst}
-use Rattle.pathfinder.specs.PlacedNets.{wiring_of}
+use Rattle.std.proofs.Common.{◌≡◌, ◌+◌, ◌∙◌, arith, ap, sym, subst}
+use Rattle.std.proofs.lemmas.Result.{IfErr-weaker, IfOk-weaker}
 use Rattle.pathfinder.specs.Routings.{IsDone}
-use Rattle.pathfinder.specs.Wiring.{IsWiring}
-use Rattle.rr_graph.specs.Graph.{graph_of}
-use Rattle.job_state.specs.RoutedCircuits.{AreThere, on_trees}
+use Rattle.job_state.specs.declared.work.Work.TheVariants.{Routing, Routed, Unlisted}
+use Rattle.job_state.specs.JobValue.{routing_after}
+use Rattle.job_state.specs.RoutedCircuits.{AreThere, on_trees, on_strip}
+use Rattle.job_state.specs.Stages.{state_at}
+use Rattle.job_state.specs.Steps.{IsLeft}
 use Rattle.job_state.specs.UnderWay.{RoutingUnderWay}
 use Rattle.job_state.proofs.There.{done_there}
-use Rattle.job_state.proofs.RoutingSteps.{few_nets}
+use Rattle.job_state.proofs.RoutingSteps.{few_nets, found_on}
 use Rattle.job_state.proofs.routing.RoutingJob.next.Goals as goal
 
 pub overflow_cast-result : goal.overflow_cast-result
@@ -18,8 +20,30 @@ overflow_cast-result g c =
 pub routed_on-requires-clause-routes : goal.routed_on-requires-clause-routes
 routed_on-requires-clause-routes g c =
     let basis = g.G.StripGraph.basis c.args.graph.now in
-    let few : (graph_of basis).count ≤ 2 ^ 23 = omega (arith, c.count-count.ensures.few, c.count-count.ensures.value) in
-    let law : IsWiring (wiring_of basis) = c.strip_wiring.ensures basis c.count-count.ensures.basis few in
     let done : IsDone basis c.in-Ok.routing c.in-Ok-Done.routes = rw c.in-Ok-Done.field-0-is at c.in-Ok-Done.ensures.end in
-    let there = done_there basis c.count-count.ensures.lawful law c.in-Ok.routing c.in-Ok.ensures.goes c.in-Ok-Done.routes done in
+    let there = done_there basis c.in-Ok.routing c.in-Ok-Done.routes done in
     subst (λ other. AreThere other (on_trees c.in-Ok-Done.routes)) (c.requires ∙ sym (ap (λ (r : RoutingUnderWay). r.basis) c.self.view_is)) there
+
+pub returns-in-Ok-Done-clause-made : goal.returns-in-Ok-Done-clause-made
+returns-in-Ok-Done-clause-made g c =
+    let basis = g.G.StripGraph.basis c.args.graph.now in
+    let inside = c.self.inside in
+    let routing = c.in-Ok.routing in
+    let routes = c.in-Ok-Done.routes in
+    let done : IsDone basis routing routes = rw c.in-Ok-Done.field-0-is at c.in-Ok-Done.ensures.end in
+    let here = c.requires ∙ sym (ap (λ (r : RoutingUnderWay). r.basis) c.self.view_is) in
+    let state = c.in-Ok.ensures.made ∙ (ap (λ other. state_at other inside.stage) here ∙ ap (λ (r : RoutingUnderWay). r.state) c.self.view_is) in
+    let found = found_on basis (on_strip inside.arch inside.strip) c.args.self inside.pads.items routing routes c.routed_on.result done here c.requires (ap (λ (r : RoutingUnderWay). r.pads) c.self.view_is) state c.routed_on.ensures in
+    IfOk-weaker c.ended.result (λ work. work ≡ Routed c.routed_on.result) (λ work. work ≡ routing_after c.args.self.basis c.args.self.pads c.args.self.state.nets (c.args.self.state.iterations + 1)) (λ work is. is ∙ found) c.ended.ensures.made
+
+pub returns-in-Ok-Done-clause-back : goal.returns-in-Ok-Done-clause-back
+returns-in-Ok-Done-clause-back g c =
+    let basis = g.G.StripGraph.basis c.args.graph.now in
+    let inside = c.self.inside in
+    let routing = c.in-Ok.routing in
+    let routes = c.in-Ok-Done.routes in
+    let done : IsDone basis routing routes = rw c.in-Ok-Done.field-0-is at c.in-Ok-Done.ensures.end in
+    let here = c.requires ∙ sym (ap (λ (r : RoutingUnderWay). r.basis) c.self.view_is) in
+    let state = c.in-Ok.ensures.made ∙ (ap (λ other. state_at other inside.stage) here ∙ ap (λ (r : RoutingUnderWay). r.state) c.self.view_is) in
+    let found = found_on basis (on_strip inside.arch inside.strip) c.args.self inside.pads.items routing routes c.routed_on.result done here c.requires (ap (λ (r : RoutingUnderWay). r.pads) c.self.view_is) state c.routed_on.ensures in
+    IfErr-weaker c.ended.result (λ work. work ≡ Unlisted c.routed_on.result) (IsLeft (Routing c.args.self)) (λ work is. subst (IsLeft (Routing c.args.self)) (sym is) (sym found)) c.ended.ensures.back
