@@ -17,6 +17,7 @@ use std::alloc::{AllocGlobal, Global};
 use std::sync::Wait;
 use std::sync::ledger::Ledger;
 use std::thread::Threads;
+use std::time::Clock;
 use strips::DeviceGraph;
 use worker_pool::Shared;
 
@@ -25,7 +26,7 @@ pub(crate) fn run_sessions<
     't,
     C: Begun + Send + Sync,
     P: Ledger + Send + Sync,
-    R: Threads + Wait + AllocGlobal + Sync,
+    R: Threads + Wait + Clock + AllocGlobal + Sync,
 >(
     rt: &R,
     graph: &DeviceGraph,
@@ -87,7 +88,7 @@ fn run_prepared<
     't,
     C: Begun + Send + Sync,
     P: Ledger + Send + Sync,
-    R: Threads + Wait + AllocGlobal + Sync,
+    R: Threads + Wait + Clock + AllocGlobal + Sync,
 >(
     rt: &R,
     graph: &DeviceGraph,

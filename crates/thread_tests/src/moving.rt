@@ -12,6 +12,7 @@ use std::sync::atomic::Ordering::SeqCst;
 use std::sync::ledger::Ledger;
 use std::thread;
 use std::thread::Threads;
+use std::time::Clock;
 use strips::DeviceGraph;
 use tenant_slot::StateName;
 use worker_pool::{Shared, run_worker};
@@ -70,7 +71,7 @@ fn prepared<C: Begun, P: Ledger, R: Wait + AllocGlobal>(
 pub(crate) fn moves_under_a_held_job<
     C: Begun + Send + Sync,
     P: Ledger + Send + Sync,
-    R: Threads + Wait + AllocGlobal + Sync,
+    R: Threads + Wait + Clock + AllocGlobal + Sync,
 >(rt: &R, core: Core<C, P>, graph: &DeviceGraph) -> bool
     requires { C.stay ≡ false }
 {
@@ -93,13 +94,11 @@ pub(crate) fn moves_under_a_held_job<
 }
 
 /// Whether the strip moves meanwhile, and the tenancy is routed where it stands in the end.
-fn is_routed_elsewhere<C: Begun + Send + Sync, P: Ledger + Send + Sync, R: Threads + Wait + Sync>(
-    rt: &R,
-    core: Core<C, P>,
-    graph: &DeviceGraph,
-    ready: &Ready,
-    worker: Worker<P>,
-) -> bool
+fn is_routed_elsewhere<
+    C: Begun + Send + Sync,
+    P: Ledger + Send + Sync,
+    R: Threads + Wait + Clock + Sync,
+>(rt: &R, core: Core<C, P>, graph: &DeviceGraph, ready: &Ready, worker: Worker<P>) -> bool
     requires worker { worker.seat.of ≡ ready.now }
     requires stay { C.stay ≡ false }
 {
@@ -120,13 +119,11 @@ fn is_routed<C: Begun, P: Ledger>(core: &Core<C, P>) -> bool {
 }
 
 /// Whether a worker holds a step until the strip has moved.
-fn moves_meanwhile<C: Begun + Send + Sync, P: Ledger + Send + Sync, R: Threads + Wait + Sync>(
-    rt: &R,
-    shared: &Shared<C, P>,
-    graph: &DeviceGraph,
-    ready: &Ready,
-    worker: Worker<P>,
-) -> bool
+fn moves_meanwhile<
+    C: Begun + Send + Sync,
+    P: Ledger + Send + Sync,
+    R: Threads + Wait + Clock + Sync,
+>(rt: &R, shared: &Shared<C, P>, graph: &DeviceGraph, ready: &Ready, worker: Worker<P>) -> bool
     requires worker { worker.seat.of ≡ ready.now }
     requires stay { C.stay ≡ false }
 {

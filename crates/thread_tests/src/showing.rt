@@ -15,6 +15,7 @@ use std::marker::Brand;
 use std::sync::Wait;
 use std::sync::ledger::{Blank, Ledger};
 use std::thread::Threads;
+use std::time::Clock;
 use strips::DeviceGraph;
 
 /// What is shown.
@@ -40,7 +41,7 @@ pub(crate) enum Worked {
 fn is_shown<
     C: Begun + Send + Sync,
     P: Ledger + Send + Sync,
-    R: Threads + Wait + AllocGlobal + Sync,
+    R: Threads + Wait + Clock + AllocGlobal + Sync,
 >(rt: &R, core: Core<C, P>, graph: &DeviceGraph, shown: Shown) -> bool
     requires { C.stay ≡ false }
 {
@@ -56,7 +57,7 @@ fn is_shown<
 fn is_shown_on_graph<
     C: Begun + Send + Sync,
     P: Ledger + Send + Sync,
-    R: Threads + Wait + AllocGlobal + Sync,
+    R: Threads + Wait + Clock + AllocGlobal + Sync,
 >(rt: &R, core: Core<C, P>, shown: Shown) -> bool
     requires { C.stay ≡ false }
 {
@@ -77,7 +78,7 @@ fn is_shown_on_graph<
 fn shows_on<
     C: Begun + Send + Sync,
     P: Ledger + Send + Sync,
-    R: Threads + Wait + AllocGlobal + Sync,
+    R: Threads + Wait + Clock + AllocGlobal + Sync,
 >(rt: &R, device: Device, commands: Blank, puts: Blank, shown: Shown) -> bool
     requires small { IsSmall device }
     requires commands { (commands.name ≡ C.name) × (commands.parts ≡ C.parts) × (commands.parts ≡ 65536) }
@@ -92,7 +93,7 @@ fn shows_on<
 }
 
 /// The same, of a core of its own.
-fn shows<R: Threads + Wait + AllocGlobal + Sync>(rt: &R, shown: Shown) -> bool {
+fn shows<R: Threads + Wait + Clock + AllocGlobal + Sync>(rt: &R, shown: Shown) -> bool {
     match new_device(rt.alloc()) {
         Some(device) => {
             let commands = Blank::new(65_536);
