@@ -5,8 +5,9 @@ ghost use Rattle.thread_tests.specs.Devices.{IsSmall};
 
 use crate::cores::{new_core, new_device, new_graph};
 use crate::failing::all_end_so;
-use crate::moving::moves_under_a_held_job;
+use crate::meanwhile::{ACTS, Act, acts_under_a_held_job};
 use crate::same_told::tells_the_same;
+use crate::starving::wait_is_told;
 use crate::workers::is_worked;
 use service_core::Device;
 use shared_core::{Begun, Core};
@@ -24,8 +25,9 @@ enum Shown {
     Worked(Worked),
     /// Beside so many workers.
     SessionsTellTheSame(usize),
-    StripMoves,
+    Meanwhile(Act),
     FailingDevices,
+    NumberGivenUp,
 }
 
 /// What is shown of workers.
@@ -48,8 +50,9 @@ fn is_shown<
     match shown {
         Shown::Worked(worked) => is_worked(rt, core, graph, worked),
         Shown::SessionsTellTheSame(workers) => tells_the_same(rt, core, graph, workers),
-        Shown::StripMoves => moves_under_a_held_job(rt, core, graph),
+        Shown::Meanwhile(act) => acts_under_a_held_job(rt, core, graph, act),
         Shown::FailingDevices => all_end_so(rt, core),
+        Shown::NumberGivenUp => wait_is_told(rt, core),
     }
 }
 
@@ -139,12 +142,26 @@ fn sixteen_workers_tell_the_same(rt: HostRuntime) {
     assert!(rt; shows(&rt, Shown::SessionsTellTheSame(16)));
 }
 
+/// Whether each act is done while a worker holds a step, and leaves what it should.
+fn each_act_is_shown<R: Threads + Wait + Clock + AllocGlobal + Sync>(rt: &R) -> bool {
+    let mut are_shown = true;
+    for act in ACTS.iter() {
+        are_shown &= shows(rt, Shown::Meanwhile(*act));
+    }
+    are_shown
+}
+
 #[test]
-fn a_strip_moves_under_a_held_step(rt: HostRuntime) {
-    assert!(rt; shows(&rt, Shown::StripMoves));
+fn acts_under_a_held_step_leave_what_they_should(rt: HostRuntime) {
+    assert!(rt; each_act_is_shown(&rt));
 }
 
 #[test]
 fn a_session_ends_where_its_device_fails(rt: HostRuntime) {
     assert!(rt; shows(&rt, Shown::FailingDevices));
+}
+
+#[test]
+fn a_wait_ends_where_the_number_is_given_up(rt: HostRuntime) {
+    assert!(rt; shows(&rt, Shown::NumberGivenUp));
 }

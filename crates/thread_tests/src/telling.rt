@@ -30,7 +30,7 @@ pub(crate) type AllTold<C> = Result<Vec<Told<C>>, AllocError>;
 pub(crate) type Shares<P> = Result<Vec<Share<P>>, AllocError>;
 
 /// Runs a session over memory.
-fn run_over<C: Begun, P: Ledger, R: Wait + AllocGlobal>(
+pub(crate) fn run_over<C: Begun, P: Ledger, R: Wait + AllocGlobal>(
     rt: &R,
     shared: &Shared<C, P>,
     ready: &Ready,
