@@ -1,5 +1,5 @@
 -- Private: what a worker's turn under the lock leaves.
-use Rattle.std.specs.Prelude.{ℕ, ◌≡◌, ⊥, Bool, true, false, Option, None}
+use Rattle.std.specs.Prelude.{ℕ, ◌≡◌, Bool, true, false, Option, None}
 use Rattle.shared_core.specs.CoreState.{CoreState, ready_number, with_mark}
 use Rattle.worker_pool.specs.declared.lack.Served.{Served}
 use Rattle.worker_pool.specs.declared.lack.Served.TheVariants.{Nothing, Made, NoMemory}
