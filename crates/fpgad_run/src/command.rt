@@ -13,15 +13,16 @@ use std::io::Read;
 use std::rt::Files;
 use std::sync::Wait;
 use std::thread::Threads;
+use std::time::Clock;
 
 /// What the program does with its words, the first being its name: reads the options, the architecture's file if there
 /// is one, and the script, and serves it. An error is clap's: the option line is refused, or asks for help.
-pub fn run_words<H: Files + Threads + Wait + AllocGlobal + Sync, S: AsStr, R: Source, W: Sink>(
-    rt: &H,
-    words: &[S],
-    reader: &mut R,
-    writer: &mut W,
-) -> Result<Outcome, Error>
+pub fn run_words<
+    H: Files + Threads + Wait + Clock + AllocGlobal + Sync,
+    S: AsStr,
+    R: Source,
+    W: Sink,
+>(rt: &H, words: &[S], reader: &mut R, writer: &mut W) -> Result<Outcome, Error>
     ensures { RunsWords (R.remaining reader.old) result (W.contents writer.old) (W.contents writer.new) }
 {
     match read_options(rt.alloc(), words) {
@@ -32,7 +33,7 @@ pub fn run_words<H: Files + Threads + Wait + AllocGlobal + Sync, S: AsStr, R: So
 }
 
 /// Runs a script as the command line says.
-pub fn run_line<H: Files + Threads + Wait + AllocGlobal + Sync, R: Source, W: Sink>(
+pub fn run_line<H: Files + Threads + Wait + Clock + AllocGlobal + Sync, R: Source, W: Sink>(
     rt: &H,
     line: &CommandLine<'_>,
     reader: &mut R,

@@ -15,9 +15,10 @@ use script_threads::{Answered, Section, serve_on_threads};
 use std::alloc::{AllocError, AllocGlobal, Global};
 use std::sync::Wait;
 use std::thread::Threads;
+use std::time::Clock;
 
 /// The bytes that the run of a script writes beside so many workers as the options say, at least one, or why it writes none.
-pub(crate) fn replies<H: Threads + Wait + AllocGlobal + Sync>(
+pub(crate) fn replies<H: Threads + Wait + Clock + AllocGlobal + Sync>(
     rt: &H,
     options: &Options,
     architecture: Architecture<'_>,

@@ -12,6 +12,7 @@ use line_text::{ReadError, Sink, Source, read_all, write_all};
 use std::alloc::{AllocGlobal, Global};
 use std::sync::Wait;
 use std::thread::Threads;
+use std::time::Clock;
 
 /// Runs a script: reads it whole, checks it whole, serves it in order, and writes the replies. Without memory for
 /// the program's own tables, and where it or the architecture is refused, nothing is written.
@@ -41,7 +42,7 @@ pub fn run_script<R: Source, W: Sink>(
 }
 
 /// The same without workers; with some, the sessions are served on threads of their own beside them.
-pub fn run<H: Threads + Wait + AllocGlobal + Sync, R: Source, W: Sink>(
+pub fn run<H: Threads + Wait + Clock + AllocGlobal + Sync, R: Source, W: Sink>(
     rt: &H,
     options: &Options,
     architecture: Architecture<'_>,

@@ -17,6 +17,7 @@ use std::sync::Wait;
 use std::sync::ledger::Ledger;
 use std::thread;
 use std::thread::{JoinHandle, Promise, PromisedHandle, Scope, Threads};
+use std::time::Clock;
 use strips::DeviceGraph;
 use worker_pool::{Open, Shared, run_worker};
 
@@ -48,7 +49,7 @@ pub(crate) fn run_crowd<
     't,
     C: Begun + Send + Sync,
     P: Ledger + Send + Sync,
-    R: Threads + Wait + AllocGlobal + Sync,
+    R: Threads + Wait + Clock + AllocGlobal + Sync,
 >(
     rt: &R,
     shared: &Shared<C, P>,
@@ -79,7 +80,7 @@ fn run_in<
     E,
     C: Begun + Send + Sync + 's,
     P: Ledger + Send + Sync + 's,
-    R: Threads + Wait + AllocGlobal + Sync + 's,
+    R: Threads + Wait + Clock + AllocGlobal + Sync + 's,
 >(
     rt: &'s R,
     scope: &Scope<'s, E>,
@@ -119,7 +120,7 @@ fn start_all<
     E,
     C: Begun + Send + Sync + 's,
     P: Ledger + Send + Sync + 's,
-    R: Wait + AllocGlobal + Sync + 's,
+    R: Wait + Clock + AllocGlobal + Sync + 's,
 >(
     rt: &'s R,
     scope: &Scope<'s, E>,
@@ -189,7 +190,7 @@ fn start_workers<
     E,
     C: Begun + Send + Sync + 's,
     P: Ledger + Send + Sync + 's,
-    R: Wait + Sync + 's,
+    R: Wait + Clock + Sync + 's,
 >(
     rt: &'s R,
     scope: &Scope<'s, E>,

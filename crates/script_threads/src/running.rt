@@ -18,6 +18,7 @@ use std::alloc::{AllocError, AllocGlobal, Global};
 use std::sync::Wait;
 use std::sync::ledger::Ledger;
 use std::thread::Threads;
+use std::time::Clock;
 use strips::DeviceGraph;
 use worker_pool::Shared;
 
@@ -26,7 +27,7 @@ pub(crate) fn run_sessions<
     't,
     C: Begun + Send + Sync,
     P: Ledger + Send + Sync,
-    R: Threads + Wait + AllocGlobal + Sync,
+    R: Threads + Wait + Clock + AllocGlobal + Sync,
 >(
     rt: &R,
     graph: &DeviceGraph,
@@ -92,7 +93,7 @@ fn run_prepared<
     't,
     C: Begun + Send + Sync,
     P: Ledger + Send + Sync,
-    R: Threads + Wait + AllocGlobal + Sync,
+    R: Threads + Wait + Clock + AllocGlobal + Sync,
 >(
     rt: &R,
     graph: &DeviceGraph,

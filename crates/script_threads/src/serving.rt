@@ -21,10 +21,11 @@ use std::marker::Brand;
 use std::sync::Wait;
 use std::sync::ledger::{Blank, Ledger};
 use std::thread::Threads;
+use std::time::Clock;
 use strips::DeviceGraph;
 
 /// Serves a script of sessions of different names with so many workers, at most 16, from an empty device.
-pub fn serve_on_threads<'t, R: Threads + Wait + AllocGlobal + Sync>(
+pub fn serve_on_threads<'t, R: Threads + Wait + Clock + AllocGlobal + Sync>(
     rt: &R,
     workers: u32,
     device: Device,
@@ -54,7 +55,7 @@ pub fn serve_on_threads<'t, R: Threads + Wait + AllocGlobal + Sync>(
 }
 
 /// The same over the device's graph.
-fn serve_over<'t, R: Threads + Wait + AllocGlobal + Sync>(
+fn serve_over<'t, R: Threads + Wait + Clock + AllocGlobal + Sync>(
     rt: &R,
     workers: u32,
     graph: &DeviceGraph,
@@ -81,7 +82,7 @@ fn serve_over<'t, R: Threads + Wait + AllocGlobal + Sync>(
 }
 
 /// Serves a script by a service that no one uses.
-fn serve_script<'t, R: Threads + Wait + AllocGlobal + Sync>(
+fn serve_script<'t, R: Threads + Wait + Clock + AllocGlobal + Sync>(
     rt: &R,
     workers: u32,
     graph: &DeviceGraph,
@@ -119,7 +120,7 @@ fn serve_script<'t, R: Threads + Wait + AllocGlobal + Sync>(
 }
 
 /// Serves the parts of a script, and appends what the operator is told. Gives what each name's session was told.
-fn serve_parts<'t, R: Threads + Wait + AllocGlobal + Sync>(
+fn serve_parts<'t, R: Threads + Wait + Clock + AllocGlobal + Sync>(
     rt: &R,
     workers: u32,
     graph: &DeviceGraph,
@@ -163,7 +164,7 @@ fn serve_sessions<
     't,
     C: Begun + Send + Sync,
     P: Ledger + Send + Sync,
-    R: Threads + Wait + AllocGlobal + Sync,
+    R: Threads + Wait + Clock + AllocGlobal + Sync,
 >(
     rt: &R,
     workers: u32,

@@ -6,3 +6,4 @@ pub mod ItemLemmas
 pub mod OutcomeLemmas
 pub mod TurnLemmas
 pub mod SessionLemmas
+pub mod WaitingLemmas

@@ -2,4 +2,5 @@ pub mod Inputs
 pub mod Lines
 pub mod Outcomes
 pub mod Told
+pub mod Waiting
 pub mod WholeSession

@@ -10,6 +10,7 @@ mod line;
 mod lines;
 mod session;
 mod told;
+mod waiting;
 
 pub use session::run_session;
 pub use told::write_told;

@@ -10,6 +10,7 @@ use crate::items::{ItemReader, Outcome};
 use crate::line::Line;
 use crate::lines::{LineEnd, LineReader};
 use crate::told::{last_place, write_told};
+use crate::waiting::{Found, find};
 use job_queue::{Pass, Ready};
 use line_text::{Failed, Sink, Source};
 use sessions::SessionLine;
@@ -40,14 +41,12 @@ pub fn run_session<C: Begun, P: Ledger, S: Source, W: Sink, R: Wait + AllocGloba
 {
     let mut session = Session {
         pass,
-        kept: None,
         transcript: Transcript::new(rt.alloc(), lease),
     };
     let end = session.read_all(rt, shared, ready, reader, writer);
-    session.push_kept(rt, ready);
+    session.push_ready(rt, shared, ready);
     let Session {
         pass: _,
-        kept: _,
         mut transcript,
     } = session;
     transcript.finish(end);
@@ -58,8 +57,6 @@ pub fn run_session<C: Begun, P: Ledger, S: Source, W: Sink, R: Wait + AllocGloba
 #[derive(Drop)]
 struct Session<C: Begun> {
     pass: Pass,
-    /// A slot number that came back from the queue. It is pushed again before each further item, and in each turn of a `wait`.
-    kept: Option<u32>,
     transcript: Transcript<C>,
 }
 
@@ -200,14 +197,14 @@ impl<C: Begun> Session<C> {
             Outcome::Nothing => Ok(()),
             Outcome::Item(item) => self.answer(rt, shared, ready, item, writer),
             Outcome::NoMemory => {
-                self.push_kept(rt, ready);
+                self.push_ready(rt, shared, ready);
                 self.transcript.count_no_memory();
                 write_told(writer, None)
             }
         }
     }
 
-    /// Answers an item, and writes what it is told.
+    /// Answers an item, and writes what it is told. A number that was given up is pushed first.
     fn answer<P: Ledger, W: Sink, R: Wait>(
         &mut self,
         rt: &R,
@@ -221,7 +218,7 @@ impl<C: Begun> Session<C> {
         ensures of { self.new.pass.of ≡ self.old.pass.of }
         ensures told { TellsItem self.old.transcript.id item (λ text. Writes W.contents W.has_failed writer.old writer.new text result) self.old.transcript self.new.transcript }
     {
-        self.push_kept(rt, ready);
+        self.push_ready(rt, shared, ready);
         if self.note(rt, shared, ready, item) {
             write_told(writer, last_place(self.transcript.items()))
         } else {
@@ -247,8 +244,11 @@ impl<C: Begun> Session<C> {
             SessionLine::Refused(refusal) => self.transcript.refuse(refusal),
             SessionLine::Command(command) => self.ask(rt, shared, ready, command),
             SessionLine::Wait => {
-                self.wait(rt, shared, ready);
-                self.ask(rt, shared, ready, Command::Status)
+                if self.wait(rt, shared) {
+                    return self.ask(rt, shared, ready, Command::Status);
+                }
+                self.transcript.count_no_memory();
+                false
             }
         }
     }
@@ -280,46 +280,36 @@ impl<C: Begun> Session<C> {
         }
     }
 
-    /// Marks the slot's number, where there is a step to take, and pushes it.
+    /// Marks and pushes the slot's number, where a step is to be taken and its number is nobody's. One that the queue refuses is
+    /// nobody's again, until the session's next item.
     fn push_ready<P: Ledger, R: Wait>(&mut self, rt: &R, shared: &Shared<C, P>, ready: &Ready)
         requires { self.old.pass.of ≡ ready.now }
         ensures of { self.new.pass.of ≡ self.old.pass.of }
         ensures transcript { self.new.transcript ≡ self.old.transcript }
     {
         let marked = shared.core.lock(rt).mark_ready(self.transcript.id());
-        if let Some(slot) = marked {
-            self.kept = Some(slot);
-            self.push_kept(rt, ready);
+        let Some(slot) = marked else {
+            return;
+        };
+        if ready.push(rt, &mut self.pass, slot).is_err() {
+            let _holder = shared.core.lock(rt).popped(slot);
+            shared.changed.notify_all();
         }
     }
 
-    /// Pushes the number that came back, if there is one.
-    fn push_kept<R: Wait>(&mut self, rt: &R, ready: &Ready)
-        requires { self.old.pass.of ≡ ready.now }
-        ensures of { self.new.pass.of ≡ self.old.pass.of }
-        ensures transcript { self.new.transcript ≡ self.old.transcript }
-    {
-        if let Some(slot) = self.kept.take() {
-            if let Err(back) = ready.push(rt, &mut self.pass, slot) {
-                self.kept = Some(back.slot);
-            }
-        }
-    }
-
-    /// Waits until no job of the tenancy runs, its journal is full, or it isn't live.
-    fn wait<P: Ledger, R: Wait>(&mut self, rt: &R, shared: &Shared<C, P>, ready: &Ready)
-        requires { self.old.pass.of ≡ ready.now }
-        ensures of { self.new.pass.of ≡ self.old.pass.of }
-        ensures transcript { self.new.transcript ≡ self.old.transcript }
-    {
+    /// Waits until no step of the tenancy's is to come, and tells whether it came to that. It doesn't where memory lacks, so that
+    /// nobody has the number of the step that is to be taken.
+    fn wait<P: Ledger, R: Wait>(&self, rt: &R, shared: &Shared<C, P>) -> bool {
+        let id = self.transcript.id();
         for _ in rt.forever() {
-            self.push_kept(rt, ready);
-            let core = shared.core.lock(rt);
-            if core.idle(self.transcript.id()) {
-                return;
+            let mut core = shared.core.lock(rt);
+            match find(&mut *core, id) {
+                Found::Ended => return true,
+                Found::GivenUp => return false,
+                Found::Goes => drop(shared.changed.wait(rt, core)),
             }
-            drop(shared.changed.wait(rt, core));
         }
+        unreachable!()
     }
 }
 

@@ -16,14 +16,17 @@ use std::sync::ledger::{Blank, Ledger};
 use strips::{DeviceGraph, Window};
 use tenant_slot::{Command, SharedText};
 
-/// The device has so many columns, one row and two tracks.
+/// The device has so many columns, and one row.
 const COLUMNS: u32 = 8;
 
-/// The smallest architecture, with two tracks.
-fn architecture(alloc: Global) -> Option<Arch>
+/// And so many tracks.
+const TRACKS: u32 = 2;
+
+/// The smallest architecture, with so many tracks.
+fn architecture(alloc: Global, tracks: u32) -> Option<Arch>
     ensures { IfSome result (λ arch. IsArch arch) }
 {
-    match read_arch(alloc, ARCHITECTURE.as_bytes(), 2) {
+    match read_arch(alloc, ARCHITECTURE.as_bytes(), tracks) {
         Ok(arch) => Some(arch),
         Err(_) => None,
     }
@@ -33,7 +36,7 @@ fn architecture(alloc: Global) -> Option<Arch>
 pub(crate) fn new_device(alloc: Global) -> Option<Device>
     ensures { IfSome result IsSmall }
 {
-    match architecture(alloc) {
+    match architecture(alloc, TRACKS) {
         Some(arch) => Some(Device {
             arch,
             columns: COLUMNS,
@@ -60,7 +63,17 @@ pub(crate) fn new_core<C: Begun, P: Ledger>(
 
 /// The graph of the device.
 pub(crate) fn new_graph(alloc: Global) -> Option<DeviceGraph> {
-    match architecture(alloc) {
+    graph_with(alloc, TRACKS)
+}
+
+/// The graph of a device that has two tracks more. No job fits it.
+pub(crate) fn other_graph(alloc: Global) -> Option<DeviceGraph> {
+    graph_with(alloc, TRACKS + 2)
+}
+
+/// The graph of a device with so many tracks.
+fn graph_with(alloc: Global, tracks: u32) -> Option<DeviceGraph> {
+    match architecture(alloc, tracks) {
         Some(arch) => {
             let graph = DeviceGraph::new(alloc, &arch, COLUMNS, 1);
             drop(arch);
@@ -70,7 +83,7 @@ pub(crate) fn new_graph(alloc: Global) -> Option<DeviceGraph> {
     }
 }
 
-fn text(alloc: Global) -> Option<SharedText> {
+pub(crate) fn text(alloc: Global) -> Option<SharedText> {
     match Text::from_slice(alloc, AND.as_bytes()) {
         Ok(text) => SharedText::new(alloc, text).ok(),
         Err(_) => None,
@@ -116,7 +129,11 @@ pub(crate) fn begin_routing<C: Begun, P: Ledger>(
     if begins { slot } else { None }
 }
 
-fn is_served<C: Begun, P: Ledger>(core: &mut Core<C, P>, id: u32, command: Command) -> bool {
+pub(crate) fn is_served<C: Begun, P: Ledger>(
+    core: &mut Core<C, P>,
+    id: u32,
+    command: Command,
+) -> bool {
     core.tenant(id, command).is_ok()
 }
 

@@ -5,7 +5,8 @@
 //! - `workers`: a worker that drains a closed queue, two steps at once, and a step without the lock.
 //! - `same_told`: four sessions beside workers are told what they are told alone.
 //! - `failing`: sessions whose reader or writer fails at each call in turn.
-//! - `moving`: a strip that moves while a worker holds a step.
+//! - `starving`: a worker that gives each number up, so that `wait` is told it.
+//! - `meanwhile`: what is done to a tenancy while a worker holds a step of it.
 //! - `cores`, `gates`, `seats`, `telling`: what these share.
 #![tactic(auto)]
 
@@ -16,13 +17,15 @@ mod failing;
 #[cfg(test)]
 mod gates;
 #[cfg(test)]
-mod moving;
+mod meanwhile;
 #[cfg(test)]
 mod same_told;
 #[cfg(test)]
 mod seats;
 #[cfg(test)]
 mod showing;
+#[cfg(test)]
+mod starving;
 #[cfg(test)]
 mod telling;
 #[cfg(test)]

@@ -14,6 +14,7 @@ use std::alloc::{AllocGlobal, Global};
 use std::sync::Wait;
 use std::sync::ledger::Ledger;
 use std::thread::Threads;
+use std::time::Clock;
 use strips::DeviceGraph;
 use transcripts::{End, Transcript};
 use worker_pool::Shared;
@@ -114,7 +115,7 @@ fn workers_are_seated<C: Begun, P: Ledger>(
 pub(crate) fn tells_the_same<
     C: Begun + Send + Sync,
     P: Ledger + Send + Sync,
-    R: Threads + Wait + AllocGlobal + Sync,
+    R: Threads + Wait + Clock + AllocGlobal + Sync,
 >(rt: &R, core: Core<C, P>, graph: &DeviceGraph, count: usize) -> bool
     requires { C.stay ≡ false }
 {
@@ -142,7 +143,7 @@ pub(crate) fn tells_the_same<
 fn are_told<
     C: Begun + Send + Sync,
     P: Ledger + Send + Sync,
-    R: Threads + Wait + AllocGlobal + Sync,
+    R: Threads + Wait + Clock + AllocGlobal + Sync,
 >(rt: &R, core: Core<C, P>, graph: &DeviceGraph, ready: &Ready, crew: Crew<C, P>) -> bool
     requires speakers { All (λ s. (s.pass.of ≡ ready.now) × (s.lease.made ≡ 0)) crew.speakers.items }
     requires workers { All (λ w. w.seat.of ≡ ready.now) crew.workers.items }

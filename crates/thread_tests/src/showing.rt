@@ -5,8 +5,9 @@ ghost use Rattle.thread_tests.specs.Devices.{IsSmall};
 
 use crate::cores::{new_core, new_device, new_graph};
 use crate::failing::all_end_so;
-use crate::moving::moves_under_a_held_job;
+use crate::meanwhile::{ACTS, Act, acts_under_a_held_job};
 use crate::same_told::tells_the_same;
+use crate::starving::wait_is_told;
 use crate::workers::is_worked;
 use service_core::Device;
 use shared_core::{Begun, Core};
@@ -15,6 +16,7 @@ use std::marker::Brand;
 use std::sync::Wait;
 use std::sync::ledger::{Blank, Ledger};
 use std::thread::Threads;
+use std::time::Clock;
 use strips::DeviceGraph;
 
 /// What is shown.
@@ -23,8 +25,9 @@ enum Shown {
     Worked(Worked),
     /// Beside so many workers.
     SessionsTellTheSame(usize),
-    StripMoves,
+    Meanwhile(Act),
     FailingDevices,
+    NumberGivenUp,
 }
 
 /// What is shown of workers.
@@ -40,15 +43,16 @@ pub(crate) enum Worked {
 fn is_shown<
     C: Begun + Send + Sync,
     P: Ledger + Send + Sync,
-    R: Threads + Wait + AllocGlobal + Sync,
+    R: Threads + Wait + Clock + AllocGlobal + Sync,
 >(rt: &R, core: Core<C, P>, graph: &DeviceGraph, shown: Shown) -> bool
     requires { C.stay ≡ false }
 {
     match shown {
         Shown::Worked(worked) => is_worked(rt, core, graph, worked),
         Shown::SessionsTellTheSame(workers) => tells_the_same(rt, core, graph, workers),
-        Shown::StripMoves => moves_under_a_held_job(rt, core, graph),
+        Shown::Meanwhile(act) => acts_under_a_held_job(rt, core, graph, act),
         Shown::FailingDevices => all_end_so(rt, core),
+        Shown::NumberGivenUp => wait_is_told(rt, core),
     }
 }
 
@@ -56,7 +60,7 @@ fn is_shown<
 fn is_shown_on_graph<
     C: Begun + Send + Sync,
     P: Ledger + Send + Sync,
-    R: Threads + Wait + AllocGlobal + Sync,
+    R: Threads + Wait + Clock + AllocGlobal + Sync,
 >(rt: &R, core: Core<C, P>, shown: Shown) -> bool
     requires { C.stay ≡ false }
 {
@@ -77,7 +81,7 @@ fn is_shown_on_graph<
 fn shows_on<
     C: Begun + Send + Sync,
     P: Ledger + Send + Sync,
-    R: Threads + Wait + AllocGlobal + Sync,
+    R: Threads + Wait + Clock + AllocGlobal + Sync,
 >(rt: &R, device: Device, commands: Blank, puts: Blank, shown: Shown) -> bool
     requires small { IsSmall device }
     requires commands { (commands.name ≡ C.name) × (commands.parts ≡ C.parts) × (commands.parts ≡ 65536) }
@@ -92,7 +96,7 @@ fn shows_on<
 }
 
 /// The same, of a core of its own.
-fn shows<R: Threads + Wait + AllocGlobal + Sync>(rt: &R, shown: Shown) -> bool {
+fn shows<R: Threads + Wait + Clock + AllocGlobal + Sync>(rt: &R, shown: Shown) -> bool {
     match new_device(rt.alloc()) {
         Some(device) => {
             let commands = Blank::new(65_536);
@@ -138,12 +142,26 @@ fn sixteen_workers_tell_the_same(rt: HostRuntime) {
     assert!(rt; shows(&rt, Shown::SessionsTellTheSame(16)));
 }
 
+/// Whether each act is done while a worker holds a step, and leaves what it should.
+fn each_act_is_shown<R: Threads + Wait + Clock + AllocGlobal + Sync>(rt: &R) -> bool {
+    let mut are_shown = true;
+    for act in ACTS.iter() {
+        are_shown &= shows(rt, Shown::Meanwhile(*act));
+    }
+    are_shown
+}
+
 #[test]
-fn a_strip_moves_under_a_held_step(rt: HostRuntime) {
-    assert!(rt; shows(&rt, Shown::StripMoves));
+fn acts_under_a_held_step_leave_what_they_should(rt: HostRuntime) {
+    assert!(rt; each_act_is_shown(&rt));
 }
 
 #[test]
 fn a_session_ends_where_its_device_fails(rt: HostRuntime) {
     assert!(rt; shows(&rt, Shown::FailingDevices));
+}
+
+#[test]
+fn a_wait_ends_where_the_number_is_given_up(rt: HostRuntime) {
+    assert!(rt; shows(&rt, Shown::NumberGivenUp));
 }

@@ -11,6 +11,7 @@ use std::sync::Wait;
 use std::sync::ledger::Ledger;
 use std::thread;
 use std::thread::Threads;
+use std::time::Clock;
 use strips::DeviceGraph;
 use transcripts::Transcript;
 use worker_pool::{Gate, Shared, run_worker};
@@ -29,7 +30,7 @@ pub(crate) type AllTold<C> = Result<Vec<Told<C>>, AllocError>;
 pub(crate) type Shares<P> = Result<Vec<Share<P>>, AllocError>;
 
 /// Runs a session over memory.
-fn run_over<C: Begun, P: Ledger, R: Wait + AllocGlobal>(
+pub(crate) fn run_over<C: Begun, P: Ledger, R: Wait + AllocGlobal>(
     rt: &R,
     shared: &Shared<C, P>,
     ready: &Ready,
@@ -52,7 +53,7 @@ fn run_over<C: Begun, P: Ledger, R: Wait + AllocGlobal>(
 fn run_sessions<
     C: Begun + Send + Sync,
     P: Ledger + Send + Sync,
-    R: Threads + Wait + AllocGlobal + Sync,
+    R: Threads + Wait + Clock + AllocGlobal + Sync,
 >(rt: &R, shared: &Shared<C, P>, ready: &Ready, speakers: Vec<Speaker<C>>) -> AllTold<C>
     requires { All (λ s. (s.pass.of ≡ ready.now) × (s.lease.made ≡ 0)) speakers.items }
 {
@@ -72,7 +73,7 @@ fn run_workers<
     C: Begun + Send + Sync,
     P: Ledger + Send + Sync,
     G: Gate + Sync,
-    R: Threads + Wait + Sync,
+    R: Threads + Wait + Clock + Sync,
 >(
     rt: &R,
     shared: &Shared<C, P>,
@@ -97,7 +98,7 @@ pub(crate) fn run_together<
     C: Begun + Send + Sync,
     P: Ledger + Send + Sync,
     G: Gate + Sync,
-    R: Threads + Wait + AllocGlobal + Sync,
+    R: Threads + Wait + Clock + AllocGlobal + Sync,
 >(
     rt: &R,
     shared: &Shared<C, P>,

@@ -13,6 +13,7 @@ use std::sync::atomic::Ordering::SeqCst;
 use std::sync::ledger::Ledger;
 use std::thread;
 use std::thread::Threads;
+use std::time::Clock;
 use strips::DeviceGraph;
 use tenant_slot::StateName;
 use worker_pool::{Open, Shared, run_worker};
@@ -99,7 +100,7 @@ fn prepared<C: Begun, P: Ledger, R: Wait + AllocGlobal>(
 pub(crate) fn is_worked<
     C: Begun + Send + Sync,
     P: Ledger + Send + Sync,
-    R: Threads + Wait + AllocGlobal + Sync,
+    R: Threads + Wait + Clock + AllocGlobal + Sync,
 >(rt: &R, core: Core<C, P>, graph: &DeviceGraph, worked: Worked) -> bool
     requires { C.stay ≡ false }
 {
@@ -122,7 +123,7 @@ pub(crate) fn is_worked<
 }
 
 /// Whether that is so, and both tenancies are placed in the end.
-fn works<C: Begun + Send + Sync, P: Ledger + Send + Sync, R: Threads + Wait + Sync>(
+fn works<C: Begun + Send + Sync, P: Ledger + Send + Sync, R: Threads + Wait + Clock + Sync>(
     rt: &R,
     core: Core<C, P>,
     graph: &DeviceGraph,
@@ -156,7 +157,7 @@ fn is_placed<C: Begun, P: Ledger>(core: &Core<C, P>, id: u32) -> bool {
 }
 
 /// One worker alone. It ends only if it finds the queue closed.
-fn drains<C: Begun, P: Ledger, R: Wait>(
+fn drains<C: Begun, P: Ledger, R: Wait + Clock>(
     rt: &R,
     shared: &Shared<C, P>,
     graph: &DeviceGraph,
@@ -173,7 +174,7 @@ fn drains<C: Begun, P: Ledger, R: Wait>(
 }
 
 /// Whether two workers step two tenancies at once.
-fn two_at_once<C: Begun + Send + Sync, P: Ledger + Send + Sync, R: Threads + Wait + Sync>(
+fn two_at_once<C: Begun + Send + Sync, P: Ledger + Send + Sync, R: Threads + Wait + Clock + Sync>(
     rt: &R,
     shared: &Shared<C, P>,
     graph: &DeviceGraph,
@@ -200,7 +201,7 @@ fn two_at_once<C: Begun + Send + Sync, P: Ledger + Send + Sync, R: Threads + Wai
 }
 
 /// Whether two workers step two tenancies at once, both of whose numbers the first has pushed.
-fn one_stolen<C: Begun + Send + Sync, P: Ledger + Send + Sync, R: Threads + Wait + Sync>(
+fn one_stolen<C: Begun + Send + Sync, P: Ledger + Send + Sync, R: Threads + Wait + Clock + Sync>(
     rt: &R,
     shared: &Shared<C, P>,
     graph: &DeviceGraph,
@@ -231,7 +232,7 @@ fn takes_both<R: Wait>(rt: &R, ready: &Ready, seat: &mut Seat) -> bool
 }
 
 /// Whether a step is made while another thread holds the lock.
-fn without_lock<C: Begun + Send + Sync, P: Ledger + Send + Sync, R: Threads + Wait + Sync>(
+fn without_lock<C: Begun + Send + Sync, P: Ledger + Send + Sync, R: Threads + Wait + Clock + Sync>(
     rt: &R,
     shared: &Shared<C, P>,
     graph: &DeviceGraph,

@@ -20,6 +20,7 @@ use std::process::ExitCode;
 use std::rt::Files;
 use std::sync::Wait;
 use std::thread::Threads;
+use std::time::Clock;
 
 fn main(rt: HostRuntime) -> ExitCode {
     match run_all(&rt) {
@@ -29,7 +30,7 @@ fn main(rt: HostRuntime) -> ExitCode {
 }
 
 /// Runs what standard input lists. Gives whether all agree.
-fn run_all<H: Input + Print + Files + Threads + Wait + AllocGlobal + Sync>(
+fn run_all<H: Input + Print + Files + Threads + Wait + Clock + AllocGlobal + Sync>(
     rt: &H,
 ) -> io::Result<bool> {
     let mut runs = 0u64;
@@ -45,7 +46,7 @@ fn run_all<H: Input + Print + Files + Threads + Wait + AllocGlobal + Sync>(
 }
 
 /// Runs one line of the list, and prints it with what came of it. Gives whether that agrees.
-fn tell<H: Print + Files + Threads + Wait + AllocGlobal + Sync>(
+fn tell<H: Print + Files + Threads + Wait + Clock + AllocGlobal + Sync>(
     rt: &H,
     line: &str,
 ) -> io::Result<bool> {

@@ -11,6 +11,7 @@ use std::io::Read;
 use std::rt::Files;
 use std::sync::Wait;
 use std::thread::Threads;
+use std::time::Clock;
 
 /// What a run writes, tells and ends with.
 #[derive(Drop)]
@@ -21,7 +22,7 @@ struct Ended {
 }
 
 /// Runs a row as the service's program does, and compares what comes of it with its files.
-pub(crate) fn verdict_on<H: Files + Threads + Wait + AllocGlobal + Sync>(
+pub(crate) fn verdict_on<H: Files + Threads + Wait + Clock + AllocGlobal + Sync>(
     rt: &H,
     row: Row<'_>,
 ) -> Result<Verdict, AllocError> {
@@ -35,7 +36,7 @@ pub(crate) fn verdict_on<H: Files + Threads + Wait + AllocGlobal + Sync>(
 }
 
 /// Runs a row's script under these words.
-fn run_row<H: Files + Threads + Wait + AllocGlobal + Sync>(
+fn run_row<H: Files + Threads + Wait + Clock + AllocGlobal + Sync>(
     rt: &H,
     name: &str,
     words: &[&str],
@@ -47,7 +48,7 @@ fn run_row<H: Files + Threads + Wait + AllocGlobal + Sync>(
 }
 
 /// Runs a script under these words.
-fn run_script<H: Files + Threads + Wait + AllocGlobal + Sync>(
+fn run_script<H: Files + Threads + Wait + Clock + AllocGlobal + Sync>(
     rt: &H,
     words: &[&str],
     script: &[u8],

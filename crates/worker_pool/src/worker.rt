@@ -3,19 +3,20 @@ ghost use Rattle.std.specs.Prelude.{◌≡◌, ◌≤◌, ⊤, IfSome, MatchOpti
 ghost use Rattle.job_state.specs.JobValue.{basis_in};
 
 use crate::gate::Gate;
+use crate::lack::{Served, lacks_after, pause};
 use crate::shared::Shared;
+use crate::turns::{Taken, give_back, put, take};
 use job_queue::{Law, Popped, Ready, Seat};
 use job_state::{AnyJob, Back, Done};
-use service_core::PutReply;
 use shared_core::{Begun, Share};
 use std::sync::Wait;
 use std::sync::ledger::Ledger;
+use std::time::Clock;
 use strips::{DeviceGraph, Window};
-use tenant_slot::StepReply;
 
 /// Serves the numbers of the queue until it is closed and empty, and doesn't end before. Answers its share, which counts the puts that
 /// were recorded.
-pub fn run_worker<C: Begun, P: Ledger, G: Gate, J: Law, R: Wait>(
+pub fn run_worker<C: Begun, P: Ledger, G: Gate, J: Law, R: Wait + Clock>(
     rt: &R,
     shared: &Shared<C, P>,
     ready: &Ready<J>,
@@ -35,8 +36,9 @@ pub fn run_worker<C: Begun, P: Ledger, G: Gate, J: Law, R: Wait>(
     share
 }
 
-/// Serves the numbers of the queue until it is closed and empty. A number that its own deque refuses is served next.
-fn serve_all<C: Begun, P: Ledger, G: Gate, J: Law, R: Wait>(
+/// Serves the numbers of the queue until it is closed and empty. A number that its own deque refuses is served next, and so is one
+/// whose step found no memory, after a pause, until it is given up.
+fn serve_all<C: Begun, P: Ledger, G: Gate, J: Law, R: Wait + Clock>(
     rt: &R,
     shared: &Shared<C, P>,
     ready: &Ready<J>,
@@ -50,14 +52,21 @@ fn serve_all<C: Begun, P: Ledger, G: Gate, J: Law, R: Wait>(
     ensures closed { J.closed }
 {
     let mut kept = None;
+    let mut lacks = 0;
     for _ in rt.forever() {
         let Some(slot) = next_number(rt, ready, seat, kept) else {
             return;
         };
-        kept = match serve(rt, shared, graph, share, gate, slot) {
-            Some(id) => push_next(rt, shared, ready, seat, id),
-            None => None,
+        let served = serve(rt, shared, graph, share, gate, slot, lacks);
+        kept = match served {
+            Served::Nothing => None,
+            Served::Made(next) => push_next(rt, ready, seat, next),
+            Served::NoMemory(again) => {
+                pause(rt, lacks);
+                again
+            }
         };
+        lacks = lacks_after(lacks, served);
     }
     unreachable!()
 }
@@ -82,9 +91,8 @@ fn next_number<J: Law, R: Wait>(
     }
 }
 
-/// Serves a number: takes the next step of the job of its tenancy, reads where its strip stands, makes the step without the lock
-/// through the window there and puts it. A job that the graph doesn't fit, or whose tenancy isn't live, is given back. Answers whose
-/// it was, where there may be a next one.
+/// Serves a number: takes the next step of the job of its tenancy and reads where its strip stands, makes the step without the lock
+/// through the window there, and puts it. A job that the graph doesn't fit is given back. So many steps before this one found no memory.
 fn serve<C: Begun, P: Ledger, G: Gate, R: Wait>(
     rt: &R,
     shared: &Shared<C, P>,
@@ -92,41 +100,23 @@ fn serve<C: Begun, P: Ledger, G: Gate, R: Wait>(
     share: &mut Share<P>,
     gate: &G,
     slot: u32,
-) -> Option<u32>
+    lacks: u32,
+) -> Served
     ensures { share.old.puts ≤ share.new.puts }
 {
-    let id = popped(rt, shared, slot)?;
-    let job = take(rt, shared, id)?;
-    let offset = offset(rt, shared, id);
-    let again = match window_at(graph, &job, offset) {
-        Some(window) => step_and_put(rt, shared, share, gate, job, &window),
+    let taken = take(&mut *shared.core.lock(rt), slot);
+    let Some(Taken { job, offset }) = taken else {
+        return Served::Nothing;
+    };
+    let served = match window_at(graph, &job, offset) {
+        Some(window) => step_and_put(rt, shared, share, gate, job, &window, lacks),
         None => {
-            give_back(rt, shared, job.into_back());
-            false
+            shared.core.lock(rt).give_back(job.into_back());
+            Served::Nothing
         }
     };
     shared.changed.notify_all();
-    again.then_some(id)
-}
-
-/// Whose the number is that was popped.
-fn popped<C: Begun, P: Ledger, R: Wait>(rt: &R, shared: &Shared<C, P>, slot: u32) -> Option<u32> {
-    shared.core.lock(rt).popped(slot)
-}
-
-/// Takes the next step of the job of that tenancy.
-fn take<C: Begun, P: Ledger, R: Wait>(rt: &R, shared: &Shared<C, P>, id: u32) -> Option<AnyJob> {
-    shared.core.lock(rt).take(id)
-}
-
-/// Where the strip of that tenancy stands.
-fn offset<C: Begun, P: Ledger, R: Wait>(rt: &R, shared: &Shared<C, P>, id: u32) -> Option<u32> {
-    shared.core.lock(rt).offset(id)
-}
-
-/// Gives a job back.
-fn give_back<C: Begun, P: Ledger, R: Wait>(rt: &R, shared: &Shared<C, P>, back: Back) {
-    shared.core.lock(rt).give_back(back)
+    served
 }
 
 /// The window for a job's step, where its strip stands.
@@ -139,8 +129,7 @@ fn window_at<'g>(graph: &'g DeviceGraph, job: &AnyJob, offset: Option<u32>) -> O
     }
 }
 
-/// Makes a step through its window without the lock, and puts it. Without memory the job is given back. Answers whether there may be
-/// a next one.
+/// Makes a step through its window without the lock, and puts it. Without memory the job is given back.
 fn step_and_put<C: Begun, P: Ledger, G: Gate, R: Wait>(
     rt: &R,
     shared: &Shared<C, P>,
@@ -148,16 +137,14 @@ fn step_and_put<C: Begun, P: Ledger, G: Gate, R: Wait>(
     gate: &G,
     job: AnyJob,
     window: &Window<'_>,
-) -> bool
+    lacks: u32,
+) -> Served
     requires { window.now ≡ basis_in job.step.sources }
     ensures { share.old.puts ≤ share.new.puts }
 {
     match stepped(gate, job, window) {
-        Ok(done) => put(rt, shared, share, done),
-        Err(back) => {
-            give_back(rt, shared, back);
-            true
-        }
+        Ok(done) => put(&mut *shared.core.lock(rt), share, done, lacks),
+        Err(back) => give_back(&mut *shared.core.lock(rt), back, lacks),
     }
 }
 
@@ -171,38 +158,17 @@ fn stepped<G: Gate>(gate: &G, job: AnyJob, window: &Window<'_>) -> Result<Done, 
     stepped
 }
 
-/// Puts a step. Without memory it is given back, and to be put later. Answers whether there may be a next one.
-fn put<C: Begun, P: Ledger, R: Wait>(
+/// Pushes a number. One that isn't pushed comes back.
+fn push_next<J: Law, R: Wait>(
     rt: &R,
-    shared: &Shared<C, P>,
-    share: &mut Share<P>,
-    done: Done,
-) -> bool
-    ensures { share.old.puts ≤ share.new.puts }
-{
-    let answer = shared.core.lock(rt).share_put(share, done);
-    match answer {
-        Ok(reply) => reply == PutReply::Recorded(StepReply::Advanced),
-        Err((done, _)) => {
-            give_back(rt, shared, done.into_back());
-            true
-        }
-    }
-}
-
-/// Marks and pushes the slot number of a tenancy that has a step to take. A number that isn't pushed comes back.
-fn push_next<C: Begun, P: Ledger, J: Law, R: Wait>(
-    rt: &R,
-    shared: &Shared<C, P>,
     ready: &Ready<J>,
     seat: &mut Seat<J>,
-    id: u32,
+    next: Option<u32>,
 ) -> Option<u32>
     requires { seat.old.of ≡ ready.now }
     ensures { seat.new.of ≡ seat.old.of }
 {
-    let slot = shared.core.lock(rt).mark_ready(id)?;
-    match ready.push_own(rt, seat, slot) {
+    match ready.push_own(rt, seat, next?) {
         Ok(()) => None,
         Err(back) => Some(back.slot),
     }

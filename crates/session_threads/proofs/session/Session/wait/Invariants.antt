@@ -1,5 +1,0 @@
-use Rattle.std.proofs.Common.{◌≡◌}
-use Rattle.session_threads.proofs.session.Session.wait.Given as goal
-
-abbrev pub invariant-loop : goal.invariant-loop
-invariant-loop g l = (l.self.pass.of ≡ l.ready) × (l.self.pass.of ≡ l.fn.self.pass.of) × (l.self.transcript ≡ l.fn.self.transcript)

@@ -1,0 +1,2 @@
+pub mod Lack
+pub mod Turns
