@@ -50,7 +50,7 @@ element_line packed cluster element =
 abbrev pub net_word : Circuit → Option ℕ → List ℕ
 net_word circuit net = option_map_or (net_name circuit) net (codes "open")
 
--- the lines of a block that begin with that word, its pins with those nets, and the lines of its BLEs, and an empty line
+-- the lines of a block: its word and its name, what its pins carry, the lines of its BLEs, and an empty line
 abbrev pub lines_with : List ℕ → List ℕ → List (List ℕ) → List (List (List ℕ)) → List (List (List ℕ))
 lines_with word name nets elements = (word ∷ name ∷ []) ∷ (codes "pinlist:" ∷ nets) ∷ elements ++ [] ∷ []
 
