@@ -2,7 +2,7 @@
 use Rattle.std.specs.Prelude.{ℕ, ◌+◌, List, [], ◌∷◌, ◌++◌, length, codes, decimal, Result, Ok, Err, Option, Some, None, unwrap_or, if◌then◌else◌}
 use Rattle.std.specs.Str.{bytes_eq}
 use Rattle.sessions.specs.declared.steps.StepOutcome.{StepOutcome}
-use Rattle.sessions.specs.declared.steps.StepOutcome.TheVariants.{Recorded, Full, Gone, NoMemory, Nothing, Unfit}
+use Rattle.sessions.specs.declared.steps.StepOutcome.TheVariants.{Recorded, Full, Gone, NoMemory}
 use Rattle.tenant_slot.specs.Names.{state_text}
 use Rattle.strips.specs.Plan.{offset_of}
 use Rattle.service_core.specs.declared.op_refusal.OpRefusal.{OpRefusal}
@@ -34,8 +34,7 @@ outcome_word (Recorded reply) = step_text reply
 outcome_word Full = codes "full"
 outcome_word Gone = codes "gone"
 outcome_word NoMemory = codes "nomemory"
-outcome_word Nothing = codes "none"
-outcome_word Unfit = codes "none"
+outcome_word outcome = codes "none"
 
 -- and as a line
 abbrev pub outcome_text : StepOutcome → List ℕ
@@ -56,14 +55,11 @@ abbrev pub names_after : List (List ℕ) → List ℕ → Result (ℕ × ℕ) Op
 names_after names name (Ok given) = name ∷ names
 names_after names name (Err refusal) = names
 
--- a tenancy's line: its id, its name, where its strip stands, how wide it is, and its state
-abbrev pub row_text : ℕ → List ℕ → ℕ → ℕ → List ℕ → List ℕ
-row_text id name offset width state = decimal id ++ blank_word name ++ blank_word (decimal offset) ++ blank_word (decimal width) ++ blank_word state ++ 10 ∷ []
-
--- the line of a tenancy in the operator's list, if it is live
+-- the line of a tenancy in the operator's list, if it is live: its id, its name, where its strip stands, how wide it is, and its state
 abbrev pub listed_text : Option History → Option ℕ → ℕ → List ℕ → List ℕ
 listed_text None offset id name = []
-listed_text (Some h) offset id name = row_text id name (unwrap_or offset 0) h.strip.width (state_text (state_of h).name)
+listed_text (Some h) offset id name =
+    decimal id ++ blank_word name ++ blank_word (decimal (unwrap_or offset 0)) ++ blank_word (decimal h.strip.width) ++ blank_word (state_text (state_of h).name) ++ 10 ∷ []
 
 abbrev pub listed : ServiceState → ℕ → List ℕ → List ℕ
 listed service id name = listed_text (live_of service.histories id) (offset_of service.plan.strips id) id name

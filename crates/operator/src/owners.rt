@@ -1,8 +1,9 @@
 //! The owners of a device's pins, wires and pads, as the operator is told them.
-ghost use Rattle.std.specs.Prelude.{◌≡◌, ◌++◌, OnOk};
+ghost use Rattle.std.specs.Prelude.{◌≡◌, ◌++◌, OnOk, codes, decimal};
 ghost use Rattle.std.specs.List.{flat_map};
 ghost use Rattle.operator.specs.Held.{held};
-ghost use Rattle.operator.specs.OwnersText.{node_of, owned_text, owners_text, pad_text, resource_text};
+ghost use Rattle.operator.specs.OwnersText.{owned_text, owners_text, resource_text};
+ghost use Rattle.vpr_files.specs.NodeText.{node_text_of, position_text};
 
 use crate::reply::push_parts;
 use device_book::Owned;
@@ -48,20 +49,20 @@ fn push_owned(reply: &mut MemorySink, rows: u32, owned: Owned) -> Result<(), All
 
 /// Appends a resource: a pin or a wire as its node stands in a `.route` file, and a pad likewise.
 fn push_resource(reply: &mut MemorySink, rows: u32, resource: Resource) -> Result<(), AllocError>
-    ensures { OnOk result (held reply.new ≡ held reply.old ++ resource_text rows resource) }
+    ensures { OnOk result (held reply.new ≡ held reply.old ++ resource_text rows resource resource.kind) }
 {
-    let Some(node) = node_of(resource) else {
-        return push_pad(reply, resource);
-    };
-    match write_node(node, rows, reply) {
-        Ok(()) => Ok(()),
-        Err(_) => Err(AllocError),
+    match resource.kind {
+        ResourceKind::Opin => push_node(reply, rows, NodeKind::Opin, resource),
+        ResourceKind::Ipin => push_node(reply, rows, NodeKind::Ipin, resource),
+        ResourceKind::ChanX => push_node(reply, rows, NodeKind::ChanX, resource),
+        ResourceKind::ChanY => push_node(reply, rows, NodeKind::ChanY, resource),
+        ResourceKind::Pad => push_pad(reply, resource),
     }
 }
 
 /// Appends a pad.
 fn push_pad(reply: &mut MemorySink, pad: Resource) -> Result<(), AllocError>
-    ensures { OnOk result (held reply.new ≡ held reply.old ++ pad_text pad) }
+    ensures { OnOk result (held reply.new ≡ held reply.old ++ codes "PAD " ++ position_text pad.x pad.y ++ codes " Pad: " ++ decimal pad.n) }
 {
     let (mut columns, mut rows, mut numbers) = (Buffer::new(), Buffer::new(), Buffer::new());
     let x = columns.format(pad.x).as_bytes();
@@ -70,17 +71,18 @@ fn push_pad(reply: &mut MemorySink, pad: Resource) -> Result<(), AllocError>
     push_parts(reply, &[b"PAD (", x, b",", y, b") Pad: ", n])
 }
 
-/// The node of a pin or a wire.
-fn node_of(resource: Resource) -> Option<Node>
-    ensures { result ≡ node_of resource }
+/// Appends a node of that kind, where a pin or a wire is.
+fn push_node(
+    reply: &mut MemorySink,
+    rows: u32,
+    kind: NodeKind,
+    resource: Resource,
+) -> Result<(), AllocError>
+    ensures { OnOk result (held reply.new ≡ held reply.old ++ node_text_of rows (record { x = resource.x; kind = kind; y = resource.y; n = resource.n })) }
 {
-    let kind = match resource.kind {
-        ResourceKind::Opin => NodeKind::Opin,
-        ResourceKind::Ipin => NodeKind::Ipin,
-        ResourceKind::ChanX => NodeKind::ChanX,
-        ResourceKind::ChanY => NodeKind::ChanY,
-        ResourceKind::Pad => return None,
-    };
     let Resource { x, y, n, .. } = resource;
-    Some(Node { x, kind, y, n })
+    match write_node(Node { x, kind, y, n }, rows, reply) {
+        Ok(()) => Ok(()),
+        Err(_) => Err(AllocError),
+    }
 }

@@ -1,8 +1,9 @@
 //! The lines that the operator is answered with.
-ghost use Rattle.std.specs.Prelude.{◌≡◌, ◌++◌, OnOk};
+ghost use Rattle.std.specs.Prelude.{◌≡◌, ◌++◌, ◌∷◌, [], OnOk, decimal};
 ghost use Rattle.std.specs.List.{flat_map};
 ghost use Rattle.operator.specs.Held.{held};
-ghost use Rattle.operator.specs.OperatorText.{admitted_text, evicted_text, listed, moved_text, outcome_text, outcome_word, refused_text, row_text, taken_text};
+ghost use Rattle.operator.specs.OperatorText.{admitted_text, evicted_text, listed, moved_text, outcome_text, outcome_word, refused_text, taken_text};
+ghost use Rattle.sessions.specs.SessionText.{blank_word};
 
 use itoa::Buffer;
 use line_text::{MemorySink, write_parts};
@@ -36,7 +37,7 @@ fn push_row<'t>(
     width: u32,
     state: &'t str,
 ) -> Result<(), AllocError>
-    ensures { OnOk result (held reply.new ≡ held reply.old ++ row_text id name.now offset width state.now) }
+    ensures { OnOk result (held reply.new ≡ held reply.old ++ decimal id ++ blank_word name.now ++ blank_word (decimal offset) ++ blank_word (decimal width) ++ blank_word state.now ++ 10 ∷ []) }
 {
     let (mut ids, mut offsets, mut widths) = (Buffer::new(), Buffer::new(), Buffer::new());
     let id = ids.format(id).as_bytes();

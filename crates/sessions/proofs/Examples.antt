@@ -26,5 +26,5 @@ accepted = refl
 cannot_pack : reply_text (RefusedReply (CannotPack 0)) ≡ codes "refused " ++ decimal 5 ++ codes " CannotPack" ++ (32 ∷ decimal 0) ++ codes "\n"
 cannot_pack = refl
 
-file : reply_text (File Net (codes "a\n\n")) ≡ (codes "text net " ++ decimal 3 ++ codes "\n") ++ codes "a\n\n"
+file : reply_text (File Net (codes "a\n\n")) ≡ codes "text net " ++ decimal 3 ++ codes "\na\n\n"
 file = refl

@@ -1,13 +1,11 @@
 -- The texts that a session is answered with.
 use Rattle.std.specs.Prelude.{ℕ, List, [], ◌∷◌, ◌++◌, length, codes, decimal, Option, Some, None, Ok, Err}
-use Rattle.blif.specs.declared.fault.BlifFault.{BlifFault}
+use Rattle.std.specs.Option.{option_map_or}
 use Rattle.blif.specs.Faults.{net_of, number_of}
 use Rattle.tenant_slot.specs.declared.reply.Reply.{Reply}
 use Rattle.tenant_slot.specs.declared.reply.Reply.TheVariants.{Accepted, Status as InState, File, Refused, Step}
-use Rattle.tenant_slot.specs.declared.reply.Status.{Status}
 use Rattle.tenant_slot.specs.declared.reply.Refusal.{Refusal}
 use Rattle.tenant_slot.specs.declared.reply.Refusal.TheVariants.{WrongState, BadBlif, CannotPack, DoesNotFit, BadEffort}
-use Rattle.tenant_slot.specs.declared.reply.Misfit.{Misfit}
 use Rattle.tenant_slot.specs.declared.reply.Misfit.TheVariants.{Blocks, Pads}
 use Rattle.tenant_slot.specs.declared.reply.Ending.{Ending}
 use Rattle.tenant_slot.specs.declared.reply.Ending.TheVariants.{GaveUp, NoPath}
@@ -25,34 +23,19 @@ use Rattle.sessions.specs.declared.refusal.SessionRefusal.TheVariants.{UnknownCo
 abbrev pub blank_word : List ℕ → List ℕ
 blank_word word = 32 ∷ word
 
-abbrev pub net_text : Option (List ℕ) → List ℕ
-net_text None = []
-net_text (Some net) = blank_word net
-
--- a netlist's fault: its number, its line, and the net that it names
-abbrev pub fault_text : BlifFault → List ℕ
-fault_text fault = blank_word (decimal (number_of fault.kind)) ++ blank_word (decimal fault.line) ++ net_text (net_of fault.kind)
-
--- of what a strip has too little: how much of it there is, and how much is needed
-abbrev pub misfit_text : Misfit → List ℕ
-misfit_text (Blocks have need) = blank_word (codes "blocks") ++ blank_word (decimal have) ++ blank_word (decimal need)
-misfit_text (Pads have need) = blank_word (codes "pads") ++ blank_word (decimal have) ++ blank_word (decimal need)
-
--- what follows a refusal's name
+-- what follows a refusal's name: of a netlist's fault its number, its line, and the net that it names; of what a strip has too little,
+-- how much of it there is, and how much is needed
 abbrev pub cause_text : Refusal → List ℕ
 cause_text (WrongState state) = blank_word (state_text state)
-cause_text (BadBlif fault) = fault_text fault
+cause_text (BadBlif fault) = blank_word (decimal (number_of fault.kind)) ++ blank_word (decimal fault.line) ++ option_map_or blank_word (net_of fault.kind) []
 cause_text (CannotPack ble) = blank_word (decimal ble)
-cause_text (DoesNotFit misfit) = misfit_text misfit
+cause_text (DoesNotFit (Blocks have need)) = blank_word (codes "blocks") ++ blank_word (decimal have) ++ blank_word (decimal need)
+cause_text (DoesNotFit (Pads have need)) = blank_word (codes "pads") ++ blank_word (decimal have) ++ blank_word (decimal need)
 cause_text BadEffort = []
 
 -- `WORD NUMBER NAME` and what follows, as a line
 abbrev pub numbered_line : List ℕ → ℕ → List ℕ → List ℕ → List ℕ
 numbered_line word number name more = word ++ blank_word (decimal number) ++ blank_word name ++ more ++ 10 ∷ []
-
--- a refused command as a line, with its cause
-abbrev pub refusal_line : Refusal → List ℕ
-refusal_line refusal = numbered_line (codes "refused") (refusal_number refusal) (refusal_text refusal) (cause_text refusal)
 
 -- the word for a step that was made
 abbrev pub step_text : StepReply → List ℕ
@@ -66,25 +49,13 @@ ending_text None = []
 ending_text (Some GaveUp) = blank_word (codes "gaveup")
 ending_text (Some (NoPath net)) = blank_word (codes "nopath") ++ blank_word net
 
--- `status STATE STEPS` and what follows, as a line
-abbrev pub steps_line : List ℕ → ℕ → List ℕ → List ℕ
-steps_line name steps more = codes "status" ++ blank_word name ++ blank_word (decimal steps) ++ more ++ 10 ∷ []
-
--- a status as a line
-abbrev pub status_line : Status → List ℕ
-status_line status = steps_line (state_text status.state) status.steps (ending_text status.ending)
-
--- `text NAME COUNT` as a line
-abbrev pub file_line : List ℕ → ℕ → List ℕ
-file_line name count = codes "text" ++ blank_word name ++ blank_word (decimal count) ++ 10 ∷ []
-
--- a reply as a line; a file follows its line as it is
+-- a reply as a line; a refusal tells its cause, and a file follows its line as it is
 abbrev pub reply_text : Reply → List ℕ
 reply_text (Accepted state) = codes "ok" ++ blank_word (state_text state) ++ 10 ∷ []
-reply_text (InState status) = status_line status
-reply_text (File kind text) = file_line (file_text kind) (length text) ++ text
+reply_text (InState status) = codes "status" ++ blank_word (state_text status.state) ++ blank_word (decimal status.steps) ++ ending_text status.ending ++ 10 ∷ []
+reply_text (File kind text) = codes "text" ++ blank_word (file_text kind) ++ blank_word (decimal (length text)) ++ 10 ∷ text
 reply_text (Step reply) = step_text reply ++ 10 ∷ []
-reply_text (Refused refusal) = refusal_line refusal
+reply_text (Refused refusal) = numbered_line (codes "refused") (refusal_number refusal) (refusal_text refusal) (cause_text refusal)
 
 abbrev pub session_refusal_number : SessionRefusal → ℕ
 session_refusal_number UnknownCommand = 1

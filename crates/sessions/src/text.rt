@@ -1,6 +1,8 @@
-ghost use Rattle.std.specs.Prelude.{◌≡◌, ◌++◌, [], codes, decimal, length};
+ghost use Rattle.std.specs.Prelude.{◌≡◌, ◌++◌, ◌∷◌, [], codes, decimal, length};
 ghost use Rattle.line_text.specs.Writing.{Writes};
-ghost use Rattle.sessions.specs.SessionText.{blank_word, fault_text, file_line, misfit_text, numbered_line, refusal_line, reply_text, session_refusal_text, status_line, step_text, steps_line};
+ghost use Rattle.sessions.specs.SessionText.{blank_word, cause_text, numbered_line, reply_text, session_refusal_text, step_text};
+ghost use Rattle.tenant_slot.specs.declared.reply.Reply.TheVariants.{Status as InState, Refused};
+ghost use Rattle.tenant_slot.specs.declared.reply.Refusal.TheVariants.{BadBlif, DoesNotFit};
 
 use crate::refusal::SessionRefusal;
 use blif::BlifFault;
@@ -65,7 +67,7 @@ pub fn write_reply<W: Sink>(sink: &mut W, reply: &Reply) -> Result<(), Failed>
 
 /// Writes the line of a status.
 fn write_status<W: Sink>(sink: &mut W, status: &Status) -> Result<(), Failed>
-    ensures { Writes W.contents W.has_failed sink.old sink.new (status_line status.now) result }
+    ensures { Writes W.contents W.has_failed sink.old sink.new (reply_text (InState status.now)) result }
 {
     let name = status.state.name();
     match &status.ending {
@@ -85,7 +87,7 @@ fn write_steps<'t, W: Sink>(
     more: &'t [u8],
     last: &'t [u8],
 ) -> Result<(), Failed>
-    ensures { Writes W.contents W.has_failed sink.old sink.new (steps_line name.now steps (more.now ++ last.now)) result }
+    ensures { Writes W.contents W.has_failed sink.old sink.new (codes "status" ++ blank_word name.now ++ blank_word (decimal steps) ++ (more.now ++ last.now) ++ 10 ∷ []) result }
 {
     let mut digits = Buffer::new();
     let steps = digits.format(steps).as_bytes();
@@ -95,7 +97,7 @@ fn write_steps<'t, W: Sink>(
 
 /// Writes the line of a file of that name, and its bytes behind it.
 fn write_file<'t, W: Sink>(sink: &mut W, name: &'t str, file: &'t [u8]) -> Result<(), Failed>
-    ensures { Writes W.contents W.has_failed sink.old sink.new (file_line name.now (length file.now) ++ file.now) result }
+    ensures { Writes W.contents W.has_failed sink.old sink.new (codes "text" ++ blank_word name.now ++ blank_word (decimal (length file.now)) ++ 10 ∷ file.now) result }
 {
     let mut digits = Buffer::new();
     let count = digits.format(file.len()).as_bytes();
@@ -105,7 +107,7 @@ fn write_file<'t, W: Sink>(sink: &mut W, name: &'t str, file: &'t [u8]) -> Resul
 
 /// Writes the line of a refused command, with its cause.
 fn write_refusal<W: Sink>(sink: &mut W, refusal: &Refusal) -> Result<(), Failed>
-    ensures { Writes W.contents W.has_failed sink.old sink.new (refusal_line refusal.now) result }
+    ensures { Writes W.contents W.has_failed sink.old sink.new (reply_text (Refused refusal.now)) result }
 {
     let (number, name) = (refusal.number(), refusal.name());
     match refusal {
@@ -137,7 +139,7 @@ fn write_misfit<'t, W: Sink>(
     name: &'t str,
     misfit: Misfit,
 ) -> Result<(), Failed>
-    ensures { Writes W.contents W.has_failed sink.old sink.new (numbered_line (codes "refused") number name.now (misfit_text misfit)) result }
+    ensures { Writes W.contents W.has_failed sink.old sink.new (numbered_line (codes "refused") number name.now (cause_text (DoesNotFit misfit))) result }
 {
     match misfit {
         Misfit::Blocks { have, need } => {
@@ -186,7 +188,7 @@ fn write_fault<W: Sink>(
     name: &str,
     fault: &BlifFault,
 ) -> Result<(), Failed>
-    ensures { Writes W.contents W.has_failed sink.old sink.new (numbered_line (codes "refused") number name.now (fault_text fault.now)) result }
+    ensures { Writes W.contents W.has_failed sink.old sink.new (numbered_line (codes "refused") number name.now (cause_text (BadBlif fault.now))) result }
 {
     let (mut digits, mut kinds, mut lines) = (Buffer::new(), Buffer::new(), Buffer::new());
     let number = digits.format(number).as_bytes();

@@ -24,14 +24,10 @@ failure_of (Ok GivenUp) = Some FailedAll
 failure_of (Ok (WithoutPath net)) = Some (FailedNet net)
 failure_of value = None
 
--- the name of a net between blocks
-abbrev pub block_net_name : PackedCircuit → ℕ → List ℕ
-block_net_name packed net = option_map_or (λ found. net_name packed.circuit found.net) (slice_get (block_nets packed) net) []
-
--- it is told with the net's name
+-- it is told with the name of the net between blocks
 abbrev pub ending_of : PackedCircuit → RoutingFailure → Ending
 ending_of packed FailedAll = GaveUp
-ending_of packed (FailedNet net) = NoPath (block_net_name packed net)
+ending_of packed (FailedNet net) = NoPath (option_map_or (λ found. net_name packed.circuit found.net) (slice_get (block_nets packed) net) [])
 
 -- what the text says that is packed has nets; a text with a fault is never routed
 abbrev pub ending_told : Result Circuit BlifFault → Arch → RoutingFailure → Option Ending

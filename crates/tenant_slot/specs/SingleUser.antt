@@ -12,7 +12,7 @@ use Rattle.grid.specs.declared.fit.Fit.TheVariants.{Fits, TooManyBlocks, TooMany
 use Rattle.job_state.specs.declared.sources.JobKind.{JobKind}
 use Rattle.job_state.specs.declared.sources.JobKind.TheVariants.{Packing as PackingJob, Placing as PlacingJob, Routing as RoutingJob}
 use Rattle.job_state.specs.declared.sources.Sources.{Sources}
-use Rattle.job_state.specs.JobValue.{end_value, is_last, packing_sources, placing_sources, routing_sources}
+use Rattle.job_state.specs.JobValue.{end_value, is_last}
 use Rattle.tenant_slot.specs.declared.event.Advance.{Advance}
 use Rattle.tenant_slot.specs.declared.event.Event.{Event}
 use Rattle.tenant_slot.specs.declared.event.Event.TheVariants.{Command as Asked, Advance as Stepped}
@@ -66,36 +66,36 @@ at_rest Placing = Packed
 at_rest Routing = Placed
 at_rest name = name
 
--- the commands that are lawful in a state of that name
+-- the state has places: those of a placing that has ended and wasn't given up
+abbrev pub has_places : StateName → Bool
+has_places Placed = true
+has_places Routing = true
+has_places Routed = true
+has_places Unrouted = true
+has_places name = false
+
+-- the commands that are lawful in a state of that name, and no other is
 abbrev pub is_lawful : StateName → Command → Bool
+is_lawful name Status = true
 is_lawful Empty (Upload text) = true
-is_lawful name (Upload text) = false
 is_lawful Empty (Change text) = false
 is_lawful name (Change text) = true
+is_lawful Empty Withdraw = false
+is_lawful name Withdraw = true
+is_lawful name Cancel = is_some (running name)
 is_lawful Loaded Pack = true
-is_lawful name Pack = false
 is_lawful Packed (Place seed effort) = true
 is_lawful Placed (Place seed effort) = true
 is_lawful Routed (Place seed effort) = true
 is_lawful Unrouted (Place seed effort) = true
-is_lawful name (Place seed effort) = false
 is_lawful Placed Route = true
-is_lawful name Route = false
-is_lawful name Cancel = is_some (running name)
-is_lawful Empty Withdraw = false
-is_lawful name Withdraw = true
-is_lawful name Status = true
 is_lawful Empty Net = false
 is_lawful Loaded Net = false
 is_lawful Packing Net = false
 is_lawful name Net = true
-is_lawful Placed PlaceFile = true
-is_lawful Routing PlaceFile = true
-is_lawful Routed PlaceFile = true
-is_lawful Unrouted PlaceFile = true
-is_lawful name PlaceFile = false
+is_lawful name PlaceFile = has_places name
 is_lawful Routed RouteFile = true
-is_lawful name RouteFile = false
+is_lawful name command = false
 
 -- what an event changes; the rest is kept. What gives up what was asked before begins a generation of its own
 abbrev pub risen : State → State
@@ -130,22 +130,13 @@ abbrev pub routed_unless : State → Option RoutingFailure → State
 routed_unless state None = record state { name = Routed; steps = 0 }
 routed_unless state (Some failure) = record state { name = Unrouted; ending = Some failure; steps = 0 }
 
--- what a job of that kind is computed from
+-- what a job of that kind is computed from: a packing has no kept places, no seed and no effort, a routing has those of its placing
 abbrev pub sources_from : Arch → Strip → List ℕ → KeptPlaces → ℕ → ℕ → JobKind → Sources
-sources_from arch strip text kept seed effort PackingJob = packing_sources arch strip text
-sources_from arch strip text kept seed effort PlacingJob = placing_sources arch strip text kept seed effort
-sources_from arch strip text kept seed effort RoutingJob = routing_sources arch strip text kept seed effort
+sources_from arch strip text kept seed effort PackingJob = record { kind = PackingJob; arch = arch; strip = strip; text = text; kept = []; seed = 0; effort = 0 }
+sources_from arch strip text kept seed effort kind = record { kind = kind; arch = arch; strip = strip; text = text; kept = kept; seed = seed; effort = effort }
 
 abbrev pub sources_of : State → JobKind → Sources
 sources_of state kind = sources_from state.arch state.strip state.text state.kept state.seed state.effort kind
-
--- the state has places: those of a placing that has ended and wasn't given up
-abbrev pub has_places : StateName → Bool
-has_places Placed = true
-has_places Routing = true
-has_places Routed = true
-has_places Unrouted = true
-has_places name = false
 
 -- a change keeps the places at that moment; in a state without places what was kept before stays
 abbrev pub keeping : State → State

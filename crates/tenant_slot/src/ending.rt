@@ -1,7 +1,8 @@
 //! How the failure of a routing is told.
-ghost use Rattle.std.specs.Prelude.{◌≡◌, IfOk};
-ghost use Rattle.cluster.specs.Blocks.{net_name};
-ghost use Rattle.tenant_slot.specs.Results.{block_net_name, ending_of};
+ghost use Rattle.std.specs.Prelude.{◌≡◌, [], IfOk, slice_get};
+ghost use Rattle.std.specs.Option.{option_map_or};
+ghost use Rattle.cluster.specs.Blocks.{block_nets, net_name};
+ghost use Rattle.tenant_slot.specs.Results.{ending_of};
 
 use crate::failure::RoutingFailure;
 use crate::reply::Ending;
@@ -30,7 +31,7 @@ pub(crate) fn told_ending(
 
 /// The name of a net between blocks, and no byte where there is no such net.
 fn block_net_name(packed: &Packed, net: u32) -> &[u8]
-    ensures { result.now ≡ block_net_name packed.now net }
+    ensures { result.now ≡ option_map_or (λ found. net_name packed.now.circuit found.net) (slice_get (block_nets packed.now) net) [] }
 {
     if (net as usize) < packed.net_count() {
         net_name(packed.circuit(), packed.net(net as usize).net)

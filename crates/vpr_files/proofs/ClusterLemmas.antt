@@ -1,12 +1,12 @@
 -- The BLEs and pins of a cluster, by place.
-use Rattle.std.proofs.Common.{◌≡◌, ℕ, ◌<◌, ◌++◌, List, [], ◌∷◌, map, length, Option, Some, None, refl, sym, ap, ◌∙◌, slice_get, get_or, subst, All, arith}
+use Rattle.std.proofs.Common.{◌≡◌, ◌==◌, ℕ, Bool, false, ◌<◌, ◌++◌, List, [], ◌∷◌, map, length, Option, Some, None, refl, sym, ap, ◌∙◌, slice_get, get_or, subst, All, arith}
 use Rattle.std.proofs.lemmas.List.Elements.{All-append, All-from_get_or, All-get_or, All-map}
 use Rattle.blif.specs.declared.circuit.Circuit.{Circuit}
 use Rattle.cluster.specs.Packing.{IsPacked}
 use Rattle.std.specs.Prelude.{⊤}
 use Rattle.std.specs.List.{enumerate_from, range_with_len, zip}
 use Rattle.std.proofs.lemmas.Option.{slice_get-map, get_or_from_slice_get, slice_get-get_or, slice_get_within}
-use Rattle.std.specs.Option.{option_map, option_eq}
+use Rattle.std.specs.Option.{option_map, option_eq, option_map_or}
 use Rattle.std.proofs.lemmas.List.{length-map}
 use Rattle.std.proofs.lemmas.Slice.Zip.{get_or-zip, length-zip}
 use Rattle.std.proofs.lemmas.List.FromFn.{get_or-range_with_len, length-enumerate_from, length-range_with_len}
@@ -22,7 +22,6 @@ use Rattle.cluster.specs.Blocks.{block_name, blocks_of, elements_in, is_same_cla
 use Rattle.cluster.specs.declared.block.Block.{Block}
 use Rattle.cluster.specs.declared.block.Block.TheVariants.{InputPad, OutputPad, Cluster}
 use Rattle.vpr_files.specs.BlockClusters.{HasCluster}
-use Rattle.vpr_files.specs.NetFile.{is_on}
 
 -- a BLE by its parts
 abbrev pub element : List ℕ → ℕ → Option ℕ → LogicElement
@@ -93,6 +92,10 @@ class_is Output Clock = refl
 class_is Clock Input = refl
 class_is Clock Output = refl
 class_is Clock Clock = refl
+
+-- a pin carries the net
+abbrev pub is_on : ℕ → Option ℕ → Bool
+is_on net carried = option_map_or (λ it. it == net) carried false
 
 pub carried_is : (carried : Option ℕ) (net : ℕ) → option_eq eqb carried (Some net) ≡ is_on net carried
 carried_is None net = refl

@@ -1,5 +1,5 @@
 -- Lines of the `.place` and `.route` files as they are written, part by part.
-use Rattle.std.proofs.Common.{◌≡◌, ℕ, Bool, true, false, List, [], ◌∷◌, ◌++◌, All, Some, cond, sym, ap, ◌∙◌, codes, decimal, map, slice_get, append_assoc, append-nil}
+use Rattle.std.proofs.Common.{◌≡◌, ℕ, ◌==◌, ◌||◌, nat_lt, Bool, true, false, List, [], ◌∷◌, ◌++◌, All, Some, cond, sym, ap, ◌∙◌, codes, decimal, map, slice_get, append_assoc, append-nil}
 use Rattle.std.specs.List.{flat_map}
 use Rattle.std.proofs.lemmas.Grind.{flat_map-append}
 use Rattle.std.proofs.lemmas.Option.{get_or_from_slice_get}
@@ -13,8 +13,9 @@ use Rattle.rr_graph.specs.declared.node.Node.{Node}
 use Rattle.strip_place.specs.Placed.{block_at, place_of}
 use Rattle.vpr_files.specs.TextLines.{line_of, spaced, text_of}
 use Rattle.vpr_files.specs.PlaceFile.{place_headings, placed_line}
-use Rattle.vpr_files.specs.NodeText.{is_pad_row, kind_word, node_text_of, number_word}
-use Rattle.vpr_files.specs.RouteFile.{connected_line, connected_lines, connections, net_heading, node_line, numbered_net, route_headings}
+use Rattle.vpr_files.specs.NodeText.{kind_word, node_text_of, number_word}
+use Rattle.vpr_files.specs.RouteFile.{connected_line, connections, net_heading, route_headings}
+use Rattle.vpr_files.specs.NetLines.{connected_lines, node_line, numbered_net}
 use Rattle.vpr_files.proofs.ClusterLemmas.{all_at}
 
 -- lists in a row
@@ -145,11 +146,11 @@ connected_line_text packed block found place before net number x y at e f g h =
 -- a node, by the parts that are found
 pub node_text : (rows : ℕ) (node : Node) (start x y between number : List ℕ)
     → start ≡ kind_word node.kind ++ codes " (" → x ≡ decimal node.x → y ≡ decimal node.y
-    → between ≡ codes ") " ++ number_word node.kind (is_pad_row rows node.y) ++ codes " " → number ≡ decimal node.n
+    → between ≡ codes ") " ++ number_word node.kind ((node.y == 0) || nat_lt rows node.y) ++ codes " " → number ≡ decimal node.n
     → start ++ (x ++ (codes "," ++ (y ++ (between ++ (number ++ []))))) ≡ node_text_of rows node
 unfolding node_text_of
 node_text rows node start x y between number e f g h k =
-    rw (f, g, k) (node_parts start (kind_word node.kind) (decimal node.x) (decimal node.y) between (number_word node.kind (is_pad_row rows node.y)) (decimal node.n) e h)
+    rw (f, g, k) (node_parts start (kind_word node.kind) (decimal node.x) (decimal node.y) between (number_word node.kind ((node.y == 0) || nat_lt rows node.y)) (decimal node.n) e h)
 
 -- a net by its parts
 abbrev pub net_value : ℕ → ℕ → List ℕ → Bool → BlockNet

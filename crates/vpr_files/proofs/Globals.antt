@@ -8,12 +8,16 @@ use Rattle.blif.specs.declared.circuit.Circuit.{Circuit}
 use Rattle.cluster.specs.Clusters.{PackedCircuit}
 use Rattle.cluster.specs.Blocks.{BlockNet, block_nets, net_name}
 use Rattle.vpr_files.specs.TextLines.{line_of, text_of}
-use Rattle.vpr_files.specs.NetFile.{global_line, global_lines, with_gap}
+use Rattle.vpr_files.specs.NetFile.{global_lines, with_gap}
 
 -- the text, if it is told
 abbrev pub told : Bool → List ℕ → List ℕ
 told true text = text
 told false text = []
+
+-- the line of a global net
+abbrev pub global_line : Circuit → BlockNet → List (List ℕ)
+global_line circuit net = codes ".global" ∷ net_name circuit net.net ∷ []
 
 -- the line of a net, if it is global
 abbrev pub global_text : Circuit → BlockNet → List ℕ

@@ -14,10 +14,6 @@ kind_word Ipin = codes "IPIN"
 kind_word ChanX = codes "CHANX"
 kind_word ChanY = codes "CHANY"
 
--- pads stand in row 0 and above the last row
-abbrev pub is_pad_row : ℕ → ℕ → Bool
-is_pad_row rows y = (y == 0) || nat_lt rows y
-
 -- what a node's number counts: tracks, pads where it is in a row of pads, else classes or pins
 abbrev pub number_word : NodeKind → Bool → List ℕ
 number_word ChanX pad = codes "Track:"
@@ -25,14 +21,13 @@ number_word ChanY pad = codes "Track:"
 number_word kind true = codes "Pad:"
 number_word Source false = codes "Class:"
 number_word Sink false = codes "Class:"
-number_word Opin false = codes "Pin:"
-number_word Ipin false = codes "Pin:"
+number_word kind false = codes "Pin:"
 
 -- a column and a row
 abbrev pub position_text : ℕ → ℕ → List ℕ
 position_text x y = codes "(" ++ decimal x ++ codes "," ++ decimal y ++ codes ")"
 
--- a node of a strip or device with so many rows: its kind, where it is, and its number
+-- a node of a strip or device with so many rows: its kind, where it is, and its number. Pads stand in row 0 and above the last row
 unfoldable pub node_text_of : ℕ → Node → List ℕ
 node_text_of rows node =
-    kind_word node.kind ++ spaced (position_text node.x node.y) ++ spaced (number_word node.kind (is_pad_row rows node.y)) ++ spaced (decimal node.n)
+    kind_word node.kind ++ spaced (position_text node.x node.y) ++ spaced (number_word node.kind ((node.y == 0) || nat_lt rows node.y)) ++ spaced (decimal node.n)

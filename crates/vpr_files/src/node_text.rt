@@ -1,6 +1,6 @@
 //! Nodes of the routing graph in words.
-ghost use Rattle.std.specs.Prelude.{◌≡◌, ◌++◌, codes};
-ghost use Rattle.vpr_files.specs.NodeText.{is_pad_row, kind_word, node_text_of, number_word};
+ghost use Rattle.std.specs.Prelude.{◌≡◌, ◌++◌, ◌==◌, ◌||◌, codes, nat_lt};
+ghost use Rattle.vpr_files.specs.NodeText.{kind_word, node_text_of, number_word};
 ghost use Rattle.line_text.specs.Writing.{Writes};
 
 use itoa::Buffer;
@@ -31,7 +31,7 @@ pub fn write_node<W: Sink>(node: Node, rows: u32, sink: &mut W) -> Result<(), Fa
 
 /// Whether pads stand in the row.
 fn is_pad_row(rows: u32, y: u32) -> bool
-    ensures { result ≡ is_pad_row rows y }
+    ensures { result ≡ (y == 0 || nat_lt rows y) }
 {
     y == 0 || rows < y
 }

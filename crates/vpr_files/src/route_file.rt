@@ -3,7 +3,8 @@ ghost use Rattle.std.specs.Prelude.{◌≡◌, ◌<◌, ◌∷◌, [], All, leng
 ghost use Rattle.std.specs.List.{flat_map};
 ghost use Rattle.cluster.specs.Blocks.{block_nets, blocks_of, net_name};
 ghost use Rattle.strip_place.specs.Anneal.{places_by_block};
-ghost use Rattle.vpr_files.specs.RouteFile.{connected_line, connected_lines, connections, net_heading, net_lines, node_line, numbered_net, route_headings, route_text_of, routed_lines};
+ghost use Rattle.vpr_files.specs.RouteFile.{connected_line, connections, net_heading, net_lines, route_headings, route_text_of, routed_lines};
+ghost use Rattle.vpr_files.specs.NetLines.{connected_lines, node_line, numbered_net};
 ghost use Rattle.vpr_files.specs.TextLines.{line_of, text_of};
 ghost use Rattle.line_text.specs.Writing.{Writes};
 

@@ -6,9 +6,9 @@ use Rattle.arch_file.specs.declared.arch.Pin.{Pin}
 use Rattle.arch_file.specs.declared.arch.PinClass.TheVariants.{Input}
 use Rattle.cluster.specs.Blocks.{is_same_class, pins_of}
 use Rattle.cluster.specs.Clusters.{PackedCircuit}
-use Rattle.vpr_files.specs.NetFile.{is_on, pin_with}
+use Rattle.vpr_files.specs.NetFile.{pin_with}
 use Rattle.vpr_files.proofs.Searches.{search_none, search_miss, search_hit, search_end}
-use Rattle.vpr_files.proofs.ClusterLemmas.{carried_is, class_is, pin_at, pin_count, zip_count}
+use Rattle.vpr_files.proofs.ClusterLemmas.{carried_is, class_is, is_on, pin_at, pin_count, zip_count}
 use Rattle.vpr_files.proofs.pin_words.pin_with.Goals as goal
 use Rattle.vpr_files.proofs.pin_words.pin_with.Goals.{else-eq-via-then-eq+else-eq-2, else-eq-via-else-eq}
 

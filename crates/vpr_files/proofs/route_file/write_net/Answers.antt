@@ -1,7 +1,8 @@
 use Rattle.std.proofs.Common.{[], ◌∷◌, ◌++◌, slice_index_or}
 use Rattle.cluster.specs.Blocks.{net_name}
 use Rattle.strip_place.specs.Anneal.{places_by_block}
-use Rattle.vpr_files.specs.RouteFile.{connections, net_heading, numbered_net}
+use Rattle.vpr_files.specs.RouteFile.{connections, net_heading}
+use Rattle.vpr_files.specs.NetLines.{numbered_net}
 use Rattle.vpr_files.specs.TextLines.{text_of}
 use Rattle.vpr_files.proofs.FileTexts.{heading_found, net_text}
 use Rattle.line_text.proofs.WritingLemmas.{all_same, part_first, part_same, part_then, writes_part, writes_same, writes_then}
