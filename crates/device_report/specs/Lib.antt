@@ -1,0 +1,5 @@
+pub mod Channels
+pub mod Columns
+pub mod Report
+pub mod Tenancies
+pub mod Widest
