@@ -30,7 +30,7 @@ before_all strips front place e is within pairs =
 
 pub returns-then-not-is_apart_from_all : goal.returns-then-not-is_apart_from_all
 returns-then-not-is_apart_from_all c =
-    (λ no i j d lt less. (let said : false ≡ true = no in let bad : ⊥ = cc in absurd bad),
+    (λ claim i j d lt less. (let said : false ≡ true = claim in let bad : ⊥ = cc in absurd bad),
      λ pairs. c.if-not-is_apart_from_all.ensures.1 (before_all c.args.strips.now c.split_at.result.0.now c.loop-place.place _ c.split_at.ensures.front c.loop-place-test.true pairs))
 
 pub loop-place-preserved : goal.loop-place-preserved
@@ -38,7 +38,7 @@ loop-place-preserved c j k d lt less =
     let strips = c.args.strips.now in
     elim (cases_lt k c.loop-place.place) [
       inl below ↦ c.loop-place.invariant j k d lt below
-    | inr no ↦
+    | inr past ↦
       let same : c.loop-place.place ≡ k = omega arith in
       let before : j < c.loop-place.place = omega arith in
       subst (λ n. AreApart (get_or strips j d) (get_or strips n d)) same
