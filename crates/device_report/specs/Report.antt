@@ -20,6 +20,7 @@ uses_of device = map (use_of device.size device.owned.items) device.tenancies.it
 
 -- a report tells of a device what each tenancy uses, which columns are used, the widest strip that would be admitted and the fullest channels
 pub record IsReport (device : Device) (report : Report) : Type 0 where
+  pub size : report.size ≡ device.size
   pub tenancies : report.tenancies.items ≡ uses_of device
   pub columns : IsColumnUse device.size.columns (strips_of device) report.columns
   pub widest : IsWidest (record { columns = device.size.columns; strips = strips_of device }) report.widest

@@ -45,6 +45,7 @@ wires_used owned direction id = count_by (λ one. (one.owner == id) && is_wire d
 -- what a tenancy uses, and what its strip has: a strip of some columns has one channel right of a column more than columns, and one above a row more than rows
 abbrev pub use_of : DeviceSize → List Owned → Tenancy → TenancyUse
 use_of size owned tenancy = record {
+  tenancy = tenancy;
   blocks = record { used = blocks_used owned size.rows tenancy.offset tenancy.width; there = tenancy.width * size.rows * 1 };
   pads = record { used = pads_used owned tenancy.id; there = tenancy.width * 2 * size.pads };
   across = record { used = wires_used owned Across tenancy.id; there = tenancy.width * (size.rows + 1) * size.tracks };

@@ -5,7 +5,7 @@
 //! a [`line_text::Sink`], in small pieces, so the sink should have a buffer.
 //!
 //! It is proved that each number is the count over what was read, that the widest strip is the widest for which the service's own
-//! rule finds room, and that the channels are the first ten of all, the fuller one first. The text is tested.
+//! rule finds room, that the channels are the first ten of all, the fuller one first, and that what is written is the text of these.
 #![tactic(auto)]
 
 mod channels;

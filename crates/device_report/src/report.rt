@@ -6,15 +6,17 @@ use crate::channels::{ChannelUse, fullest};
 use crate::columns::ColumnUse;
 use crate::tenancies::TenancyUse;
 use crate::widest::{Room, widest};
-use device_picture::Device;
+use device_picture::{Device, DeviceSize};
 use std::alloc::{AllocError, Global};
 use strips::PlacedStrip;
 
 /// How full a device is.
-#[derive(Debug, Drop)]
-pub struct Report {
+#[derive(Drop)]
+pub struct Report<'t> {
+    /// The device's size.
+    pub size: DeviceSize,
     /// What each tenancy uses, in the order of the device's list.
-    pub tenancies: Vec<TenancyUse>,
+    pub tenancies: Vec<TenancyUse<'t>>,
     pub columns: ColumnUse,
     /// The widest strip that would be admitted now, where it would be placed. None where none would be.
     pub widest: Option<Room>,
@@ -22,14 +24,15 @@ pub struct Report {
     pub fullest: Vec<ChannelUse>,
 }
 
-impl Report {
+impl<'t> Report<'t> {
     /// That of a device.
-    pub fn new(alloc: Global, device: &Device<'_>) -> Result<Self, AllocError>
+    pub fn new(alloc: Global, device: &Device<'t>) -> Result<Self, AllocError>
         ensures { IfOk result (IsReport device.now) }
     {
         let columns = device.size.columns;
         let strips = strips_of(alloc, device)?;
         Ok(Report {
+            size: device.size,
             tenancies: uses_of(alloc, device)?,
             columns: ColumnUse::of(columns, &strips),
             widest: widest(columns, &strips),
@@ -55,7 +58,7 @@ fn strips_of(alloc: Global, device: &Device<'_>) -> Result<Vec<PlacedStrip>, All
 }
 
 /// What each tenancy of a device uses.
-fn uses_of(alloc: Global, device: &Device<'_>) -> Result<Vec<TenancyUse>, AllocError>
+fn uses_of<'t>(alloc: Global, device: &Device<'t>) -> Result<Vec<TenancyUse<'t>>, AllocError>
     ensures { IfOk result (λ uses. uses.items ≡ uses_of device.now) }
 {
     device

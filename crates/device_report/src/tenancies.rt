@@ -14,9 +14,10 @@ pub struct Share {
     pub there: u32,
 }
 
-/// What a tenancy uses of its strip.
-#[derive(Clone, Copy, Debug, PartialEq, Eq)]
-pub struct TenancyUse {
+/// A tenancy, and what it uses of its strip.
+#[derive(Clone, Copy)]
+pub struct TenancyUse<'t> {
+    pub tenancy: Tenancy<'t>,
     /// Blocks with an owned pin.
     pub blocks: Share,
     pub pads: Share,
@@ -26,14 +27,15 @@ pub struct TenancyUse {
     pub up: Share,
 }
 
-impl TenancyUse {
+impl<'t> TenancyUse<'t> {
     /// What a tenancy uses on a device of that size on which these are owned.
-    pub(crate) fn of(size: DeviceSize, owned: &[Owned], tenancy: &Tenancy<'_>) -> Self
+    pub(crate) fn of(size: DeviceSize, owned: &[Owned], tenancy: &Tenancy<'t>) -> Self
         ensures { result ≡ use_of size owned.now tenancy.now }
     {
         let id = tenancy.id;
         let width = tenancy.width;
         TenancyUse {
+            tenancy: *tenancy,
             blocks: Share {
                 used: blocks_used(owned, size.rows, tenancy.offset, width),
                 there: product(width, size.rows, 1),

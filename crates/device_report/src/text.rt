@@ -1,92 +1,113 @@
 //! The report as a text.
+ghost use Rattle.std.specs.Prelude.{◌≡◌, flat_map};
+ghost use Rattle.line_text.specs.Writing.{Writes};
+ghost use Rattle.device_report.specs.Text.{channel_line, channel_word, columns_line, report_text, tenancy_line, widest_line};
 
 use crate::channels::{ChannelUse, Direction};
+use crate::columns::ColumnUse;
 use crate::report::Report;
-use crate::tenancies::{Share, TenancyUse};
+use crate::tenancies::TenancyUse;
 use crate::widest::Room;
-use device_picture::{Device, Tenancy};
 use line_text::{Failed, Sink};
 use text_parts::{Part, write_parts};
 
-/// Writes what a report tells of its device: a line a tenancy, as `op list` tells it, with what it uses, a line of columns, the widest
-/// strip that would be admitted, and a line for each of the fullest channels.
-pub fn write_report<K: Sink>(
-    sink: &mut K,
-    device: &Device<'_>,
-    report: &Report,
-) -> Result<(), Failed> {
-    for (tenancy, uses) in device.tenancies.iter().zip(report.tenancies.iter()) {
-        write_tenancy(sink, tenancy, *uses)?;
-    }
-    write_columns(sink, device.size.columns, report)?;
+/// Writes a report: a line a tenancy, as `op list` tells it, with what it uses, a line of columns, the widest strip that would be
+/// admitted, and a line for each of the fullest channels. Where the sink fails, it has taken a beginning of them.
+pub fn write_report<K: Sink>(sink: &mut K, report: &Report<'_>) -> Result<(), Failed>
+    ensures { Writes K.contents K.has_failed sink.old sink.new (report_text report.now) result }
+{
+    write_tenancies(sink, &report.tenancies)?;
+    write_columns(sink, report.size.columns, report.columns)?;
     write_widest(sink, report.widest)?;
-    for channel in &report.fullest {
-        write_channel(sink, *channel, device.size.tracks)?;
+    write_channels(sink, &report.fullest, report.size.tracks)
+}
+
+/// Writes the lines of the tenancies.
+fn write_tenancies<K: Sink>(sink: &mut K, tenancies: &[TenancyUse<'_>]) -> Result<(), Failed>
+    ensures { Writes K.contents K.has_failed sink.old sink.new (flat_map tenancy_line tenancies.now) result }
+{
+    for uses in tenancies {
+        write_tenancy(sink, uses)?;
+    }
+    Ok(())
+}
+
+/// Writes the lines of the fullest channels.
+fn write_channels<K: Sink>(
+    sink: &mut K,
+    channels: &[ChannelUse],
+    tracks: u32,
+) -> Result<(), Failed>
+    ensures { Writes K.contents K.has_failed sink.old sink.new (flat_map (channel_line tracks) channels.now) result }
+{
+    for channel in channels {
+        write_channel(sink, *channel, tracks)?;
     }
     Ok(())
 }
 
 /// Writes the line of a tenancy.
-fn write_tenancy<K: Sink>(
-    sink: &mut K,
-    tenancy: &Tenancy<'_>,
-    uses: TenancyUse,
-) -> Result<(), Failed> {
+fn write_tenancy<K: Sink>(sink: &mut K, uses: &TenancyUse<'_>) -> Result<(), Failed>
+    ensures { Writes K.contents K.has_failed sink.old sink.new (tenancy_line uses.now) result }
+{
     write_parts(
         sink,
         &[
             Part::Text("tenancy "),
-            Part::Number(tenancy.id),
+            Part::Number(uses.tenancy.id),
             Part::Text(" "),
-            Part::Bytes(tenancy.name),
+            Part::Bytes(uses.tenancy.name),
             Part::Text(" offset "),
-            Part::Number(tenancy.offset),
+            Part::Number(uses.tenancy.offset),
             Part::Text(" width "),
-            Part::Number(tenancy.width),
+            Part::Number(uses.tenancy.width),
             Part::Text(" "),
-            Part::Bytes(tenancy.state),
-        ],
-    )?;
-    write_share(sink, " blocks ", uses.blocks)?;
-    write_share(sink, " pads ", uses.pads)?;
-    write_share(sink, " wires across ", uses.across)?;
-    write_share(sink, " up ", uses.up)?;
-    write_parts(sink, &[Part::Text("\n")])
-}
-
-/// Writes how many are used of how many.
-fn write_share<K: Sink>(sink: &mut K, before: &str, share: Share) -> Result<(), Failed> {
-    write_parts(
-        sink,
-        &[
-            Part::Text(before),
-            Part::Long(share.used as u64),
+            Part::Bytes(uses.tenancy.state),
+            Part::Text(" blocks "),
+            Part::Long(uses.blocks.used as u64),
             Part::Text("/"),
-            Part::Number(share.there),
+            Part::Number(uses.blocks.there),
+            Part::Text(" pads "),
+            Part::Long(uses.pads.used as u64),
+            Part::Text("/"),
+            Part::Number(uses.pads.there),
+            Part::Text(" across "),
+            Part::Long(uses.across.used as u64),
+            Part::Text("/"),
+            Part::Number(uses.across.there),
+            Part::Text(" up "),
+            Part::Long(uses.up.used as u64),
+            Part::Text("/"),
+            Part::Number(uses.up.there),
+            Part::Text("\n"),
         ],
     )
 }
 
 /// Writes the line of columns.
-fn write_columns<K: Sink>(sink: &mut K, columns: u32, report: &Report) -> Result<(), Failed> {
+fn write_columns<K: Sink>(sink: &mut K, columns: u32, counts: ColumnUse) -> Result<(), Failed>
+    ensures { Writes K.contents K.has_failed sink.old sink.new (columns_line columns counts) result }
+{
     write_parts(
         sink,
         &[
             Part::Text("columns "),
             Part::Number(columns),
             Part::Text(" used "),
-            Part::Long(report.columns.used as u64),
+            Part::Long(counts.used as u64),
             Part::Text(" guard "),
-            Part::Long(report.columns.guard as u64),
+            Part::Long(counts.guard as u64),
             Part::Text(" free "),
-            Part::Long(report.columns.free as u64),
+            Part::Long(counts.free as u64),
             Part::Text("\n"),
         ],
     )
 }
 
 /// Writes the line of the widest strip.
-fn write_widest<K: Sink>(sink: &mut K, widest: Option<Room>) -> Result<(), Failed> {
+fn write_widest<K: Sink>(sink: &mut K, widest: Option<Room>) -> Result<(), Failed>
+    ensures { Writes K.contents K.has_failed sink.old sink.new (widest_line widest) result }
+{
     match widest {
         Some(room) => write_parts(
             sink,
@@ -103,15 +124,14 @@ fn write_widest<K: Sink>(sink: &mut K, widest: Option<Room>) -> Result<(), Faile
 }
 
 /// Writes the line of a channel.
-fn write_channel<K: Sink>(sink: &mut K, channel: ChannelUse, tracks: u32) -> Result<(), Failed> {
-    let word = match channel.direction {
-        Direction::Across => "CHANX (",
-        Direction::Up => "CHANY (",
-    };
+fn write_channel<K: Sink>(sink: &mut K, channel: ChannelUse, tracks: u32) -> Result<(), Failed>
+    ensures { Writes K.contents K.has_failed sink.old sink.new (channel_line tracks channel) result }
+{
     write_parts(
         sink,
         &[
-            Part::Text(word),
+            Part::Text(channel_word(channel.direction)),
+            Part::Text(" ("),
             Part::Number(channel.x),
             Part::Text(","),
             Part::Number(channel.y),
@@ -122,4 +142,14 @@ fn write_channel<K: Sink>(sink: &mut K, channel: ChannelUse, tracks: u32) -> Res
             Part::Text("\n"),
         ],
     )
+}
+
+/// The word for a channel.
+fn channel_word(direction: Direction) -> &'static str
+    ensures { result.now ≡ channel_word direction }
+{
+    match direction {
+        Direction::Across => "CHANX",
+        Direction::Up => "CHANY",
+    }
 }
