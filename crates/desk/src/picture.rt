@@ -1,18 +1,17 @@
-//! The options of the program.
-use clap::Error;
-use device_picture::DeviceSize;
-use option_words::{Given, OptionWord, Program, Takes, read_words, refusal};
+//! The tool that draws the device.
+use crate::outcome::Outcome;
+use device_picture::{Device, DeviceSize, DrawError, ReadError, draw, read_device};
+use line_text::Sink;
+use option_words::{Given, OptionWord, Program, Takes};
 use std::alloc::Global;
-use std::convert::AsStr;
 
 /// Why numbers are refused that are no device's.
 const NO_DEVICE: &str = "no device has these sizes";
 
-/// The program for its options.
-const PROGRAM: Program = Program {
-    name: "draw_device",
+pub(crate) const TOOL: Program = Program {
+    name: "picture",
     about: "Draws the device as an SVG, from what fpgad printed: `op list` and `op owners`",
-    after_help: "Example: fpgad --tracks 8 --columns 10 --rows 8 < my.script | draw_device --tracks 8 --columns 10 --rows 8 > my.svg",
+    after_help: "Example: fpgad --tracks 8 --columns 10 --rows 8 < my.script | fpgad_desk picture --tracks 8 --columns 10 --rows 8 > my.svg",
     options: &[
         OptionWord {
             name: "tracks",
@@ -45,21 +44,35 @@ const PROGRAM: Program = Program {
     ],
 };
 
-/// The size of the device that these words give, the first being the program's name. An error is clap's, and a call for help is one.
-pub fn read_options<'a, S: AsStr>(alloc: Global, words: &'a [S]) -> Result<DeviceSize, Error> {
-    let given = read_words(alloc, &PROGRAM, words)?;
-    let size = size_of(&given);
-    drop(given);
-    match size {
-        Ok(size) => Ok(size),
-        Err(why) => Err(refusal(alloc, &PROGRAM, words, why)),
-    }
-}
-
 /// The size that the options give, or why they are refused.
-fn size_of(given: &Given<'_>) -> Result<DeviceSize, &'static str> {
+pub(crate) fn size_of(given: &Given<'_>) -> Result<DeviceSize, &'static str> {
     let columns = given.number("columns")?;
     let rows = given.number("rows")?;
     let tracks = given.number("tracks")?;
     DeviceSize::new(columns, rows, tracks, given.number("pads")?).ok_or(NO_DEVICE)
+}
+
+/// Draws the device of that size that the text tells.
+pub(crate) fn print<W: Sink>(
+    alloc: Global,
+    size: DeviceSize,
+    text: &[u8],
+    writer: &mut W,
+) -> Outcome {
+    match read_device(alloc, size, text) {
+        Ok(device) => drawn(alloc, device, writer),
+        Err(ReadError::NoMemory) => Outcome::NoMemory,
+        Err(ReadError::Fault(fault)) => Outcome::ReplyRefused(fault),
+    }
+}
+
+/// Draws a device.
+fn drawn<W: Sink>(alloc: Global, device: Device<'_>, writer: &mut W) -> Outcome {
+    let outcome = match draw(alloc, &device, writer) {
+        Ok(()) => Outcome::Done,
+        Err(DrawError::NoMemory) => Outcome::NoMemory,
+        Err(DrawError::Failed) => Outcome::OutputFailed,
+    };
+    drop(device);
+    outcome
 }
