@@ -14,16 +14,16 @@ closing text = if is_ended text then [] else 10 ∷ []
 
 -- the operator's line, where there is a width
 abbrev pub printed_admission : Option ℕ → List ℕ → List ℕ
-printed_admission (Some width) name = codes "op admit " ++ name ++ 32 ∷ decimal width ++ 10 ∷ []
+printed_admission (Some width) name = codes "op admit " ++ (name ++ 32 ∷ (decimal width ++ 10 ∷ []))
 printed_admission None name = []
 
 -- a line of that name's session, and what stands behind it
 abbrev pub session_line : List ℕ → List ℕ → List ℕ → List ℕ
-session_line name words more = 64 ∷ name ++ 32 ∷ words ++ 10 ∷ more
+session_line name words more = 64 ∷ (name ++ 32 ∷ (words ++ 10 ∷ more))
 
 -- the upload of a text: its lines, up to one that is `.` alone
 abbrev pub printed_upload : List ℕ → List ℕ → List ℕ
-printed_upload name text = session_line name (codes "upload") (text ++ closing text ++ 46 ∷ 10 ∷ [])
+printed_upload name text = session_line name (codes "upload") (text ++ (closing text ++ 46 ∷ 10 ∷ []))
 
 -- the lines behind the placing: the steps of the jobs, and the files
 abbrev pub printed_end : List ℕ → List ℕ
@@ -33,7 +33,7 @@ printed_end name =
 
 -- the line of a placing, and what stands behind it
 abbrev pub place_line : List ℕ → ℕ → ℕ → List ℕ → List ℕ
-place_line name seed effort more = 64 ∷ name ++ codes " place " ++ decimal seed ++ 32 ∷ decimal effort ++ 10 ∷ more
+place_line name seed effort more = 64 ∷ (name ++ (codes " place " ++ (decimal seed ++ 32 ∷ (decimal effort ++ 10 ∷ more))))
 
 -- the lines behind the upload
 abbrev pub printed_commands : List ℕ → ℕ → ℕ → List ℕ
@@ -42,4 +42,4 @@ printed_commands name seed effort = session_line name (codes "pack") (session_li
 -- the script: its lines are the operator's, the upload, and the commands
 abbrev pub printed : TenancyScript → List ℕ
 printed script =
-    printed_admission script.width script.name.now ++ printed_upload script.name.now script.text.now ++ printed_commands script.name.now script.seed script.effort
+    printed_admission script.width script.name.now ++ (printed_upload script.name.now script.text.now ++ printed_commands script.name.now script.seed script.effort)

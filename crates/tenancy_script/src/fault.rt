@@ -2,7 +2,7 @@
 ghost use Rattle.std.specs.Prelude.{◌≡◌, ◌<◌, ◌^◌, length};
 ghost use Rattle.std.specs.List.{list_all};
 ghost use Rattle.script_text.specs.Script.{is_name, is_name_byte};
-ghost use Rattle.tenancy_script.specs.Says.{text_fault};
+ghost use Rattle.tenancy_script.specs.Faults.{text_fault};
 
 use line_text::split_line;
 use sessions::{is_point, without_cr};
@@ -27,7 +27,10 @@ impl fmt::Display for Fault {
         match self {
             Fault::BadName => write!(f, "a name is 1 to 32 letters, digits and `_`"),
             Fault::PointAlone(line) => {
-                write!(f, "line {line}: `.` alone ends an upload, and what follows would be commands")
+                write!(
+                    f,
+                    "line {line}: `.` alone ends an upload, and what follows would be commands"
+                )
             }
             Fault::TextTooLong(line) => write!(f, "line {line}: the text is above 1048576 bytes"),
         }

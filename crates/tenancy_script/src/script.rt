@@ -1,13 +1,7 @@
 //! The script of a tenancy.
-ghost use Rattle.std.specs.Prelude.{◌≡◌, ◌++◌, ◌<◌, ◌^◌, ℕ, List, Some, None, Ok, length, IfErr, IfOk};
-ghost use Rattle.line_text.specs.Writing.{Writes};
-ghost use Rattle.script_text.specs.Script.{script_of};
-ghost use Rattle.tenancy_script.specs.Printed.{closing, is_ended, printed, printed_admission, printed_commands, printed_upload};
-ghost use Rattle.tenancy_script.specs.Says.{IsOf, IsWhole, acts_of, followed_by, refusal_of};
-
-use crate::fault::{Fault, is_name, text_fault};
-use line_text::{Failed, Sink};
-use text_parts::{Part, write_parts};
+ghost use Rattle.std.specs.Prelude.{◌≡◌, true, None};
+ghost use Rattle.script_text.specs.Script.{is_name};
+ghost use Rattle.tenancy_script.specs.Faults.{text_fault};
 
 /// What is wanted of a tenancy.
 #[derive(Clone, Copy)]
@@ -22,142 +16,11 @@ pub struct Wishes<'a> {
 /// The script of one tenancy round a netlist.
 #[derive(Clone, Copy)]
 pub struct TenancyScript<'a> {
-    name: &'a [u8],
-    width: Option<u32>,
-    seed: u64,
-    effort: u32,
-    text: &'a [u8],
+    pub(crate) name: &'a [u8],
+    pub(crate) width: Option<u32>,
+    pub(crate) seed: u64,
+    pub(crate) effort: u32,
+    pub(crate) text: &'a [u8],
     ghost named: { is_name name.now ≡ true },
     ghost told: { text_fault text.now ≡ None },
-}
-
-impl<'a> TenancyScript<'a> {
-    ghost use Rattle.std.specs.Prelude.{true};
-    ghost use Rattle.script_text.specs.Script.{is_name};
-    ghost use Rattle.tenancy_script.specs.Says.{text_fault};
-
-    /// The script of a tenancy of that name with that text, or why there is none.
-    pub fn new(wishes: Wishes<'a>, text: &'a [u8]) -> Result<Self, Fault>
-        requires { length text.now < 2 ^ 63 }
-        ensures refused { IfErr result (λ fault. refusal_of wishes.name.now text.now ≡ Some fault) }
-        ensures told { IfOk result (λ script. refusal_of wishes.name.now text.now ≡ None) }
-        ensures of { IfOk result (λ script. IsOf wishes text.now script) }
-    {
-        let Wishes {
-            name,
-            width,
-            seed,
-            effort,
-        } = wishes;
-        if !is_name(name) {
-            return Err(Fault::BadName);
-        }
-        if let Some(fault) = text_fault(text) {
-            return Err(fault);
-        }
-        Ok(TenancyScript {
-            name,
-            width,
-            seed,
-            effort,
-            text,
-        })
-    }
-
-    /// Prints it. Put behind any script that is whole, it adds to what that says just the tenancy's own: its admission if it has a
-    /// width, one upload of the text, and the commands.
-    pub fn write<K: Sink>(&self, sink: &mut K) -> Result<(), Failed>
-        ensures written { Writes K.contents K.has_failed sink.old sink.new (printed self.now) result }
-        ensures says { (number : ℕ) (before : List ℕ) → IsWhole before → script_of number (before ++ printed self.now) ≡ followed_by (script_of number before) (acts_of self.now) }
-        ensures whole { (before : List ℕ) → IsWhole before → IsWhole (before ++ printed self.now) }
-    {
-        self.write_admission(sink)?;
-        self.write_upload(sink)?;
-        self.write_commands(sink)
-    }
-
-    /// Prints the operator's line.
-    fn write_admission<K: Sink>(&self, sink: &mut K) -> Result<(), Failed>
-        ensures { Writes K.contents K.has_failed sink.old sink.new (printed_admission self.now.width self.now.name.now) result }
-    {
-        match self.width {
-            Some(width) => write_parts(
-                sink,
-                &[
-                    Part::Text("op admit "),
-                    Part::Bytes(self.name),
-                    Part::Text(" "),
-                    Part::Number(width),
-                    Part::Text("\n"),
-                ],
-            ),
-            None => write_parts(sink, &[]),
-        }
-    }
-
-    /// Prints the upload.
-    fn write_upload<K: Sink>(&self, sink: &mut K) -> Result<(), Failed>
-        ensures { Writes K.contents K.has_failed sink.old sink.new (printed_upload self.now.name.now self.now.text.now) result }
-    {
-        write_parts(
-            sink,
-            &[
-                Part::Text("@"),
-                Part::Bytes(self.name),
-                Part::Text(" upload\n"),
-                Part::Bytes(self.text),
-                Part::Text(closing(self.text)),
-                Part::Text(".\n"),
-            ],
-        )
-    }
-
-    /// Prints the commands behind it.
-    fn write_commands<K: Sink>(&self, sink: &mut K) -> Result<(), Failed>
-        ensures { Writes K.contents K.has_failed sink.old sink.new (printed_commands self.now.name.now self.now.seed self.now.effort) result }
-    {
-        let name = Part::Bytes(self.name);
-        write_parts(
-            sink,
-            &[
-                Part::Text("@"),
-                name,
-                Part::Text(" pack\n@"),
-                name,
-                Part::Text(" wait\n@"),
-                name,
-                Part::Text(" place "),
-                Part::Long(self.seed),
-                Part::Text(" "),
-                Part::Number(self.effort),
-                Part::Text("\n@"),
-                name,
-                Part::Text(" wait\n@"),
-                name,
-                Part::Text(" route\n@"),
-                name,
-                Part::Text(" wait\n@"),
-                name,
-                Part::Text(" net\n@"),
-                name,
-                Part::Text(" placefile\n@"),
-                name,
-                Part::Text(" routefile\n"),
-            ],
-        )
-    }
-}
-
-/// What ends the last line of a text where it isn't ended.
-fn closing(text: &[u8]) -> &'static str
-    ensures { result.now ≡ closing text.now }
-{
-    if is_ended(text) { "" } else { "\n" }
-}
-
-/// Whether the last line of a text is ended.
-fn is_ended(text: &[u8]) -> bool
-    ensures { result ≡ is_ended text.now }
-{
-    text.is_empty() || text[text.len() - 1] == b'\n'
 }
