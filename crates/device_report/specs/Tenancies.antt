@@ -1,0 +1,53 @@
+-- What a tenancy uses of its strip.
+use Rattle.std.specs.Prelude.{ℕ, ◌+◌, ◌*◌, ◌/◌, ◌%◌, List, count_by, Bool, true, false, ◌&&◌, ◌==◌}
+use Rattle.std.specs.List.{list_any, range_with_len}
+use Rattle.rr_graph.specs.declared.resource.ResourceKind.{ResourceKind}
+use Rattle.rr_graph.specs.declared.resource.ResourceKind.TheVariants.{Opin, Ipin, ChanX, ChanY, Pad}
+use Rattle.device_picture.specs.declared.device.Owned.{Owned}
+use Rattle.device_picture.specs.declared.size.DeviceSize.{DeviceSize}
+use Rattle.device_picture.specs.declared.tenancy.Tenancy.{Tenancy}
+use Rattle.device_report.specs.declared.channels.Direction.{Direction}
+use Rattle.device_report.specs.declared.channels.Direction.TheVariants.{Across, Up}
+use Rattle.device_report.specs.declared.tenancies.TenancyUse.{TenancyUse}
+use Rattle.device_report.specs.Channels.{is_wire}
+
+-- a pin of a block or of a pad
+abbrev pub is_pin : ResourceKind → Bool
+is_pin Opin = true
+is_pin Ipin = true
+is_pin ChanX = false
+is_pin ChanY = false
+is_pin Pad = false
+
+abbrev pub is_pad : ResourceKind → Bool
+is_pad Pad = true
+is_pad Opin = false
+is_pad Ipin = false
+is_pad ChanX = false
+is_pad ChanY = false
+
+-- a pin of that block is owned
+abbrev pub has_pin : List Owned → ℕ → ℕ → Bool
+has_pin owned x y = list_any (λ one. is_pin one.node.kind && (one.node.x == x) && (one.node.y == y)) owned
+
+-- how many blocks have an owned pin, of so many columns behind so many others; the blocks are numbered column by column
+abbrev pub blocks_used : List Owned → ℕ → ℕ → ℕ → ℕ
+blocks_used owned rows offset width = count_by (λ block. has_pin owned (offset + 1 + block / rows) (1 + block % rows)) (range_with_len 0 (width * rows))
+
+-- how many pads a tenancy owns
+abbrev pub pads_used : List Owned → ℕ → ℕ
+pads_used owned id = count_by (λ one. (one.owner == id) && is_pad one.node.kind) owned
+
+-- how many wires a tenancy owns that go that way
+abbrev pub wires_used : List Owned → Direction → ℕ → ℕ
+wires_used owned direction id = count_by (λ one. (one.owner == id) && is_wire direction one.node.kind) owned
+
+-- what a tenancy uses, and what its strip has: a strip of some columns has one channel right of a column more than columns, and one above a row more than rows
+abbrev pub use_of : DeviceSize → List Owned → Tenancy → TenancyUse
+use_of size owned tenancy = record {
+  tenancy = tenancy;
+  blocks = record { used = blocks_used owned size.rows tenancy.offset tenancy.width; there = tenancy.width * size.rows * 1 };
+  pads = record { used = pads_used owned tenancy.id; there = tenancy.width * 2 * size.pads };
+  across = record { used = wires_used owned Across tenancy.id; there = tenancy.width * (size.rows + 1) * size.tracks };
+  up = record { used = wires_used owned Up tenancy.id; there = (tenancy.width + 1) * size.rows * size.tracks };
+}

@@ -1,0 +1,99 @@
+//! The fullest channels.
+ghost use Rattle.std.specs.Prelude.{◌≡◌, ◌+◌, ◌*◌, ◌≤◌, ◌<◌, IfOk, count_by};
+ghost use Rattle.device_report.specs.Channels.{AreFullest, channel_at, channels_in, is_wire, wires_in};
+
+use device_picture::{DeviceSize, Owned};
+use rr_graph::ResourceKind;
+use std::alloc::{AllocError, Global};
+
+/// How many channels are told of at most.
+pub const MAX_SHOWN: usize = 10;
+
+/// Which way the wires of a channel go.
+#[derive(Clone, Copy, Debug, PartialEq, Eq)]
+pub enum Direction {
+    /// Above a row.
+    Across,
+    /// Right of a column.
+    Up,
+}
+
+/// How many wires of a channel are owned. A channel is what lies above a block, or right of it.
+#[derive(Clone, Copy, Debug, PartialEq, Eq)]
+pub struct ChannelUse {
+    pub x: u32,
+    pub direction: Direction,
+    pub y: u32,
+    pub wires: usize,
+}
+
+/// The fullest channels of a device on which these are owned: of those with wires the ten that have most, in falling order. Those that have as
+/// many stand in node order.
+pub(crate) fn fullest(
+    alloc: Global,
+    size: DeviceSize,
+    owned: &[Owned],
+) -> Result<Vec<ChannelUse>, AllocError>
+    ensures { IfOk result (λ shown. AreFullest (channels_in size.columns size.rows owned.now) shown.items) }
+{
+    let mut channels = channels_in(alloc, size, owned)?;
+    channels.sort_by(|a, b| b.wires.cmp(&a.wires))?;
+    channels.truncate(MAX_SHOWN);
+    Ok(channels)
+}
+
+/// The channels that have owned wires, in node order.
+fn channels_in(
+    alloc: Global,
+    size: DeviceSize,
+    owned: &[Owned],
+) -> Result<Vec<ChannelUse>, AllocError>
+    ensures { IfOk result (λ channels. channels.items ≡ channels_in size.columns size.rows owned.now) }
+{
+    let count = (size.columns + 1) * (2 * (size.rows + 1));
+    (0..count)
+        .map(|number| channel_at(size, owned, number))
+        .filter(|channel| channel.wires > 0)
+        .collect(alloc)
+}
+
+/// The channel of that number: column by column, first those above the rows and then those right of the column.
+fn channel_at(size: DeviceSize, owned: &[Owned], number: u32) -> ChannelUse
+    ensures { result ≡ channel_at size.rows owned.now number }
+{
+    let lines = size.rows + 1;
+    let x = number / (2 * lines);
+    let direction = if number % (2 * lines) < lines {
+        Direction::Across
+    } else {
+        Direction::Up
+    };
+    let y = number % lines;
+    let wires = wires_in(owned, direction, x, y);
+    ChannelUse {
+        x,
+        direction,
+        y,
+        wires,
+    }
+}
+
+/// How many wires of a channel are owned.
+fn wires_in(owned: &[Owned], direction: Direction, x: u32, y: u32) -> usize
+    ensures { result ≡ wires_in owned.now direction x y }
+{
+    owned
+        .iter()
+        .filter(|one| is_wire(direction, one.node.kind) && one.node.x == x && one.node.y == y)
+        .count()
+}
+
+/// Whether it is a wire that goes that way.
+pub(crate) fn is_wire(direction: Direction, kind: ResourceKind) -> bool
+    ensures { result ≡ is_wire direction kind }
+{
+    match direction {
+        Direction::Across => matches!(kind, ResourceKind::ChanX),
+        Direction::Up => matches!(kind, ResourceKind::ChanY),
+    }
+}

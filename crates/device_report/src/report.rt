@@ -1,0 +1,69 @@
+//! The report.
+ghost use Rattle.std.specs.Prelude.{◌≡◌, ◌+◌, ◌≤◌, map, All, IfOk};
+ghost use Rattle.device_report.specs.Report.{IsReport, strips_of, uses_of};
+
+use crate::channels::{ChannelUse, fullest};
+use crate::columns::ColumnUse;
+use crate::tenancies::TenancyUse;
+use crate::widest::{Room, widest};
+use device_picture::{Device, DeviceSize};
+use std::alloc::{AllocError, Global};
+use strips::PlacedStrip;
+
+/// How full a device is.
+#[derive(Drop)]
+pub struct Report<'t> {
+    /// The device's size.
+    pub size: DeviceSize,
+    /// What each tenancy uses, in the order of the device's list.
+    pub tenancies: Vec<TenancyUse<'t>>,
+    pub columns: ColumnUse,
+    /// The widest strip that would be admitted now, where it would be placed. None where none would be.
+    pub widest: Option<Room>,
+    /// The fullest channels, the fullest one first, at most [`crate::MAX_SHOWN`].
+    pub fullest: Vec<ChannelUse>,
+}
+
+impl<'t> Report<'t> {
+    /// That of a device.
+    pub fn new(alloc: Global, device: &Device<'t>) -> Result<Self, AllocError>
+        ensures { IfOk result (IsReport device.now) }
+    {
+        let columns = device.size.columns;
+        let strips = strips_of(alloc, device)?;
+        Ok(Report {
+            size: device.size,
+            tenancies: uses_of(alloc, device)?,
+            columns: ColumnUse::of(columns, &strips),
+            widest: widest(columns, &strips),
+            fullest: fullest(alloc, device.size, &device.owned)?,
+        })
+    }
+}
+
+/// The strips of a device.
+fn strips_of(alloc: Global, device: &Device<'_>) -> Result<Vec<PlacedStrip>, AllocError>
+    ensures value { IfOk result (λ strips. strips.items ≡ strips_of device.now) }
+    ensures small { IfOk result (λ strips. All (λ s. s.offset + s.width ≤ 256) strips.items) }
+{
+    device
+        .tenancies
+        .iter()
+        .map(|tenancy| PlacedStrip {
+            id: tenancy.id,
+            offset: tenancy.offset,
+            width: tenancy.width,
+        })
+        .collect(alloc)
+}
+
+/// What each tenancy of a device uses.
+fn uses_of<'t>(alloc: Global, device: &Device<'t>) -> Result<Vec<TenancyUse<'t>>, AllocError>
+    ensures { IfOk result (λ uses. uses.items ≡ uses_of device.now) }
+{
+    device
+        .tenancies
+        .iter()
+        .map(|tenancy| TenancyUse::of(device.size, &device.owned, tenancy))
+        .collect(alloc)
+}

@@ -1,0 +1,123 @@
+//! How much of its strip a tenancy uses.
+ghost use Rattle.std.specs.Prelude.{◌≡◌, ◌+◌, ◌*◌, ◌≤◌, ◌<◌, count_by};
+ghost use Rattle.device_report.specs.Tenancies.{blocks_used, has_pin, is_pad, is_pin, pads_used, use_of, wires_used};
+
+use crate::channels::{Direction, is_wire};
+use device_picture::{DeviceSize, Owned, Tenancy};
+use rr_graph::ResourceKind;
+
+/// How many of a strip's things are used.
+#[derive(Clone, Copy, Debug, PartialEq, Eq)]
+pub struct Share {
+    pub used: usize,
+    /// How many the strip has.
+    pub there: u32,
+}
+
+/// A tenancy, and what it uses of its strip.
+#[derive(Clone, Copy)]
+pub struct TenancyUse<'t> {
+    pub tenancy: Tenancy<'t>,
+    /// Blocks with an owned pin.
+    pub blocks: Share,
+    pub pads: Share,
+    /// Wires above rows.
+    pub across: Share,
+    /// Wires right of columns, and those left of the strip.
+    pub up: Share,
+}
+
+impl<'t> TenancyUse<'t> {
+    /// What a tenancy uses on a device of that size on which these are owned.
+    pub(crate) fn of(size: DeviceSize, owned: &[Owned], tenancy: &Tenancy<'t>) -> Self
+        ensures { result ≡ use_of size owned.now tenancy.now }
+    {
+        let id = tenancy.id;
+        let width = tenancy.width;
+        TenancyUse {
+            tenancy: *tenancy,
+            blocks: Share {
+                used: blocks_used(owned, size.rows, tenancy.offset, width),
+                there: product(width, size.rows, 1),
+            },
+            pads: Share {
+                used: pads_used(owned, id),
+                there: product(width, 2, size.pads),
+            },
+            across: Share {
+                used: wires_used(owned, Direction::Across, id),
+                there: product(width, size.rows + 1, size.tracks),
+            },
+            up: Share {
+                used: wires_used(owned, Direction::Up, id),
+                there: product(width + 1, size.rows, size.tracks),
+            },
+        }
+    }
+}
+
+/// The product of three.
+fn product(a: u32, b: u32, c: u32) -> u32
+    requires a { a ≤ 257 }
+    requires b { b ≤ 65 }
+    requires c { c ≤ 64 }
+    ensures { result ≡ a * b * c }
+{
+    let ab = a * b;
+    prove!(ab <= 16_705);
+    ab * c
+}
+
+/// How many blocks of so many columns behind so many others have an owned pin.
+fn blocks_used(owned: &[Owned], rows: u32, offset: u32, width: u32) -> usize
+    requires rows { (1 ≤ rows) × (rows ≤ 64) }
+    requires strip { offset + width ≤ 256 }
+    ensures { result ≡ blocks_used owned.now rows offset width }
+{
+    (0..width * rows)
+        .filter(|block| has_pin(owned, offset + 1 + *block / rows, 1 + *block % rows))
+        .count()
+}
+
+/// Whether a block has an owned pin.
+fn has_pin(owned: &[Owned], x: u32, y: u32) -> bool
+    ensures { result ≡ has_pin owned.now x y }
+{
+    owned
+        .iter()
+        .any(|one| is_pin(one.node.kind) && one.node.x == x && one.node.y == y)
+}
+
+/// How many pads a tenancy owns.
+fn pads_used(owned: &[Owned], id: u32) -> usize
+    ensures { result ≡ pads_used owned.now id }
+{
+    owned
+        .iter()
+        .filter(|one| one.owner == id && is_pad(one.node.kind))
+        .count()
+}
+
+/// How many wires a tenancy owns that go that way.
+fn wires_used(owned: &[Owned], direction: Direction, id: u32) -> usize
+    ensures { result ≡ wires_used owned.now direction id }
+{
+    owned
+        .iter()
+        .filter(|one| one.owner == id && is_wire(direction, one.node.kind))
+        .count()
+}
+
+/// Whether it is a pin.
+fn is_pin(kind: ResourceKind) -> bool
+    ensures { result ≡ is_pin kind }
+{
+    matches!(kind, ResourceKind::Opin | ResourceKind::Ipin)
+}
+
+/// Whether it is a pad.
+fn is_pad(kind: ResourceKind) -> bool
+    ensures { result ≡ is_pad kind }
+{
+    matches!(kind, ResourceKind::Pad)
+}
