@@ -1,9 +1,10 @@
 //! Errands that are run.
-use crate::errand::{Errand, read_errand};
+use crate::errand::{Errand, View, read_errand};
 use crate::outcome::Outcome;
-use crate::{picture, script};
+use crate::{picture, report, script};
 use clap::Error;
 use clap::error::ErrorKind;
+use device_picture::{DeviceSize, ReadError, read_device};
 use line_text::{Sink, Source, read_all};
 use random_script::write_script;
 use std::alloc::Global;
@@ -37,9 +38,30 @@ fn run_over<R: Source, W: Sink>(
     };
     let outcome = match errand {
         Errand::Script(wishes) => script::print(wishes, text.as_slice(), writer),
-        Errand::Picture(size) => picture::print(alloc, size, text.as_slice(), writer),
+        Errand::View(size, view) => show(alloc, size, view, text.as_slice(), writer),
         Errand::Random(plan) => Outcome::of_writing(write_script(writer, plan)),
     };
     drop(text);
+    outcome
+}
+
+/// Reads the device of that size from what the service printed, and shows it.
+fn show<W: Sink>(
+    alloc: Global,
+    size: DeviceSize,
+    view: View,
+    text: &[u8],
+    writer: &mut W,
+) -> Outcome {
+    let device = match read_device(alloc, size, text) {
+        Ok(device) => device,
+        Err(ReadError::NoMemory) => return Outcome::NoMemory,
+        Err(ReadError::Fault(fault)) => return Outcome::ReplyRefused(fault),
+    };
+    let outcome = match view {
+        View::Picture => picture::print(alloc, &device, writer),
+        View::Report => report::print(alloc, &device, writer),
+    };
+    drop(device);
     outcome
 }

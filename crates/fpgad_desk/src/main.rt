@@ -1,4 +1,4 @@
-//! The program: tools beside the service, each called by its name: `script`, `picture`, `random`.
+//! The program: tools beside the service, each called by its name: `script`, `picture`, `report`, `random`.
 //!
 //! Statuses: 0; 1 where standard input or output failed; 2 where the words are refused; 3 where the input is, with its line; 4 where memory lacks.
 //! With 2 and 3 nothing is written to standard output.
