@@ -75,12 +75,7 @@ pub fn call_refusal(alloc: Global, toolbox: &Toolbox, tool: &Program, why: &str)
 }
 
 /// The same. An error is that memory lacks.
-fn refused_by(
-    alloc: Global,
-    toolbox: &Toolbox,
-    tool: &Program,
-    why: &str,
-) -> Result<Error, Error> {
+fn refused_by(alloc: Global, toolbox: &Toolbox, tool: &Program, why: &str) -> Result<Error, Error> {
     let name = format!(in alloc; "{} {}", toolbox.name, tool.name)?;
     let mut command = command(alloc, tool)?.bin_name(name.as_str())?;
     let refusal = command.error(ErrorKind::ValueValidation, why);

@@ -64,24 +64,59 @@ fn scripts_of_a_tenancy(rt: HostRuntime) {
     assert!(rt; ends(rt.alloc(), words.as_slice(), NETLIST, 0, SCRIPT));
     let refused = b".model m\n.\nop evict victim\n";
     assert!(rt; ends(rt.alloc(), words.as_slice(), refused, 3, b""));
-    assert!(rt; ends(rt.alloc(), words.as_slice(), b".model m\n.end\n.\r\n", 3, b""));
+    assert!(rt;
+        ends(
+            rt.alloc(),
+            words.as_slice(),
+            b".model m\n.end\n.\r\n",
+            3,
+            b""
+        )
+    );
 }
 
 #[test]
 fn words_that_are_refused(rt: HostRuntime) {
     let alloc = rt.alloc();
     for (words, kind) in [
-        (["fpgad_desk", "script", "--name=T-1"], ErrorKind::ValueValidation),
-        (["fpgad_desk", "script", "--effort=1"], ErrorKind::MissingRequiredArgument),
-        (["fpgad_desk", "picture", "--rows=65"], ErrorKind::ValueValidation),
-        (["fpgad_desk", "report", "--rows=+5"], ErrorKind::ValueValidation),
-        (["fpgad_desk", "random", "--until=x"], ErrorKind::InvalidValue),
+        (
+            ["fpgad_desk", "script", "--name=T-1"],
+            ErrorKind::ValueValidation,
+        ),
+        (
+            ["fpgad_desk", "script", "--effort=1"],
+            ErrorKind::MissingRequiredArgument,
+        ),
+        (
+            ["fpgad_desk", "picture", "--rows=65"],
+            ErrorKind::ValueValidation,
+        ),
+        (
+            ["fpgad_desk", "report", "--rows=+5"],
+            ErrorKind::ValueValidation,
+        ),
+        (
+            ["fpgad_desk", "random", "--until=x"],
+            ErrorKind::InvalidValue,
+        ),
         (["fpgad_desk", "random", "--help"], ErrorKind::DisplayHelp),
     ] {
         assert!(rt; refuses(alloc, words.as_slice(), kind));
     }
-    assert!(rt; refuses(alloc, ["fpgad_desk"].as_slice(), ErrorKind::MissingSubcommand));
-    assert!(rt; refuses(alloc, ["fpgad_desk", "draw"].as_slice(), ErrorKind::InvalidSubcommand));
+    assert!(rt;
+        refuses(
+            alloc,
+            ["fpgad_desk"].as_slice(),
+            ErrorKind::MissingSubcommand
+        )
+    );
+    assert!(rt;
+        refuses(
+            alloc,
+            ["fpgad_desk", "draw"].as_slice(),
+            ErrorKind::InvalidSubcommand
+        )
+    );
 }
 
 /// The line of an input that is no reply is told.
@@ -121,7 +156,10 @@ fn random_scripts(rt: HostRuntime) -> Result<(), Fail> {
         return Err("it is not written".into());
     }
     let words = ["fpgad_desk", "random", "--tables", "9", "--tenancies=3"];
-    assert!(rt; sink.as_bytes().starts_with(b"# fpgad --tracks 8 --columns 11 --rows 4\n"));
+    assert!(rt;
+        sink.as_bytes()
+            .starts_with(b"# fpgad --tracks 8 --columns 11 --rows 4\n")
+    );
     assert!(rt; ends(rt.alloc(), words.as_slice(), b"", 0, sink.as_bytes()));
     drop(sink);
     Ok(())
