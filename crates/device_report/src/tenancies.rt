@@ -83,9 +83,7 @@ fn blocks_used(owned: &[Owned], rows: u32, offset: u32, width: u32) -> usize
 fn has_pin(owned: &[Owned], x: u32, y: u32) -> bool
     ensures { result ≡ has_pin owned.now x y }
 {
-    owned
-        .iter()
-        .any(|one| is_pin(one.node.kind) && one.node.x == x && one.node.y == y)
+    owned.iter().any(|one| is_pin(one.node.kind) && one.node.x == x && one.node.y == y)
 }
 
 /// How many pads a tenancy owns.

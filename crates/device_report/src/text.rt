@@ -33,11 +33,7 @@ fn write_tenancies<K: Sink>(sink: &mut K, tenancies: &[TenancyUse<'_>]) -> Resul
 }
 
 /// Writes the lines of the fullest channels.
-fn write_channels<K: Sink>(
-    sink: &mut K,
-    channels: &[ChannelUse],
-    tracks: u32,
-) -> Result<(), Failed>
+fn write_channels<K: Sink>(sink: &mut K, channels: &[ChannelUse], tracks: u32) -> Result<(), Failed>
     ensures { Writes K.contents K.has_failed sink.old sink.new (flat_map (channel_line tracks) channels.now) result }
 {
     for channel in channels {

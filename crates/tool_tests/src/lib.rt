@@ -1,7 +1,8 @@
-//! What the picture of a device shows and why an input for it is refused, and which scripts are made to measure with.
+//! What the picture of a device shows and why an input for it is refused, what a report tells of it, and which scripts are made to measure with.
 //!
 //! - `pictures`: marks and lines whose places follow from the sizes by hand, and a sink that fails.
 //! - `inputs`: the fault of each input that is refused, with its line.
+//! - `reports`: texts whose numbers were counted by hand.
 //! - `tools`: what the tools of the desk print for their words and input, and how they end.
 //! - `scripts`: architectures and netlists that the service's own readers take, and the limits of a plan.
 #![tactic(auto)]
@@ -10,6 +11,8 @@
 mod inputs;
 #[cfg(test)]
 mod pictures;
+#[cfg(test)]
+mod reports;
 #[cfg(test)]
 mod scripts;
 #[cfg(test)]

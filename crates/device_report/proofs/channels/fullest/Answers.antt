@@ -1,4 +1,4 @@
-use Rattle.std.proofs.Common.{ℕ, ◌≡◌, ap, subst, ◌∙◌, refl, arith, rules, List, ltb}
+use Rattle.std.proofs.Common.{ℕ, ◌≡◌, ap, subst, ◌∙◌, arith, rules, List, ltb}
 use Rattle.std.proofs.lemmas.Bool.Decides.{nat_tests}
 use Rattle.std.specs.Cmp.{IsStrictWeakOrder}
 use Rattle.std.specs.Ordering.{is_lt, nat_cmp}
@@ -21,8 +21,8 @@ returns c =
       sorted = sorted;
       same = subst (λ (channels : List ChannelUse). IsPermutation channels sorted) c.in_ok-channels.ensures c.in_ok-sort_by.ensures.permutation;
       falling = c.in_ok-sort_by.ensures.sorted is_fuller fuller_order (answers_always _ _ _ (λ f a r g h.
-        let told : r ≡ nat_cmp a.1.0.now.wires a.0.now.wires = search rules in ap is_lt told ∙ is_lt-nat_cmp _ _));
+          let told : r ≡ nat_cmp a.1.0.now.wires a.0.now.wires = search rules in ap is_lt told ∙ is_lt-nat_cmp _ _));
       stable = subst (λ (channels : List ChannelUse). IsStableBy is_fuller channels sorted) c.in_ok-channels.ensures (c.in_ok-sort_by.ensures.stable is_fuller fuller_order (answers_always _ _ _ (λ f a r g h.
-        let told : r ≡ nat_cmp a.1.0.now.wires a.0.now.wires = search rules in ap is_lt told ∙ is_lt-nat_cmp _ _)));
+          let told : r ≡ nat_cmp a.1.0.now.wires a.0.now.wires = search rules in ap is_lt told ∙ is_lt-nat_cmp _ _)));
       first = c.truncate.ensures.items;
     }

@@ -1,7 +1,6 @@
-use Rattle.std.proofs.Common.{arith, below_more, ap, subst, ◌∙◌, sym, ◌≡◌, ◌+◌, ◌<◌, ◌≤◌, false, true, refl}
-use Rattle.std.proofs.lemmas.Bool.Decides.{nat_tests}
+use Rattle.std.proofs.Common.{arith, below_more, ◌≡◌, ◌+◌, ◌<◌, ◌≤◌, false, true, refl}
 use Rattle.strips.specs.declared.placed_strip.PlacedStrip.{PlacedStrip}
-use Rattle.strips.specs.Plan.{Plan, AreApart, IsParted}
+use Rattle.strips.specs.Plan.{Plan}
 use Rattle.strips.proofs.Laid.{IsParted-with, IsParted-with-apart, IsParted-with-inside}
 use Rattle.device_report.proofs.widest.first_fit.Goals as goal
 

@@ -1,4 +1,4 @@
-use Rattle.std.proofs.Common.{ℕ, ◌+◌, ◌<◌, length}
+use Rattle.std.proofs.Common.{ℕ, ◌+◌, ◌<◌}
 use Rattle.device_report.specs.Widest.{IsAdmittedAt}
 use Rattle.device_report.proofs.widest.widest.Given as goal
 

@@ -1,4 +1,4 @@
-use Rattle.std.proofs.Common.{◌≡◌, ◌∙◌, List, refl, subst}
+use Rattle.std.proofs.Common.{◌∙◌, List, refl, subst}
 use Rattle.strips.specs.declared.placed_strip.PlacedStrip.{PlacedStrip}
 use Rattle.device_picture.specs.declared.device.Owned.{Owned}
 use Rattle.device_report.specs.Channels.{AreFullest, channels_in}
