@@ -8,6 +8,8 @@ use std::alloc::{AllocError, Global};
 pub enum Takes {
     /// Any text.
     Text,
+    /// Any text; the option has to be given.
+    GivenText,
     /// A number from the first to the second.
     Number(u32, u32),
     /// Any number of 64 bits.
@@ -40,6 +42,31 @@ pub struct Program {
     pub options: &'static [OptionWord],
 }
 
+/// A program of several tools, each a program that the first word calls by its name.
+#[derive(Clone, Copy)]
+pub struct Toolbox {
+    pub name: &'static str,
+    /// What its help begins with.
+    pub about: &'static str,
+    /// What its help ends with.
+    pub after_help: &'static str,
+    /// Its tools, in the help's order.
+    pub tools: &'static [Program],
+}
+
+/// The toolbox as clap takes it.
+pub(crate) fn commands<'a>(alloc: Global, toolbox: &Toolbox) -> Result<Command<'a>, AllocError> {
+    let mut commands = Command::new(alloc, toolbox.name)
+        .about(toolbox.about)
+        .after_help(toolbox.after_help)
+        .subcommand_required(true)
+        .disable_help_subcommand(true);
+    for tool in toolbox.tools {
+        commands = commands.subcommand(command(alloc, tool)?)?;
+    }
+    Ok(commands)
+}
+
 /// The program as clap takes it.
 pub(crate) fn command<'a>(alloc: Global, program: &Program) -> Result<Command<'a>, AllocError> {
     let mut command = named(alloc, program);
@@ -62,6 +89,7 @@ fn argument<'a>(alloc: Global, option: &OptionWord) -> Arg<'a> {
         .long(option.name)
         .value_name(option.value_name)
         .value_parser(parser(option.takes))
+        .required(matches!(option.takes, Takes::GivenText))
         .help(option.help);
     match option.default {
         Some(default) => argument.default_value(default),
@@ -72,7 +100,7 @@ fn argument<'a>(alloc: Global, option: &OptionWord) -> Arg<'a> {
 /// How clap checks what an option takes.
 fn parser<'a>(takes: Takes) -> ValueParser<'a> {
     match takes {
-        Takes::Text => ValueParser::String,
+        Takes::Text | Takes::GivenText => ValueParser::String,
         Takes::Number(least, most) => ValueParser::Signed(i64::from(least), i64::from(most)),
         Takes::Long => ValueParser::Unsigned(0, u64::MAX),
         Takes::Word(words) => ValueParser::Names(words),

@@ -3,6 +3,7 @@
 //! - `pictures`: marks and lines whose places follow from the sizes by hand, and a sink that fails.
 //! - `inputs`: the fault of each input that is refused, with its line.
 //! - `reports`: texts whose numbers were counted by hand.
+//! - `tools`: what the tools of the desk print for their words and input, and how they end.
 //! - `scripts`: architectures and netlists that the service's own readers take, and the limits of a plan.
 #![tactic(auto)]
 
@@ -14,3 +15,5 @@ mod pictures;
 mod reports;
 #[cfg(test)]
 mod scripts;
+#[cfg(test)]
+mod tools;

@@ -1,15 +1,15 @@
-//! The options of the program.
-use clap::Error;
-use option_words::{Given, OptionWord, Program, Takes, read_words, refusal};
+//! The tool that prints a script with random circuits.
+use option_words::{Given, OptionWord, Program, Takes};
 use random_script::{Phase, Plan, Wishes};
-use std::alloc::Global;
-use std::convert::AsStr;
 
-/// The program for its options.
-const PROGRAM: Program = Program {
-    name: "make_script",
+const NO_ROOM: &str = "no device has room for so many tenancies with so many tables";
+
+const NO_PHASE: &str = "no phase has this name";
+
+pub(crate) const TOOL: Program = Program {
+    name: "random",
     about: "Prints a script for fpgad with random circuits, to measure it with",
-    after_help: "Its first line names the options of fpgad. Example: make_script --tables 60 > my.script && fpgad --tracks 8 --columns 10 --rows 9 < my.script",
+    after_help: "Its first line names the options of fpgad. Example: fpgad_desk random --tables 60 > my.script && fpgad $(head -n 1 my.script | cut -c 9-) < my.script",
     options: &[
         OptionWord {
             name: "tables",
@@ -56,23 +56,8 @@ const PROGRAM: Program = Program {
     ],
 };
 
-const NO_ROOM: &str = "no device has room for so many tenancies with so many tables";
-
-const NO_PHASE: &str = "no phase has this name";
-
-/// The plan that these words give, the first being the program's name. An error is clap's, and a call for help is one.
-pub fn read_plan<'a, S: AsStr>(alloc: Global, words: &'a [S]) -> Result<Plan, Error> {
-    let given = read_words(alloc, &PROGRAM, words)?;
-    let plan = plan_of(&given);
-    drop(given);
-    match plan {
-        Ok(plan) => Ok(plan),
-        Err(why) => Err(refusal(alloc, &PROGRAM, words, why)),
-    }
-}
-
 /// The plan that the options give, or why they are refused.
-fn plan_of(given: &Given<'_>) -> Result<Plan, &'static str> {
+pub(crate) fn plan_of(given: &Given<'_>) -> Result<Plan, &'static str> {
     let wishes = Wishes {
         tables: given.number("tables")?,
         tenancies: given.number("tenancies")?,

@@ -1,0 +1,13 @@
+-- How an errand ends.
+use Rattle.std.specs.Prelude.{ℕ}
+use Rattle.desk.specs.declared.outcome.Outcome.{Outcome}
+use Rattle.desk.specs.declared.outcome.Outcome.TheVariants.{Done, InputFailed, OutputFailed, TextRefused, ReplyRefused, NoMemory}
+
+-- the status that the program ends with
+abbrev pub status_of : Outcome → ℕ
+status_of Done = 0
+status_of InputFailed = 1
+status_of OutputFailed = 1
+status_of (TextRefused fault) = 3
+status_of (ReplyRefused fault) = 3
+status_of NoMemory = 4

@@ -1,0 +1,72 @@
+//! What the words ask.
+use crate::size::size_of;
+use crate::{picture, random, report, script};
+use clap::Error;
+use device_picture::DeviceSize;
+use option_words::{Call, Toolbox, call_refusal, read_call};
+use random_script::Plan;
+use std::alloc::Global;
+use std::convert::AsStr;
+use tenancy_script::Wishes;
+
+/// The tools for their options.
+const TOOLBOX: Toolbox = Toolbox {
+    name: "fpgad_desk",
+    about: "Tools beside fpgad: they make its scripts and read what it prints",
+    after_help: "\
+Each tool has its own help: fpgad_desk TOOL --help
+
+Status: 0 done, 1 a device failed, 2 the options are refused, 3 the input is, with its line, 4 memory lacks
+
+Example: fpgad_desk script --name T --width 2 < t.blif | fpgad --arch my.arch --tracks 8 --columns 10 --rows 10",
+    tools: &[script::TOOL, picture::TOOL, report::TOOL, random::TOOL],
+};
+
+/// Why a tool is refused that the desk lacks.
+const NO_TOOL: &str = "no tool has this name";
+
+/// What is shown of a device.
+#[derive(Clone, Copy)]
+pub(crate) enum View {
+    /// Who owns what, drawn.
+    Picture,
+    /// How full it is.
+    Report,
+}
+
+/// What is asked of the desk.
+#[derive(Clone, Copy)]
+pub(crate) enum Errand<'a> {
+    /// The script of a tenancy.
+    Script(Wishes<'a>),
+    /// A view of a device of that size.
+    View(DeviceSize, View),
+    /// A script with random circuits.
+    Random(Plan),
+}
+
+/// What these words ask, the first being the program's name. An error is clap's, and a call for help is one.
+pub(crate) fn read_errand<'a, S: AsStr>(
+    alloc: Global,
+    words: &'a [S],
+) -> Result<Errand<'a>, Error> {
+    let call = read_call(alloc, &TOOLBOX, words)?;
+    let errand = errand_of(&call);
+    let tool = call.tool;
+    drop(call);
+    match errand {
+        Ok(errand) => Ok(errand),
+        Err(why) => Err(call_refusal(alloc, &TOOLBOX, &tool, why)),
+    }
+}
+
+/// What a call asks, or why it is refused.
+fn errand_of<'a>(call: &Call<'a>) -> Result<Errand<'a>, &'static str> {
+    match call.tool.name {
+        "script" => Ok(Errand::Script(script::wishes_of(&call.given)?)),
+        "picture" => Ok(Errand::View(size_of(&call.given)?, View::Picture)),
+        "report" => Ok(Errand::View(size_of(&call.given)?, View::Report)),
+        "random" => Ok(Errand::Random(random::plan_of(&call.given)?)),
+        _ => Err(NO_TOOL),
+    }
+}

@@ -1,0 +1,77 @@
+//! The tool that prints the script of a tenancy.
+use crate::outcome::Outcome;
+use line_text::Sink;
+use option_words::{Given, OptionWord, Program, Takes};
+use tenancy_script::{TenancyScript, Wishes, is_name};
+
+const NO_NAME: &str = "a name is 1 to 32 letters, digits and `_`";
+
+pub(crate) const TOOL: Program = Program {
+    name: "script",
+    about: "Prints the lines of one tenancy round the netlist on standard input: op admit, upload, pack, wait, place, wait, route, wait, net, placefile, routefile",
+    after_help: "\
+A netlist with a line that is `.` alone, or of more than 1048576 bytes, is refused with that line and status 3:
+whatever else it holds, the script says what it said before, one upload of this text, and the commands above.
+
+Example: fpgad_desk script --name T --width 2 --seed 1 --effort 50 < t.blif >> my.script",
+    options: &[
+        OptionWord {
+            name: "name",
+            value_name: "NAME",
+            help: "The tenancy's name, 1 to 32 letters, digits and `_`",
+            takes: Takes::GivenText,
+            default: None,
+        },
+        OptionWord {
+            name: "width",
+            value_name: "COLUMNS",
+            help: "The columns it is admitted with, 1 to 256; without it there is no line `op admit`",
+            takes: Takes::Number(1, 256),
+            default: None,
+        },
+        OptionWord {
+            name: "seed",
+            value_name: "S",
+            help: "Where the placing's draws begin, 0 to 18446744073709551615",
+            takes: Takes::Long,
+            default: Some("1"),
+        },
+        OptionWord {
+            name: "effort",
+            value_name: "E",
+            help: "How hard the placing tries, 0 to 100",
+            takes: Takes::Number(0, 100),
+            default: Some("50"),
+        },
+    ],
+};
+
+/// What the options wish, or why they are refused.
+pub(crate) fn wishes_of<'a>(given: &Given<'a>) -> Result<Wishes<'a>, &'static str> {
+    let name = given.text("name").ok_or(NO_NAME)?.as_bytes();
+    if !is_name(name) {
+        return Err(NO_NAME);
+    }
+    Ok(Wishes {
+        name,
+        width: width_of(given)?,
+        seed: given.long("seed")?,
+        effort: given.number("effort")?,
+    })
+}
+
+/// The width, if one is given.
+fn width_of(given: &Given<'_>) -> Result<Option<u32>, &'static str> {
+    match given.text("width") {
+        Some(_) => Ok(Some(given.number("width")?)),
+        None => Ok(None),
+    }
+}
+
+/// Prints the script of a tenancy with that netlist.
+pub(crate) fn print<W: Sink>(wishes: Wishes<'_>, text: &[u8], writer: &mut W) -> Outcome {
+    match TenancyScript::new(wishes, text) {
+        Ok(script) => Outcome::of_writing(script.write(writer)),
+        Err(fault) => Outcome::TextRefused(fault),
+    }
+}

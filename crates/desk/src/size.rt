@@ -1,0 +1,46 @@
+//! The size of a device, as the tools take it.
+use device_picture::DeviceSize;
+use option_words::{Given, OptionWord, Takes};
+
+/// Why numbers are refused that are no device's.
+const NO_DEVICE: &str = "no device has these sizes";
+
+/// The options with a device's size.
+pub(crate) const SIZES: &[OptionWord] = &[
+    OptionWord {
+        name: "tracks",
+        value_name: "W",
+        help: "Tracks of each channel, 1 to 64",
+        takes: Takes::Number(1, 64),
+        default: Some("2"),
+    },
+    OptionWord {
+        name: "columns",
+        value_name: "NX",
+        help: "Columns of the device, 1 to 256",
+        takes: Takes::Number(1, 256),
+        default: Some("9"),
+    },
+    OptionWord {
+        name: "rows",
+        value_name: "NY",
+        help: "Rows of the device, 1 to 64",
+        takes: Takes::Number(1, 64),
+        default: Some("1"),
+    },
+    OptionWord {
+        name: "pads",
+        value_name: "P",
+        help: "Pads at each end of a column, 1 to 8: the architecture's io_rat",
+        takes: Takes::Number(1, 8),
+        default: Some("2"),
+    },
+];
+
+/// The size that the options give, or why they are refused.
+pub(crate) fn size_of(given: &Given<'_>) -> Result<DeviceSize, &'static str> {
+    let columns = given.number("columns")?;
+    let rows = given.number("rows")?;
+    let tracks = given.number("tracks")?;
+    DeviceSize::new(columns, rows, tracks, given.number("pads")?).ok_or(NO_DEVICE)
+}

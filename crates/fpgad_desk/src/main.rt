@@ -1,0 +1,54 @@
+//! The program: tools beside the service, each called by its name: `script`, `picture`, `report`, `random`.
+//!
+//! Statuses: 0; 1 where standard input or output failed; 2 where the words are refused; 3 where the input is, with its line; 4 where memory lacks.
+//! With 2 and 3 nothing is written to standard output.
+#![tactic(auto)]
+
+use desk::{Outcome, run_words};
+use line_text::{StdSink, StdSource};
+use std::fmt::Display;
+use std::io::{BufWriter, ErrorKind, Write};
+use std::process::ExitCode;
+use std::{env, io};
+
+fn main(rt: HostRuntime) -> ExitCode {
+    let words = match words(&rt) {
+        Ok(words) => words,
+        Err(error) if error.kind() == ErrorKind::OutOfMemory => {
+            return ended(&rt, Outcome::NoMemory);
+        }
+        Err(_) => return refused(&rt, "error: an argument is no text\n"),
+    };
+    let Ok(buffer) = BufWriter::new(rt.alloc(), io::writer(&rt)) else {
+        return ended(&rt, Outcome::NoMemory);
+    };
+    let mut reader = StdSource::new(rt.reader());
+    let mut writer = StdSink::new(buffer);
+    let outcome = run_words(rt.alloc(), words.as_slice(), &mut reader, &mut writer);
+    let flushed = writer.into_writer().flush().is_ok();
+    match outcome {
+        Ok(Outcome::Done) if !flushed => ended(&rt, Outcome::OutputFailed),
+        Ok(outcome) => ended(&rt, outcome),
+        Err(error) => refused(&rt, error),
+    }
+}
+
+/// The words that the program was called with, the first being its name.
+fn words(rt: &HostRuntime) -> io::Result<Vec<String>> {
+    Ok(env::args(rt)?.collect(rt.alloc())?)
+}
+
+/// Tells how the errand ended: its message on standard error, if that can be written, and its status.
+fn ended(rt: &HostRuntime, outcome: Outcome) -> ExitCode {
+    let status = outcome.status();
+    if status != 0 {
+        let _ = rt.eprintln(outcome);
+    }
+    ExitCode::from(status)
+}
+
+/// Tells why the words are refused.
+fn refused<M: Display + Drop>(rt: &HostRuntime, message: M) -> ExitCode {
+    let _ = rt.eprint(message);
+    ExitCode::from(2)
+}

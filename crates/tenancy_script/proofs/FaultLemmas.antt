@@ -1,0 +1,42 @@
+-- The first line that an upload can't tell, line by line.
+use Rattle.std.proofs.Common.{◌≡◌, ℕ, ◌+◌, ◌-◌, ◌<◌, ◌≤◌, List, [], ◌∷◌, ◌++◌, true, false, cond, length, Some, None, refl, arith, length-append}
+use Rattle.std.specs.Prelude.{⊤, nat_le}
+use Rattle.std.specs.List.{flat_map}
+use Rattle.std.proofs.lemmas.Bool.Decides.{nat_tests}
+use Rattle.sessions.specs.Items.{without_cr, ends_text}
+use Rattle.tenancy_script.specs.declared.fault.Fault.TheVariants.{PointAlone, TextTooLong}
+use Rattle.tenancy_script.specs.Faults.{fault_from}
+
+-- a line as it is uploaded
+abbrev pub ended_line : List ℕ → List ℕ
+ended_line line = without_cr line ++ 10 ∷ []
+
+-- none of the lines ends a text
+abbrev pub HaveNoPoint : List (List ℕ) → Type 0
+HaveNoPoint [] = ⊤
+HaveNoPoint (line ∷ lines) = (ends_text line ≡ false) × HaveNoPoint lines
+
+-- the lines can be told in an upload
+abbrev pub AreTold : ℕ → List (List ℕ) → Type 0
+AreTold room lines = HaveNoPoint lines × (length (flat_map ended_line lines) ≤ room)
+
+told_line : (room : ℕ) (line : List ℕ) (lines : List (List ℕ)) → ends_text line ≡ false → nat_le room (length (without_cr line)) ≡ false → AreTold (room - (length (without_cr line) + 1)) lines → AreTold room (line ∷ lines)
+told_line room line lines point short h =
+    let less : length (without_cr line) < room = grind (arith, nat_tests, short) in
+    let one = length-append (without_cr line) (10 ∷ []) in
+    let all = length-append (ended_line line) (flat_map ended_line lines) in
+    let rest = h.1 in
+    ((point, h.0), omega (arith, less, one, all, rest))
+
+pub told_from : (number room : ℕ) (lines : List (List ℕ)) → fault_from number room lines ≡ None → AreTold room lines
+told_from number room [] none = (tt, omega arith)
+told_from number room (line ∷ lines) none =
+    let later = fault_from (number + 1) (room - (length (without_cr line) + 1)) lines in
+    elim (ends_text line) as (λ v. ends_text line ≡ v → cond v (Some (PointAlone number)) (cond (nat_le room (length (without_cr line))) (Some (TextTooLong number)) later) ≡ None → AreTold room (line ∷ lines)) [
+      | true ↦ λ e n. absurd cc
+      | false ↦ λ e n.
+          elim (nat_le room (length (without_cr line))) as (λ v. nat_le room (length (without_cr line)) ≡ v → cond v (Some (TextTooLong number)) later ≡ None → AreTold room (line ∷ lines)) [
+            | true ↦ λ f m. absurd cc
+            | false ↦ λ f m. told_line room line lines e f (told_from (number + 1) (room - (length (without_cr line) + 1)) lines m)
+          ] refl n
+    ] refl none

@@ -1,0 +1,4 @@
+mod FaultLemmas
+mod FormLemmas
+mod SaysLemmas
+mod TextLemmas

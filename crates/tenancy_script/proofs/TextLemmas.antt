@@ -1,0 +1,124 @@
+-- Lines of a text, and of texts behind one another.
+use Rattle.std.proofs.Common.{◌≡◌, ℕ, suc, ◌+◌, ◌-◌, ◌<◌, List, [], ◌∷◌, ◌++◌, Bool, true, false, not, cond, eqb, length, take, drop, refl, sym, ap, ◌∙◌, arith, append_assoc}
+use Rattle.std.specs.Prelude.{slice_index, ◌&&◌}
+use Rattle.std.specs.List.{list_all, onto_first}
+use Rattle.std.proofs.lemmas.Bool.{and_parts, true≢false, false≢true}
+use Rattle.line_text.specs.Lines.{physical_lines}
+use Rattle.sessions.specs.Items.{without_cr}
+use Rattle.tenancy_script.specs.Printed.{closing, is_ended}
+
+-- neither LF nor CR
+abbrev pub is_plain : ℕ → Bool
+is_plain b = not (eqb b 10) && not (eqb b 13)
+
+pub is_not : (x : Bool) → not x ≡ true → x ≡ false
+is_not true e = absurd (false≢true e)
+is_not false e = refl
+
+-- a line and LF are the first line of a text
+pub line_first : (line more : List ℕ) → list_all is_plain line ≡ true → physical_lines (line ++ 10 ∷ more) ≡ line ∷ physical_lines more
+line_first [] more plain = refl
+line_first (b ∷ line) more plain =
+    let parts = and_parts (is_plain b) (list_all is_plain line) plain in
+    let lf : eqb b 10 ≡ false = is_not (eqb b 10) (and_parts (not (eqb b 10)) (not (eqb b 13)) parts.0).0 in
+    ap (λ v. cond v ([] ∷ physical_lines (line ++ 10 ∷ more)) (onto_first b (physical_lines (line ++ 10 ∷ more)))) lf ∙ ap (onto_first b) (line_first line more parts.1)
+
+-- a line without CR stays as it is
+cr_later : (b : ℕ) (line : List ℕ) → eqb b 13 ≡ false → without_cr (b ∷ line) ≡ b ∷ without_cr line
+cr_later b [] e =
+    rw e (elim (eqb (slice_index [] 0) 13) as (λ v. b ∷ [] ≡ b ∷ cond v [] []) [ true ↦ refl | false ↦ refl ])
+cr_later b (c ∷ line) e =
+    let n : length (b ∷ c ∷ line) - 1 ≡ suc (length line) = omega arith in
+    let m : length (c ∷ line) - 1 ≡ length line = omega arith in
+    rw (n, m) (elim (eqb (slice_index (c ∷ line) (length line)) 13) as (λ v. cond v (b ∷ take (length line) (c ∷ line)) (b ∷ c ∷ line) ≡ b ∷ cond v (take (length line) (c ∷ line)) (c ∷ line)) [ true ↦ refl | false ↦ refl ])
+
+cr_none : without_cr [] ≡ []
+cr_none = elim (eqb (slice_index [] 0) 13) as (λ v. cond {A = List ℕ} v [] [] ≡ []) [ true ↦ refl | false ↦ refl ]
+
+pub without_cr-plain : (line : List ℕ) → list_all is_plain line ≡ true → without_cr line ≡ line
+without_cr-plain [] plain = cr_none
+without_cr-plain (b ∷ line) plain =
+    let parts = and_parts (is_plain b) (list_all is_plain line) plain in
+    let cr : eqb b 13 ≡ false = is_not (eqb b 13) (and_parts (not (eqb b 10)) (not (eqb b 13)) parts.0).1 in
+    cr_later b line cr ∙ ap (λ l. b ∷ l) (without_cr-plain line parts.1)
+
+-- a text that isn't empty has a line
+length-onto : (b : ℕ) (lines : List (List ℕ)) → 0 < length (onto_first b lines)
+length-onto b [] = omega arith
+length-onto b (line ∷ lines) = omega arith
+
+some_lines : (b : ℕ) (text : List ℕ) → 0 < length (physical_lines (b ∷ text))
+some_lines b text = elim (eqb b 10) as (λ v. 0 < length (cond v ([] ∷ physical_lines text) (onto_first b (physical_lines text)))) [
+  | true ↦ omega arith
+  | false ↦ length-onto b (physical_lines text)
+]
+
+onto_first-append : (b : ℕ) (lines more : List (List ℕ)) → 0 < length lines → onto_first b (lines ++ more) ≡ onto_first b lines ++ more
+onto_first-append b [] more some = absurd (omega arith)
+onto_first-append b (line ∷ lines) more some = refl
+
+-- the lines of a text that is ended, and those of the text behind it
+pub lines-append : (text more : List ℕ) → is_ended text ≡ true → physical_lines (text ++ more) ≡ physical_lines text ++ physical_lines more
+lines-append [] more e = refl
+lines-append (b ∷ []) more e =
+    ap (λ v. cond v ([] ∷ physical_lines more) (onto_first b (physical_lines more))) e
+    ∙ sym (ap (λ v. cond v ([] ∷ []) (onto_first b []) ++ physical_lines more) e)
+lines-append (b ∷ c ∷ text) more e =
+    let later : physical_lines ((c ∷ text) ++ more) ≡ physical_lines (c ∷ text) ++ physical_lines more = lines-append (c ∷ text) more e in
+    elim (eqb b 10) as (λ v. cond v ([] ∷ physical_lines ((c ∷ text) ++ more)) (onto_first b (physical_lines ((c ∷ text) ++ more))) ≡ cond v ([] ∷ physical_lines (c ∷ text)) (onto_first b (physical_lines (c ∷ text))) ++ physical_lines more) [
+      | true ↦ ap (λ lines. [] ∷ lines) later
+      | false ↦ ap (onto_first b) later ∙ onto_first-append b (physical_lines (c ∷ text)) (physical_lines more) (some_lines c text)
+    ]
+
+-- an LF that ends the last line adds none
+lines-closed : (text : List ℕ) → is_ended text ≡ false → physical_lines (text ++ 10 ∷ []) ≡ physical_lines text
+lines-closed [] e = absurd (true≢false e)
+lines-closed (b ∷ []) e =
+    ap (λ v. cond v ([] ∷ [] ∷ []) (onto_first b ([] ∷ []))) e ∙ sym (ap (λ v. cond v ([] ∷ []) (onto_first b [])) e)
+lines-closed (b ∷ c ∷ text) e = ap (λ lines. cond (eqb b 10) ([] ∷ lines) (onto_first b lines)) (lines-closed (c ∷ text) e)
+
+ended-closed : (text : List ℕ) → is_ended (text ++ 10 ∷ []) ≡ true
+ended-closed [] = refl
+ended-closed (b ∷ []) = refl
+ended-closed (b ∷ c ∷ text) = ended-closed (c ∷ text)
+
+closing-ended : (text : List ℕ) → is_ended text ≡ true → closing text ≡ []
+closing-ended text e = ap (λ v. cond v [] (10 ∷ [])) e
+
+closing-open : (text : List ℕ) → is_ended text ≡ false → closing text ≡ 10 ∷ []
+closing-open text e = ap (λ v. cond v [] (10 ∷ [])) e
+
+pub lines-closing : (text more : List ℕ) → physical_lines (text ++ (closing text ++ more)) ≡ physical_lines text ++ physical_lines more
+lines-closing text more =
+    elim (is_ended text) as (λ v. is_ended text ≡ v → physical_lines (text ++ (closing text ++ more)) ≡ physical_lines text ++ physical_lines more) [
+      | true ↦ λ e. ap (λ c. physical_lines (text ++ (c ++ more))) (closing-ended text e) ∙ lines-append text more e
+      | false ↦ λ e. ap (λ c. physical_lines (text ++ (c ++ more))) (closing-open text e) ∙ ap physical_lines (sym (append_assoc text (10 ∷ []) more))
+          ∙ lines-append (text ++ 10 ∷ []) more (ended-closed text) ∙ ap (λ lines. lines ++ physical_lines more) (lines-closed text e)
+    ] refl
+
+-- whether a text is ended is seen at its last byte
+pub ended_at : (text : List ℕ) → 0 < length text → eqb (slice_index text (length text - 1)) 10 ≡ is_ended text
+ended_at [] some = absurd (omega arith)
+ended_at (b ∷ []) some = refl
+ended_at (b ∷ c ∷ text) some =
+    let n : length (b ∷ c ∷ text) - 1 ≡ suc (length text) = omega arith in
+    let m : length (c ∷ text) - 1 ≡ length text = omega arith in
+    ap (λ k. eqb (slice_index (b ∷ c ∷ text) k) 10) n ∙ sym (ap (λ k. eqb (slice_index (c ∷ text) k) 10) m) ∙ ended_at (c ∷ text) (omega arith)
+
+-- a text whose end is ended is so
+pub ended-append : (text more : List ℕ) → 0 < length more → is_ended (text ++ more) ≡ is_ended more
+ended-append [] more some = refl
+ended-append (b ∷ []) [] some = absurd (omega arith)
+ended-append (b ∷ []) (c ∷ more) some = refl
+ended-append (b ∷ c ∷ text) more some = ended-append (c ∷ text) more some
+
+-- what stands ahead of an element, and behind it
+pub take-front : {X : Type 0} (xs ys : List X) → take (length xs) (xs ++ ys) ≡ xs
+take-front [] ys = refl
+take-front (x ∷ xs) ys = ap (λ l. x ∷ l) (take-front xs ys)
+
+pub drop-front : {X : Type 0} (xs : List X) (y : X) (ys : List X) → drop (length xs + 1) (xs ++ y ∷ ys) ≡ ys
+drop-front [] y ys = refl
+drop-front (x ∷ xs) y ys =
+    let e : length (x ∷ xs) + 1 ≡ suc (length xs + 1) = omega arith in
+    ap (λ n. drop n (x ∷ xs ++ y ∷ ys)) e ∙ drop-front xs y ys

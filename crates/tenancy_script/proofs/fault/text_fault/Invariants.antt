@@ -1,0 +1,14 @@
+use Rattle.std.proofs.Common.{◌≡◌, ◌+◌, ◌≤◌, length}
+use Rattle.line_text.specs.Lines.{physical_lines}
+use Rattle.tenancy_script.specs.Faults.{fault_from, text_fault}
+use Rattle.tenancy_script.proofs.fault.text_fault.Given as goal
+
+-- no line so far is at fault, and the others are looked at with the room that is left
+abbrev pub invariant-loop-rest : goal.invariant-loop-rest
+invariant-loop-rest l = record {
+  same : fault_from l.number l.room (physical_lines l.rest) ≡ text_fault l.text;
+  counted : l.number + length l.rest ≤ length l.text + 1;
+}
+
+abbrev pub decreases-loop-rest : goal.decreases-loop-rest
+decreases-loop-rest l = length l.rest

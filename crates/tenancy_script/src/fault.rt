@@ -1,0 +1,81 @@
+//! Names and texts that no script can tell.
+ghost use Rattle.std.specs.Prelude.{◌≡◌, ◌<◌, ◌^◌, length};
+ghost use Rattle.std.specs.List.{list_all};
+ghost use Rattle.script_text.specs.Script.{is_name, is_name_byte};
+ghost use Rattle.tenancy_script.specs.Faults.{text_fault};
+
+use line_text::split_line;
+use sessions::{is_point, without_cr};
+use std::fmt;
+
+/// The most bytes of a text that the service takes.
+const MAX_TEXT: usize = 1_048_576;
+
+/// Why a tenancy has no script. Lines are counted from 1.
+#[derive(Clone, Copy, Debug, PartialEq, Eq)]
+pub enum Fault {
+    /// The name isn't 1 to 32 letters, digits and `_`.
+    BadName,
+    /// That line is `.` alone, which would end the upload.
+    PointAlone(usize),
+    /// With that line the text has more bytes than the service takes.
+    TextTooLong(usize),
+}
+
+impl fmt::Display for Fault {
+    fn fmt<W: fmt::Write>(&self, f: &mut fmt::Formatter<W>) -> fmt::Result {
+        match self {
+            Fault::BadName => write!(f, "a name is 1 to 32 letters, digits and `_`"),
+            Fault::PointAlone(line) => {
+                write!(
+                    f,
+                    "line {line}: `.` alone ends an upload, and what follows would be commands"
+                )
+            }
+            Fault::TextTooLong(line) => write!(f, "line {line}: the text is above 1048576 bytes"),
+        }
+    }
+}
+
+/// The first line of a text that an upload can't tell, with what is wrong with it.
+pub(crate) fn text_fault(text: &[u8]) -> Option<Fault>
+    requires { length text.now < 2 ^ 63 }
+    ensures { result ≡ text_fault text.now }
+{
+    let mut rest = text;
+    let mut number = 1;
+    let mut room = MAX_TEXT;
+    while !rest.is_empty() {
+        let (line, after) = split_line(rest);
+        let line = without_cr(line);
+        if is_point(line) {
+            return Some(Fault::PointAlone(number));
+        }
+        if line.len() >= room {
+            return Some(Fault::TextTooLong(number));
+        }
+        room -= line.len() + 1;
+        number += 1;
+        rest = after;
+    }
+    None
+}
+
+/// Whether the bytes may be a name.
+pub fn is_name(name: &[u8]) -> bool
+    ensures { result ≡ is_name name.now }
+{
+    !name.is_empty() && name.len() <= 32 && are_name_bytes(name)
+}
+
+fn are_name_bytes(name: &[u8]) -> bool
+    ensures { result ≡ list_all is_name_byte name.now }
+{
+    name.iter().all(|b| is_name_byte(*b))
+}
+
+fn is_name_byte(b: u8) -> bool
+    ensures { result ≡ is_name_byte b }
+{
+    b.is_ascii_alphanumeric() || b == b'_'
+}

@@ -1,0 +1,37 @@
+//! Scripts that are made, where they can be.
+ghost use Rattle.std.specs.Prelude.{◌≡◌, ◌<◌, ◌^◌, Some, None, length, IfErr, IfOk};
+ghost use Rattle.tenancy_script.specs.Faults.{refusal_of};
+ghost use Rattle.tenancy_script.specs.Says.{IsOf};
+
+use crate::fault::{Fault, is_name, text_fault};
+use crate::script::{TenancyScript, Wishes};
+
+impl<'a> TenancyScript<'a> {
+    /// The script of a tenancy of that name with that text, or why there is none.
+    pub fn new(wishes: Wishes<'a>, text: &'a [u8]) -> Result<Self, Fault>
+        requires { length text.now < 2 ^ 63 }
+        ensures refused { IfErr result (λ fault. refusal_of wishes.entry.name.now text.now ≡ Some fault) }
+        ensures told { IfOk result (λ script. refusal_of wishes.entry.name.now text.now ≡ None) }
+        ensures of { IfOk result (λ script. IsOf wishes.entry text.now script) }
+    {
+        let Wishes {
+            name,
+            width,
+            seed,
+            effort,
+        } = wishes;
+        if !is_name(name) {
+            return Err(Fault::BadName);
+        }
+        if let Some(fault) = text_fault(text) {
+            return Err(fault);
+        }
+        Ok(TenancyScript {
+            name,
+            width,
+            seed,
+            effort,
+            text,
+        })
+    }
+}

@@ -1,0 +1,128 @@
+//! Scripts that are printed.
+ghost use Rattle.std.specs.Prelude.{◌≡◌, ◌++◌, ◌<◌, ◌^◌, ℕ, List};
+ghost use Rattle.line_text.specs.Writing.{Writes};
+ghost use Rattle.script_text.specs.Script.{script_of};
+ghost use Rattle.tenancy_script.specs.Printed.{closing, is_ended, printed, printed_admission, printed_commands, printed_upload};
+ghost use Rattle.tenancy_script.specs.Says.{IsWhole, acts_of, followed_by};
+
+use crate::script::TenancyScript;
+use line_text::{Failed, Sink};
+use text_parts::{Part, write_parts};
+
+impl TenancyScript<'_> {
+    /// Prints it. Put behind any script that is whole, it adds to what that says just the tenancy's own: its admission if it has a
+    /// width, one upload of the text, and the commands.
+    pub fn write<K: Sink>(&self, sink: &mut K) -> Result<(), Failed>
+        ensures written { Writes K.contents K.has_failed sink.old sink.new (printed self.now) result }
+        ensures says { (number : ℕ) (before : List ℕ) → IsWhole before → script_of number (before ++ printed self.now) ≡ followed_by (script_of number before) (acts_of self.now) }
+        ensures whole { (before : List ℕ) → IsWhole before → IsWhole (before ++ printed self.now) }
+    {
+        self.laws();
+        self.write_admission(sink)?;
+        self.write_upload(sink)?;
+        self.write_commands(sink)
+    }
+
+    /// What it says, behind whatever script.
+    fn laws(&self)
+        ensures says { (number : ℕ) (before : List ℕ) → IsWhole before → script_of number (before ++ printed self.now) ≡ followed_by (script_of number before) (acts_of self.now) }
+        ensures whole { (before : List ℕ) → IsWhole before → IsWhole (before ++ printed self.now) }
+    {
+        match self.width {
+            Some(width) => bits(width, self.seed, self.effort),
+            None => bits(0, self.seed, self.effort),
+        }
+    }
+
+    /// Prints the operator's line.
+    fn write_admission<K: Sink>(&self, sink: &mut K) -> Result<(), Failed>
+        ensures { Writes K.contents K.has_failed sink.old sink.new (printed_admission self.now.width self.now.name.now) result }
+    {
+        match self.width {
+            Some(width) => write_parts(
+                sink,
+                &[
+                    Part::Text("op admit "),
+                    Part::Bytes(self.name),
+                    Part::Text(" "),
+                    Part::Number(width),
+                    Part::Text("\n"),
+                ],
+            ),
+            None => write_parts(sink, &[]),
+        }
+    }
+
+    /// Prints the upload.
+    fn write_upload<K: Sink>(&self, sink: &mut K) -> Result<(), Failed>
+        ensures { Writes K.contents K.has_failed sink.old sink.new (printed_upload self.now.name.now self.now.text.now) result }
+    {
+        write_parts(
+            sink,
+            &[
+                Part::Text("@"),
+                Part::Bytes(self.name),
+                Part::Text(" upload\n"),
+                Part::Bytes(self.text),
+                Part::Text(closing(self.text)),
+                Part::Text(".\n"),
+            ],
+        )
+    }
+
+    /// Prints the commands behind it.
+    fn write_commands<K: Sink>(&self, sink: &mut K) -> Result<(), Failed>
+        ensures { Writes K.contents K.has_failed sink.old sink.new (printed_commands self.now.name.now self.now.seed self.now.effort) result }
+    {
+        let name = Part::Bytes(self.name);
+        write_parts(
+            sink,
+            &[
+                Part::Text("@"),
+                name,
+                Part::Text(" pack\n@"),
+                name,
+                Part::Text(" wait\n@"),
+                name,
+                Part::Text(" place "),
+                Part::Long(self.seed),
+                Part::Text(" "),
+                Part::Number(self.effort),
+                Part::Text("\n@"),
+                name,
+                Part::Text(" wait\n@"),
+                name,
+                Part::Text(" route\n@"),
+                name,
+                Part::Text(" wait\n@"),
+                name,
+                Part::Text(" net\n@"),
+                name,
+                Part::Text(" placefile\n@"),
+                name,
+                Part::Text(" routefile\n"),
+            ],
+        )
+    }
+}
+
+/// What ends the last line of a text where it isn't ended.
+fn closing(text: &[u8]) -> &'static str
+    ensures { result.now ≡ closing text.now }
+{
+    if is_ended(text) { "" } else { "\n" }
+}
+
+/// Whether the last line of a text is ended.
+fn is_ended(text: &[u8]) -> bool
+    ensures { result ≡ is_ended text.now }
+{
+    text.is_empty() || text[text.len() - 1] == b'\n'
+}
+
+/// How many bits the numbers have.
+fn bits(width: u32, seed: u64, effort: u32)
+    ensures width { width < 2 ^ 32 }
+    ensures seed { seed < 2 ^ 64 }
+    ensures effort { effort < 2 ^ 32 }
+{}

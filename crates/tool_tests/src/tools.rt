@@ -1,0 +1,166 @@
+//! What the tools print for their words and input, and how they end.
+use clap::error::ErrorKind;
+use desk::{Outcome, run_words};
+use line_text::{MemorySink, MemorySource};
+use random_script::{Phase, Plan, Wishes, write_script};
+use std::alloc::Global;
+use std::test::Fail;
+
+/// A netlist whose last line is not ended, and one of whose lines ends in CR and LF.
+const NETLIST: &[u8] = b".model m\n.inputs a\n.outputs b\r\n.names a b\n1 1\n.end";
+
+const SCRIPT: &[u8] = b"op admit T_1 2
+@T_1 upload
+.model m\n.inputs a\n.outputs b\r\n.names a b\n1 1\n.end
+.
+@T_1 pack
+@T_1 wait
+@T_1 place 18446744073709551615 100
+@T_1 wait
+@T_1 route
+@T_1 wait
+@T_1 net
+@T_1 placefile
+@T_1 routefile
+";
+
+/// How the words end on that input, and whether just these bytes are written.
+fn ends(alloc: Global, words: &[&str], input: &[u8], status: u8, written: &[u8]) -> bool {
+    let mut source = MemorySource::new(input);
+    let mut sink = MemorySink::new(alloc);
+    let is_so = match run_words(alloc, words, &mut source, &mut sink) {
+        Ok(outcome) => outcome.status() == status,
+        Err(error) => error.kind() != ErrorKind::OutOfMemory && status == 2,
+    };
+    let is_written = sink.as_bytes() == written;
+    drop(sink);
+    is_so && is_written
+}
+
+/// Whether the words are refused in that way.
+fn refuses(alloc: Global, words: &[&str], kind: ErrorKind) -> bool {
+    let mut source = MemorySource::new(NETLIST);
+    let mut sink = MemorySink::new(alloc);
+    let is_so = match run_words(alloc, words, &mut source, &mut sink) {
+        Ok(_) => false,
+        Err(error) => error.kind() == kind,
+    };
+    drop(sink);
+    is_so
+}
+
+#[test]
+fn scripts_of_a_tenancy(rt: HostRuntime) {
+    let words = [
+        "fpgad_desk",
+        "script",
+        "--name",
+        "T_1",
+        "--width",
+        "2",
+        "--seed=18446744073709551615",
+        "--effort=100",
+    ];
+    assert!(rt; ends(rt.alloc(), words.as_slice(), NETLIST, 0, SCRIPT));
+    let refused = b".model m\n.\nop evict victim\n";
+    assert!(rt; ends(rt.alloc(), words.as_slice(), refused, 3, b""));
+    assert!(rt;
+        ends(
+            rt.alloc(),
+            words.as_slice(),
+            b".model m\n.end\n.\r\n",
+            3,
+            b""
+        )
+    );
+}
+
+#[test]
+fn words_that_are_refused(rt: HostRuntime) {
+    let alloc = rt.alloc();
+    for (words, kind) in [
+        (
+            ["fpgad_desk", "script", "--name=T-1"],
+            ErrorKind::ValueValidation,
+        ),
+        (
+            ["fpgad_desk", "script", "--effort=1"],
+            ErrorKind::MissingRequiredArgument,
+        ),
+        (
+            ["fpgad_desk", "picture", "--rows=65"],
+            ErrorKind::ValueValidation,
+        ),
+        (
+            ["fpgad_desk", "report", "--rows=+5"],
+            ErrorKind::ValueValidation,
+        ),
+        (
+            ["fpgad_desk", "random", "--until=x"],
+            ErrorKind::InvalidValue,
+        ),
+        (["fpgad_desk", "random", "--help"], ErrorKind::DisplayHelp),
+    ] {
+        assert!(rt; refuses(alloc, words.as_slice(), kind));
+    }
+    assert!(rt;
+        refuses(
+            alloc,
+            ["fpgad_desk"].as_slice(),
+            ErrorKind::MissingSubcommand
+        )
+    );
+    assert!(rt;
+        refuses(
+            alloc,
+            ["fpgad_desk", "draw"].as_slice(),
+            ErrorKind::InvalidSubcommand
+        )
+    );
+}
+
+/// The line of an input that is no reply is told.
+#[test]
+fn inputs_that_are_refused(rt: HostRuntime) -> Result<(), Fail> {
+    let mut source = MemorySource::new(b"== op\nok 1\nnothing\n");
+    let mut sink = MemorySink::new(rt.alloc());
+    let words = ["fpgad_desk", "picture"];
+    let ended = run_words(rt.alloc(), words.as_slice(), &mut source, &mut sink);
+    drop(sink);
+    let Ok(outcome) = ended else {
+        return Err("the words are refused".into());
+    };
+    assert_eq!(rt; outcome.status(), 3);
+    let told = format!(in rt.alloc(); "{outcome}")?;
+    assert!(rt; told.as_str().starts_with("line "));
+    drop(told);
+    Ok(())
+}
+
+/// The bytes are those of the plan that the options give.
+#[test]
+fn random_scripts(rt: HostRuntime) -> Result<(), Fail> {
+    let plan = Plan::new(Wishes {
+        tables: 9,
+        tenancies: 3,
+        inputs: 4,
+        cluster: 1,
+        seed: 1,
+        until: Phase::Routing,
+    });
+    let Some(plan) = plan else {
+        return Err("no plan".into());
+    };
+    let mut sink = MemorySink::new(rt.alloc());
+    if write_script(&mut sink, plan).is_err() {
+        return Err("it is not written".into());
+    }
+    let words = ["fpgad_desk", "random", "--tables", "9", "--tenancies=3"];
+    assert!(rt;
+        sink.as_bytes()
+            .starts_with(b"# fpgad --tracks 8 --columns 11 --rows 4\n")
+    );
+    assert!(rt; ends(rt.alloc(), words.as_slice(), b"", 0, sink.as_bytes()));
+    drop(sink);
+    Ok(())
+}
