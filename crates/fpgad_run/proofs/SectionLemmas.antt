@@ -6,14 +6,14 @@ use Rattle.std.specs.Str.{bytes_eq}
 use Rattle.std.proofs.Math.ListN.{set}
 use Rattle.line_text.specs.Names.{has_name, number_of, with_name}
 use Rattle.line_text.proofs.NameLemmas.{number_of-first, number_of-later, with_name-first, with_name-later}
-use Rattle.fpgad_run.specs.Run.{Section, heading, with_text}
+use Rattle.fpgad_run.specs.Run.{Section, heading, section_text, with_text}
 use Rattle.line_text.specs.declared.memory_sink.MemorySink.{MemorySink}
 use Rattle.std.specs.declared.alloc.AllocError.{AllocError}
 use Rattle.std.proofs.lemmas.Bool.{false≢true}
 use Rattle.line_text.specs.declared.source.Failed.{Failed}
 use Rattle.line_text.specs.Writing.{Writes}
 use Rattle.operator.specs.Held.{held}
-use Rattle.fpgad_run.specs.Zipped.{section_text, zipped}
+use Rattle.fpgad_run.specs.Zipped.{zipped}
 
 abbrev pub Text : Type 0
 Text = MemorySink

@@ -8,7 +8,7 @@ use Rattle.arch_file.specs.declared.fault.ArchFault.{ArchFault}
 use Rattle.script_threads.specs.declared.answered.Section.{Section as Answer}
 use Rattle.fpgad_run.specs.OnThreads.{section_of}
 use Rattle.fpgad_run.specs.Program.{Start, checked}
-use Rattle.fpgad_run.specs.Zipped.{section_text}
+use Rattle.fpgad_run.specs.Run.{section_text}
 
 -- the texts of sections, one after another
 abbrev pub texts_of : List Answer → List ℕ

@@ -60,9 +60,12 @@ sections_after sections (t ∷ ts) = sections_after (told_session sections t.act
 abbrev pub heading : List ℕ → List ℕ
 heading name = codes "== " ++ name ++ 10 ∷ []
 
+abbrev pub section_text : Section → List ℕ
+section_text s = heading s.name ++ s.text
+
 -- what is written: the operator's replies, then each name's in the order of their first lines
 abbrev pub output_of : List ℕ → List Section → List ℕ
-output_of operator sections = heading (codes "op") ++ operator ++ flat_map (λ s. heading s.name ++ s.text) sections
+output_of operator sections = heading (codes "op") ++ operator ++ flat_map section_text sections
 
 abbrev pub written : List Telling → List ℕ
 written tellings = output_of (flat_map (λ t. told_operator t.act t.text) tellings) (sections_after [] tellings)

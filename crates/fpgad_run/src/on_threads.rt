@@ -3,8 +3,7 @@ ghost use Rattle.std.specs.Prelude.{◌≡◌, ◌++◌, ◌≤◌, ◌<◌, ◌
 ghost use Rattle.std.specs.List.{flat_map};
 ghost use Rattle.fpgad_run.specs.Ends.{Replies};
 ghost use Rattle.fpgad_run.specs.OnThreads.{AreThreadedReplies, section_of, threaded_start_of};
-ghost use Rattle.fpgad_run.specs.Run.{output_of};
-ghost use Rattle.fpgad_run.specs.Zipped.{section_text};
+ghost use Rattle.fpgad_run.specs.Run.{output_of, section_text};
 
 use crate::inputs::{Architecture, Texts};
 use crate::options::Options;

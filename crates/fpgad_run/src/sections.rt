@@ -1,7 +1,7 @@
 ghost use Rattle.std.specs.Prelude.{is_ok, ◌≡◌, ◌++◌, [], length, OnOk};
 ghost use Rattle.std.specs.List.{flat_map};
-ghost use Rattle.fpgad_run.specs.Run.{heading};
-ghost use Rattle.fpgad_run.specs.Zipped.{section_text, zipped};
+ghost use Rattle.fpgad_run.specs.Run.{heading, section_text};
+ghost use Rattle.fpgad_run.specs.Zipped.{zipped};
 
 use line_text::{Failed, MemorySink, NameSet};
 use service_core::Service;

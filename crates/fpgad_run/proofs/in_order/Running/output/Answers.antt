@@ -1,8 +1,7 @@
 use Rattle.std.proofs.Common.{◌≡◌, ◌++◌, ◌∙◌, ap, codes, append_assoc, rules}
 use Rattle.std.specs.List.{flat_map}
 use Rattle.operator.specs.Held.{held}
-use Rattle.fpgad_run.specs.Run.{heading}
-use Rattle.fpgad_run.specs.Zipped.{section_text}
+use Rattle.fpgad_run.specs.Run.{heading, section_text}
 use Rattle.fpgad_run.specs.Told.{sections_of}
 use Rattle.fpgad_run.proofs.in_order.Running.output.Goals as goal
 

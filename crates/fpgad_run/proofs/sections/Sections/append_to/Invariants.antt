@@ -1,6 +1,7 @@
 use Rattle.std.proofs.Common.{◌≡◌, ◌++◌, drop}
 use Rattle.std.specs.List.{flat_map}
-use Rattle.fpgad_run.specs.Zipped.{section_text, zipped}
+use Rattle.fpgad_run.specs.Run.{section_text}
+use Rattle.fpgad_run.specs.Zipped.{zipped}
 use Rattle.fpgad_run.proofs.sections.Sections.append_to.Given as goal
 
 -- the sections so far and those that are left are all of them
