@@ -1,5 +1,5 @@
 -- A tenancy's script that is printed.
-use Rattle.std.proofs.Common.{◌≡◌, ℕ, Bool, List, Option, Result, Ok, Err, refl, sym, subst}
+use Rattle.std.proofs.Common.{◌≡◌, ℕ, Bool, List, Option, Result, Ok, Err, sym, subst}
 use Rattle.line_text.specs.declared.source.Failed.{Failed}
 use Rattle.line_text.specs.Writing.{Writes}
 use Rattle.tenancy_script.specs.declared.script.TenancyScript.{TenancyScript}
