@@ -1,5 +1,6 @@
 -- How an errand ends.
-use Rattle.std.specs.Prelude.{ℕ}
+use Rattle.std.specs.Prelude.{ℕ, Result, Ok, Err}
+use Rattle.line_text.specs.declared.source.Failed.{Failed}
 use Rattle.desk.specs.declared.outcome.Outcome.{Outcome}
 use Rattle.desk.specs.declared.outcome.Outcome.TheVariants.{Done, InputFailed, OutputFailed, TextRefused, ReplyRefused, NoMemory}
 
@@ -11,3 +12,8 @@ status_of OutputFailed = 1
 status_of (TextRefused fault) = 3
 status_of (ReplyRefused fault) = 3
 status_of NoMemory = 4
+
+-- how an errand ends that was written so
+abbrev pub written_so : Result (Unit {0}) Failed → Outcome
+written_so (Ok u) = Done
+written_so (Err failed) = OutputFailed

@@ -1,6 +1,6 @@
 //! How an errand ended.
 ghost use Rattle.std.specs.Prelude.{◌≡◌};
-ghost use Rattle.desk.specs.Outcomes.{status_of};
+ghost use Rattle.desk.specs.Outcomes.{status_of, written_so};
 
 use device_picture::InputFault;
 use line_text::{Failed, ReadError};
@@ -43,7 +43,9 @@ impl Outcome {
     }
 
     /// How an errand ended that was written so.
-    pub(crate) fn of_writing(written: Result<(), Failed>) -> Self {
+    pub(crate) fn of_writing(written: Result<(), Failed>) -> Self
+        ensures { result ≡ written_so written }
+    {
         match written {
             Ok(()) => Outcome::Done,
             Err(_) => Outcome::OutputFailed,

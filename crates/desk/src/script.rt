@@ -1,4 +1,6 @@
 //! The tool that prints the script of a tenancy.
+ghost use Rattle.desk.specs.Scripts.{Prints};
+
 use crate::outcome::Outcome;
 use line_text::Sink;
 use option_words::{Given, OptionWord, Program, Takes};
@@ -68,8 +70,10 @@ fn width_of(given: &Given<'_>) -> Result<Option<u32>, &'static str> {
     }
 }
 
-/// Prints the script of a tenancy with that netlist.
-pub(crate) fn print<W: Sink>(wishes: Wishes<'_>, text: &[u8], writer: &mut W) -> Outcome {
+/// Prints the script of a tenancy with that netlist, or refuses it.
+pub(crate) fn print<W: Sink>(wishes: Wishes<'_>, text: &[u8], writer: &mut W) -> Outcome
+    ensures { Prints W.contents W.has_failed writer.old writer.new wishes.entry text.now result }
+{
     match TenancyScript::new(wishes, text) {
         Ok(script) => Outcome::of_writing(script.write(writer)),
         Err(fault) => Outcome::TextRefused(fault),
