@@ -1,10 +1,15 @@
-//! The fault of each text that is no netlist, and a circuit with latches and clocks.
+//! The fault of each text that is no netlist, and of each beginning of one that is, and a circuit with latches and clocks.
 use blif::{BlifError, Latch, read_blif};
 use std::alloc::{AllocError, Global};
 
 /// What the reader tells of a text whose tables have at most two inputs: its fault, or `ok`.
 fn answer(alloc: Global, text: &str) -> Result<String, AllocError> {
-    match read_blif(alloc, text.as_bytes(), 2) {
+    answer_to(alloc, text.as_bytes())
+}
+
+/// The same of bytes.
+fn answer_to(alloc: Global, text: &[u8]) -> Result<String, AllocError> {
+    match read_blif(alloc, text, 2) {
         Ok(_circuit) => String::from_str(alloc, "ok"),
         Err(error) => error.to_string(alloc),
     }
@@ -82,6 +87,47 @@ fn first_wrong(alloc: Global) -> Option<usize> {
         if !is(answer(alloc, text), want) {
             return Some(number);
         }
+    }
+    None
+}
+
+/// A small netlist.
+const SMALL: &[u8] = b".model t\n.inputs a b\n.outputs f\n.names a b f\n11 1\n.end\n";
+
+/// What the reader tells of its beginnings, each row from the row before up to so many bytes.
+const BEGINNINGS: [(usize, &str); 17] = [
+    (0, "9 NoModel 0"),
+    (5, "1 Unknown 1"),
+    (9, "ok"),
+    (15, "1 Unknown 2"),
+    (21, "ok"),
+    (28, "1 Unknown 3"),
+    (30, "ok"),
+    (32, "6 Undriven 3 f"),
+    (37, "1 Unknown 4"),
+    (39, "2 BadCover 4"),
+    (41, "5 TwoDrivers 4 a"),
+    (43, "5 TwoDrivers 4 b"),
+    (45, "ok"),
+    (48, "2 BadCover 5"),
+    (50, "ok"),
+    (53, "1 Unknown 6"),
+    (55, "ok"),
+];
+
+/// The length of the first beginning of the small netlist of which something else is told.
+fn first_wrong_beginning(alloc: Global) -> Option<usize> {
+    let mut length = 0usize;
+    for (last, want) in BEGINNINGS.iter() {
+        for next in length..last.saturating_add(1) {
+            let Some(beginning) = SMALL.get(..next) else {
+                return Some(next);
+            };
+            if !is(answer_to(alloc, beginning), want) {
+                return Some(next);
+            }
+        }
+        length = last.saturating_add(1);
     }
     None
 }
@@ -165,6 +211,7 @@ fn tells_limits(alloc: Global) -> bool {
 fn netlists(rt: HostRuntime) {
     let alloc = rt.alloc();
     assert_eq!(rt; first_wrong(alloc), None);
+    assert_eq!(rt; first_wrong_beginning(alloc), None);
     assert!(rt; matches!(latches_and_clocks(alloc), Ok(true)));
     assert!(rt; tells_limits(alloc));
 }
