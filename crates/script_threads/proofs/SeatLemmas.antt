@@ -27,7 +27,7 @@ last_id-same [] a b least same = absurd (omega arith)
 last_id-same (newest ∷ older) a b least same = by_tests (bytes_eq newest a) (bytes_eq newest b) refl refl least same (last_id-same older a b)
   where
     by_tests : (x y : Bool) → bytes_eq newest a ≡ x → bytes_eq newest b ≡ y → 1 ≤ (if x then length older + 1 else last_id older a)
-      → (if x then length older + 1 else last_id older a) ≡ (if y then length older + 1 else last_id older b) → (1 ≤ last_id older a → last_id older a ≡ last_id older b → a ≡ b) → a ≡ b
+        → (if x then length older + 1 else last_id older a) ≡ (if y then length older + 1 else last_id older b) → (1 ≤ last_id older a → last_id older a ≡ last_id older b → a ≡ b) → a ≡ b
     by_tests true true ea eb l s ih = sym ((bytes_eq-Decides newest a).0 ea) ∙ (bytes_eq-Decides newest b).0 eb
     by_tests true false ea eb l s ih = let most = last_id-most older b in absurd (omega arith)
     by_tests false true ea eb l s ih = let most = last_id-most older a in absurd (omega arith)
@@ -58,6 +58,7 @@ free_next names marks before s rest apart seated = by_test (is_leased marks (las
     least : (id : ℕ) → is_leased marks id ≡ true → 1 ≤ id
     least zero leased = let none = ap given_in (marked_of-zero marks) in cc
     least (suc id) leased = omega arith
+
     by_test : (b : Bool) → is_leased marks (last_id names s.name) ≡ b → b ≡ false
     by_test true e = absurd (absent names before s rest apart (least (last_id names s.name) e) (seated (last_id names s.name) e))
     by_test false e = refl

@@ -28,6 +28,6 @@ loop-said-preserved g c =
       service = c.seat-seated.ensures.service ∙ c.loop-said.invariant.service;
       seats = more ∙ sym (map_push asked before (said_by c.in-Some.said)) ∙ ap (map asked) said;
       leased =
-        (let P : List Said → Type 0 = λ seated. (id : ℕ) → is_leased c.seat-seated.new.core.marks id ≡ true → HasSeat names seated id in
-        subst P said (seated_more names c.loop-said.core.marks c.seat-seated.new.core.marks before (said_by c.in-Some.said) c.loop-said.invariant.leased c.seat-seated.ensures.leased));
+          (let P : List Said → Type 0 = λ seated. (id : ℕ) → is_leased c.seat-seated.new.core.marks id ≡ true → HasSeat names seated id in
+          subst P said (seated_more names c.loop-said.core.marks c.seat-seated.new.core.marks before (said_by c.in-Some.said) c.loop-said.invariant.leased c.seat-seated.ensures.leased));
     }
