@@ -1,10 +1,7 @@
 //! What a line of a script is.
 ghost use Rattle.std.specs.Prelude.{◌≡◌, drop, option_map, IfOk};
-ghost use Rattle.script_text.specs.Script.{form_by, form_in, named_form, named_operator, session_form};
+ghost use Rattle.script_text.specs.Script.{form_by, form_in, named_form, named_operator, operator_form, session_form};
 ghost use Rattle.script_text.specs.Threaded.{behind_word};
-ghost use Rattle.script_text.specs.declared.act.Act.TheVariants.{Operator};
-ghost use Rattle.script_text.specs.declared.form.Form.TheVariants.{Asks, Faulty};
-ghost use Rattle.std.specs.Option.{option_map_or};
 
 use crate::act::Act;
 use crate::name::is_name;
@@ -91,7 +88,7 @@ fn session_form<'t>(name: &'t [u8], line: LineForm) -> Form<&'t [u8]>
 
 /// What a line of the operator is.
 fn operator_form<'t>(line: Option<OperatorLine<&'t [u8]>>) -> Form<&'t [u8]>
-    ensures { named_form result ≡ option_map_or (λ line. Asks (Operator line)) (option_map named_operator line.entry) Faulty }
+    ensures { named_form result ≡ operator_form (option_map named_operator line.entry) }
 {
     match line {
         Some(line) => Form::Asks(Act::Operator(line)),
