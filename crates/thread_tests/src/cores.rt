@@ -1,5 +1,5 @@
 //! A core to be shared, and the graph of its device.
-ghost use Rattle.std.specs.Prelude.{◌≡◌, IfSome, false};
+ghost use Rattle.std.specs.Prelude.{◌≡◌, ◌≤◌, IfSome, false};
 ghost use Rattle.arch_file.specs.Arch.{IsArch};
 ghost use Rattle.job_state.specs.JobValue.{basis_in};
 ghost use Rattle.service_core.specs.Service.{empty};
@@ -24,6 +24,8 @@ const TRACKS: u32 = 2;
 
 /// The smallest architecture, with so many tracks.
 fn architecture(alloc: Global, tracks: u32) -> Option<Arch>
+    requires few { 1 ≤ tracks }
+    requires many { tracks ≤ 64 }
     ensures { IfSome result (λ arch. IsArch arch) }
 {
     match read_arch(alloc, ARCHITECTURE.as_bytes(), tracks) {
@@ -72,7 +74,10 @@ pub(crate) fn other_graph(alloc: Global) -> Option<DeviceGraph> {
 }
 
 /// The graph of a device with so many tracks.
-fn graph_with(alloc: Global, tracks: u32) -> Option<DeviceGraph> {
+fn graph_with(alloc: Global, tracks: u32) -> Option<DeviceGraph>
+    requires few { 1 ≤ tracks }
+    requires many { tracks ≤ 64 }
+{
     match architecture(alloc, tracks) {
         Some(arch) => {
             let graph = DeviceGraph::new(alloc, &arch, COLUMNS, 1);
