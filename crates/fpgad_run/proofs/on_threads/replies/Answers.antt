@@ -12,7 +12,7 @@ returns g c =
     record {
       arch = c.in_ok-arch.arch;
       parts = parts;
-      begins = start_read _ _ _ c.in_ok-arch.arch parts (c.in-Some.ensures.on_threads c.args.options.now.tracks) c.in_ok-arch.ensures.gives c.in_ok-script.ensures;
+      begins = start_read _ _ _ c.in_ok-arch.arch parts (c.in-Some.ensures.on_threads c.args.options.now.tracks) c.in_ok-arch.ensures.gives c.in_ok-script.ensures.gives;
       answered = c.in_ok-answered.answered;
       served = subst P c.device.ensures c.in_ok-answered.ensures.ok;
       output_is = c.in_ok-output.ensures;
