@@ -1,6 +1,6 @@
 //! What a program declares.
 use clap::builder::ValueParser;
-use clap::{Arg, Command};
+use clap::{Arg, ArgAction, Command};
 use std::alloc::{AllocError, Global};
 
 /// What an option takes.
@@ -16,9 +16,13 @@ pub enum Takes {
     Long,
     /// One of these words.
     Word(&'static [&'static str]),
+    /// Nothing: the option is given, or it is not.
+    Nothing,
+    /// Any text, which has to be given and stands alone, without the option's name. Of several the first word is the first one's.
+    Alone,
 }
 
-/// An option, given as `--name VALUE`.
+/// An option, given as `--name VALUE`, as `--name` or as `VALUE`.
 #[derive(Clone, Copy)]
 pub struct OptionWord {
     pub name: &'static str,
@@ -85,24 +89,32 @@ fn named<'a>(alloc: Global, program: &Program) -> Command<'a> {
 
 /// An option as clap takes it.
 fn argument<'a>(alloc: Global, option: &OptionWord) -> Arg<'a> {
-    let argument = Arg::new(alloc, option.name)
-        .long(option.name)
-        .value_name(option.value_name)
-        .value_parser(parser(option.takes))
-        .required(matches!(option.takes, Takes::GivenText))
-        .help(option.help);
+    let argument = taking(Arg::new(alloc, option.name), option).help(option.help);
     match option.default {
         Some(default) => argument.default_value(default),
         None => argument,
     }
 }
 
+/// An option with its name in the words and what it takes.
+fn taking<'a>(argument: Arg<'a>, option: &OptionWord) -> Arg<'a> {
+    match option.takes {
+        Takes::Nothing => argument.long(option.name).action(ArgAction::SetTrue),
+        Takes::Alone => argument.value_name(option.value_name).required(true),
+        takes => argument
+            .long(option.name)
+            .value_name(option.value_name)
+            .value_parser(parser(takes))
+            .required(matches!(takes, Takes::GivenText)),
+    }
+}
+
 /// How clap checks what an option takes.
 fn parser<'a>(takes: Takes) -> ValueParser<'a> {
     match takes {
-        Takes::Text | Takes::GivenText => ValueParser::String,
         Takes::Number(least, most) => ValueParser::Signed(i64::from(least), i64::from(most)),
         Takes::Long => ValueParser::Unsigned(0, u64::MAX),
         Takes::Word(words) => ValueParser::Names(words),
+        Takes::Text | Takes::GivenText | Takes::Nothing | Takes::Alone => ValueParser::String,
     }
 }

@@ -1,6 +1,6 @@
 //! What the words give.
 ghost use Rattle.std.specs.Prelude.{◌≡◌, IfOk, IfErr, Some, None, option_map};
-ghost use Rattle.option_words.specs.Values.{number_of, text_of};
+ghost use Rattle.option_words.specs.Values.{is_given, number_of, text_of};
 
 use crate::declared::OptionWord;
 use clap::ArgMatches;
@@ -9,6 +9,9 @@ use std::alloc::{AllocError, Global};
 
 /// Why a number is refused that clap takes.
 const SIGNED: &str = "a number has a sign";
+
+/// The text that an option has which takes nothing, where it is given.
+const GIVEN: &str = "true";
 
 /// The value of an option.
 #[derive(Clone, Copy)]
@@ -48,6 +51,16 @@ impl<'a> Given<'a> {
     {
         let value = self.values.iter().find(|value| value.name == name)?;
         Some(value.text)
+    }
+
+    /// Whether an option is given that takes nothing.
+    pub fn is_given(&self, name: &str) -> bool
+        ensures { result ≡ is_given self.now name.now }
+    {
+        match self.text(name) {
+            Some(text) => text == GIVEN,
+            None => false,
+        }
     }
 
     /// The number of an option that takes one of 32 bits, or why the words are refused.
