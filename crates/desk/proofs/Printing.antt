@@ -13,7 +13,7 @@ use Rattle.desk.specs.Scripts.{Prints}
 by_result : {S : Type 0} (contents : S → Option (List ℕ)) (has_failed : S → Bool) (old new : S) (wishes : Wishes) (netlist : List ℕ) (script : TenancyScript) (r : Result (Unit {0}) Failed) → IsOf wishes netlist script →
     Writes contents has_failed old new (printed script) r → Prints contents has_failed old new wishes netlist (written_so r)
 by_result contents has_failed old new wishes netlist script (Ok u) of written = record { script = script; of = of; bytes = written }
-by_result contents has_failed old new wishes netlist script (Err failed) of written = tt
+by_result contents has_failed old new wishes netlist script (Err failed) of written = record { script = script; of = of; bytes = written }
 
 pub printed_so : {S : Type 0} (contents : S → Option (List ℕ)) (has_failed : S → Bool) (old new : S) (wishes : Wishes) (netlist : List ℕ) (script : TenancyScript) (r : Result (Unit {0}) Failed) (outcome : Outcome) → outcome ≡ written_so r → IsOf wishes netlist script →
     Writes contents has_failed old new (printed script) r → Prints contents has_failed old new wishes netlist outcome

@@ -1,13 +1,13 @@
 -- What the tool that prints a tenancy's script comes to.
-use Rattle.std.specs.Prelude.{◌≡◌, ℕ, Bool, List, Option, Some, ⊤}
-use Rattle.line_text.specs.Writing.{TakesAll}
+use Rattle.std.specs.Prelude.{◌≡◌, ℕ, Bool, List, Option, Some, ⊥}
+use Rattle.line_text.specs.Writing.{TakesAll, TakesPart}
 use Rattle.tenancy_script.specs.declared.script.TenancyScript.{TenancyScript}
 use Rattle.tenancy_script.specs.declared.script.Wishes.{Wishes}
 use Rattle.tenancy_script.specs.Faults.{refusal_of}
 use Rattle.tenancy_script.specs.Printed.{printed}
 use Rattle.tenancy_script.specs.Says.{IsOf}
 use Rattle.desk.specs.declared.outcome.Outcome.{Outcome}
-use Rattle.desk.specs.declared.outcome.Outcome.TheVariants.{Done, InputFailed, OutputFailed, TextRefused, ReplyRefused, NoMemory}
+use Rattle.desk.specs.declared.outcome.Outcome.TheVariants.{Done, OutputFailed, TextRefused}
 
 -- the script of these wishes round this text is written, whole
 pub record IsPrinted {S : Type 0} (contents : S → Option (List ℕ)) (has_failed : S → Bool) (old new : S) (wishes : Wishes) (netlist : List ℕ) : Type 0 where
@@ -15,11 +15,15 @@ pub record IsPrinted {S : Type 0} (contents : S → Option (List ℕ)) (has_fail
   pub of : IsOf wishes netlist script
   pub bytes : TakesAll contents has_failed old new (printed script)
 
--- it is, or the name or the text is refused and nothing is written
+-- a beginning of it is written, and the device has failed
+pub record IsPrintedInPart {S : Type 0} (contents : S → Option (List ℕ)) (has_failed : S → Bool) (old new : S) (wishes : Wishes) (netlist : List ℕ) : Type 0 where
+  pub script : TenancyScript
+  pub of : IsOf wishes netlist script
+  pub bytes : TakesPart contents has_failed old new (printed script)
+
+-- it is, or the output fails on the way, or the name or the text is refused and nothing is written
 abbrev pub Prints : {S : Type 0} → (S → Option (List ℕ)) → (S → Bool) → S → S → Wishes → List ℕ → Outcome → Type 0
 Prints contents has_failed old new wishes netlist Done = IsPrinted contents has_failed old new wishes netlist
+Prints contents has_failed old new wishes netlist OutputFailed = IsPrintedInPart contents has_failed old new wishes netlist
 Prints contents has_failed old new wishes netlist (TextRefused fault) = (refusal_of wishes.name.now netlist ≡ Some fault) × (new ≡ old)
-Prints contents has_failed old new wishes netlist OutputFailed = ⊤
-Prints contents has_failed old new wishes netlist InputFailed = ⊤
-Prints contents has_failed old new wishes netlist (ReplyRefused fault) = ⊤
-Prints contents has_failed old new wishes netlist NoMemory = ⊤
+Prints contents has_failed old new wishes netlist outcome = ⊥

@@ -46,7 +46,7 @@ wires_used owned direction id = count_by (λ one. (one.owner == id) && is_wire d
 abbrev pub use_of : DeviceSize → List Owned → Tenancy → TenancyUse
 use_of size owned tenancy = record {
   tenancy = tenancy;
-  blocks = record { used = blocks_used owned size.rows tenancy.offset tenancy.width; there = tenancy.width * size.rows * 1 };
+  blocks = record { used = blocks_used owned size.rows tenancy.offset tenancy.width; there = tenancy.width * size.rows };
   pads = record { used = pads_used owned tenancy.id; there = tenancy.width * 2 * size.pads };
   across = record { used = wires_used owned Across tenancy.id; there = tenancy.width * (size.rows + 1) * size.tracks };
   up = record { used = wires_used owned Up tenancy.id; there = (tenancy.width + 1) * size.rows * size.tracks };

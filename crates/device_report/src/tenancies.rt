@@ -38,7 +38,7 @@ impl<'t> TenancyUse<'t> {
             tenancy: *tenancy,
             blocks: Share {
                 used: blocks_used(owned, size.rows, tenancy.offset, width),
-                there: product(width, size.rows, 1),
+                there: width * size.rows,
             },
             pads: Share {
                 used: pads_used(owned, id),
