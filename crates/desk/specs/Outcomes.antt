@@ -2,16 +2,16 @@
 use Rattle.std.specs.Prelude.{ℕ, Result, Ok, Err}
 use Rattle.line_text.specs.declared.source.Failed.{Failed}
 use Rattle.desk.specs.declared.outcome.Outcome.{Outcome}
-use Rattle.desk.specs.declared.outcome.Outcome.TheVariants.{Done, InputFailed, OutputFailed, TextRefused, ReplyRefused, NoMemory}
+use Rattle.desk.specs.declared.outcome.Outcome.TheVariants.{Done, InputFailed, OutputFailed, FileFailed, NoMemory}
 
 -- the status that the program ends with
 abbrev pub status_of : Outcome → ℕ
 status_of Done = 0
 status_of InputFailed = 1
 status_of OutputFailed = 1
-status_of (TextRefused fault) = 3
-status_of (ReplyRefused fault) = 3
+status_of (FileFailed role) = 1
 status_of NoMemory = 4
+status_of refused = 3
 
 -- how an errand ends that was written so
 abbrev pub written_so : Result (Unit {0}) Failed → Outcome

@@ -1,6 +1,6 @@
 //! What the words ask.
 use crate::size::size_of;
-use crate::{picture, random, report, script};
+use crate::{files, picture, random, report, route, script, strip};
 use clap::Error;
 use device_picture::DeviceSize;
 use option_words::{Call, Toolbox, call_refusal, read_call};
@@ -19,7 +19,15 @@ Each tool has its own help: fpgad_desk TOOL --help
 Status: 0 done, 1 a device failed, 2 the options are refused, 3 the input is, with its line, 4 memory lacks
 
 Example: fpgad_desk script --name T --width 2 < t.blif | fpgad --arch my.arch --tracks 8 --columns 10 --rows 10",
-    tools: &[script::TOOL, picture::TOOL, report::TOOL, random::TOOL],
+    tools: &[
+        script::TOOL,
+        files::TOOL,
+        route::TOOL,
+        strip::TOOL,
+        picture::TOOL,
+        report::TOOL,
+        random::TOOL,
+    ],
 };
 
 /// Why a tool is refused that the desk lacks.
@@ -39,6 +47,12 @@ pub(crate) enum View {
 pub(crate) enum Errand<'a> {
     /// The script of a tenancy.
     Script(Wishes<'a>),
+    /// The files of a script.
+    Files(files::Wishes<'a>),
+    /// A netlist on a device of its own.
+    Route(route::Wishes<'a>),
+    /// A picture of a tenancy.
+    Strip(strip::Wishes<'a>),
     /// A view of a device of that size.
     View(DeviceSize, View),
     /// A script with random circuits.
@@ -64,6 +78,9 @@ pub(crate) fn read_errand<'a, S: AsStr>(
 fn errand_of<'a>(call: &Call<'a>) -> Result<Errand<'a>, &'static str> {
     match call.tool.name {
         "script" => Ok(Errand::Script(script::wishes_of(&call.given)?)),
+        "files" => Ok(Errand::Files(files::wishes_of(&call.given)?)),
+        "route" => Ok(Errand::Route(route::wishes_of(&call.given)?)),
+        "strip" => Ok(Errand::Strip(strip::wishes_of(&call.given)?)),
         "picture" => Ok(Errand::View(size_of(&call.given)?, View::Picture)),
         "report" => Ok(Errand::View(size_of(&call.given)?, View::Report)),
         "random" => Ok(Errand::Random(random::plan_of(&call.given)?)),

@@ -1,6 +1,9 @@
 //! The desk: tools for those who write scripts for the service and read what it printed, each called by its name.
 //!
 //! - `script` prints the lines of one tenancy round the netlist on its input; nothing that the netlist holds can be a command.
+//! - `files` takes the result files out of what the service printed for a script, and tells each line beside its reply.
+//! - `route` packs, places and routes one netlist on a device of its own, and writes its files.
+//! - `strip` draws one tenancy from its three files.
 //! - `picture` draws the device from what the service printed, and `report` tells how full it is.
 //! - `random` prints a script with random circuits, to measure the service with.
 //!
@@ -9,13 +12,19 @@
 #![tactic(auto)]
 
 mod errand;
+mod files;
 mod outcome;
+mod paths;
 mod picture;
 mod random;
 mod report;
+mod route;
 mod run;
 mod script;
+mod silence;
 mod size;
+mod strip;
 
 pub use outcome::Outcome;
-pub use run::run_words;
+pub use paths::FileRole;
+pub use run::{Streams, run_words};

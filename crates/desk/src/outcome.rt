@@ -2,9 +2,12 @@
 ghost use Rattle.std.specs.Prelude.{◌≡◌};
 ghost use Rattle.desk.specs.Outcomes.{status_of, written_so};
 
+use crate::paths::FileRole;
+use arch_file::ArchFault;
 use device_picture::InputFault;
 use line_text::{Failed, ReadError};
 use std::fmt;
+use strip_files::FileFault;
 use tenancy_script::Fault;
 
 /// How an errand ended.
@@ -18,6 +21,21 @@ pub enum Outcome {
     TextRefused(Fault),
     /// It is nothing that the service printed of such a device.
     ReplyRefused(InputFault),
+    /// That file can't be read, or nothing be written into the folder.
+    FileFailed(FileRole),
+    /// That line of a script is faulty.
+    ScriptRefused(usize),
+    /// That line of what the service printed fits no reply to the script.
+    RepliesRefused(usize),
+    ArchRefused(ArchFault),
+    /// The netlist has a fault, or fits no cluster or not the device, which was told.
+    NetlistRefused,
+    /// The netlist is left without routes, which was told.
+    Unrouted,
+    /// It is no file that the service wrote of a tenancy.
+    StripRefused(FileFault),
+    /// No net has the name.
+    NoNet,
     NoMemory,
 }
 
@@ -28,9 +46,9 @@ impl Outcome {
     {
         match self {
             Outcome::Done => 0,
-            Outcome::InputFailed | Outcome::OutputFailed => 1,
-            Outcome::TextRefused(_) | Outcome::ReplyRefused(_) => 3,
+            Outcome::InputFailed | Outcome::OutputFailed | Outcome::FileFailed(_) => 1,
             Outcome::NoMemory => 4,
+            _ => 3,
         }
     }
 
@@ -39,6 +57,14 @@ impl Outcome {
         match error {
             ReadError::NoMemory => Outcome::NoMemory,
             ReadError::Failed => Outcome::InputFailed,
+        }
+    }
+
+    /// How an errand ended that was done or ended so.
+    pub(crate) fn of(done: Result<(), Outcome>) -> Self {
+        match done {
+            Ok(()) => Outcome::Done,
+            Err(outcome) => outcome,
         }
     }
 
@@ -62,6 +88,14 @@ impl fmt::Display for Outcome {
             Outcome::OutputFailed => write!(f, "output: failed"),
             Outcome::TextRefused(fault) => write!(f, "{fault}"),
             Outcome::ReplyRefused(fault) => write!(f, "{fault}"),
+            Outcome::FileFailed(role) => write!(f, "{role}: failed"),
+            Outcome::ScriptRefused(line) => write!(f, "script: line {line}"),
+            Outcome::RepliesRefused(line) => write!(f, "line {line}: no reply to the script"),
+            Outcome::ArchRefused(fault) => write!(f, "arch: {fault}"),
+            Outcome::NetlistRefused => write!(f, "netlist: refused"),
+            Outcome::Unrouted => write!(f, "netlist: left without routes"),
+            Outcome::StripRefused(fault) => write!(f, "{fault}"),
+            Outcome::NoNet => write!(f, "no net has this name"),
             Outcome::NoMemory => write!(f, "memory"),
         }
     }

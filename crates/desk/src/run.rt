@@ -1,7 +1,7 @@
 //! Errands that are run.
 use crate::errand::{Errand, View, read_errand};
 use crate::outcome::Outcome;
-use crate::{picture, report, script};
+use crate::{files, picture, report, route, script, strip};
 use clap::Error;
 use clap::error::ErrorKind;
 use device_picture::{DeviceSize, ReadError, read_device};
@@ -9,44 +9,92 @@ use line_text::{Sink, Source, read_all};
 use random_script::write_script;
 use std::alloc::Global;
 use std::convert::AsStr;
+use std::rt::Files;
+use tenancy_script::Wishes;
+
+/// What a program reads and writes beside files.
+#[derive(Drop)]
+pub struct Streams<'a, R: Source, W: Sink, E: Sink> {
+    pub reader: &'a mut R,
+    pub writer: &'a mut W,
+    /// Where progress is told, and why something is refused.
+    pub teller: &'a mut E,
+    /// Whether that is a terminal: then progress is told unasked.
+    pub is_terminal: bool,
+}
 
 /// Does what a program's words ask, the first being its name. An error is clap's: the words are refused, or ask for help.
-pub fn run_words<S: AsStr, R: Source, W: Sink>(
-    alloc: Global,
+pub fn run_words<H: Files + AllocGlobal, S: AsStr, R: Source, W: Sink, E: Sink>(
+    rt: &H,
     words: &[S],
-    reader: &mut R,
-    writer: &mut W,
+    streams: Streams<'_, R, W, E>,
 ) -> Result<Outcome, Error> {
-    match read_errand(alloc, words) {
-        Ok(Errand::Random(plan)) => Ok(Outcome::of_writing(write_script(writer, plan))),
-        Ok(errand) => Ok(run_over(alloc, errand, reader, writer)),
+    match read_errand(rt.alloc(), words) {
+        Ok(errand) => Ok(run(rt, errand, streams)),
         Err(error) if error.kind() == ErrorKind::OutOfMemory => Ok(Outcome::NoMemory),
         Err(error) => Err(error),
     }
 }
 
-/// Runs an errand over all of an input.
-fn run_over<R: Source, W: Sink>(
-    alloc: Global,
+/// Runs an errand.
+fn run<H: Files + AllocGlobal, R: Source, W: Sink, E: Sink>(
+    rt: &H,
     errand: Errand<'_>,
+    streams: Streams<'_, R, W, E>,
+) -> Outcome {
+    let Streams {
+        reader,
+        writer,
+        teller,
+        is_terminal,
+    } = streams;
+    match errand {
+        Errand::Script(wishes) => print_script(rt.alloc(), wishes, reader, writer),
+        Errand::Files(wishes) => Outcome::of(files::run(rt, wishes, reader, writer)),
+        Errand::Route(wishes) => Outcome::of(route::run(rt, wishes, writer, teller, is_terminal)),
+        Errand::Strip(wishes) => Outcome::of(strip::print(rt, wishes, writer)),
+        Errand::View(size, view) => show(rt.alloc(), size, view, reader, writer),
+        Errand::Random(plan) => Outcome::of_writing(write_script(writer, plan)),
+    }
+}
+
+/// Prints the script of a tenancy with the netlist that is read.
+fn print_script<R: Source, W: Sink>(
+    alloc: Global,
+    wishes: Wishes<'_>,
     reader: &mut R,
     writer: &mut W,
 ) -> Outcome {
-    let text = match read_all(alloc, reader) {
-        Ok(text) => text,
-        Err(error) => return Outcome::of_reading(error),
-    };
-    let outcome = match errand {
-        Errand::Script(wishes) => script::print(wishes, text.as_slice(), writer),
-        Errand::View(size, view) => show(alloc, size, view, text.as_slice(), writer),
-        Errand::Random(plan) => Outcome::of_writing(write_script(writer, plan)),
-    };
-    drop(text);
-    outcome
+    match read_all(alloc, reader) {
+        Ok(text) => {
+            let outcome = script::print(wishes, text.as_slice(), writer);
+            drop(text);
+            outcome
+        }
+        Err(error) => Outcome::of_reading(error),
+    }
 }
 
 /// Reads the device of that size from what the service printed, and shows it.
-fn show<W: Sink>(
+fn show<R: Source, W: Sink>(
+    alloc: Global,
+    size: DeviceSize,
+    view: View,
+    reader: &mut R,
+    writer: &mut W,
+) -> Outcome {
+    match read_all(alloc, reader) {
+        Ok(text) => {
+            let outcome = show_text(alloc, size, view, text.as_slice(), writer);
+            drop(text);
+            outcome
+        }
+        Err(error) => Outcome::of_reading(error),
+    }
+}
+
+/// The same, of the text.
+fn show_text<W: Sink>(
     alloc: Global,
     size: DeviceSize,
     view: View,

@@ -1,13 +1,13 @@
-//! The program: tools beside the service, each called by its name: `script`, `picture`, `report`, `random`.
+//! The program: tools beside the service, each called by its name: `script`, `files`, `route`, `strip`, `picture`, `report`, `random`.
 //!
-//! Statuses: 0; 1 where standard input or output failed; 2 where the words are refused; 3 where the input is, with its line; 4 where memory lacks.
+//! Statuses: 0; 1 where a file, standard input or standard output failed; 2 where the words are refused; 3 where the input is, with its line; 4 where memory lacks.
 //! With 2 and 3 nothing is written to standard output.
 #![tactic(auto)]
 
-use desk::{Outcome, run_words};
+use desk::{Outcome, Streams, run_words};
 use line_text::{StdSink, StdSource};
 use std::fmt::Display;
-use std::io::{BufWriter, ErrorKind, Write};
+use std::io::{BufWriter, ErrorKind, IsTerminal, Write};
 use std::process::ExitCode;
 use std::{env, io};
 
@@ -24,7 +24,14 @@ fn main(rt: HostRuntime) -> ExitCode {
     };
     let mut reader = StdSource::new(rt.reader());
     let mut writer = StdSink::new(buffer);
-    let outcome = run_words(rt.alloc(), words.as_slice(), &mut reader, &mut writer);
+    let mut teller = StdSink::new(rt.stderr());
+    let streams = Streams {
+        reader: &mut reader,
+        writer: &mut writer,
+        teller: &mut teller,
+        is_terminal: rt.stderr().is_terminal(),
+    };
+    let outcome = run_words(&rt, words.as_slice(), streams);
     let flushed = writer.into_writer().flush().is_ok();
     match outcome {
         Ok(Outcome::Done) if !flushed => ended(&rt, Outcome::OutputFailed),

@@ -1,0 +1,304 @@
+//! The tool that routes one netlist on a device of its own.
+ghost use Rattle.std.specs.Prelude.{◌≤◌, IfOk, IfSome};
+
+use crate::paths::{FileRole, make_folder, read_file, write_file};
+use crate::outcome::Outcome;
+use crate::silence::Silence;
+use arch_file::ArchError;
+use line_text::{MAX_TEXT, MemorySink, Sink, Text, TextError, write_parts};
+use one_user::{
+    DevicePlan, Files as Results, Least, Outcome as End, Request, Run, least_tracks, run_with,
+    write_figures,
+};
+use option_words::{Given, OptionWord, Program, Takes};
+use script_replies::advice_for;
+use sessions::write_reply;
+use std::alloc::Global;
+use std::rt::Files;
+use tenant_slot::{Ending, Refusal, Reply, SharedText, StateName, Status};
+
+const NO_FILE: &str = "an architecture, a netlist and a folder are wanted";
+
+const NO_TRACKS: &str = "--tracks W or --least-tracks is wanted, and not both";
+
+const NO_DEVICE: &str = "no device has these sizes";
+
+/// As much of a text as is looked at: one byte more than it may have.
+const MAX_READ: u64 = MAX_TEXT as u64 + 1;
+
+pub(crate) const TOOL: Program = Program {
+    name: "route",
+    about: "Packs, places and routes one netlist on a device of its own, and writes its .net, .place and .route files into a folder",
+    after_help: "\
+The files are those that the service writes of this netlist in a strip of this size, on whatever device and beside whomever. What they use of
+the device is printed at the end. A step's line is told on standard error where that is a terminal, or --progress is given.
+
+Example: fpgad_desk route --arch my.arch --tracks 8 --columns 10 --rows 10 --effort 100 t.blif results",
+    options: &[
+        OptionWord {
+            name: "arch",
+            value_name: "FILE",
+            help: "The architecture",
+            takes: Takes::GivenText,
+            default: None,
+        },
+        OptionWord {
+            name: "tracks",
+            value_name: "W",
+            help: "Tracks of each channel, 1 to 64",
+            takes: Takes::Number(1, 64),
+            default: None,
+        },
+        OptionWord {
+            name: "least-tracks",
+            value_name: "",
+            help: "Tries 1 track, then 2, and so on, until the netlist is routed",
+            takes: Takes::Nothing,
+            default: None,
+        },
+        OptionWord {
+            name: "columns",
+            value_name: "NX",
+            help: "Columns of the device, 1 to 256",
+            takes: Takes::Number(1, 256),
+            default: Some("9"),
+        },
+        OptionWord {
+            name: "rows",
+            value_name: "NY",
+            help: "Rows of the device, 1 to 64",
+            takes: Takes::Number(1, 64),
+            default: Some("1"),
+        },
+        OptionWord {
+            name: "seed",
+            value_name: "S",
+            help: "Where the placing's draws begin, 0 to 18446744073709551615",
+            takes: Takes::Long,
+            default: Some("1"),
+        },
+        OptionWord {
+            name: "effort",
+            value_name: "E",
+            help: "How hard the placing tries, 0 to 100",
+            takes: Takes::Number(0, 100),
+            default: Some("50"),
+        },
+        OptionWord {
+            name: "progress",
+            value_name: "",
+            help: "Tells a line a step on standard error, where that is no terminal too",
+            takes: Takes::Nothing,
+            default: None,
+        },
+        OptionWord {
+            name: "netlist",
+            value_name: "NETLIST",
+            help: "The netlist, as BLIF; the files have its name",
+            takes: Takes::Alone,
+            default: None,
+        },
+        OptionWord {
+            name: "folder",
+            value_name: "FOLDER",
+            help: "Where the files are written; it is made where it isn't there",
+            takes: Takes::Alone,
+            default: None,
+        },
+    ],
+};
+
+/// What is routed, and where.
+#[derive(Clone, Copy)]
+pub(crate) struct Wishes<'a> {
+    arch: &'a str,
+    netlist: &'a str,
+    folder: &'a str,
+    /// None: the least number with which the netlist is routed.
+    tracks: Option<u32>,
+    columns: u32,
+    rows: u32,
+    seed: u64,
+    effort: u32,
+    /// Whether a line a step is told in any case.
+    is_told: bool,
+    ghost tracks_lawful: { IfSome tracks (λ w. (1 ≤ w) × (w ≤ 64)) },
+    ghost columns_lawful: { (1 ≤ columns) × (columns ≤ 256) },
+    ghost rows_lawful: { (1 ≤ rows) × (rows ≤ 64) },
+    ghost effort_lawful: { effort ≤ 100 },
+}
+
+/// What the options wish, or why they are refused.
+pub(crate) fn wishes_of<'a>(given: &Given<'a>) -> Result<Wishes<'a>, &'static str> {
+    let columns = given.number("columns")?;
+    let rows = given.number("rows")?;
+    let effort = given.number("effort")?;
+    if !(1..=256).contains(&columns) || !(1..=64).contains(&rows) || effort > 100 {
+        return Err(NO_DEVICE);
+    }
+    Ok(Wishes {
+        arch: given.text("arch").ok_or(NO_FILE)?,
+        netlist: given.text("netlist").ok_or(NO_FILE)?,
+        folder: given.text("folder").ok_or(NO_FILE)?,
+        tracks: tracks_of(given)?,
+        columns,
+        rows,
+        seed: given.long("seed")?,
+        effort,
+        is_told: given.is_given("progress"),
+    })
+}
+
+/// The number of tracks, or none where the least is wanted.
+fn tracks_of(given: &Given<'_>) -> Result<Option<u32>, &'static str>
+    ensures { IfOk result (λ tracks. IfSome tracks (λ w. (1 ≤ w) × (w ≤ 64))) }
+{
+    match (given.text("tracks"), given.is_given("least-tracks")) {
+        (Some(_), false) => {
+            let tracks = given.number("tracks")?;
+            if tracks < 1 || tracks > 64 {
+                return Err(NO_DEVICE);
+            }
+            Ok(Some(tracks))
+        }
+        (None, true) => Ok(None),
+        _ => Err(NO_TRACKS),
+    }
+}
+
+/// Routes a netlist, writes its files, and prints what they use.
+pub(crate) fn run<H: Files + AllocGlobal, W: Sink, E: Sink>(
+    rt: &H,
+    wishes: Wishes<'_>,
+    writer: &mut W,
+    teller: &mut E,
+    is_terminal: bool,
+) -> Result<(), Outcome> {
+    let arch = read_file(rt, FileRole::Architecture, wishes.arch, MAX_READ)?;
+    let netlist = read_file(rt, FileRole::Netlist, wishes.netlist, MAX_READ)?;
+    let Ok(netlist) = SharedText::new(rt.alloc(), Text::new(netlist)) else {
+        return Err(Outcome::NoMemory);
+    };
+    let least = if wishes.is_told || is_terminal {
+        searched(rt.alloc(), wishes, arch.as_slice(), &netlist, teller)
+    } else {
+        searched(rt.alloc(), wishes, arch.as_slice(), &netlist, &mut Silence)
+    };
+    drop(arch);
+    drop(netlist);
+    match least {
+        Ok(Least::Routed { run, .. }) => ended(rt, wishes, run, writer, teller),
+        Ok(Least::Refused(run)) => ended(rt, wishes, run, writer, teller),
+        Ok(Least::Unrouted) => Err(Outcome::Unrouted),
+        Err(TextError::NoMemory) => Err(Outcome::NoMemory),
+        Err(TextError::Fault(fault)) => Err(Outcome::ArchRefused(fault)),
+    }
+}
+
+/// The run with so many tracks as are wished, or with the least that do.
+fn searched<E: Sink>(
+    alloc: Global,
+    wishes: Wishes<'_>,
+    arch: &[u8],
+    netlist: &SharedText,
+    teller: &mut E,
+) -> Result<Least, ArchError> {
+    let plan = DevicePlan {
+        text: arch,
+        columns: wishes.columns,
+        rows: wishes.rows,
+    };
+    let request = Request {
+        netlist,
+        seed: wishes.seed,
+        effort: wishes.effort,
+    };
+    match wishes.tracks {
+        Some(tracks) => {
+            let run = run_with(alloc, plan, tracks, request, teller)?;
+            Ok(Least::Routed { tracks, run })
+        }
+        None => least_tracks(alloc, plan, request, teller),
+    }
+}
+
+/// Writes what came of a run.
+fn ended<H: Files + AllocGlobal, W: Sink, E: Sink>(
+    rt: &H,
+    wishes: Wishes<'_>,
+    run: Run,
+    writer: &mut W,
+    teller: &mut E,
+) -> Result<(), Outcome> {
+    let Run { outcome, figures } = run;
+    match outcome {
+        End::Routed(files) => saved(rt, wishes, files)?,
+        End::Unrouted(ending) => return Err(told_unrouted(rt.alloc(), ending, teller)),
+        End::Refused(refusal) => return Err(told_refused(rt.alloc(), refusal, teller)),
+    }
+    match figures {
+        Some(figures) => match write_figures(writer, &figures) {
+            Ok(()) => Ok(()),
+            Err(_) => Err(Outcome::OutputFailed),
+        },
+        None => Ok(()),
+    }
+}
+
+/// Writes the three files.
+fn saved<H: Files + AllocGlobal>(
+    rt: &H,
+    wishes: Wishes<'_>,
+    files: Results,
+) -> Result<(), Outcome> {
+    let name = stem_of(wishes.netlist);
+    let folder = wishes.folder;
+    make_folder(rt, folder)?;
+    write_file(rt, folder, name, "net", files.net.as_bytes())?;
+    write_file(rt, folder, name, "place", files.places.as_bytes())?;
+    write_file(rt, folder, name, "route", files.routes.as_bytes())
+}
+
+/// The name of a file without its folders and the ending `.blif`.
+fn stem_of(path: &str) -> &str {
+    let name = match path.rsplit_once('/') {
+        Some((_, name)) => name,
+        None => path,
+    };
+    name.strip_suffix(".blif").unwrap_or(name)
+}
+
+/// Tells how a routing ended without routes, as the service tells it.
+fn told_unrouted<E: Sink>(alloc: Global, ending: Ending, teller: &mut E) -> Outcome {
+    let reply = Reply::Status(Status {
+        state: StateName::Unrouted,
+        steps: 0,
+        ending: Some(ending),
+    });
+    tell(alloc, reply, teller);
+    Outcome::Unrouted
+}
+
+/// Tells why the netlist is refused, as the service tells it.
+fn told_refused<E: Sink>(alloc: Global, refusal: Refusal, teller: &mut E) -> Outcome {
+    tell(alloc, Reply::Refused(refusal), teller);
+    Outcome::NetlistRefused
+}
+
+/// Tells a reply and what may be done, if that can be written.
+fn tell<E: Sink>(alloc: Global, reply: Reply, teller: &mut E) {
+    let mut line = MemorySink::new(alloc);
+    if write_reply(&mut line, &reply).is_ok() {
+        let _ = write_parts(teller, &[line.as_bytes(), advice_on(line.as_bytes()), b"\n"]);
+    }
+    drop(line);
+    drop(reply);
+}
+
+/// What may be done about a reply.
+fn advice_on(reply: &[u8]) -> &[u8] {
+    match advice_for(false, reply) {
+        Some(advice) => advice.words().as_bytes(),
+        None => b"",
+    }
+}
