@@ -30,7 +30,8 @@ fn lines_length(count: u64, bytes: &[u8]) -> Option<usize>
     let mut left = count;
     let mut rest = bytes;
     while left > 0 {
-        rest = &rest[line_length(rest)?..];
+        let (_, later) = rest.split_at(line_length(rest)?);
+        rest = later;
         left -= 1;
     }
     Some(bytes.len() - rest.len())

@@ -44,6 +44,7 @@ pub(crate) struct Place<'p> {
 }
 
 /// The lines with their replies, or the line of the printed text that fits none. The lines are gone through once for each name.
+#[tactic(auto, unfolding(crate::specs::Replies::replies_in))]
 pub fn read_replies<'t, 'p>(
     alloc: Global,
     asked: &[Asked<'t>],
@@ -99,7 +100,10 @@ fn read_sections<'p>(
     let mut rest = read_section(None, lines, printed)?.rest;
     let mut number = 0;
     while number < names.len() {
-        rest = read_section(Some(names.name(number)), lines, rest)?.rest;
+        match read_section(Some(names.name(number)), lines, rest) {
+            Ok(place) => rest = place.rest,
+            Err(left) => return Err(left),
+        }
         number += 1;
     }
     if rest.is_empty() {
@@ -120,9 +124,13 @@ fn read_section<'p>(
     let mut place = behind_heading(speaker, printed)?;
     let mut number = 0;
     while number < lines.len() {
-        let (line, next) = read_line(speaker, place, lines[number])?;
-        lines[number] = line;
-        place = next;
+        match read_line(speaker, place, lines[number]) {
+            Ok((line, next)) => {
+                lines[number] = line;
+                place = next;
+            }
+            Err(left) => return Err(left),
+        }
         number += 1;
     }
     Ok(place)
@@ -199,10 +207,9 @@ fn is_ok(reply: &[u8]) -> bool
 
 /// The line of the bytes, from 1, where so many bytes are left.
 fn line_at(bytes: &[u8], left: usize) -> usize
-    requires { left ≤ length bytes.now }
     ensures { result ≡ line_at bytes.now left }
 {
-    bytes[..bytes.len() - left]
+    bytes[..bytes.len().saturating_sub(left)]
         .iter()
         .filter(|byte| **byte == b'\n')
         .count()

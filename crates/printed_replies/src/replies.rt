@@ -49,13 +49,9 @@ impl<'t, 'p> Replies<'t, 'p> {
 fn last_file<'p>(lines: &[Answered<'_, 'p>], name: &[u8], kind: &[u8]) -> Option<&'p [u8]>
     ensures { option_map (λ file. file.now) result ≡ file_of name.now kind.now (answered_lines lines.now) }
 {
-    let mut left = lines.len();
-    while left > 0 {
-        left -= 1;
-        let file = file_told(name, kind, &lines[left]);
-        if file.is_some() {
-            return file;
-        }
+    let mut last = None;
+    for line in lines {
+        last = file_told(name, kind, line).or(last);
     }
-    None
+    last
 }

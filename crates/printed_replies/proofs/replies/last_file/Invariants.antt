@@ -1,11 +1,8 @@
-use Rattle.std.proofs.Common.{◌≡◌, ◌≤◌, length, take}
+use Rattle.std.proofs.Common.{◌≡◌, option_map, take}
 use Rattle.printed_replies.specs.Files.{file_of}
 use Rattle.printed_replies.specs.Parts.{answered_lines}
 use Rattle.printed_replies.proofs.replies.last_file.Given as goal
 
--- none of the later lines was told such a file
-abbrev pub invariant-loop-left : goal.invariant-loop-left
-invariant-loop-left l = (l.left ≤ length l.lines) × (file_of l.name l.kind (answered_lines (take l.left l.lines)) ≡ file_of l.name l.kind (answered_lines l.lines))
-
-abbrev pub decreases-loop-left : goal.decreases-loop-left
-decreases-loop-left l = l.left
+-- the last one so far
+abbrev pub invariant-loop-line : goal.invariant-loop-line
+invariant-loop-line l = option_map (λ file. file.now) l.last ≡ file_of l.name l.kind (answered_lines (take l.line-index l.lines))
