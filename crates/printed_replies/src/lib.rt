@@ -6,6 +6,7 @@
 //!
 //! - [`read_replies`] takes lines as they were asked and gives each its reply, or the line of the printed text that doesn't fit.
 //!   It gives just what `replies_in` of `specs/Replies.antt` says.
+//! - [`names_of`] gives the names of the sessions in that order.
 //! - [`printed_is_read`] is the law that this undoes printing, whatever stands in the replies.
 //! - [`Replies::file_of`] is the last file of a kind that a name's session was told.
 #![tactic(auto)]
@@ -21,5 +22,5 @@ pub use answered::Answered;
 pub use asked::{Asked, ReplyForm};
 pub use file::file_in;
 pub use length::told_file;
-pub use reading::{ReadError, read_replies};
+pub use reading::{ReadError, names_of, read_replies};
 pub use replies::Replies;

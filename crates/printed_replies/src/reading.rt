@@ -52,9 +52,13 @@ pub fn read_replies<'t, 'p>(
 ) -> Result<Replies<'t, 'p>, ReadError>
     ensures { Gives printed.now (replies_in (map asked_line asked.now) printed.now) result }
 {
-    let mut lines = Vec::with_capacity(alloc, asked.len())?;
-    let mut names = NameSet::new(alloc);
-    add_unanswered(&mut lines, &mut names, asked)?;
+    let names = names_of(alloc, asked)?;
+    let mut lines = Vec::new(alloc);
+    if let Err(failed) = add_unanswered(&mut lines, asked) {
+        drop(lines);
+        drop(names);
+        return Err(ReadError::from(failed));
+    }
     let read = read_sections(&mut lines, &names, printed);
     drop(names);
     match read {
@@ -66,21 +70,28 @@ pub fn read_replies<'t, 'p>(
     }
 }
 
-/// The lines without replies, and the names in the order of their first lines.
-fn add_unanswered<'t, 'p>(
-    lines: &mut Vec<Answered<'t, 'p>>,
-    names: &mut NameSet<'t>,
-    asked: &[Asked<'t>],
-) -> Result<(), AllocError>
-    requires lines { lines.old.items ≡ [] }
-    requires names { names.old ≡ [] }
-    ensures lines { OnOk result (answered_lines lines.new.items ≡ map unanswered (map asked_line asked.now)) }
-    ensures names { OnOk result (names.new ≡ names_of (map asked_line asked.now)) }
+/// The names of the sessions, in the order of their first lines.
+pub fn names_of<'t>(alloc: Global, asked: &[Asked<'t>]) -> Result<NameSet<'t>, AllocError>
+    ensures { IfOk result (λ names. names ≡ names_of (map asked_line asked.now)) }
 {
+    let mut names = NameSet::new(alloc);
     for one in asked {
         if let Some(name) = one.name {
             names.add(name)?;
         }
+    }
+    Ok(names)
+}
+
+/// The lines without replies.
+fn add_unanswered<'t>(
+    lines: &mut Vec<Answered<'t, '_>>,
+    asked: &[Asked<'t>],
+) -> Result<(), AllocError>
+    requires { lines.old.items ≡ [] }
+    ensures { OnOk result (answered_lines lines.new.items ≡ map unanswered (map asked_line asked.now)) }
+{
+    for one in asked {
         lines.push(Answered {
             asked: *one,
             reply: &[],
