@@ -1,0 +1,32 @@
+-- The first place of a byte, as a search finds it.
+use Rattle.std.proofs.Common.{◌≡◌, ℕ, zero, suc, ◌+◌, ◌<◌, Bool, true, false, not, cond, List, [], ◌∷◌, Option, Some, None, length, position, slice_index, nat_lt, refl, sym, ap, arith}
+use Rattle.std.specs.List.{position_or_len}
+use Rattle.std.proofs.lemmas.Bool.Decides.{nat_tests}
+use Rattle.memchr.specs.Find.{IsFirstByte}
+
+place_of : (test : ℕ → Bool) (bytes : List ℕ) (place : ℕ) → place < length bytes → test (slice_index bytes place) ≡ true → ((k : ℕ) → k < place → test (slice_index bytes k) ≡ true → ⊥) → position_or_len test bytes ≡ place
+place_of test [] place inside passes before = absurd (omega arith)
+place_of test (byte ∷ bytes) zero inside passes before = ap (λ b. cond (not b) (1 + position_or_len test bytes) 0) passes
+place_of test (byte ∷ bytes) (suc place) inside passes before = by (test byte) refl (place_of test bytes place (omega arith) passes (λ k below. before (suc k) (omega arith)))
+  where
+    by : (b : Bool) → test byte ≡ b → position_or_len test bytes ≡ place → cond (not b) (1 + position_or_len test bytes) 0 ≡ suc place
+    by true first rest = absurd (before 0 (omega arith) first)
+    by false first rest = omega (arith, rest)
+
+no_place : (test : ℕ → Bool) (bytes : List ℕ) → ((k : ℕ) → k < length bytes → test (slice_index bytes k) ≡ true → ⊥) → position_or_len test bytes ≡ length bytes
+no_place test [] nowhere = refl
+no_place test (byte ∷ bytes) nowhere = by (test byte) refl (no_place test bytes (λ k below. nowhere (suc k) (omega arith)))
+  where
+    by : (b : Bool) → test byte ≡ b → position_or_len test bytes ≡ length bytes → cond (not b) (1 + position_or_len test bytes) 0 ≡ length (byte ∷ bytes)
+    by true first rest = absurd (nowhere 0 (omega arith) first)
+    by false first rest = omega (arith, rest)
+
+pub first_place : (test : ℕ → Bool) (bytes : List ℕ) (found : Option ℕ) → IsFirstByte test bytes found → found ≡ position test bytes
+first_place test bytes None nowhere =
+    let last : position_or_len test bytes ≡ length bytes = no_place test bytes (λ k below. nowhere k (omega arith) below) in
+    let past : nat_lt (position_or_len test bytes) (length bytes) ≡ false = grind (arith, nat_tests, last) in
+    rw past refl
+first_place test bytes (Some place) is =
+    let same : position_or_len test bytes ≡ place = place_of test bytes place is.0.high is.1 (λ k below. is.0.before k (omega arith) below) in
+    let inside : nat_lt (position_or_len test bytes) (length bytes) ≡ true = grind (arith, nat_tests, same, is.0.high) in
+    rw inside (ap Some (sym same))

@@ -1,0 +1,13 @@
+use Rattle.std.proofs.Common.{◌≡◌, ◌+◌, ◌-◌, ◌≤◌, length, option_map}
+use Rattle.printed_replies.specs.Lengths.{lines_length}
+use Rattle.printed_replies.proofs.length.lines_length.Given as goal
+
+-- the lines so far, and those that are left, are all
+abbrev pub invariant-loop-left : goal.invariant-loop-left
+invariant-loop-left l = record {
+  within : length l.rest ≤ length l.bytes;
+  same : option_map (λ more. (length l.bytes - length l.rest) + more) (lines_length l.left l.rest) ≡ lines_length l.count l.bytes;
+}
+
+abbrev pub decreases-loop-left : goal.decreases-loop-left
+decreases-loop-left l = l.left

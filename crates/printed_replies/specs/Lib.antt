@@ -1,0 +1,4 @@
+pub mod Files
+pub mod Lengths
+pub mod Parts
+pub mod Replies

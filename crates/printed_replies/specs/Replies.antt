@@ -1,0 +1,140 @@
+-- What was printed for the lines of a script, taken apart again.
+use Rattle.std.specs.Prelude.{ℕ, ◌≡◌, ◌+◌, ◌-◌, Bool, true, false, if◌then◌else◌, List, [], ◌∷◌, ◌++◌, length, take, drop, map, fold, count_by, codes, is_some, Option, Some, None, option_map, Result, Ok, Err, ⊤}
+use Rattle.std.specs.Str.{bytes_eq}
+use Rattle.line_text.specs.Names.{with_name}
+use Rattle.printed_replies.specs.declared.asked.Asked.{Asked}
+use Rattle.printed_replies.specs.declared.asked.ReplyForm.{ReplyForm}
+use Rattle.printed_replies.specs.declared.asked.ReplyForm.TheVariants.{Admission, Eviction}
+use Rattle.printed_replies.specs.declared.answered.Answered.{Answered}
+use Rattle.printed_replies.specs.declared.reading.ReadError.{ReadError}
+use Rattle.printed_replies.specs.declared.reading.ReadError.TheVariants.{NoMemory, Misfit}
+use Rattle.printed_replies.specs.Lengths.{behind, is_line_feed, reply_length}
+
+-- who asks: the session of a name, or the operator
+abbrev pub Speaker : Type 0
+Speaker = Option (List ℕ)
+
+-- a line that was asked, and what form its reply has
+pub record AskedLine : Type 0 where
+  pub speaker : Speaker
+  pub form : ReplyForm
+
+-- and its reply
+pub record AnsweredLine : Type 0 where
+  pub asked : AskedLine
+  pub reply : List ℕ
+
+-- how many tenancies live, and the bytes that are left
+pub record Rest : Type 0 where
+  pub live : ℕ
+  pub bytes : List ℕ
+
+abbrev pub rest_of : ℕ → List ℕ → Rest
+rest_of live bytes = record { live = live; bytes = bytes }
+
+-- what was read, or how many bytes were left where they don't fit the lines
+abbrev pub Reading : Type 0 → Type 0
+Reading A = Result A ℕ
+
+abbrev pub and_then : {A B : Type 0} → Reading A → (A → Reading B) → Reading B
+and_then (Ok a) next = next a
+and_then (Err left) next = Err left
+
+-- so many bytes are read, if they fit
+abbrev pub fitting : {A : Type 0} → Rest → Option ℕ → (ℕ → Reading A) → Reading A
+fitting rest None next = Err (length rest.bytes)
+fitting rest (Some n) next = next n
+
+abbrev pub is_of : Speaker → Speaker → Bool
+is_of None None = true
+is_of (Some name) (Some other) = bytes_eq name other
+is_of speaker other = false
+
+-- an admission that was answered `ok ..` brings a tenancy to life, and an eviction ends one
+abbrev pub live_after : ℕ → ReplyForm → List ℕ → ℕ
+live_after live Admission reply = if is_some (behind (codes "ok") reply) then live + 1 else live
+live_after live Eviction reply = if is_some (behind (codes "ok") reply) then live - 1 else live
+live_after live form reply = live
+
+-- a line takes its reply from the bytes
+abbrev pub replied : AskedLine → List ℕ → AnsweredLine
+replied asked reply = record { asked = asked; reply = reply }
+
+abbrev pub reply_read : Rest → AskedLine → Reading (AnsweredLine × Rest)
+reply_read rest asked = fitting rest (reply_length rest.live asked.form rest.bytes) (λ n.
+    Ok (replied asked (take n rest.bytes), rest_of (live_after rest.live asked.form (take n rest.bytes)) (drop n rest.bytes)))
+
+-- a line of another speaker stays as it is
+abbrev pub line_read : Speaker → Rest → AnsweredLine → Reading (AnsweredLine × Rest)
+line_read speaker rest line = if is_of speaker line.asked.speaker then reply_read rest line.asked else Ok (line, rest)
+
+abbrev pub onto : AnsweredLine → Reading (List AnsweredLine × Rest) → Reading (List AnsweredLine × Rest)
+onto line (Ok read) = Ok (line ∷ read.0, read.1)
+onto line (Err left) = Err left
+
+-- a speaker's lines take their replies one after another
+abbrev pub lines_read : Speaker → Rest → List AnsweredLine → Reading (List AnsweredLine × Rest)
+lines_read speaker rest [] = Ok ([], rest)
+lines_read speaker rest (line ∷ lines) = and_then (line_read speaker rest line) (λ read. onto read.0 (lines_read speaker read.1 lines))
+
+-- a section begins with its heading
+abbrev pub speaker_text : Speaker → List ℕ
+speaker_text None = codes "op"
+speaker_text (Some name) = name
+
+abbrev pub heading : Speaker → List ℕ
+heading speaker = codes "== " ++ speaker_text speaker ++ 10 ∷ []
+
+abbrev pub begun : List ℕ → Option (List ℕ) → Reading Rest
+begun bytes None = Err (length bytes)
+begun bytes (Some rest) = Ok (rest_of 0 rest)
+
+abbrev pub behind_heading : Speaker → List ℕ → Reading Rest
+behind_heading speaker bytes = begun bytes (behind (heading speaker) bytes)
+
+abbrev pub section_read : Speaker → List AnsweredLine → List ℕ → Reading (List AnsweredLine × Rest)
+section_read speaker lines bytes = and_then (behind_heading speaker bytes) (λ rest. lines_read speaker rest lines)
+
+-- the sections of names stand one behind the other, up to the end
+abbrev pub ended : List AnsweredLine → List ℕ → Reading (List AnsweredLine)
+ended lines [] = Ok lines
+ended lines (b ∷ bytes) = Err (length (b ∷ bytes))
+
+abbrev pub sections_read : List (List ℕ) → List AnsweredLine → List ℕ → Reading (List AnsweredLine)
+sections_read [] lines bytes = ended lines bytes
+sections_read (name ∷ names) lines bytes = and_then (section_read (Some name) lines bytes) (λ read. sections_read names read.0 read.1.bytes)
+
+-- the names in the order of their first lines
+abbrev pub with_speaker : List (List ℕ) → Speaker → List (List ℕ)
+with_speaker names None = names
+with_speaker names (Some name) = with_name names name
+
+abbrev pub names_of : List AskedLine → List (List ℕ)
+names_of asked = fold (λ names line. with_speaker names line.speaker) [] asked
+
+-- each line with its reply, where the bytes are the operator's section and those of the names
+abbrev pub unanswered : AskedLine → AnsweredLine
+unanswered asked = replied asked []
+
+abbrev pub read_from : List (List ℕ) → List AnsweredLine → List ℕ → Reading (List AnsweredLine)
+read_from names lines bytes = and_then (section_read None lines bytes) (λ read. sections_read names read.0 read.1.bytes)
+
+unfoldable pub replies_in : List AskedLine → List ℕ → Reading (List AnsweredLine)
+replies_in asked bytes = read_from (names_of asked) (map unanswered asked) bytes
+
+-- the line of the bytes, from 1, where so many bytes are left
+abbrev pub line_at : List ℕ → ℕ → ℕ
+line_at bytes left = count_by is_line_feed (take (length bytes - left) bytes) + 1
+
+-- lines without where they lie in memory
+abbrev pub asked_line : Asked → AskedLine
+asked_line asked = record { speaker = option_map (λ name. name.now) asked.name; form = asked.form }
+
+abbrev pub answered_line : Answered → AnsweredLine
+answered_line answered = record { asked = asked_line answered.asked; reply = answered.reply.now }
+
+-- a reader of the lines may answer this
+abbrev pub Gives : List ℕ → Reading (List AnsweredLine) → Result (List AnsweredLine) ReadError → Type 0
+Gives bytes meant (Ok lines) = meant ≡ Ok lines
+Gives bytes meant (Err (Misfit line)) = (left : ℕ) × (meant ≡ Err left) × (line ≡ line_at bytes left)
+Gives bytes meant (Err NoMemory) = ⊤

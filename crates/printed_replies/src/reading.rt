@@ -1,0 +1,228 @@
+//! The printed text, read once from its beginning to its end.
+ghost use Rattle.std.specs.Prelude.{◌≡◌, ◌+◌, ◌<◌, ◌≤◌, ◌^◌, length, map, option_map, Some, IfOk, OnOk, [], ◌∷◌, ◌++◌, codes, is_some};
+ghost use Rattle.printed_replies.specs.Parts.{IsRead, answered_lines, rest_at, speaker_of};
+ghost use Rattle.printed_replies.specs.Replies.{Gives, answered_line, asked_line, behind_heading, line_at, line_read, live_after, names_of, read_from, replies_in, section_read, unanswered};
+ghost use Rattle.printed_replies.specs.Lengths.{behind, is_line_feed};
+
+use crate::answered::{Answered, is_of};
+use crate::asked::{Asked, ReplyForm};
+use crate::length::{behind, reply_length};
+use crate::replies::Replies;
+use line_text::NameSet;
+use std::alloc::{AllocError, Global};
+
+/// Why lines have no replies.
+#[derive(Clone, Copy, Debug, PartialEq, Eq)]
+pub enum ReadError {
+    NoMemory,
+    /// The line of the printed text, from 1, that fits no reply.
+    Misfit(usize),
+}
+
+impl From<AllocError> for ReadError {
+    ghost use Rattle.std.specs.Prelude.{◌≡◌};
+    ghost use Rattle.printed_replies.specs.declared.reading.ReadError.TheVariants.{NoMemory};
+
+    ghost from_gives = { λ _ error. error ≡ NoMemory };
+
+    fn from(_error: AllocError) -> Self {
+        ReadError::NoMemory
+    }
+}
+
+/// So many bytes were left where they don't fit.
+#[derive(Clone, Copy)]
+pub(crate) struct Left {
+    bytes: usize,
+}
+
+/// How many tenancies live, and the bytes that are left.
+#[derive(Clone, Copy)]
+pub(crate) struct Place<'p> {
+    pub(crate) live: usize,
+    pub(crate) rest: &'p [u8],
+}
+
+/// The lines with their replies, or the line of the printed text that fits none. The lines are gone through once for each name.
+#[tactic(auto, unfolding(crate::specs::Replies::replies_in))]
+pub fn read_replies<'t, 'p>(
+    alloc: Global,
+    asked: &[Asked<'t>],
+    printed: &'p [u8],
+) -> Result<Replies<'t, 'p>, ReadError>
+    ensures { Gives printed.now (replies_in (map asked_line asked.now) printed.now) result }
+{
+    let names = names_of(alloc, asked)?;
+    let mut lines = Vec::new(alloc);
+    if let Err(failed) = add_unanswered(&mut lines, asked) {
+        drop(lines);
+        drop(names);
+        return Err(ReadError::from(failed));
+    }
+    let read = read_sections(&mut lines, &names, printed);
+    drop(names);
+    match read {
+        Ok(()) => Ok(Replies::new(lines)),
+        Err(left) => {
+            drop(lines);
+            Err(ReadError::Misfit(line_at(printed, left.bytes)))
+        }
+    }
+}
+
+/// The names of the sessions, in the order of their first lines.
+pub fn names_of<'t>(alloc: Global, asked: &[Asked<'t>]) -> Result<NameSet<'t>, AllocError>
+    ensures { IfOk result (λ names. names ≡ names_of (map asked_line asked.now)) }
+{
+    let mut names = NameSet::new(alloc);
+    for one in asked {
+        if let Some(name) = one.name {
+            names.add(name)?;
+        }
+    }
+    Ok(names)
+}
+
+/// The lines without replies.
+fn add_unanswered<'t>(
+    lines: &mut Vec<Answered<'t, '_>>,
+    asked: &[Asked<'t>],
+) -> Result<(), AllocError>
+    requires { lines.old.items ≡ [] }
+    ensures { OnOk result (answered_lines lines.new.items ≡ map unanswered (map asked_line asked.now)) }
+{
+    for one in asked {
+        lines.push(Answered {
+            asked: *one,
+            reply: &[],
+        })?;
+    }
+    Ok(())
+}
+
+/// The operator's section, and those of the names, up to the end.
+fn read_sections<'p>(
+    lines: &mut Vec<Answered<'_, 'p>>,
+    names: &NameSet<'_>,
+    printed: &'p [u8],
+) -> Result<(), Left>
+    ensures { IsRead (λ _. answered_lines lines.new.items) (read_from names.now (answered_lines lines.old.items) printed.now) result }
+{
+    let mut rest = read_section(None, lines, printed)?.rest;
+    let mut number = 0;
+    while number < names.len() {
+        match read_section(Some(names.name(number)), lines, rest) {
+            Ok(place) => rest = place.rest,
+            Err(left) => return Err(left),
+        }
+        number += 1;
+    }
+    if rest.is_empty() {
+        Ok(())
+    } else {
+        Err(Left { bytes: rest.len() })
+    }
+}
+
+/// The section of a speaker, whose lines take their replies, and what stands behind it.
+fn read_section<'p>(
+    speaker: Option<&[u8]>,
+    lines: &mut Vec<Answered<'_, 'p>>,
+    printed: &'p [u8],
+) -> Result<Place<'p>, Left>
+    ensures { IsRead (λ place. (answered_lines lines.new.items, rest_at place)) (section_read (speaker_of speaker.entry) (answered_lines lines.old.items) printed.now) result }
+{
+    let mut place = behind_heading(speaker, printed)?;
+    let mut number = 0;
+    while number < lines.len() {
+        match read_line(speaker, place, lines[number]) {
+            Ok((line, next)) => {
+                lines[number] = line;
+                place = next;
+            }
+            Err(left) => return Err(left),
+        }
+        number += 1;
+    }
+    Ok(place)
+}
+
+/// What stands behind the heading of a speaker.
+fn behind_heading<'p>(speaker: Option<&[u8]>, printed: &'p [u8]) -> Result<Place<'p>, Left>
+    ensures { IsRead rest_at (behind_heading (speaker_of speaker.entry) printed.now) result }
+{
+    match behind_words(speaker.unwrap_or(b"op"), printed) {
+        Some(rest) => Ok(Place { live: 0, rest }),
+        None => Err(Left {
+            bytes: printed.len(),
+        }),
+    }
+}
+
+/// What stands behind a line `== NAME`.
+fn behind_words<'p>(name: &[u8], printed: &'p [u8]) -> Option<&'p [u8]>
+    ensures { option_map (λ rest. rest.now) result ≡ behind (codes "== " ++ name.now ++ 10 ∷ []) printed.now }
+{
+    behind(b"\n", behind(name, behind(b"== ", printed)?)?)
+}
+
+/// A line with its reply, if the speaker asked it, and what is left.
+fn read_line<'t, 'p>(
+    speaker: Option<&[u8]>,
+    place: Place<'p>,
+    line: Answered<'t, 'p>,
+) -> Result<(Answered<'t, 'p>, Place<'p>), Left>
+    requires { place.live + 1 < 2 ^ 64 }
+    ensures read { IsRead (λ read. (answered_line read.0, rest_at read.1)) (line_read (speaker_of speaker.entry) (rest_at place.entry) (answered_line line.entry)) result }
+    ensures live { IfOk result (λ read. read.1.live ≤ place.entry.live + 1) }
+{
+    if !is_of(speaker, line.asked.name) {
+        return Ok((line, place));
+    }
+    let form = line.asked.form;
+    let Some(length) = reply_length(place.live, form, place.rest) else {
+        return Err(Left {
+            bytes: place.rest.len(),
+        });
+    };
+    let (reply, rest) = place.rest.split_at(length);
+    let live = live_after(place.live, form, reply);
+    Ok((
+        Answered {
+            asked: line.asked,
+            reply,
+        },
+        Place { live, rest },
+    ))
+}
+
+/// How many tenancies live once that reply was given.
+fn live_after(live: usize, form: ReplyForm, reply: &[u8]) -> usize
+    requires { live + 1 < 2 ^ 64 }
+    ensures live { result ≡ live_after live form reply.now }
+    ensures more { result ≤ live + 1 }
+{
+    match form {
+        ReplyForm::Admission if is_ok(reply) => live + 1,
+        ReplyForm::Eviction if is_ok(reply) => live.saturating_sub(1),
+        _ => live,
+    }
+}
+
+/// Whether a reply begins with `ok`.
+fn is_ok(reply: &[u8]) -> bool
+    ensures { result ≡ is_some (behind (codes "ok") reply.now) }
+{
+    behind(b"ok", reply).is_some()
+}
+
+/// The line of the bytes, from 1, where so many bytes are left.
+fn line_at(bytes: &[u8], left: usize) -> usize
+    ensures { result ≡ line_at bytes.now left }
+{
+    bytes[..bytes.len().saturating_sub(left)]
+        .iter()
+        .filter(|byte| **byte == b'\n')
+        .count()
+        + 1
+}
