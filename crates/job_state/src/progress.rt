@@ -5,7 +5,10 @@ use pathfinder::Overuse;
 #[derive(Clone, Copy, Debug, PartialEq, Eq)]
 pub enum Progress {
     /// A packing goes on, of a circuit with so many tables and latches. It makes no more clusters than these together.
-    Packing { tables: usize, latches: usize },
+    Packing {
+        tables: usize,
+        latches: usize,
+    },
     /// A packing is whole: its clusters, the pads beside them, and the nets between blocks.
     Packed {
         clusters: usize,
@@ -13,7 +16,9 @@ pub enum Progress {
         nets: usize,
     },
     /// What the places of a placing cost, which goes on or is whole.
-    Placing { cost: u64 },
+    Placing {
+        cost: u64,
+    },
     /// A routing goes on: nodes are overused.
     Routing(Overuse),
     /// A routing found its routes.

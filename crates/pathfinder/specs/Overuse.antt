@@ -1,5 +1,5 @@
 -- How far a routing is from its end: the nodes that more trees hold than they can carry.
-use Rattle.std.specs.Prelude.{ℕ, ◌≡◌, ◌-◌, ◌<◌, ◌≤◌, List, Option, Some, None, option_map, count_by, nat_lt, slice_index}
+use Rattle.std.specs.Prelude.{ℕ, ◌≡◌, ◌-◌, ◌<◌, ◌≤◌, List, Option, Some, None, option_map, map, count_by, nat_lt, slice_index}
 use Rattle.std.specs.List.{range_with_len}
 use Rattle.rr_graph.specs.Graph.{Basis, graph_of}
 use Rattle.pathfinder.specs.declared.overuse.Overuse.{Overuse}
@@ -13,7 +13,7 @@ overuse_at w trees node = occupancy trees node - w.capacity node
 
 -- how many of the first nodes are overused
 abbrev pub count_over : (ℕ → ℕ) → ℕ → ℕ
-count_over over count = count_by (λ node. nat_lt 0 (over node)) (range_with_len 0 count)
+count_over over count = count_by (nat_lt 0) (map over (range_with_len 0 count))
 
 -- of the first nodes that one is overused most, and is the first of those that are; none where none is overused
 abbrev pub IsMost : (ℕ → ℕ) → ℕ → Option ℕ → Type 0

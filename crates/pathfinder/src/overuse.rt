@@ -1,7 +1,7 @@
 //! How far a routing is from its end: the nodes that more trees hold than they can carry.
-ghost use Rattle.std.specs.Prelude.{◌≡◌, ◌<◌, ℕ, List, length, slice_index, option_map};
+ghost use Rattle.std.specs.Prelude.{◌≡◌, ◌<◌, length, option_map, IfSome};
 ghost use Rattle.rr_graph.specs.Graph.{graph_of};
-ghost use Rattle.pathfinder.specs.Negotiation.{More, Tree};
+ghost use Rattle.pathfinder.specs.Negotiation.{More};
 ghost use Rattle.pathfinder.specs.Overuse.{IsMost, IsOveruse, count_over, over_in};
 ghost use Rattle.pathfinder.specs.PlacedNets.{wiring_of};
 ghost use Rattle.pathfinder.specs.Routings.{IsAfter};
@@ -28,7 +28,7 @@ impl Routing {
         let held = self.held.as_slice();
         Overuse {
             nodes: count_overused(graph, held),
-            most: most_overused(graph, held).map(|node| graph.node(node)),
+            most: node_of(graph, most_overused(graph, held)),
         }
     }
 }
@@ -62,4 +62,15 @@ fn most_overused<G: StripGraph>(graph: &G, held: &[u32]) -> Option<usize>
         }
     }
     most
+}
+
+/// The node of a number, if there is one.
+fn node_of<G: StripGraph>(graph: &G, number: Option<usize>) -> Option<Node>
+    requires { IfSome number (λ node. node < (graph_of (G.basis graph.now)).count) }
+    ensures { result ≡ option_map (graph_of (G.basis graph.now)).node number }
+{
+    match number {
+        Some(number) => Some(graph.node(number)),
+        None => None,
+    }
 }
