@@ -6,5 +6,6 @@ pub mod Steps
 pub mod Held
 pub mod Ends
 pub mod RoutedCircuits
+pub mod Progress
 pub mod RoutedSet
 pub mod Stages

@@ -1,10 +1,13 @@
 //! A job that is out of its slot: before its step, after it, and without it.
-ghost use Rattle.std.specs.Prelude.{◌≡◌, ◌↔◌, IfSome, IsTrue, is_some, true};
+ghost use Rattle.std.specs.Prelude.{◌≡◌, ◌↔◌, ◌≤◌, IfSome, IsTrue, Ok, is_some, true};
 ghost use Rattle.strips.specs.Windows.{is_on_device};
 ghost use Rattle.job_state.specs.Job.{Steps, next_step};
-ghost use Rattle.job_state.specs.JobValue.{basis_in, is_last};
+ghost use Rattle.job_state.specs.declared.work.Work.{Work};
+ghost use Rattle.job_state.specs.JobValue.{basis_in, is_last, job_value};
+ghost use Rattle.job_state.specs.Progress.{IsProgress};
 
 use crate::parked::Parked;
+use crate::progress::Progress;
 use crate::sources::{Sources, same_arch};
 use crate::step::JobStep;
 use crate::work::Work;
@@ -183,6 +186,15 @@ impl Done {
         ensures { result ≡ is_last self.now.sources self.now.number }
     {
         self.work.is_whole()
+    }
+
+    /// How far the job is with this step; a routing's overuse is that of its strip's graph. Takes no memory.
+    pub fn progress<G: StripGraph>(&self, graph: &G) -> Progress
+        requires { G.basis graph.now ≡ basis_in self.now.sources }
+        ensures made { (work : Work) × (job_value self.now.sources self.now.number ≡ Ok work) × IsProgress work result }
+        ensures few { self.now.number ≤ 8192 }
+    {
+        self.work.progress(graph)
     }
 
     /// The job with its step made, which couldn't be put: its next step is answered at once. Takes no memory.

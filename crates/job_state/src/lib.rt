@@ -5,7 +5,7 @@
 //! - [`AnyJob`] has a step to make. [`AnyJob::step`] makes it, without a lock and without its slot, through a window of its strip's
 //!   size wherever that stands, and answers a [`Done`], or without memory a [`Back`] with the job unchanged. Each tells its tenancy, generation, step number and sources.
 //! - [`Parked`] is a job as its slot keeps it, running or finished; it alone may be dropped. The others must be spent: by a
-//!   step, by a call that takes them, or by `park`. A finished one tells what it has made, and a placing begins with a
+//!   step, by a call that takes them, or by `park`. A made step tells its [`Progress`]. A finished job tells what it has made, and a placing begins with a
 //!   finished packing, a routing with a finished placing, which are only lent.
 //!
 //! What a job carries is a function of what it is computed from: `job_value` of `specs/JobValue.antt` gives it after so many
@@ -18,6 +18,7 @@ mod held;
 mod job;
 mod packing;
 mod parked;
+mod progress;
 mod routed;
 mod routing;
 mod shared_text;
@@ -29,6 +30,7 @@ mod work;
 pub use ending::RoutingEnd;
 pub use job::{AnyJob, Back, Done};
 pub use parked::Parked;
+pub use progress::Progress;
 pub use shared_text::SharedText;
 pub use sources::{JobKind, Sources};
 pub use step::JobStep;

@@ -1,10 +1,15 @@
 //! A packing under way, as its job keeps it.
-ghost use Rattle.std.specs.Prelude.{◌≡◌, ◌+◌, IfErr, IfOk};
+ghost use Rattle.std.specs.Prelude.{◌≡◌, ◌+◌, IfErr, IfOk, length};
 ghost use Rattle.cluster.specs.Clusters.{packed_of};
+ghost use Rattle.job_state.specs.declared.progress.Progress.{Progress};
+ghost use Rattle.job_state.specs.declared.work.Work.{Work};
+ghost use Rattle.job_state.specs.Progress.{IsProgress};
 ghost use Rattle.job_state.specs.JobValue.{packing_after};
 ghost use Rattle.job_state.specs.Unshared.{before_last};
 
+use crate::progress::Progress;
 use crate::work::Work;
+use blif::Circuit;
 use cluster::{PackEnd, Packed, Packing, SharedPacked};
 use std::alloc::Global;
 use std::marker::Model;
@@ -48,6 +53,16 @@ impl PackingJob {
         }
     }
 
+    /// Of how many tables and latches it is.
+    pub(crate) fn progress(&self) -> Progress
+        ensures { IsProgress (Work.Packing self.now) result }
+    {
+        match &self.made {
+            Made::Growing(packing) => counted(packing.circuit().circuit()),
+            Made::Whole(packed) => counted(packed.circuit()),
+        }
+    }
+
     /// Makes one cluster more. Without memory the packing comes back as it was.
     pub(crate) fn next(self) -> Result<Work, PackingJob>
         ensures made { IfOk result (λ work. work ≡ packing_after self.circuit self.arch (self.made + 1)) }
@@ -62,6 +77,16 @@ impl PackingJob {
             },
             Made::Whole(packed) => shared(alloc, packed),
         }
+    }
+}
+
+/// How many tables and latches a circuit has.
+fn counted(circuit: &Circuit) -> Progress
+    ensures { result ≡ Progress.Packing (length circuit.now.tables) (length circuit.now.latches) }
+{
+    Progress::Packing {
+        tables: circuit.tables.len(),
+        latches: circuit.latches.as_slice().len(),
     }
 }
 

@@ -6,6 +6,7 @@ ghost use Rattle.job_state.specs.JobValue.{routing_after};
 ghost use Rattle.job_state.specs.RoutedCircuits.{AreThere, on_trees, on_strip};
 ghost use Rattle.job_state.specs.Stages.{IsOf, state_at};
 ghost use Rattle.job_state.specs.Steps.{IsLeft};
+ghost use Rattle.pathfinder.specs.Overuse.{IsOveruse};
 ghost use Rattle.job_state.specs.UnderWay.{GoesOn};
 
 use crate::routed::Routed;
@@ -13,7 +14,7 @@ use crate::stage::Stage;
 use crate::work::{Work, ended};
 use arch_file::SharedArch;
 use grid::Strip;
-use pathfinder::{IterEnd, Routes};
+use pathfinder::{IterEnd, Overuse, Routes};
 use rr_graph::{Resource, StripGraph};
 use std::alloc::Global;
 use std::marker::Model;
@@ -60,6 +61,20 @@ impl RoutingJob {
             strip,
             pads,
             stage,
+        }
+    }
+
+    /// The overuse after the iterations that were made, on its strip's graph.
+    pub(crate) fn overuse<G: StripGraph>(&self, graph: &G) -> Overuse
+        requires { G.basis graph.now ≡ self.now.basis }
+        ensures { IsOveruse self.now.basis self.now.state.trees result }
+    {
+        match &self.stage {
+            Stage::Going(routing) => routing.overuse(graph),
+            Stage::Begun(_) => Overuse {
+                nodes: 0,
+                most: None,
+            },
         }
     }
 

@@ -3,13 +3,15 @@ ghost use Rattle.std.specs.Prelude.{◌≡◌, ◌≢◌, IfErr, IfOk, false};
 ghost use Rattle.job_state.specs.declared.sources.JobKind.{JobKind};
 ghost use Rattle.job_state.specs.JobValue.{is_whole, placing_stands};
 ghost use Rattle.job_state.specs.declared.work.Work.{Work};
+ghost use Rattle.job_state.specs.Progress.{IsProgress};
 ghost use Rattle.job_state.specs.Steps.{IsLeft, graph_for, kind_of, next_work};
 ghost use Rattle.strip_place.specs.Anneal.{one_more};
 
 use crate::packing::PackingJob;
+use crate::progress::Progress;
 use crate::routed::{Listed, Routed};
 use crate::routing::RoutingJob;
-use cluster::SharedPacked;
+use cluster::{Packed, SharedPacked};
 use rr_graph::StripGraph;
 use strip_place::{PassEnd, Placing};
 
@@ -59,6 +61,24 @@ impl Work {
         }
     }
 
+    /// How far it is; a routing's overuse is that of its strip's graph.
+    pub(crate) fn progress<G: StripGraph>(&self, graph: &G) -> Progress
+        requires { graph_for (G.basis graph.now) self.now ≡ G.basis graph.now }
+        ensures { IsProgress self.now result }
+    {
+        match self {
+            Work::Packing(packing) => packing.progress(),
+            Work::Packed(packed) => packed_progress(packed.packed()),
+            Work::Placing(placing) | Work::Placed(placing) => Progress::Placing {
+                cost: placing.cost(),
+            },
+            Work::Routing(routing) => Progress::Routing(routing.overuse(graph)),
+            Work::Unlisted(_) | Work::Routed(_) => Progress::Routed,
+            Work::GaveUp => Progress::GaveUp,
+            Work::NoPath(_) => Progress::NoPath,
+        }
+    }
+
     /// Whether no step is left to make.
     pub(crate) fn is_whole(&self) -> bool
         ensures { result ≡ is_whole self.now }
@@ -68,6 +88,17 @@ impl Work {
             Work::Packed(_) | Work::Placed(_) | Work::Routed(_) | Work::GaveUp | Work::NoPath(_) =>
                 true,
         }
+    }
+}
+
+/// What a whole packing has made.
+fn packed_progress(packed: &Packed) -> Progress
+    ensures { IsProgress (Work.Packed packed.now) result }
+{
+    Progress::Packed {
+        clusters: packed.cluster_count(),
+        pads: packed.pad_count(),
+        nets: packed.net_count(),
     }
 }
 

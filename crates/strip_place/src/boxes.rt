@@ -1,6 +1,6 @@
 //! The boxes of all nets, and how long nets are by them.
-ghost use Rattle.std.specs.Prelude.{◌≡◌, ℕ, ◌*◌, ◌<◌, ◌≤◌, All, length};
-ghost use Rattle.strip_place.specs.Boxes.{AreBothRenewed, AreFewOf, AreRenewed, IsBox, IsDeep, StayDeep, boxed_length, box_at, length_after};
+ghost use Rattle.std.specs.Prelude.{◌≡◌, ℕ, ◌*◌, ◌<◌, ◌≤◌, ◌^◌, All, length, sum_by};
+ghost use Rattle.strip_place.specs.Boxes.{AreBothRenewed, AreFewOf, AreRenewed, IsBox, IsDeep, StayDeep, boxed_length, box_at, half_of, length_after};
 ghost use Rattle.strip_place.specs.Nets.{AreNets};
 ghost use Rattle.strip_place.specs.Sides.{sum_of};
 
@@ -39,6 +39,19 @@ pub(crate) fn weigh(boxes: &[NetBox], touched: &[u32], from: Sides, to: Sides) -
         lengths.after += u64::from(found.half_after(from, to));
     }
     lengths
+}
+
+/// How long all nets are together.
+pub(crate) fn whole_length(boxes: &[NetBox]) -> u64
+    requires few { length boxes.now < 2 ^ 31 }
+    requires boxes { (number : ℕ) → number < length boxes.now → sum_of (box_at boxes.now number).near ≤ 131070 }
+    ensures { result ≡ sum_by half_of boxes.now }
+{
+    let mut total = 0;
+    for found in boxes {
+        total += u64::from(found.half_perimeter());
+    }
+    total
 }
 
 /// Where two blocks stood that changed places.

@@ -7,7 +7,8 @@ ghost use Rattle.grid.specs.Sizes.{IsStripSize};
 ghost use Rattle.strip_place.specs.Anneal.{one_more, end_of, after_words, draw_of, places_by_block};
 ghost use Rattle.strip_place.specs.Placed.{ArePlaced};
 ghost use Rattle.strip_place.specs.Keeping.{AreKeptOn, kept_of};
-ghost use Rattle.strip_place.specs.Pass.{pass_of};
+ghost use Rattle.strip_place.specs.Pass.{cost_of, pass_of};
+ghost use Rattle.strip_place.specs.Task.{task_of};
 
 use crate::board::{Board, Words};
 use crate::start::start_board;
@@ -133,6 +134,14 @@ impl Placing {
         ensures { slice_get (places_by_block self.now) block ≡ Some result }
     {
         self.board.place(block)
+    }
+
+    /// What the places cost: the sum, over all nets that are not global, of the width plus the height of the box of the net's
+    /// blocks. Takes no memory.
+    pub fn cost(&self) -> u64
+        ensures { result ≡ cost_of (task_of self.now.packed).nets (places_by_block self.now) }
+    {
+        self.board.cost()
     }
 
     /// The places, to be kept: by what the blocks are told by.

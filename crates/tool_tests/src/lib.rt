@@ -2,6 +2,7 @@
 //!
 //! - `pictures`: marks and lines whose places follow from the sizes by hand, and a sink that fails.
 //! - `inputs`: the fault of each input that is refused, with its line.
+//! - `own_devices`: what comes of netlists on a device of one user's own.
 //! - `reports`: texts whose numbers were counted by hand.
 //! - `tools`: what the tools of the desk print for their words and input, and how they end.
 //! - `scripts`: architectures and netlists that the service's own readers take, and the limits of a plan.
@@ -9,6 +10,8 @@
 
 #[cfg(test)]
 mod inputs;
+#[cfg(test)]
+mod own_devices;
 #[cfg(test)]
 mod pictures;
 #[cfg(test)]

@@ -1,0 +1,25 @@
+-- How far a job is, by what it has made.
+use Rattle.std.specs.Prelude.{◌≡◌, ◌+◌, ⊤, length}
+use Rattle.cluster.specs.Blocks.{block_nets}
+use Rattle.pathfinder.specs.Overuse.{IsOveruse}
+use Rattle.strip_place.specs.Anneal.{places_by_block}
+use Rattle.strip_place.specs.Pass.{cost_of}
+use Rattle.strip_place.specs.Task.{task_of}
+use Rattle.job_state.specs.declared.progress.Progress.{Progress}
+use Rattle.job_state.specs.declared.progress.Progress.TheVariants as told
+use Rattle.job_state.specs.declared.work.Work.{Work}
+use Rattle.job_state.specs.declared.work.Work.TheVariants.{Packing, Packed, Placing, Placed, Routing, Unlisted, Routed, GaveUp, NoPath}
+
+-- that is told of what a job has made
+abbrev pub IsProgress : Work → Progress → Type 0
+IsProgress (Packing packing) (told.Packing tables latches) = (tables ≡ length packing.circuit.tables) × (latches ≡ length packing.circuit.latches)
+IsProgress (Packed packed) (told.Packed clusters pads nets) =
+    (clusters ≡ length packed.clusters) × (pads ≡ length packed.circuit.inputs + length packed.circuit.outputs) × (nets ≡ length (block_nets packed))
+IsProgress (Placing placing) (told.Placing cost) = cost ≡ cost_of (task_of placing.packed).nets (places_by_block placing)
+IsProgress (Placed placing) (told.Placing cost) = cost ≡ cost_of (task_of placing.packed).nets (places_by_block placing)
+IsProgress (Routing routing) (told.Routing overuse) = IsOveruse routing.basis routing.state.trees overuse
+IsProgress (Unlisted routed) told.Routed = ⊤
+IsProgress (Routed routed) told.Routed = ⊤
+IsProgress GaveUp told.GaveUp = ⊤
+IsProgress (NoPath net) told.NoPath = ⊤
+IsProgress work progress = ⊥

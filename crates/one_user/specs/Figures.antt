@@ -1,0 +1,50 @@
+-- What a routed circuit uses of its device.
+use Rattle.std.specs.Prelude.{ℕ, ◌≡◌, ◌+◌, ◌*◌, ◌≤◌, ◌<◌, Bool, true, false, ◌||◌, List, length, count_by, AllPairs, All, Option, Some, None, Ok}
+use Rattle.blif.specs.CircuitOf.{circuit_of}
+use Rattle.blif.specs.declared.circuit.Circuit.{Circuit}
+use Rattle.cluster.specs.Blocks.{block_nets}
+use Rattle.cluster.specs.Clusters.{PackedCircuit, packed_of}
+use Rattle.device_report.specs.declared.channels.ChannelUse.{ChannelUse}
+use Rattle.device_report.specs.declared.channels.Direction.{Direction}
+use Rattle.device_report.specs.declared.channels.Direction.TheVariants.{Across, Up}
+use Rattle.device_report.specs.Channels.{is_wire}
+use Rattle.grid.specs.declared.Strip.{Strip}
+use Rattle.job_state.specs.JobValue.{step_count}
+use Rattle.job_state.specs.RoutedSet.{resources_of}
+use Rattle.job_state.specs.declared.sources.Sources.{Sources}
+use Rattle.rr_graph.specs.Graph.{Basis}
+use Rattle.rr_graph.specs.Resources.{IsEarlier, has}
+use Rattle.rr_graph.specs.declared.resource.Resource.{Resource}
+use Rattle.rr_graph.specs.declared.resource.ResourceKind.{ResourceKind}
+use Rattle.one_user.specs.Outcomes.{Task, routing_of}
+use Rattle.one_user.specs.declared.figures.Figures.{Figures}
+
+-- a wire of a channel
+abbrev pub is_channel_wire : ResourceKind → Bool
+is_channel_wire kind = is_wire Across kind || is_wire Up kind
+
+-- how many a device has
+abbrev pub wires_there : Basis → ℕ
+wires_there device = device.strip.width * (device.strip.rows + 1) * device.arch.tracks + (device.strip.width + 1) * device.strip.rows * device.arch.tracks
+
+-- what the circuit holds of the device, in node order, each once
+pub record IsHeldList (task : Task) (held : List Resource) : Type 0 where
+  pub order : AllPairs IsEarlier held
+  pub exact : (r : Resource) → has held r ≡ has (resources_of (routing_of task)) r
+
+-- how many of the blocks, the pads and the wires it has are used, and how many there are: each is the count over the packed circuit, or
+-- over what the circuit holds. The wires above rows and right of columns are one as long as a block each
+pub record IsFigures (task : Task) (circuit : Circuit) (figures : Figures) : Type 0 where
+  pub blocks : figures.blocks ≡ record { used = length (packed_of circuit task.arch).clusters; there = task.strip.width * task.strip.rows }
+  pub pads : figures.pads ≡ record { used = length circuit.inputs + length circuit.outputs; there = task.strip.width * 2 * task.strip.io_rat }
+  pub nets : figures.nets ≡ length (block_nets (packed_of circuit task.arch))
+  pub held : List Resource
+  pub is_held : IsHeldList task held
+  pub wires_used : figures.wires.used ≡ count_by (λ one. is_channel_wire one.kind) held
+  pub wires_there : figures.wires.there ≡ wires_there (record { arch = task.arch; strip = task.strip })
+  pub tracks : figures.tracks ≡ task.arch.tracks
+  pub iterations : figures.iterations ≡ step_count (routing_of task)
+
+-- the same, of the circuit that the netlist says
+abbrev pub HasFigures : Task → Figures → Type 0
+HasFigures task figures = (circuit : Circuit) × (circuit_of task.text task.arch.lut_size ≡ Ok circuit) × IsFigures task circuit figures

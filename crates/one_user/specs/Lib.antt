@@ -1,0 +1,6 @@
+pub mod Outcomes
+pub mod Lines
+pub mod Figures
+pub mod Counts
+pub mod Steps
+pub mod Tracks

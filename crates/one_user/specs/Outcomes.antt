@@ -1,0 +1,73 @@
+-- What comes of a netlist that one user has on a device of its own: it is uploaded, packed, placed from no kept places and routed,
+-- as the service for a single user does it, and the files are what that service answers at the end.
+use Rattle.std.specs.Prelude.{ℕ, List, [], Result, Ok, Err, Option, Some, None}
+use Rattle.arch_file.specs.declared.arch.Arch.{Arch}
+use Rattle.blif.specs.CircuitOf.{circuit_of}
+use Rattle.blif.specs.declared.circuit.Circuit.{Circuit}
+use Rattle.blif.specs.declared.fault.BlifFault.{BlifFault}
+use Rattle.cluster.specs.Clusters.{packed_of, unfit_of}
+use Rattle.grid.specs.Fits.{fit_of}
+use Rattle.grid.specs.declared.Strip.{Strip}
+use Rattle.job_state.specs.JobValue.{end_value, placing_sources, routing_sources}
+use Rattle.job_state.specs.declared.sources.Sources.{Sources}
+use Rattle.rr_graph.specs.Graph.{Basis}
+use Rattle.tenant_slot.specs.Results.{ending_of, failure_of, place_file_of, route_file_of}
+use Rattle.tenant_slot.specs.SingleUser.{misfit_of}
+use Rattle.tenant_slot.specs.declared.failure.RoutingFailure.{RoutingFailure}
+use Rattle.tenant_slot.specs.declared.reply.Misfit.{Misfit}
+use Rattle.tenant_slot.specs.declared.reply.Refusal.TheVariants.{BadBlif, CannotPack, DoesNotFit}
+use Rattle.vpr_files.specs.NetFile.{net_text_of}
+use Rattle.one_user.specs.declared.outcome.Files.{Files}
+use Rattle.one_user.specs.declared.outcome.Outcome.{Outcome}
+use Rattle.one_user.specs.declared.outcome.Outcome.TheVariants.{Routed, Unrouted, Refused}
+
+-- what is asked for: the netlist on that device, placed with that seed and that effort
+pub record Task : Type 0 where
+  pub arch : Arch
+  pub strip : Strip
+  pub text : List ℕ
+  pub seed : ℕ
+  pub effort : ℕ
+
+-- that netlist on a device with that routing graph
+abbrev pub task_on : Basis → List ℕ → ℕ → ℕ → Task
+task_on device text seed effort = record { arch = device.arch; strip = device.strip; text = text; seed = seed; effort = effort }
+
+-- what its placing and its routing are computed from; no places are kept
+abbrev pub placing_of : Task → Sources
+placing_of task = placing_sources task.arch task.strip task.text [] task.seed task.effort
+
+abbrev pub routing_of : Task → Sources
+routing_of task = routing_sources task.arch task.strip task.text [] task.seed task.effort
+
+-- the three files
+abbrev pub files_of : Task → Circuit → Files
+files_of task circuit = record {
+  net = net_text_of (packed_of circuit task.arch);
+  places = place_file_of (end_value (placing_of task));
+  routes = route_file_of (end_value (placing_of task)) (end_value (routing_of task));
+}
+
+-- how its routing ends: without a failure there are routes
+abbrev pub by_routing : Task → Circuit → Option RoutingFailure → Outcome
+by_routing task circuit None = Routed (files_of task circuit)
+by_routing task circuit (Some failure) = Unrouted (ending_of (packed_of circuit task.arch) failure)
+
+-- it is placed where the device has places enough
+abbrev pub by_fit : Task → Circuit → Option Misfit → Outcome
+by_fit task circuit None = by_routing task circuit (failure_of (end_value (routing_of task)))
+by_fit task circuit (Some misfit) = Refused (DoesNotFit misfit)
+
+-- it is packed where each BLE fits into a cluster alone
+abbrev pub by_packing : Task → Circuit → Option ℕ → Outcome
+by_packing task circuit None = by_fit task circuit (misfit_of (fit_of task.strip (packed_of circuit task.arch)))
+by_packing task circuit (Some ble) = Refused (CannotPack ble)
+
+-- it is loaded where it has no fault
+abbrev pub by_netlist : Task → Result Circuit BlifFault → Outcome
+by_netlist task (Ok circuit) = by_packing task circuit (unfit_of circuit task.arch)
+by_netlist task (Err fault) = Refused (BadBlif fault)
+
+-- what comes of it
+abbrev pub outcome_of : Task → Outcome
+outcome_of task = by_netlist task (circuit_of task.text task.arch.lut_size)

@@ -1,0 +1,131 @@
+-- Private: what the stages of a run go on from, and what a job's steps come to.
+use Rattle.std.specs.Prelude.{ℕ, ◌≡◌, ◌+◌, ◌≤◌, List, [], true, false, Option, Some, None, Ok, length}
+use Rattle.blif.specs.CircuitOf.{circuit_of}
+use Rattle.blif.specs.declared.circuit.Circuit.{Circuit}
+use Rattle.cluster.specs.Blocks.{block_nets}
+use Rattle.cluster.specs.Clusters.{packed_of, unfit_of}
+use Rattle.grid.specs.Fits.{fit_of}
+use Rattle.job_state.specs.JobValue.{end_value, is_last, job_value, step_count}
+use Rattle.job_state.specs.Progress.{IsProgress}
+use Rattle.job_state.specs.declared.progress.Progress.{Progress}
+use Rattle.job_state.specs.declared.sources.JobKind.{JobKind}
+use Rattle.job_state.specs.declared.sources.Sources.{Sources}
+use Rattle.job_state.specs.declared.work.Work.{Work}
+use Rattle.rr_graph.specs.Graph.{Basis}
+use Rattle.tenant_slot.specs.SingleUser.{State, finished, misfit_of, running, sources_of}
+use Rattle.tenant_slot.specs.Slot.{SlotState}
+use Rattle.tenant_slot.specs.declared.reply.Ending.{Ending}
+use Rattle.tenant_slot.specs.declared.reply.Refusal.{Refusal}
+use Rattle.tenant_slot.specs.declared.reply.Reply.{Reply}
+use Rattle.tenant_slot.specs.declared.reply.Reply.TheVariants.{Accepted, Status, File, Refused, Step}
+use Rattle.tenant_slot.specs.declared.reply.StateName.{StateName}
+use Rattle.tenant_slot.specs.declared.reply.StepReply.{StepReply}
+use Rattle.tenant_slot.specs.declared.reply.StepReply.TheVariants.{Advanced, Finished, Stale}
+use Rattle.one_user.specs.Outcomes.{Task}
+use Rattle.one_user.specs.declared.figures.PackedCounts.{PackedCounts}
+use Rattle.one_user.specs.declared.steps.StepMade.{StepMade}
+
+-- what a reply refuses, if it does
+abbrev pub refusal_in : Reply → Option Refusal
+refusal_in (Refused refusal) = Some refusal
+refusal_in (Accepted name) = None
+refusal_in (Status status) = None
+refusal_in (File kind text) = None
+refusal_in (Step reply) = None
+
+-- the text of a file, and how a routing ended, where a reply tells it
+abbrev pub text_in : Reply → Option (List ℕ)
+text_in (File kind text) = Some text
+text_in (Refused refusal) = None
+text_in (Accepted name) = None
+text_in (Status status) = None
+text_in (Step reply) = None
+
+abbrev pub ending_in : Reply → Option Ending
+ending_in (Status status) = status.ending
+ending_in (Refused refusal) = None
+ending_in (Accepted name) = None
+ending_in (File kind text) = None
+ending_in (Step reply) = None
+
+-- the device of a state
+abbrev pub device_of : State → Basis
+device_of state = record { arch = state.arch; strip = state.strip }
+
+-- what a state's netlist is asked for with that seed and that effort
+abbrev pub task_in : State → ℕ → ℕ → Task
+task_in state seed effort = record { arch = state.arch; strip = state.strip; text = state.text; seed = seed; effort = effort }
+
+-- a slot in a state
+abbrev pub slot_in : ℕ → State → SlotState
+slot_in id state = record { id = id; state = state; here = Some false }
+
+-- a state of that name, in which no job has made a step and no place is kept
+abbrev pub state_at : Task → StateName → ℕ → ℕ → ℕ → ℕ → State
+state_at task name seed effort generation entries = record {
+  arch = task.arch;
+  strip = task.strip;
+  name = name;
+  text = task.text;
+  kept = [];
+  seed = seed;
+  effort = effort;
+  ending = None;
+  generation = generation;
+  steps = 0;
+  entries = entries;
+}
+
+-- the slot is in such a state, after so many entries at most
+pub record IsAt (task : Task) (name : StateName) (seed effort most : ℕ) (slot : SlotState) : Type 0 where
+  pub is : slot ≡ slot_in slot.id (state_at task name seed effort slot.state.generation slot.state.entries)
+  pub few : slot.state.entries ≤ most
+
+-- the circuit of the netlist; each BLE fits into a cluster alone; the device has places enough
+pub record IsLoaded (task : Task) : Type 0 where
+  pub circuit : Circuit
+  pub said : circuit_of task.text task.arch.lut_size ≡ Ok circuit
+
+pub record IsPacked (task : Task) : Type 0 where
+  pub circuit : Circuit
+  pub said : circuit_of task.text task.arch.lut_size ≡ Ok circuit
+  pub fits : unfit_of circuit task.arch ≡ None
+
+pub record IsPlaced (task : Task) : Type 0 where
+  pub circuit : Circuit
+  pub said : circuit_of task.text task.arch.lut_size ≡ Ok circuit
+  pub fits : unfit_of circuit task.arch ≡ None
+  pub enough : misfit_of (fit_of task.strip (packed_of circuit task.arch)) ≡ None
+
+-- the counts are those of the packed netlist
+abbrev pub AreCounts : Task → PackedCounts → Type 0
+AreCounts task counts =
+    (circuit : Circuit) × (circuit_of task.text task.arch.lut_size ≡ Ok circuit) × (counts.clusters ≡ length (packed_of circuit task.arch).clusters)
+    × (counts.pads ≡ length circuit.inputs + length circuit.outputs) × (counts.nets ≡ length (block_nets (packed_of circuit task.arch)))
+
+-- what a step may lead to: the job goes on, or is over with its last step
+abbrev pub Goes : JobKind → SlotState → StepReply → SlotState → Type 0
+Goes kind old Advanced new =
+    (is_last (sources_of old.state kind) (old.state.steps + 1) ≡ false) × (new ≡ slot_in old.id (record old.state { steps = old.state.steps + 1; entries = old.state.entries + 1 }))
+Goes kind old Finished new =
+    (is_last (sources_of old.state kind) (old.state.steps + 1) ≡ true) × (new ≡ slot_in old.id (record (finished old.state kind) { entries = old.state.entries + 1 }))
+Goes kind old Stale new = ⊥
+
+-- it tells how far the job is after so many steps
+abbrev pub IsTold : Sources → ℕ → Progress → Type 0
+IsTold sources steps progress = (work : Work) × (job_value sources steps ≡ Ok work) × IsProgress work progress
+
+-- the running job's next step is made
+pub record MakesStep (kind : JobKind) (old : SlotState) (made : StepMade) (new : SlotState) : Type 0 where
+  pub number : made.number ≡ old.state.steps + 1
+  pub few : made.number ≤ 8192
+  pub told : IsTold (sources_of old.state kind) made.number made.progress
+  pub count : is_last (sources_of old.state kind) made.number ≡ true → made.number ≡ step_count (sources_of old.state kind)
+  pub goes : Goes kind old made.reply new
+
+-- all its steps are made, and that was the last
+pub record Finishes (kind : JobKind) (old : SlotState) (made : StepMade) (new : SlotState) : Type 0 where
+  pub few : made.number ≤ 8192
+  pub told : IsTold (sources_of old.state kind) made.number made.progress
+  pub count : made.number ≡ step_count (sources_of old.state kind)
+  pub new : new ≡ slot_in old.id (record (finished old.state kind) { entries = old.state.entries + made.number })

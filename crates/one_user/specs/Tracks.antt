@@ -1,0 +1,60 @@
+-- The least number of tracks with which a netlist is routed.
+use Rattle.std.specs.Prelude.{ℕ, ◌≡◌, ◌+◌, ◌<◌, ◌≤◌, List, Result, Ok, Err, Option, Some, None}
+use Rattle.arch_file.specs.Arch.{arch_of}
+use Rattle.arch_file.specs.declared.arch.Arch.{Arch}
+use Rattle.arch_file.specs.declared.fault.ArchFault.{ArchFault}
+use Rattle.strips.specs.Windows.{device_strip}
+use Rattle.one_user.specs.Figures.{HasFigures}
+use Rattle.one_user.specs.Outcomes.{Task, outcome_of}
+use Rattle.one_user.specs.declared.device.Request.{Request}
+use Rattle.one_user.specs.declared.figures.Figures.{Figures}
+use Rattle.one_user.specs.declared.least.DevicePlan.{DevicePlan}
+use Rattle.one_user.specs.declared.least.Least.{Least}
+use Rattle.one_user.specs.declared.least.Least.TheVariants.{Routed, Refused, Unrouted}
+use Rattle.one_user.specs.declared.least.TheConstants.{MAX_TRACKS}
+use Rattle.one_user.specs.declared.outcome.Outcome.{Outcome}
+use Rattle.one_user.specs.declared.outcome.Outcome.TheVariants as outcome
+
+-- a request for a device of that architecture
+abbrev pub task_for : DevicePlan → Arch → Request → Task
+task_for plan arch request = record { arch = arch; strip = device_strip arch plan.columns plan.rows; text = request.netlist.now; seed = request.seed; effort = request.effort }
+
+-- with so many tracks it comes to that
+abbrev pub ComesTo : DevicePlan → Request → ℕ → Outcome → Type 0
+ComesTo plan request tracks told = (arch : Arch) × (arch_of plan.text.now tracks ≡ Ok arch) × (told ≡ outcome_of (task_for plan arch request))
+
+-- what is used then
+abbrev pub HasFiguresWith : DevicePlan → Request → ℕ → Figures → Type 0
+HasFiguresWith plan request tracks figures = (arch : Arch) × (arch_of plan.text.now tracks ≡ Ok arch) × HasFigures (task_for plan arch request) figures
+
+-- the fault of an architecture
+abbrev pub fault_of : Result Arch ArchFault → Option ArchFault
+fault_of (Ok arch) = None
+fault_of (Err fault) = Some fault
+
+-- it is routed, it is left unrouted, it is refused
+abbrev pub WasRouted : Outcome → Type 0
+WasRouted (outcome.Routed files) = Unit {0}
+WasRouted (outcome.Unrouted ending) = ⊥
+WasRouted (outcome.Refused refusal) = ⊥
+
+abbrev pub WasUnrouted : Outcome → Type 0
+WasUnrouted (outcome.Unrouted ending) = Unit {0}
+WasUnrouted (outcome.Routed files) = ⊥
+WasUnrouted (outcome.Refused refusal) = ⊥
+
+abbrev pub WasRefused : Outcome → Type 0
+WasRefused (outcome.Refused refusal) = Unit {0}
+WasRefused (outcome.Routed files) = ⊥
+WasRefused (outcome.Unrouted ending) = ⊥
+
+-- with each number of tracks below that one it is left unrouted
+abbrev pub AreUnroutedBelow : DevicePlan → Request → ℕ → Type 0
+AreUnroutedBelow plan request limit = (tracks : ℕ) → 1 ≤ tracks → tracks < limit → (told : Outcome) × ComesTo plan request tracks told × WasUnrouted told
+
+-- what the search comes to: the least number of tracks with which it is routed, the refusal with the least number with which it isn't left
+-- unrouted, or neither with any
+abbrev pub IsLeast : DevicePlan → Request → Least → Type 0
+IsLeast plan request (Routed tracks run) = (1 ≤ tracks) × (tracks ≤ MAX_TRACKS) × ComesTo plan request tracks run.outcome × WasRouted run.outcome × AreUnroutedBelow plan request tracks
+IsLeast plan request (Refused run) = (tracks : ℕ) × (1 ≤ tracks) × (tracks ≤ MAX_TRACKS) × ComesTo plan request tracks run.outcome × WasRefused run.outcome × AreUnroutedBelow plan request tracks
+IsLeast plan request Unrouted = AreUnroutedBelow plan request (MAX_TRACKS + 1)

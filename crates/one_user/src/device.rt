@@ -1,0 +1,104 @@
+//! A device of one user's own.
+ghost use Rattle.std.specs.Prelude.{◌≡◌, ◌≤◌, IfOk, IfSome};
+ghost use Rattle.arch_file.specs.Arch.{IsArch};
+ghost use Rattle.grid.specs.Sizes.{IsStripSize};
+ghost use Rattle.strips.specs.Windows.{device_strip};
+ghost use Rattle.one_user.specs.Figures.{HasFigures};
+ghost use Rattle.one_user.specs.Outcomes.{outcome_of, task_on};
+
+use crate::outcome::Run;
+use crate::stages::upload;
+use arch_file::{Arch, SharedArch};
+use grid::Strip;
+use line_text::Sink;
+use std::alloc::{AllocError, AllocFailed, Global};
+use std::marker::Model;
+use strips::{DeviceGraph, Window};
+use tenant_slot::{SharedText, Slot};
+
+/// What one user asks for: a netlist, and how it is placed.
+#[derive(Clone, Copy)]
+pub struct Request<'a> {
+    pub netlist: &'a SharedText,
+    /// Where the draws of the placing begin.
+    pub seed: u64,
+    /// How hard the placing tries, 0 to 100.
+    pub effort: u32,
+}
+
+/// A device of one user's own: one strip of all its columns. Its value is what its routing graph stands on.
+#[derive(Drop)]
+pub struct OwnDevice {
+    alloc: Global,
+    arch: SharedArch,
+    strip: Strip,
+    graph: DeviceGraph,
+}
+
+impl Model for OwnDevice {
+    ghost use Rattle.std.specs.Prelude.{◌≡◌};
+    ghost use Rattle.grid.specs.Sizes.{IsStripSize};
+    ghost use Rattle.rr_graph.specs.Graph.{Basis};
+
+    ghost Value = { Basis };
+
+    ghost view = { λ d. record { arch = d.arch; strip = d.strip } };
+
+    ghost invariant = { λ d. (d.graph ≡ record { arch = d.arch; strip = d.strip }) × IsStripSize d.strip };
+}
+
+impl OwnDevice {
+    /// The device of that architecture with so many columns, 1 to 256, and rows, 1 to 64.
+    pub fn new(alloc: Global, arch: Arch, columns: u32, rows: u32) -> Result<Self, AllocError>
+        requires arch { IsArch arch }
+        requires size { IsStripSize (device_strip arch columns rows) }
+        ensures { IfOk result (λ device. device ≡ record { arch = arch; strip = device_strip arch columns rows }) }
+    {
+        let strip = Strip {
+            width: columns,
+            rows,
+            io_rat: arch.io_rat,
+        };
+        let graph = DeviceGraph::new(alloc, &arch, columns, rows);
+        let shared = SharedArch::new(alloc, arch);
+        joined(alloc, shared, strip, graph)
+    }
+
+    /// Has a netlist packed, placed and routed, and tells a line a step. A line that can't be told is left out, and changes nothing.
+    pub fn run<W: Sink>(&self, request: Request<'_>, teller: &mut W) -> Result<Run, AllocError>
+        requires { request.effort ≤ 100 }
+        ensures outcome { IfOk result (λ run. run.outcome ≡ outcome_of (task_on self.now request.netlist.now request.seed request.effort)) }
+        ensures figures { IfOk result (λ run. IfSome run.figures (HasFigures (task_on self.now request.netlist.now request.seed request.effort))) }
+    {
+        let Some(window) = Window::new(&self.graph, 0, self.strip) else {
+            unreachable!()
+        };
+        let arch = self.arch.clone()?;
+        let mut slot = Slot::new(self.alloc, 1, arch, self.strip);
+        let run = upload(&mut slot, &window, request, teller);
+        drop(slot);
+        run
+    }
+}
+
+/// The device of these parts, where memory sufficed for both.
+fn joined(
+    alloc: Global,
+    arch: Result<SharedArch, AllocFailed<Arch>>,
+    strip: Strip,
+    graph: Result<DeviceGraph, AllocError>,
+) -> Result<OwnDevice, AllocError>
+    requires size { IsStripSize strip }
+    requires graph { IfOk arch (λ arch. IfOk graph (λ graph. graph ≡ record { arch = arch; strip = strip })) }
+    ensures { IfOk result (λ device. IfOk arch (λ arch. device ≡ record { arch = arch; strip = strip })) }
+{
+    match (arch, graph) {
+        (Ok(arch), Ok(graph)) => Ok(OwnDevice {
+            alloc,
+            arch,
+            strip,
+            graph,
+        }),
+        _ => Err(AllocError),
+    }
+}

@@ -1,0 +1,140 @@
+//! What a routed circuit uses of its device.
+ghost use Rattle.std.specs.Prelude.{◌≡◌, ◌*◌, count_by};
+ghost use Rattle.arch_file.specs.Arch.{IsArch};
+ghost use Rattle.grid.specs.Sizes.{IsStripSize};
+ghost use Rattle.one_user.specs.Counts.{HasCounts, IsWhole};
+ghost use Rattle.one_user.specs.Figures.{is_channel_wire, wires_there};
+
+use device_report::{ChannelUse, Direction, Share};
+use job_state::Progress;
+use rr_graph::{Resource, ResourceKind, StripGraph};
+use strips::Window;
+
+/// What a routed circuit uses of its device.
+#[derive(Clone, Copy, Debug)]
+pub struct Figures {
+    /// Logic blocks.
+    pub blocks: Share,
+    pub pads: Share,
+    /// Nets between blocks.
+    pub nets: usize,
+    /// Wires of the channels: each is as long as a block, so that is the wire length.
+    pub wires: Share,
+    /// The channel with the most used wires, if any are; of several the first in node order.
+    pub fullest: Option<ChannelUse>,
+    /// How many wires a channel has.
+    pub tracks: u32,
+    /// The iterations of the routing.
+    pub iterations: u32,
+}
+
+/// What a packing has made.
+#[derive(Clone, Copy, Debug)]
+pub(crate) struct PackedCounts {
+    pub(crate) clusters: usize,
+    pub(crate) pads: usize,
+    pub(crate) nets: usize,
+}
+
+/// What a packing has made that is whole.
+pub(crate) fn packed_counts(progress: Progress) -> PackedCounts
+    requires { IsWhole progress }
+    ensures { HasCounts progress result }
+{
+    match progress {
+        Progress::Packed {
+            clusters,
+            pads,
+            nets,
+        } => PackedCounts {
+            clusters,
+            pads,
+            nets,
+        },
+        _ => unreachable!(),
+    }
+}
+
+/// The figures of a circuit that holds these resources of the strip of a window, in node order.
+pub(crate) fn figures_of(
+    window: &Window<'_>,
+    packed: PackedCounts,
+    held: &[Resource],
+    iterations: u32,
+) -> Figures
+    requires arch { IsArch window.now.arch }
+    requires size { IsStripSize window.now.strip }
+    ensures blocks { result.blocks ≡ record { used = packed.clusters; there = window.now.strip.width * window.now.strip.rows } }
+    ensures pads { result.pads ≡ record { used = packed.pads; there = window.now.strip.width * 2 * window.now.strip.io_rat } }
+    ensures nets { result.nets ≡ packed.nets }
+    ensures wires { result.wires ≡ record { used = count_by (λ one. is_channel_wire one.kind) held.now; there = wires_there window.now } }
+    ensures tracks { result.tracks ≡ window.now.arch.tracks }
+    ensures iterations { result.iterations ≡ iterations }
+{
+    let strip = window.strip();
+    let tracks = window.arch().tracks;
+    let across = strip.width * (strip.rows + 1) * tracks;
+    let up = (strip.width + 1) * strip.rows * tracks;
+    Figures {
+        blocks: Share {
+            used: packed.clusters,
+            there: strip.width * strip.rows,
+        },
+        pads: Share {
+            used: packed.pads,
+            there: strip.width * 2 * strip.io_rat,
+        },
+        nets: packed.nets,
+        wires: Share {
+            used: held.iter().filter(|one| is_wire(one.kind)).count(),
+            there: across + up,
+        },
+        fullest: fullest(held),
+        tracks,
+        iterations,
+    }
+}
+
+/// Whether it is a wire of a channel.
+fn is_wire(kind: ResourceKind) -> bool
+    ensures { result ≡ is_channel_wire kind }
+{
+    matches!(kind, ResourceKind::ChanX | ResourceKind::ChanY)
+}
+
+/// The channel that has the most of these, which stand in node order, so that those of a channel stand together.
+fn fullest(held: &[Resource]) -> Option<ChannelUse> {
+    let mut fullest = None;
+    let mut most = 0;
+    let mut wires = 0;
+    for number in 0..held.len() {
+        let goes_on = number > 0 && is_same_channel(held[number - 1], held[number]);
+        wires = if goes_on { wires + 1 } else { 1 };
+        if let Some(direction) = direction_of(held[number].kind) {
+            if wires > most {
+                most = wires;
+                fullest = Some(ChannelUse {
+                    x: held[number].x,
+                    direction,
+                    y: held[number].y,
+                    wires,
+                });
+            }
+        }
+    }
+    fullest
+}
+
+/// Whether both are of one channel, pin block or pad place.
+fn is_same_channel(one: Resource, other: Resource) -> bool {
+    one.x == other.x && one.kind == other.kind && one.y == other.y
+}
+
+/// Which way a wire goes.
+fn direction_of(kind: ResourceKind) -> Option<Direction> {
+    match kind {
+        ResourceKind::ChanX => Some(Direction::Across),
+        ResourceKind::ChanY => Some(Direction::Up),
+        ResourceKind::Opin | ResourceKind::Ipin | ResourceKind::Pad => None,
+    }
+}

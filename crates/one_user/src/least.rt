@@ -1,0 +1,83 @@
+//! The least number of tracks with which a netlist is routed.
+ghost use Rattle.std.specs.Prelude.{◌≡◌, ◌≤◌, ℕ, IfErr, IfOk, IfSome};
+ghost use Rattle.arch_file.specs.Arch.{IsWithin, arch_of};
+ghost use Rattle.line_text.specs.TextErrors.{Fails};
+ghost use Rattle.one_user.specs.Tracks.{ComesTo, HasFiguresWith, IsLeast, fault_of};
+
+use crate::device::{OwnDevice, Request};
+use crate::outcome::{Outcome, Run};
+use arch_file::{Arch, ArchError, read_arch};
+use line_text::Sink;
+use std::alloc::{AllocError, Global};
+
+/// The most tracks of a channel.
+pub const MAX_TRACKS: u32 = 64;
+
+/// What the search for the least tracks comes to.
+#[derive(Debug, Drop)]
+pub enum Least {
+    /// It is routed with so many tracks, and was left unrouted with each smaller number. That is the run.
+    Routed { tracks: u32, run: Run },
+    /// It is refused.
+    Refused(Run),
+    /// It was left unrouted with each number of tracks.
+    Unrouted,
+}
+
+/// The device of an architecture's text that runs are made on.
+#[derive(Clone, Copy)]
+pub struct DevicePlan<'a> {
+    /// The architecture.
+    pub text: &'a [u8],
+    /// Columns, 1 to 256.
+    pub columns: u32,
+    /// Rows, 1 to 64.
+    pub rows: u32,
+}
+
+/// Has a netlist run with 1 track, then with 2, and so on, until it is routed or refused.
+pub fn least_tracks<W: Sink>(
+    alloc: Global,
+    plan: DevicePlan<'_>,
+    request: Request<'_>,
+    teller: &mut W,
+) -> Result<Least, ArchError>
+    requires columns { IsWithin 1 plan.columns 256 }
+    requires rows { IsWithin 1 plan.rows 64 }
+    requires effort { request.effort ≤ 100 }
+    ensures least { IfOk result (IsLeast plan request) }
+    ensures fault { IfErr result (λ error. (tracks : ℕ) × Fails (fault_of (arch_of plan.text.now tracks)) error) }
+{
+    for tracks in 1..MAX_TRACKS + 1 {
+        let run = run_with(alloc, plan, tracks, request, teller)?;
+        match run.outcome {
+            Outcome::Unrouted(_) => drop(run),
+            Outcome::Routed(_) => return Ok(Least::Routed { tracks, run }),
+            Outcome::Refused(_) => return Ok(Least::Refused(run)),
+        }
+    }
+    Ok(Least::Unrouted)
+}
+
+/// Has a netlist run with so many tracks.
+pub fn run_with<W: Sink>(
+    alloc: Global,
+    plan: DevicePlan<'_>,
+    tracks: u32,
+    request: Request<'_>,
+    teller: &mut W,
+) -> Result<Run, ArchError>
+    requires columns { IsWithin 1 plan.columns 256 }
+    requires rows { IsWithin 1 plan.rows 64 }
+    requires tracks { IsWithin 1 tracks 64 }
+    requires effort { request.effort ≤ 100 }
+    ensures outcome { IfOk result (λ run. ComesTo plan request tracks run.outcome) }
+    ensures figures { IfOk result (λ run. IfSome run.figures (HasFiguresWith plan request tracks)) }
+    ensures fault { IfErr result (Fails (fault_of (arch_of plan.text.now tracks))) }
+{
+    let arch = read_arch(alloc, plan.text, tracks)?;
+    let device = OwnDevice::new(alloc, arch, plan.columns, plan.rows)?;
+    let run = device.run(request, teller);
+    drop(device);
+    Ok(run?)
+}

@@ -1,0 +1,29 @@
+//! A netlist on a device of one user's own, packed, placed and routed as the service does it for a single user.
+//!
+//! - [`OwnDevice`] is the device. [`OwnDevice::run`] has a [`Request`] on it and answers what comes of it: the three files, how the
+//!   routing ended without routes, or why the netlist is refused. It tells a line a step to a [`line_text::Sink`].
+//! - [`Figures`] are what the routed circuit uses of the device; [`write_figures`] writes them.
+//! - [`least_tracks`] finds the least number of tracks with which a netlist is routed. It goes upward, since a circuit that is
+//!   routed with some tracks may be left unrouted with more.
+//!
+//! `Outcomes` in `specs/` says what comes of a netlist, as a function of the single user's definition. [`same_files`] is the law that
+//! joins it to the service: whoever has the netlist routed so is told the same files.
+#![tactic(auto)]
+
+mod device;
+mod figures;
+mod law;
+mod least;
+mod outcome;
+mod passes;
+mod stages;
+mod steps;
+mod table;
+mod telling;
+
+pub use device::{OwnDevice, Request};
+pub use figures::Figures;
+pub use law::same_files;
+pub use least::{DevicePlan, Least, MAX_TRACKS, least_tracks, run_with};
+pub use outcome::{Files, Outcome, Run};
+pub use table::write_figures;

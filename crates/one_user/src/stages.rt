@@ -1,0 +1,223 @@
+//! The stages of a run, each of which goes on with the next.
+ghost use Rattle.std.specs.Prelude.{◌≡◌, ◌≤◌, ◌<◌, [], IfOk, IfSome, IsSome, None, OnOk, Some};
+ghost use Rattle.tenant_slot.specs.declared.command.Command.{Command};
+ghost use Rattle.tenant_slot.specs.declared.event.Event.TheVariants.{Command as Asked};
+ghost use Rattle.tenant_slot.specs.declared.reply.StateName.{StateName};
+ghost use Rattle.tenant_slot.specs.SingleUser.{answer_to, circuit_in, start};
+ghost use Rattle.tenant_slot.specs.Slot.{after_event};
+ghost use Rattle.one_user.specs.declared.outcome.Outcome.{Outcome};
+ghost use Rattle.one_user.specs.Figures.{HasFigures};
+ghost use Rattle.one_user.specs.Outcomes.{files_of, outcome_of, task_on};
+ghost use Rattle.one_user.specs.Steps.{AreCounts, IsAt, IsLoaded, IsPacked, IsPlaced, device_of, ending_in, refusal_in, slot_in, task_in, text_in};
+
+use crate::device::Request;
+use crate::figures::{PackedCounts, figures_of, packed_counts};
+use crate::outcome::{Files, Outcome, Run};
+use crate::steps::make_steps;
+use line_text::Sink;
+use std::alloc::AllocError;
+use strips::Window;
+use tenant_slot::{Command, Ending, NotServed, Refusal, Reply, SharedText, Slot, StateName, Status};
+
+/// Has the netlist loaded, and then packed.
+pub(crate) fn upload<W: Sink>(
+    slot: &mut Slot,
+    window: &Window<'_>,
+    request: Request<'_>,
+    teller: &mut W,
+) -> Result<Run, AllocError>
+    requires slot { slot.old ≡ slot_in slot.old.id (start slot.old.state.arch slot.old.state.strip) }
+    requires window { window.now ≡ device_of slot.old.state }
+    requires effort { request.effort ≤ 100 }
+    ensures outcome { IfOk result (λ run. run.outcome ≡ outcome_of (task_on window.now request.netlist.now request.seed request.effort)) }
+    ensures figures { IfOk result (λ run. IfSome run.figures (HasFigures (task_on window.now request.netlist.now request.seed request.effort))) }
+{
+    match ask(slot, Command::Upload(request.netlist.clone()?))? {
+        Some(refusal) => Ok(refused(refusal)),
+        None => pack(slot, window, request, teller),
+    }
+}
+
+/// Has the netlist packed, and then placed.
+fn pack<W: Sink>(
+    slot: &mut Slot,
+    window: &Window<'_>,
+    request: Request<'_>,
+    teller: &mut W,
+) -> Result<Run, AllocError>
+    requires slot { IsAt (task_in slot.old.state request.seed request.effort) StateName.Loaded 0 0 1 slot.old }
+    requires window { window.now ≡ device_of slot.old.state }
+    requires effort { request.effort ≤ 100 }
+    requires loaded { IsLoaded (task_in slot.old.state request.seed request.effort) }
+    ensures outcome { IfOk result (λ run. run.outcome ≡ outcome_of (task_in slot.old.state request.seed request.effort)) }
+    ensures figures { IfOk result (λ run. IfSome run.figures (HasFigures (task_in slot.old.state request.seed request.effort))) }
+{
+    if let Some(refusal) = ask(slot, Command::Pack)? {
+        return Ok(refused(refusal));
+    }
+    let last = make_steps(slot, window, teller)?;
+    place(slot, window, request, packed_counts(last.progress), teller)
+}
+
+/// Has the packed netlist placed, and then routed.
+fn place<W: Sink>(
+    slot: &mut Slot,
+    window: &Window<'_>,
+    request: Request<'_>,
+    packed: PackedCounts,
+    teller: &mut W,
+) -> Result<Run, AllocError>
+    requires slot { IsAt (task_in slot.old.state request.seed request.effort) StateName.Packed 0 0 8194 slot.old }
+    requires window { window.now ≡ device_of slot.old.state }
+    requires effort { request.effort ≤ 100 }
+    requires packed { IsPacked (task_in slot.old.state request.seed request.effort) }
+    requires counts { AreCounts (task_in slot.old.state request.seed request.effort) packed }
+    ensures outcome { IfOk result (λ run. run.outcome ≡ outcome_of (task_in slot.old.state request.seed request.effort)) }
+    ensures figures { IfOk result (λ run. IfSome run.figures (HasFigures (task_in slot.old.state request.seed request.effort))) }
+{
+    let command = Command::Place {
+        seed: request.seed,
+        effort: request.effort,
+    };
+    if let Some(refusal) = ask(slot, command)? {
+        return Ok(refused(refusal));
+    }
+    let _last = make_steps(slot, window, teller)?;
+    route(slot, window, packed, teller)
+}
+
+/// Has the placed netlist routed.
+fn route<W: Sink>(
+    slot: &mut Slot,
+    window: &Window<'_>,
+    packed: PackedCounts,
+    teller: &mut W,
+) -> Result<Run, AllocError>
+    requires slot { IsAt (task_in slot.old.state slot.old.state.seed slot.old.state.effort) StateName.Placed slot.old.state.seed slot.old.state.effort 16387 slot.old }
+    requires window { window.now ≡ device_of slot.old.state }
+    requires placed { IsPlaced (task_in slot.old.state slot.old.state.seed slot.old.state.effort) }
+    requires counts { AreCounts (task_in slot.old.state slot.old.state.seed slot.old.state.effort) packed }
+    ensures outcome { IfOk result (λ run. run.outcome ≡ outcome_of (task_in slot.old.state slot.old.state.seed slot.old.state.effort)) }
+    ensures figures { IfOk result (λ run. IfSome run.figures (HasFigures (task_in slot.old.state slot.old.state.seed slot.old.state.effort))) }
+{
+    if let Some(refusal) = ask(slot, Command::Route)? {
+        return Ok(refused(refusal));
+    }
+    let last = make_steps(slot, window, teller)?;
+    if slot.state() == StateName::Routed {
+        let figures = figures_of(window, packed, slot.routed(), last.number);
+        return Ok(Run {
+            outcome: Outcome::Routed(files_of(slot)?),
+            figures: Some(figures),
+        });
+    }
+    Ok(Run {
+        outcome: Outcome::Unrouted(ending_of(slot)?),
+        figures: None,
+    })
+}
+
+/// A netlist that is refused.
+fn refused(refusal: Refusal) -> Run
+    ensures { result ≡ record { outcome = Outcome.Refused refusal; figures = None } }
+{
+    Run {
+        outcome: Outcome::Refused(refusal),
+        figures: None,
+    }
+}
+
+/// Has a command served, and tells why it is refused, if it is.
+fn ask(slot: &mut Slot, command: Command) -> Result<Option<Refusal>, AllocError>
+    requires { slot.old.state.entries < 65536 }
+    ensures reply { IfOk result (λ refusal. refusal ≡ refusal_in (answer_to slot.old.state (Asked command)).1) }
+    ensures slot { OnOk result (slot.new ≡ after_event slot.old (Asked command)) }
+{
+    let reply = slot.command(&command);
+    drop(command);
+    match reply {
+        Ok(Reply::Refused(refusal)) => Ok(Some(refusal)),
+        Ok(_) => Ok(None),
+        Err(NotServed::NoMemory) => Err(AllocError),
+        Err(NotServed::JournalFull) => unreachable!(),
+    }
+}
+
+/// The files of the routed netlist.
+fn files_of(slot: &Slot) -> Result<Files, AllocError>
+    requires room { slot.now.state.entries < 65536 }
+    requires routed { slot.now.state.name ≡ StateName.Routed }
+    requires loaded { IsLoaded (task_in slot.now.state slot.now.state.seed slot.now.state.effort) }
+    requires kept { slot.now.state.kept ≡ [] }
+    ensures { IfOk result (λ files. IfOk (circuit_in slot.now.state) (λ circuit. files ≡ files_of (task_in slot.now.state slot.now.state.seed slot.now.state.effort) circuit)) }
+{
+    Ok(Files {
+        net: file_of(slot, Command::Net)?,
+        places: file_of(slot, Command::PlaceFile)?,
+        routes: file_of(slot, Command::RouteFile)?,
+    })
+}
+
+/// The file that a command is answered.
+fn file_of(slot: &Slot, command: Command) -> Result<SharedText, AllocError>
+    requires room { slot.now.state.entries < 65536 }
+    requires file { IsSome (text_in (answer_to slot.now.state (Asked command)).1) }
+    ensures { IfOk result (λ text. text_in (answer_to slot.now.state (Asked command)).1 ≡ Some text) }
+{
+    let answer = slot.answer(&command);
+    drop(command);
+    match answer {
+        Ok(answer) => {
+            let text = text_in(answer.reply());
+            drop(answer);
+            text
+        }
+        Err(NotServed::NoMemory) => Err(AllocError),
+        Err(NotServed::JournalFull) => unreachable!(),
+    }
+}
+
+/// The text of a file.
+fn text_in(reply: &Reply) -> Result<SharedText, AllocError>
+    requires { IsSome (text_in reply.now) }
+    ensures { IfOk result (λ text. text_in reply.now ≡ Some text) }
+{
+    match reply {
+        Reply::File { text, .. } => text.clone(),
+        _ => unreachable!(),
+    }
+}
+
+/// How the routing ended that left a net without its way.
+fn ending_of(slot: &Slot) -> Result<Ending, AllocError>
+    requires room { slot.now.state.entries < 65536 }
+    requires ending { IsSome (ending_in (answer_to slot.now.state (Asked Command.Status)).1) }
+    ensures { IfOk result (λ ending. ending_in (answer_to slot.now.state (Asked Command.Status)).1 ≡ Some ending) }
+{
+    let command = Command::Status;
+    let answer = slot.answer(&command);
+    drop(command);
+    match answer {
+        Ok(answer) => {
+            let ending = ending_in(answer.reply());
+            drop(answer);
+            ending
+        }
+        Err(NotServed::NoMemory) => Err(AllocError),
+        Err(NotServed::JournalFull) => unreachable!(),
+    }
+}
+
+/// The ending that a status tells.
+fn ending_in(reply: &Reply) -> Result<Ending, AllocError>
+    requires { IsSome (ending_in reply.now) }
+    ensures { IfOk result (λ ending. ending_in reply.now ≡ Some ending) }
+{
+    match reply {
+        Reply::Status(Status {
+            ending: Some(ending),
+            ..
+        }) => ending.clone(),
+        _ => unreachable!(),
+    }
+}

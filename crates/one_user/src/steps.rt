@@ -1,0 +1,76 @@
+//! The steps of a job, one after another.
+ghost use Rattle.std.specs.Prelude.{◌≡◌, ◌+◌, ◌<◌, IfOk, IsSome, Some, false};
+ghost use Rattle.job_state.specs.declared.sources.JobKind.{JobKind};
+ghost use Rattle.tenant_slot.specs.SingleUser.{running};
+ghost use Rattle.one_user.specs.Steps.{Finishes, MakesStep, device_of};
+
+use crate::telling::tell_step;
+use job_state::Progress;
+use line_text::Sink;
+use std::alloc::AllocError;
+use strips::Window;
+use tenant_slot::{Origin, Slot, StepReply};
+
+/// The most steps of a job: a circuit has no more BLEs, a placing no more passes, and a routing no more iterations.
+const MAX_STEPS: u32 = 8192;
+
+/// A step that was made.
+#[derive(Clone, Copy, Debug)]
+pub(crate) struct StepMade {
+    /// The how many-th of the job's steps it is, from 1.
+    pub(crate) number: u32,
+    pub(crate) progress: Progress,
+    pub(crate) reply: StepReply,
+}
+
+/// Makes all steps of the running job, tells of each, and answers the last. What can't be told isn't.
+pub(crate) fn make_steps<W: Sink>(
+    slot: &mut Slot,
+    window: &Window<'_>,
+    teller: &mut W,
+) -> Result<StepMade, AllocError>
+    requires runs { IsSome (running slot.old.state.name) }
+    requires first { slot.old.state.steps ≡ 0 }
+    requires here { slot.old.here ≡ Some false }
+    requires room { slot.old.state.entries + 8192 < 65536 }
+    requires window { window.now ≡ device_of slot.old.state }
+    ensures { IfOk result (λ made. (kind : JobKind) → running slot.old.state.name ≡ Some kind → Finishes kind slot.old made slot.new) }
+{
+    for _ in 0..MAX_STEPS + 1 {
+        let made = make_step(slot, window)?;
+        let _told = tell_step(teller, window, made);
+        if made.reply == StepReply::Finished {
+            return Ok(made);
+        }
+    }
+    unreachable!()
+}
+
+/// Makes the next step of the running job. Without memory nothing changes.
+fn make_step(slot: &mut Slot, window: &Window<'_>) -> Result<StepMade, AllocError>
+    requires runs { IsSome (running slot.old.state.name) }
+    requires here { slot.old.here ≡ Some false }
+    requires room { slot.old.state.entries < 65536 }
+    requires window { window.now ≡ device_of slot.old.state }
+    ensures { IfOk result (λ made. (kind : JobKind) → running slot.old.state.name ≡ Some kind → MakesStep kind slot.old made slot.new) }
+{
+    let Some(job) = slot.take() else {
+        unreachable!()
+    };
+    match job.step(window) {
+        Ok(done) => {
+            let number = done.number();
+            let progress = done.progress(window);
+            let (_, reply) = slot.put_from(done, Origin::Running);
+            Ok(StepMade {
+                number,
+                progress,
+                reply,
+            })
+        }
+        Err(back) => {
+            slot.give_back(back);
+            Err(AllocError)
+        }
+    }
+}

@@ -1,0 +1,76 @@
+//! The figures as a text.
+ghost use Rattle.line_text.specs.Writing.{Writes};
+ghost use Rattle.one_user.specs.Lines.{figures_text, fullest_line};
+
+use crate::figures::Figures;
+use device_report::{ChannelUse, Direction};
+use line_text::{Failed, Sink};
+use text_parts::{Part, write_parts};
+
+/// Writes a line for each figure. Where the sink fails, it has taken a beginning of them.
+pub fn write_figures<W: Sink>(sink: &mut W, figures: &Figures) -> Result<(), Failed>
+    ensures { Writes W.contents W.has_failed sink.old sink.new (figures_text figures.now) result }
+{
+    write_parts(
+        sink,
+        &[
+            Part::Text("logic blocks "),
+            Part::Long(figures.blocks.used as u64),
+            Part::Text("/"),
+            Part::Number(figures.blocks.there),
+            Part::Text("\npads "),
+            Part::Long(figures.pads.used as u64),
+            Part::Text("/"),
+            Part::Number(figures.pads.there),
+            Part::Text("\nnets "),
+            Part::Long(figures.nets as u64),
+            Part::Text("\nwire length "),
+            Part::Long(figures.wires.used as u64),
+            Part::Text("/"),
+            Part::Number(figures.wires.there),
+            Part::Text("\niterations "),
+            Part::Number(figures.iterations),
+            Part::Text("\n"),
+        ],
+    )?;
+    write_fullest(sink, figures.fullest, figures.tracks)
+}
+
+/// Writes the line of the fullest channel, which has so many tracks.
+fn write_fullest<W: Sink>(
+    sink: &mut W,
+    fullest: Option<ChannelUse>,
+    tracks: u32,
+) -> Result<(), Failed>
+    ensures { Writes W.contents W.has_failed sink.old sink.new (fullest_line tracks fullest) result }
+{
+    match fullest {
+        Some(channel) => write_parts(
+            sink,
+            &[
+                Part::Text("fullest channel "),
+                Part::Text(channel_word(channel.direction)),
+                Part::Text(" ("),
+                Part::Number(channel.x),
+                Part::Text(","),
+                Part::Number(channel.y),
+                Part::Text(") "),
+                Part::Long(channel.wires as u64),
+                Part::Text("/"),
+                Part::Number(tracks),
+                Part::Text("\n"),
+            ],
+        ),
+        None => write_parts(sink, &[Part::Text("fullest channel none\n")]),
+    }
+}
+
+/// The word for a channel.
+fn channel_word(direction: Direction) -> &'static str
+    ensures { result.now ≡ channel_word direction }
+{
+    match direction {
+        Direction::Across => "CHANX",
+        Direction::Up => "CHANY",
+    }
+}

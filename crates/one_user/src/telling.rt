@@ -1,0 +1,146 @@
+//! A line for each step.
+ghost use Rattle.std.specs.Prelude.{◌≡◌};
+ghost use Rattle.line_text.specs.Writing.{Writes};
+ghost use Rattle.one_user.specs.Lines.{kind_word};
+
+use crate::passes::{pass_count, temperature_of};
+use crate::steps::StepMade;
+use job_state::Progress;
+use line_text::{Failed, Sink};
+use pathfinder::Overuse;
+use rr_graph::{Node, NodeKind, StripGraph};
+use strips::Window;
+use text_parts::{Part, write_parts};
+
+/// Writes the line of a step that was made on the strip of a window.
+pub(crate) fn tell_step<W: Sink>(
+    sink: &mut W,
+    window: &Window<'_>,
+    made: StepMade,
+) -> Result<(), Failed> {
+    match made.progress {
+        Progress::Packing { tables, latches } => {
+            tell_cluster(sink, made.number, tables.saturating_add(latches))
+        }
+        Progress::Packed {
+            clusters,
+            pads,
+            nets,
+        } => tell_packed(sink, clusters, pads, nets),
+        Progress::Placing { cost } => tell_pass(sink, window, made.number, cost),
+        Progress::Routing(overuse) => tell_overuse(sink, made.number, overuse),
+        Progress::Routed => tell_iteration(sink, made.number, "no node overused"),
+        Progress::GaveUp => tell_iteration(sink, made.number, "nodes overused, given up"),
+        Progress::NoPath => tell_iteration(sink, made.number, "a net has no path"),
+    }
+}
+
+/// Writes the line of a cluster, of a packing that makes so many at most.
+fn tell_cluster<W: Sink>(sink: &mut W, number: u32, most: usize) -> Result<(), Failed> {
+    write_parts(
+        sink,
+        &[
+            Part::Text("cluster "),
+            Part::Number(number),
+            Part::Text(" of at most "),
+            Part::Long(most as u64),
+            Part::Text("\n"),
+        ],
+    )
+}
+
+/// Writes the line of a packing that is whole.
+fn tell_packed<W: Sink>(
+    sink: &mut W,
+    clusters: usize,
+    pads: usize,
+    nets: usize,
+) -> Result<(), Failed> {
+    write_parts(
+        sink,
+        &[
+            Part::Text("packed: "),
+            Part::Long(clusters as u64),
+            Part::Text(" clusters, "),
+            Part::Long(pads as u64),
+            Part::Text(" pads, "),
+            Part::Long(nets as u64),
+            Part::Text(" nets\n"),
+        ],
+    )
+}
+
+/// Writes the line of a pass.
+fn tell_pass<W: Sink>(
+    sink: &mut W,
+    window: &Window<'_>,
+    number: u32,
+    cost: u64,
+) -> Result<(), Failed> {
+    let strip = window.strip();
+    write_parts(
+        sink,
+        &[
+            Part::Text("pass "),
+            Part::Number(number),
+            Part::Text(" of "),
+            Part::Number(pass_count(strip)),
+            Part::Text(": temperature "),
+            Part::Number(temperature_of(strip, number)),
+            Part::Text(", cost "),
+            Part::Long(cost),
+            Part::Text("\n"),
+        ],
+    )
+}
+
+/// Writes the line of an iteration that ends so.
+fn tell_iteration<W: Sink>(sink: &mut W, number: u32, end: &str) -> Result<(), Failed> {
+    write_parts(
+        sink,
+        &[
+            Part::Text("iteration "),
+            Part::Number(number),
+            Part::Text(" of 30: "),
+            Part::Text(end),
+            Part::Text("\n"),
+        ],
+    )
+}
+
+/// Writes the line of an iteration after which nodes are overused.
+fn tell_overuse<W: Sink>(sink: &mut W, number: u32, overuse: Overuse) -> Result<(), Failed> {
+    let Some(most) = overuse.most else {
+        return tell_iteration(sink, number, "no node overused");
+    };
+    write_parts(
+        sink,
+        &[
+            Part::Text("iteration "),
+            Part::Number(number),
+            Part::Text(" of 30: "),
+            Part::Long(overuse.nodes as u64),
+            Part::Text(" nodes overused, most at "),
+            Part::Text(kind_word(most.kind)),
+            Part::Text(" ("),
+            Part::Number(most.x),
+            Part::Text(","),
+            Part::Number(most.y),
+            Part::Text(")\n"),
+        ],
+    )
+}
+
+/// The word of the route file for a kind of node.
+fn kind_word(kind: NodeKind) -> &'static str
+    ensures { result.now ≡ kind_word kind }
+{
+    match kind {
+        NodeKind::Source => "SOURCE",
+        NodeKind::Sink => "SINK",
+        NodeKind::Opin => "OPIN",
+        NodeKind::Ipin => "IPIN",
+        NodeKind::ChanX => "CHANX",
+        NodeKind::ChanY => "CHANY",
+    }
+}

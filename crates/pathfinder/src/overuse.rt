@@ -1,0 +1,76 @@
+//! How far a routing is from its end: the nodes that more trees hold than they can carry.
+ghost use Rattle.std.specs.Prelude.{◌≡◌, ◌<◌, length, option_map, IfSome};
+ghost use Rattle.rr_graph.specs.Graph.{graph_of};
+ghost use Rattle.pathfinder.specs.Negotiation.{More};
+ghost use Rattle.pathfinder.specs.Overuse.{IsMost, IsOveruse, count_over, over_in};
+ghost use Rattle.pathfinder.specs.PlacedNets.{wiring_of};
+ghost use Rattle.pathfinder.specs.Routings.{IsAfter};
+
+use crate::routing::Routing;
+use rr_graph::{Node, StripGraph};
+
+/// Which nodes are in more trees than they can carry.
+#[derive(Clone, Copy, Debug, PartialEq, Eq)]
+pub struct Overuse {
+    /// How many there are.
+    pub nodes: usize,
+    /// The one that is overused by most trees, and of several the first in node order.
+    pub most: Option<Node>,
+}
+
+impl Routing {
+    /// The overuse after the iterations that were made. Takes no memory.
+    pub fn overuse<G: StripGraph>(&self, graph: &G) -> Overuse
+        requires { IsAfter (wiring_of (G.basis graph.now)) self.now More }
+        ensures { IsOveruse (G.basis graph.now) self.now.trees result }
+    {
+        let _count = graph.count();
+        let held = self.held.as_slice();
+        Overuse {
+            nodes: count_overused(graph, held),
+            most: node_of(graph, most_overused(graph, held)),
+        }
+    }
+}
+
+/// How many nodes are overused.
+fn count_overused<G: StripGraph>(graph: &G, held: &[u32]) -> usize
+    requires { length held.now ≡ (graph_of (G.basis graph.now)).count }
+    ensures { result ≡ count_over (over_in (G.basis graph.now) held.now) (length held.now) }
+{
+    let mut nodes = 0;
+    for node in 0..held.len() {
+        if held[node] > graph.capacity(node) {
+            nodes += 1;
+        }
+    }
+    nodes
+}
+
+/// The node that is overused most, the first of several.
+fn most_overused<G: StripGraph>(graph: &G, held: &[u32]) -> Option<usize>
+    requires { length held.now ≡ (graph_of (G.basis graph.now)).count }
+    ensures { IsMost (over_in (G.basis graph.now) held.now) (length held.now) result }
+{
+    let mut most = None;
+    let mut by = 0;
+    for node in 0..held.len() {
+        let over = held[node].saturating_sub(graph.capacity(node));
+        if over > by {
+            by = over;
+            most = Some(node);
+        }
+    }
+    most
+}
+
+/// The node of a number, if there is one.
+fn node_of<G: StripGraph>(graph: &G, number: Option<usize>) -> Option<Node>
+    requires { IfSome number (λ node. node < (graph_of (G.basis graph.now)).count) }
+    ensures { result ≡ option_map (graph_of (G.basis graph.now)).node number }
+{
+    match number {
+        Some(number) => Some(graph.node(number)),
+        None => None,
+    }
+}

@@ -1,0 +1,15 @@
+use Rattle.std.proofs.Common.{ap, ◌∙◌}
+use Rattle.strip_place.specs.Wiring.{length_of}
+use Rattle.strip_place.proofs.Lengths.{boxes_length, small_boxes}
+use Rattle.strip_place.proofs.wires.Wires.whole_length.Goals as goal
+
+pub whole_length-requires-clause-boxes : goal.whole_length-requires-clause-boxes
+whole_length-requires-clause-boxes c =
+    let w = c.self.inside in
+    small_boxes w.points.items w.nets w.boxes.items c.as_slice.result.now c.self.invariant.exact c.as_slice.ensures.value
+
+pub returns : goal.returns
+returns c =
+    let w = c.self.inside in
+    c.whole_length.ensures ∙ boxes_length w.points.items w.nets w.boxes.items c.as_slice.result.now c.self.invariant.lawful c.self.invariant.exact c.as_slice.ensures.value
+    ∙ ap length_of c.self.view_is
