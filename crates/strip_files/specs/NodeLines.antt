@@ -1,5 +1,5 @@
 -- The lines of nodes in a `.route` file, and the nodes that they tell.
-use Rattle.std.specs.Prelude.{ℕ, ◌≡◌, Bool, true, false, if◌then◌else◌, List, [], ◌∷◌, ◌++◌, filter, codes, eqb, Some, ⊤}
+use Rattle.std.specs.Prelude.{ℕ, ◌≡◌, Bool, true, false, List, [], ◌∷◌, ◌++◌, filter, codes, eqb, Some, ⊤}
 use Rattle.std.specs.List.{list_any, starts_with}
 use Rattle.line_text.specs.Decimal.{decimal_of}
 use Rattle.line_text.specs.Lines.{physical_lines}
@@ -8,7 +8,7 @@ use Rattle.rr_graph.specs.declared.node.NodeKind.{NodeKind}
 use Rattle.rr_graph.specs.declared.node.NodeKind.TheVariants.{Source, Sink, Opin, Ipin, ChanX, ChanY}
 use Rattle.strip_files.specs.declared.node_line.Counted.{Counted}
 use Rattle.strip_files.specs.declared.node_line.Counted.TheVariants.{Tracks, Pins, Pads, Classes}
-use Rattle.strip_files.specs.declared.node_line.RouteNode.{RouteNode}
+use Rattle.strip_files.specs.declared.route_node.RouteNode.{RouteNode}
 
 -- how the line of a node of that kind begins
 abbrev pub kind_start : NodeKind → List ℕ
@@ -62,6 +62,9 @@ AreTold (line ∷ lines) [] = ⊥
 AreTold (line ∷ lines) (read ∷ others) = IsNodeLine line read.node × AreTold lines others
 
 -- after a line there is the node that it tells, where it is a node's, else nothing new
+abbrev pub IsReadOnAs : Bool → List ℕ → List RouteNode → List RouteNode → Type 0
+IsReadOnAs true line old new = (read : RouteNode) × (new ≡ old ++ read ∷ []) × IsNodeLine line read.node
+IsReadOnAs false line old new = new ≡ old
+
 abbrev pub IsReadOn : List ℕ → List RouteNode → List RouteNode → Type 0
-IsReadOn line old new =
-    if is_node_line line then ((read : RouteNode) × (new ≡ old ++ read ∷ []) × IsNodeLine line read.node) else (new ≡ old)
+IsReadOn line old new = IsReadOnAs (is_node_line line) line old new

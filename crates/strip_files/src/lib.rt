@@ -14,12 +14,13 @@ mod net_text;
 mod node_line;
 mod place_text;
 mod reader;
+mod route_node;
 mod route_text;
 mod size;
 
 pub use block::{Block, BlockKind};
 pub use fault::{Fault, File, FileFault};
-pub use node_line::RouteNode;
 pub use reader::{RoutedStrip, StripTexts, read_strip};
+pub use route_node::RouteNode;
 pub use route_text::Net;
 pub use size::StripSize;

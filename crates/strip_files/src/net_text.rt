@@ -34,8 +34,9 @@ impl<'t> Listed<'t> {
         while !rest.is_empty() {
             let (line, later) = split_line(rest);
             number = number.saturating_add(1);
-            self.line(line)
-                .map_err(|error| in_file(error, File::Net, number))?;
+            if let Err(error) = self.line(line) {
+                return Err(in_file(error, File::Net, number));
+            }
             rest = later;
         }
         Ok(())

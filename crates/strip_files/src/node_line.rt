@@ -3,6 +3,7 @@ ghost use Rattle.std.specs.Prelude.{◌≡◌, ◌≤◌, ◌++◌, true, false,
 ghost use Rattle.strip_files.specs.NodeLines.{IsTailOf, counted_word, is_node_line, kind_start};
 
 use crate::fault::Fault;
+use crate::route_node::RouteNode;
 use crate::size::StripSize;
 use rr_graph::{Node, NodeKind};
 use text_parts::Scanner;
@@ -15,13 +16,6 @@ const MOST_PADS: u32 = 8;
 
 /// How many tracks a channel has at most.
 const MOST_TRACKS: u32 = 64;
-
-/// A node of a net's route.
-#[derive(Clone, Copy)]
-pub struct RouteNode {
-    pub node: Node,
-    ghost on_largest: { (node.x ≤ 256) × (node.y ≤ 65) × (node.n ≤ 144) },
-}
 
 /// What the number of a node counts.
 #[derive(Clone, Copy)]
@@ -60,7 +54,7 @@ pub(crate) fn read_node(
     kind: NodeKind,
     mut scanner: Scanner<'_>,
 ) -> Result<RouteNode, Fault>
-    ensures { IfOk result (λ read. (read.node.kind ≡ kind) × IsTailOf scanner read.node) }
+    ensures { IfOk result (λ read. (read.node.kind ≡ kind) × IsTailOf scanner.entry read.node) }
 {
     let Some((node, counted)) = read_tail(kind, &mut scanner) else {
         return Err(Fault::BadNode);

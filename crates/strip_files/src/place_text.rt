@@ -42,17 +42,14 @@ impl<'t> Placed<'t> {
         while !rest.is_empty() {
             let (line, later) = split_line(rest);
             number = number.saturating_add(1);
-            self.line(line, number, listed)
-                .map_err(|error| in_file(error, File::Place, number))?;
+            if let Err(error) = self.line(line, number, listed) {
+                return Err(in_file(error, File::Place, number));
+            }
             rest = later;
         }
         match self.size {
             Some(size) if self.blocks.len() >= listed.len() => Ok(size),
-            _ => Err(in_file(
-                TextError::Fault(Fault::Unfinished),
-                File::Place,
-                number,
-            )),
+            _ => Err(in_file(TextError::Fault(Fault::Unfinished), File::Place, number)),
         }
     }
 

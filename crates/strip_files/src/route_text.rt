@@ -1,14 +1,16 @@
 //! The `.route` file: the nets, and the nodes of their routes.
-ghost use Rattle.std.specs.Prelude.{◌≡◌, ◌≤◌, ◌++◌, length, true, false, OnOk};
-ghost use Rattle.line_text.specs.Lines.{physical_lines};
-ghost use Rattle.strip_files.specs.NodeLines.{AreTold, IsReadOn, node_lines};
+ghost use Rattle.std.specs.Prelude.{◌≡◌, ◌≤◌, ◌++◌, ◌∷◌, [], length, OnOk};
+ghost use Rattle.strip_files.specs.declared.route_node.RouteNode.{RouteNode};
+ghost use Rattle.strip_files.specs.NodeLines.{AreTold, IsReadOn, IsTailOf, node_lines};
 
 use crate::fault::{Fault, File, FileFault};
 use crate::net_text::in_file;
-use crate::node_line::{RouteNode, read_node, take_kind};
+use crate::node_line::{read_node, take_kind};
 use crate::place_text::read_size;
+use crate::route_node::RouteNode;
 use crate::size::StripSize;
-use line_text::{TextError, split_line};
+use line_text::{TextError, is_word, split_line};
+use rr_graph::NodeKind;
 use std::alloc::Global;
 use text_parts::Scanner;
 
@@ -27,7 +29,7 @@ pub struct Net<'t> {
 
 /// Where in the file a line stands.
 #[derive(Clone, Copy, PartialEq, Eq)]
-enum Section {
+pub(crate) enum Section {
     /// The first line, which tells the size.
     Size,
     /// Before the line `Routing:`.
@@ -42,7 +44,7 @@ pub(crate) struct Routed<'t> {
     pub(crate) nets: Vec<Net<'t>>,
     /// The nodes of all routes, net by net.
     pub(crate) nodes: Vec<RouteNode>,
-    section: Section,
+    pub(crate) section: Section,
 }
 
 impl<'t> Routed<'t> {
@@ -71,16 +73,13 @@ impl<'t> Routed<'t> {
         while !rest.is_empty() {
             let (line, later) = split_line(rest);
             number = number.saturating_add(1);
-            self.line(line, size)
-                .map_err(|error| in_file(error, File::Route, number))?;
+            if let Err(error) = self.line(line, size) {
+                return Err(in_file(error, File::Route, number));
+            }
             rest = later;
         }
         if self.section != Section::Nets {
-            return Err(in_file(
-                TextError::Fault(Fault::Unfinished),
-                File::Route,
-                number,
-            ));
+            return Err(in_file(TextError::Fault(Fault::Unfinished), File::Route, number));
         }
         Ok(())
     }
@@ -90,15 +89,31 @@ impl<'t> Routed<'t> {
         ensures { OnOk result (IsReadOn line.now self.old.nodes.items self.new.nodes.items) }
     {
         let mut scanner = Scanner::new(line);
-        if let Some(kind) = take_kind(&mut scanner) {
-            if self.nets.is_empty() {
-                return Err(TextError::Fault(Fault::UnknownLine));
-            }
-            let node = read_node(size, kind, scanner).map_err(TextError::Fault)?;
-            self.nodes.push(node)?;
-            return Ok(());
+        match take_kind(&mut scanner) {
+            Some(kind) => self.node(size, kind, scanner),
+            None => self.other(line, size),
         }
-        self.other(line, size)
+    }
+
+    /// Takes the end of the line of a node of that kind.
+    fn node(
+        &mut self,
+        size: StripSize,
+        kind: NodeKind,
+        tail: Scanner<'_>,
+    ) -> Result<(), TextError<Fault>>
+        ensures { OnOk result ((read : RouteNode) × (self.new.nodes.items ≡ self.old.nodes.items ++ read ∷ []) × (read.node.kind ≡ kind) × IsTailOf tail.entry read.node) }
+    {
+        if self.nets.is_empty() {
+            return Err(TextError::Fault(Fault::UnknownLine));
+        }
+        match read_node(size, kind, tail) {
+            Ok(node) => {
+                self.nodes.push(node)?;
+                Ok(())
+            }
+            Err(fault) => Err(TextError::Fault(fault)),
+        }
     }
 
     /// Takes a line that is no node's.
@@ -107,7 +122,7 @@ impl<'t> Routed<'t> {
     {
         match self.section {
             Section::Size => self.heading(line, size),
-            Section::Before if line == b"Routing:" => {
+            Section::Before if is_word(line, "Routing:") => {
                 self.section = Section::Nets;
                 Ok(())
             }
