@@ -21,7 +21,6 @@ mod owned_line;
 mod picture;
 mod reader;
 mod runs;
-mod scanner;
 mod size;
 mod tenancy;
 mod wires;

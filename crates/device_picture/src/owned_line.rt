@@ -3,7 +3,7 @@ ghost use Rattle.std.specs.Prelude.{◌≡◌, ◌≤◌, true};
 
 use crate::device::Owned;
 use crate::fault::Fault;
-use crate::scanner::Scanner;
+use text_parts::Scanner;
 use crate::size::DeviceSize;
 use rr_graph::{Resource, ResourceKind};
 

@@ -5,7 +5,7 @@ ghost use Rattle.device_picture.specs.Owning.{AreOwners, IsOwners};
 use crate::device::{Device, Owned};
 use crate::fault::{Fault, InputFault, ReadError};
 use crate::owned_line::read_owned;
-use crate::scanner::Scanner;
+use text_parts::Scanner;
 use crate::size::DeviceSize;
 use crate::tenancy::Tenancy;
 use line_text::is_word;

@@ -1,7 +1,7 @@
 //! The lines of `op list`.
 ghost use Rattle.std.specs.Prelude.{◌≡◌, ◌+◌, ◌≤◌, ◌<◌, length, true};
 
-use crate::scanner::Scanner;
+use text_parts::Scanner;
 use crate::size::DeviceSize;
 use rr_graph::{Resource, ResourceKind};
 

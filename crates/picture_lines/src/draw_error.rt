@@ -1,0 +1,24 @@
+//! Why a picture was not drawn.
+use line_text::Failed;
+use std::alloc::AllocError;
+
+/// Why no picture was drawn, or not all of it.
+#[derive(Clone, Copy, Debug, PartialEq, Eq)]
+pub enum DrawError {
+    /// There is no memory. Nothing was written.
+    NoMemory,
+    /// The sink failed. It has taken a beginning of the picture.
+    Failed,
+}
+
+impl From<AllocError> for DrawError {
+    fn from(_error: AllocError) -> Self {
+        DrawError::NoMemory
+    }
+}
+
+impl From<Failed> for DrawError {
+    fn from(_failed: Failed) -> Self {
+        DrawError::Failed
+    }
+}

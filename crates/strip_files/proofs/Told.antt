@@ -1,0 +1,39 @@
+-- Nodes that are read line by line.
+use Rattle.std.proofs.Common.{ℕ, ◌≡◌, ◌∙◌, Bool, true, false, cond, List, [], ◌∷◌, ◌++◌, filter, ap, sym, subst, append_assoc, Result, Ok, Err, OnOk, length, refl, arith}
+use Rattle.rr_graph.specs.declared.node.NodeKind.{NodeKind}
+use Rattle.strip_files.specs.declared.route_node.RouteNode.{RouteNode}
+use Rattle.strip_files.specs.NodeLines.{AreTold, IsReadOn, IsReadOnAs, IsNodeLine, IsTailOf, is_node_line, kind_start}
+
+step_as : (b : Bool) (line : List ℕ) (kept : List (List ℕ)) (old new more : List RouteNode) → IsReadOnAs b line old new → AreTold kept more
+    → (rest : List RouteNode) × AreTold (cond b (line ∷ kept) kept) rest × (new ++ more ≡ old ++ rest)
+step_as true line kept old new more (read, same, told) h = (read ∷ more, (told, h), ap (λ (xs : List RouteNode). xs ++ more) same ∙ append_assoc old (read ∷ []) more)
+step_as false line kept old new more same h = (more, h, ap (λ (xs : List RouteNode). xs ++ more) same)
+
+-- a line, and what the lines behind it tell
+pub told_step : (line : List ℕ) (lines : List (List ℕ)) (old new more : List RouteNode) → IsReadOn line old new → AreTold (filter is_node_line lines) more
+    → (rest : List RouteNode) × AreTold (filter is_node_line (line ∷ lines)) rest × (new ++ more ≡ old ++ rest)
+told_step line lines old new more read h = step_as (is_node_line line) line (filter is_node_line lines) old new more read h
+
+-- the line of a node, by its beginning and its end
+pub told_line : (line tail : List ℕ) (before after : List RouteNode) (kind : NodeKind) (read : RouteNode) → is_node_line line ≡ true → line ≡ kind_start kind ++ tail
+    → after ≡ before ++ read ∷ [] → read.node.kind ≡ kind → IsTailOf tail read.node → IsReadOn line before after
+told_line line tail before after kind read begins text same is told =
+    subst (λ (b : Bool). IsReadOnAs b line before after) (sym begins)
+    (read, same, record { tail = tail; text = text ∙ ap (λ (k : NodeKind). kind_start k ++ tail) (sym is); told = told })
+
+-- another line
+pub other_line : (line : List ℕ) (before after : List RouteNode) → is_node_line line ≡ false → after ≡ before → IsReadOn line before after
+other_line line before after none same = subst (λ (b : Bool). IsReadOnAs b line before after) (sym none) same
+
+-- what is told of a success may say less
+pub on_ok : {A E : Type 0} (r : Result A E) (P Q : Type 0) → (P → Q) → OnOk r P → OnOk r Q
+on_ok (Ok a) P Q more h = more h
+on_ok (Err e) P Q more h = h
+
+pub always_ok : {A E : Type 0} (r : Result A E) (P : Type 0) → P → OnOk r P
+always_ok (Ok a) P h = h
+always_ok (Err e) P h = tt
+
+pub nothing : (text : List ℕ) → length text ≡ 0 → text ≡ []
+nothing [] h = refl
+nothing (byte ∷ rest) h = absurd (omega arith)

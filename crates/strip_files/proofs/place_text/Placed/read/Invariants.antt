@@ -1,0 +1,6 @@
+use Rattle.std.proofs.Common.{length}
+use Rattle.line_text.specs.Lines.{physical_lines}
+use Rattle.strip_files.proofs.place_text.Placed.read.Given as goal
+
+abbrev pub decreases-loop-rest : goal.decreases-loop-rest
+decreases-loop-rest l = length (physical_lines l.rest)

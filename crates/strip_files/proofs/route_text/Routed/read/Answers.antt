@@ -1,0 +1,29 @@
+use Rattle.std.proofs.Common.{◌≡◌, ◌<◌, List, [], ℕ, length, arith, sym, subst, filter, append-nil}
+use Rattle.std.proofs.lemmas.Bool.Decides.{nat_tests}
+use Rattle.line_text.specs.Lines.{physical_lines}
+use Rattle.strip_files.specs.declared.route_node.RouteNode.{RouteNode}
+use Rattle.strip_files.specs.NodeLines.{AreTold, IsReadOn, is_node_line, node_lines}
+use Rattle.strip_files.proofs.Told.{nothing, told_step}
+use Rattle.strip_files.proofs.route_text.Routed.read.Goals as goal
+
+pub loop-rest-preserved : goal.loop-rest-preserved
+loop-rest-preserved c more told =
+    let rest : List ℕ = c.loop-rest.rest.now in
+    let line : List ℕ = c.split_line.result.0.now in
+    let later : List ℕ = c.split_line.result.1.now in
+    let old : List RouteNode = c.loop-rest.self.nodes.items in
+    let new : List RouteNode = c.line.new.self.nodes.items in
+    let all : List (List ℕ) = node_lines c.args.text.now in
+    let filled : 0 < length rest = grind (arith, nat_tests, c.loop-rest-test.ensures) in
+    let read : IsReadOn line old new = c.in_default.ensures in
+    let step = told_step line (physical_lines later) old new more read told in
+    let here : AreTold (node_lines rest) step.0 = subst (λ (lines : List (List ℕ)). AreTold (filter is_node_line lines) step.0) (sym (c.split_line.ensures.lines filled)) step.1 in
+    subst (λ (nodes : List RouteNode). AreTold all nodes) (sym step.2) (c.loop-rest.invariant step.0 here)
+
+pub returns : goal.returns
+returns c =
+    let short : length c.loop-rest.rest.now ≡ 0 = grind (arith, nat_tests, c.loop-rest-test.ensures) in
+    let none : c.loop-rest.rest.now ≡ [] = nothing c.loop-rest.rest.now short in
+    let all : List (List ℕ) = node_lines c.args.text.now in
+    subst (λ (nodes : List RouteNode). AreTold all nodes) (append-nil c.loop-rest.self.nodes.items)
+    (c.loop-rest.invariant [] (subst (λ (rest : List ℕ). AreTold (node_lines rest) []) (sym none) tt))

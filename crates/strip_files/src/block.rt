@@ -1,0 +1,32 @@
+//! The blocks of a strip.
+ghost use Rattle.std.specs.Prelude.{◌≤◌};
+
+use grid::Place;
+
+/// What a block is.
+#[derive(Clone, Copy, Debug, PartialEq, Eq)]
+pub enum BlockKind {
+    InputPad,
+    OutputPad,
+    Cluster,
+}
+
+/// A block as the `.net` file lists it.
+#[derive(Clone, Copy)]
+pub(crate) struct ListedBlock<'t> {
+    pub(crate) kind: BlockKind,
+    pub(crate) name: &'t [u8],
+    /// How many BLEs the file lists before this block's.
+    pub(crate) first_element: usize,
+}
+
+/// A block at its place.
+#[derive(Clone, Copy)]
+pub struct Block<'t> {
+    pub kind: BlockKind,
+    pub name: &'t [u8],
+    /// The number, among the strip's, of its first BLE. Its others follow, up to the next block's first.
+    pub first_element: usize,
+    pub place: Place,
+    ghost on_largest: { (place.x ≤ 256) × (place.y ≤ 65) × (place.subblock ≤ 7) },
+}

@@ -1,0 +1,26 @@
+//! One tenancy's strip, from the three files that the service wrote: its `.net`, its `.place` and its `.route`.
+//!
+//! [`read_strip`] tells the strip's size, its blocks with their kinds, names, places and BLEs, and its nets with their names and the nodes of
+//! their routes. Each file has to be as the service writes it, and the three have to fit one another; of a text that is not so the least
+//! line is told that does not go on as it should, and of which file. Numbers may have leading zeros.
+//!
+//! It is proved that it is safe and returns, that what was read stands on the largest strip, and that the nodes that were read are those of
+//! the `.route` file's lines, one each and in order.
+#![tactic(auto)]
+
+mod block;
+mod fault;
+mod net_text;
+mod node_line;
+mod place_text;
+mod reader;
+mod route_node;
+mod route_text;
+mod size;
+
+pub use block::{Block, BlockKind};
+pub use fault::{Fault, File, FileFault};
+pub use reader::{RoutedStrip, StripTexts, read_strip};
+pub use route_node::RouteNode;
+pub use route_text::Net;
+pub use size::StripSize;

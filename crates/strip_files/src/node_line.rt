@@ -1,0 +1,117 @@
+//! The lines of nodes.
+ghost use Rattle.std.specs.Prelude.{◌≡◌, ◌≤◌, ◌++◌, true, false, IfSome, IfOk, MatchOption};
+ghost use Rattle.strip_files.specs.NodeLines.{IsTailOf, counted_word, is_node_line, kind_start};
+
+use crate::fault::Fault;
+use crate::route_node::RouteNode;
+use crate::size::StripSize;
+use rr_graph::{Node, NodeKind};
+use text_parts::Scanner;
+
+/// How many pins a block has at most: 128 inputs, 16 outputs and a clock.
+const MOST_PINS: u32 = 145;
+
+/// How many pads stand at an end of a column, at most.
+const MOST_PADS: u32 = 8;
+
+/// How many tracks a channel has at most.
+const MOST_TRACKS: u32 = 64;
+
+/// What the number of a node counts.
+#[derive(Clone, Copy)]
+pub(crate) enum Counted {
+    Tracks,
+    Pins,
+    Pads,
+    Classes,
+}
+
+/// Takes the word for a kind off, up to the column. None where the line does not begin with one.
+pub(crate) fn take_kind(scanner: &mut Scanner<'_>) -> Option<NodeKind>
+    ensures { MatchOption result ((is_node_line scanner.old ≡ false) × (scanner.new ≡ scanner.old)) (λ kind. (is_node_line scanner.old ≡ true) × (scanner.old ≡ kind_start kind ++ scanner.new)) }
+{
+    if scanner.takes("SOURCE (") {
+        return Some(NodeKind::Source);
+    }
+    if scanner.takes("SINK (") {
+        return Some(NodeKind::Sink);
+    }
+    if scanner.takes("OPIN (") {
+        return Some(NodeKind::Opin);
+    }
+    if scanner.takes("IPIN (") {
+        return Some(NodeKind::Ipin);
+    }
+    if scanner.takes("CHANX (") {
+        return Some(NodeKind::ChanX);
+    }
+    scanner.takes("CHANY (").then_some(NodeKind::ChanY)
+}
+
+/// The node of a strip of that size that a line tells: what follows the word for its kind is `COLUMN,ROW) WORD NUMBER`.
+pub(crate) fn read_node(
+    size: StripSize,
+    kind: NodeKind,
+    mut scanner: Scanner<'_>,
+) -> Result<RouteNode, Fault>
+    ensures { IfOk result (λ read. (read.node.kind ≡ kind) × IsTailOf scanner.entry read.node) }
+{
+    let Some((node, counted)) = read_tail(kind, &mut scanner) else {
+        return Err(Fault::BadNode);
+    };
+    if is_there(size, node, counted) {
+        Ok(RouteNode { node })
+    } else {
+        Err(Fault::NotThere)
+    }
+}
+
+/// The node of that kind that the end of a line tells, and what its number counts.
+fn read_tail(kind: NodeKind, scanner: &mut Scanner<'_>) -> Option<(Node, Counted)>
+    ensures { IfSome result (λ read. (read.0.kind ≡ kind) × IsTailOf scanner.old read.0) }
+{
+    let x = scanner.number()?;
+    scanner.text(",")?;
+    let y = scanner.number()?;
+    let counted = take_counted(scanner)?;
+    let n = scanner.number()?;
+    if !scanner.is_done() {
+        return None;
+    }
+    Some((Node { x, kind, y, n }, counted))
+}
+
+/// Takes off what stands between the row and the number.
+fn take_counted(scanner: &mut Scanner<'_>) -> Option<Counted>
+    ensures { IfSome result (λ counted. scanner.old ≡ counted_word counted ++ scanner.new) }
+{
+    if scanner.takes(") Track: ") {
+        return Some(Counted::Tracks);
+    }
+    if scanner.takes(") Pin: ") {
+        return Some(Counted::Pins);
+    }
+    if scanner.takes(") Pad: ") {
+        return Some(Counted::Pads);
+    }
+    scanner.takes(") Class: ").then_some(Counted::Classes)
+}
+
+/// Whether a strip of that size has the node.
+fn is_there(size: StripSize, node: Node, counted: Counted) -> bool
+    ensures column { result ≡ true → node.x ≤ 256 }
+    ensures row { result ≡ true → node.y ≤ 65 }
+    ensures number { result ≡ true → node.n ≤ 144 }
+{
+    let Node { x, kind, y, n } = node;
+    match (kind, counted) {
+        (NodeKind::ChanX | NodeKind::ChanY, Counted::Tracks) => {
+            size.has_channel(kind, x, y) && n < MOST_TRACKS
+        }
+        (NodeKind::Source | NodeKind::Sink, Counted::Classes) => size.has_block(x, y) && n <= 1,
+        (NodeKind::Opin | NodeKind::Ipin, Counted::Pins) => size.has_block(x, y) && n < MOST_PINS,
+        (NodeKind::ChanX | NodeKind::ChanY, _) => false,
+        (_, Counted::Pads) => size.has_pads(x, y) && n < MOST_PADS,
+        _ => false,
+    }
+}

@@ -1,0 +1,149 @@
+//! The `.place` file: how large the strip is, and where its blocks stand.
+ghost use Rattle.std.specs.Prelude.{◌≡◌, ◌≤◌, length, true};
+
+use crate::block::{Block, ListedBlock};
+use crate::fault::{Fault, File, FileFault};
+use crate::net_text::in_file;
+use crate::size::StripSize;
+use grid::Place;
+use line_text::{TextError, split_line};
+use std::alloc::Global;
+use text_parts::Scanner;
+
+/// How many pads stand at an end of a column, at most.
+const MOST_PADS: u32 = 8;
+
+/// What a `.place` file tells.
+#[derive(Drop)]
+pub(crate) struct Placed<'t> {
+    /// The size that its second line tells.
+    pub(crate) size: Option<StripSize>,
+    pub(crate) blocks: Vec<Block<'t>>,
+}
+
+impl<'t> Placed<'t> {
+    /// Nothing yet.
+    pub(crate) fn new(alloc: Global) -> Self {
+        Placed {
+            size: None,
+            blocks: Vec::new(alloc),
+        }
+    }
+
+    /// Takes the lines of a `.place` file, whose blocks are those that are listed, and tells the strip's size. At a fault it holds what
+    /// stands before the line.
+    pub(crate) fn read(
+        &mut self,
+        text: &[u8],
+        listed: &[ListedBlock<'t>],
+    ) -> Result<StripSize, TextError<FileFault>> {
+        let mut number = 0usize;
+        let mut rest = text;
+        while !rest.is_empty() {
+            let (line, later) = split_line(rest);
+            number = number.saturating_add(1);
+            if let Err(error) = self.line(line, number, listed) {
+                return Err(in_file(error, File::Place, number));
+            }
+            rest = later;
+        }
+        match self.size {
+            Some(size) if self.blocks.len() >= listed.len() => Ok(size),
+            _ => Err(in_file(TextError::Fault(Fault::Unfinished), File::Place, number)),
+        }
+    }
+
+    /// Takes the line of that number.
+    fn line(
+        &mut self,
+        line: &[u8],
+        number: usize,
+        listed: &[ListedBlock<'t>],
+    ) -> Result<(), TextError<Fault>> {
+        match (number, self.size) {
+            (1, _) if line.starts_with(b"Netlist file: ") => Ok(()),
+            (1, _) => Err(TextError::Fault(Fault::UnknownLine)),
+            (_, None) => {
+                let Some(size) = read_size(line, " logic blocks") else {
+                    return Err(TextError::Fault(Fault::BadSize));
+                };
+                self.size = Some(size);
+                Ok(())
+            }
+            (_, Some(_)) if line.is_empty() || line.starts_with(b"#") => Ok(()),
+            (_, Some(size)) => self.block(size, line, listed),
+        }
+    }
+
+    /// Takes the line of a block on a strip of that size.
+    fn block(
+        &mut self,
+        size: StripSize,
+        line: &[u8],
+        listed: &[ListedBlock<'t>],
+    ) -> Result<(), TextError<Fault>> {
+        let Some((name, place, number)) = read_block(line) else {
+            return Err(TextError::Fault(Fault::BadBlock));
+        };
+        if number as usize != self.blocks.len() {
+            return Err(TextError::Fault(Fault::OutOfOrder));
+        }
+        let block = match listed.get(self.blocks.len()) {
+            Some(block) if block.name == name => *block,
+            _ => return Err(TextError::Fault(Fault::OtherBlock)),
+        };
+        if !is_there(size, place) {
+            return Err(TextError::Fault(Fault::NotThere));
+        }
+        self.blocks.push(Block {
+            kind: block.kind,
+            name: block.name,
+            first_element: block.first_element,
+            place,
+        })?;
+        Ok(())
+    }
+}
+
+/// Whether a strip of that size has the place.
+fn is_there(size: StripSize, place: Place) -> bool
+    ensures column { result ≡ true → place.x ≤ 256 }
+    ensures row { result ≡ true → place.y ≤ 65 }
+    ensures pad { result ≡ true → place.subblock ≤ 7 }
+{
+    let logic = size.has_block(place.x, place.y) && place.subblock == 0;
+    let pads = size.has_pads(place.x, place.y) && place.subblock < MOST_PADS;
+    logic || pads
+}
+
+/// The name, the place and the number of a block's line: `NAME COLUMN ROW PAD #NUMBER`.
+fn read_block(line: &[u8]) -> Option<(&[u8], Place, u32)> {
+    let mut scanner = Scanner::new(line);
+    let name = scanner.word();
+    scanner.text(" ")?;
+    let x = scanner.number()?;
+    scanner.text(" ")?;
+    let y = scanner.number()?;
+    scanner.text(" ")?;
+    let subblock = scanner.number()?;
+    scanner.text(" #")?;
+    let number = scanner.number()?;
+    if !scanner.is_done() {
+        return None;
+    }
+    Some((name, Place { x, y, subblock }, number))
+}
+
+/// The size of a line `Array size: COLUMNS x ROWS` that ends in these words.
+pub(crate) fn read_size(line: &[u8], end: &str) -> Option<StripSize> {
+    let mut scanner = Scanner::new(line);
+    scanner.text("Array size: ")?;
+    let columns = scanner.number()?;
+    scanner.text(" x ")?;
+    let rows = scanner.number()?;
+    scanner.text(end)?;
+    if !scanner.is_done() {
+        return None;
+    }
+    StripSize::new(columns, rows)
+}

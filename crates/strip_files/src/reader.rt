@@ -1,0 +1,149 @@
+//! The three files together.
+ghost use Rattle.std.specs.Prelude.{◌≡◌, length, IfOk};
+ghost use Rattle.strip_files.specs.NodeLines.{AreTold, node_lines};
+
+use crate::block::Block;
+use crate::fault::FileFault;
+use crate::net_text::Listed;
+use crate::place_text::Placed;
+use crate::route_node::RouteNode;
+use crate::route_text::{Net, Routed};
+use crate::size::StripSize;
+use line_text::TextError;
+use std::alloc::Global;
+
+/// The texts of a tenancy's three files.
+#[derive(Clone, Copy)]
+pub struct StripTexts<'t> {
+    pub net: &'t [u8],
+    pub place: &'t [u8],
+    pub route: &'t [u8],
+}
+
+/// What the three files of a tenancy tell of its strip. Columns and rows count from 1; pads stand in row 0 and above the last row.
+#[derive(Drop)]
+pub struct RoutedStrip<'t> {
+    pub size: StripSize,
+    /// The blocks, by number.
+    pub blocks: Vec<Block<'t>>,
+    /// The names of the BLEs, cluster by cluster.
+    pub elements: Vec<&'t [u8]>,
+    /// The nets, by number.
+    pub nets: Vec<Net<'t>>,
+    /// The nodes of the nets' routes, net by net.
+    pub nodes: Vec<RouteNode>,
+}
+
+impl<'t> RoutedStrip<'t> {
+    /// The number of the first net of that name.
+    pub fn net_named(&self, name: &[u8]) -> Option<usize> {
+        self.nets.iter().position(|net| net.name == name)
+    }
+
+    /// The nodes of the route of the net of that number.
+    pub fn nodes_of(&self, net: usize) -> &[RouteNode] {
+        let start = self.first_node(net);
+        let end = self.first_node(net.saturating_add(1));
+        stretch(&self.nodes, start, end)
+    }
+
+    /// The names of the BLEs of the block of that number.
+    pub fn elements_of(&self, block: usize) -> &[&'t [u8]] {
+        let start = self.first_element(block);
+        let end = self.first_element(block.saturating_add(1));
+        stretch(&self.elements, start, end)
+    }
+
+    /// Where the route of that net begins among the nodes.
+    fn first_node(&self, net: usize) -> usize {
+        match self.nets.get(net) {
+            Some(net) => net.first_node,
+            None => self.nodes.len(),
+        }
+    }
+
+    /// Where the BLEs of that block begin among all.
+    fn first_element(&self, block: usize) -> usize {
+        match self.blocks.get(block) {
+            Some(block) => block.first_element,
+            None => self.elements.len(),
+        }
+    }
+}
+
+/// What stands from one place to another, as far as there is something.
+fn stretch<T>(all: &[T], start: usize, end: usize) -> &[T] {
+    let (front, _) = all.split_at(end.min(all.len()));
+    let (_, back) = front.split_at(start.min(front.len()));
+    back
+}
+
+/// The strip that the three files of a tenancy tell.
+///
+/// - The `.net` file lists the blocks, by `.input`, `.output` and `.clb`, and the BLEs of each cluster, by `subblock:`.
+/// - The `.place` file tells the size, and of each listed block, in their order, where it stands.
+/// - The `.route` file tells the same size, and the nets in order of their numbers, with the nodes of their routes.
+///
+/// Empty lines are passed over, as are what pins carry, global nets' blocks and headings. Of the files the first that is refused is told, as they stand
+/// here, with its least line that does not go on as it should; what only the end shows is told with the last line.
+pub fn read_strip(
+    alloc: Global,
+    texts: StripTexts<'_>,
+) -> Result<RoutedStrip<'_>, TextError<FileFault>>
+    ensures { IfOk result (λ strip. AreTold (node_lines texts.entry.route.now) strip.nodes.items) }
+{
+    let mut listed = Listed::new(alloc);
+    let mut placed = Placed::new(alloc);
+    let mut routed = Routed::new(alloc);
+    match read_all(texts, &mut listed, &mut placed, &mut routed) {
+        Ok(size) => Ok(joined(size, listed, placed, routed)),
+        Err(error) => {
+            drop(listed);
+            drop(placed);
+            drop(routed);
+            Err(error)
+        }
+    }
+}
+
+/// Reads the three files, and tells the strip's size.
+fn read_all<'t>(
+    texts: StripTexts<'t>,
+    listed: &mut Listed<'t>,
+    placed: &mut Placed<'t>,
+    routed: &mut Routed<'t>,
+) -> Result<StripSize, TextError<FileFault>>
+    requires { length routed.old.nodes.items ≡ 0 }
+    ensures { IfOk result (λ size. AreTold (node_lines texts.entry.route.now) routed.new.nodes.items) }
+{
+    listed.read(texts.net)?;
+    let size = placed.read(texts.place, &listed.blocks)?;
+    routed.read(texts.route, size)?;
+    Ok(size)
+}
+
+/// What was read, as one.
+fn joined<'t>(
+    size: StripSize,
+    listed: Listed<'t>,
+    placed: Placed<'t>,
+    routed: Routed<'t>,
+) -> RoutedStrip<'t>
+    ensures { result.nodes.items ≡ routed.entry.nodes.items }
+{
+    let Listed { blocks, elements } = listed;
+    drop(blocks);
+    let Placed { blocks, size: _ } = placed;
+    let Routed {
+        nets,
+        nodes,
+        section: _,
+    } = routed;
+    RoutedStrip {
+        size,
+        blocks,
+        elements,
+        nets,
+        nodes,
+    }
+}

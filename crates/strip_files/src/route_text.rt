@@ -1,0 +1,189 @@
+//! The `.route` file: the nets, and the nodes of their routes.
+ghost use Rattle.std.specs.Prelude.{◌≡◌, ◌≤◌, ◌++◌, ◌∷◌, [], length, OnOk};
+ghost use Rattle.strip_files.specs.declared.route_node.RouteNode.{RouteNode};
+ghost use Rattle.strip_files.specs.NodeLines.{AreTold, IsReadOn, IsTailOf, node_lines};
+
+use crate::fault::{Fault, File, FileFault};
+use crate::net_text::in_file;
+use crate::node_line::{read_node, take_kind};
+use crate::place_text::read_size;
+use crate::route_node::RouteNode;
+use crate::size::StripSize;
+use line_text::{TextError, is_word, split_line};
+use rr_graph::NodeKind;
+use std::alloc::Global;
+use text_parts::Scanner;
+
+/// How many nets a netlist may have.
+const MAX_NETS: usize = 8192;
+
+/// A net.
+#[derive(Clone, Copy)]
+pub struct Net<'t> {
+    pub name: &'t [u8],
+    /// Whether it goes by the global network, and has no route.
+    pub is_global: bool,
+    /// The number, among the strip's, of its route's first node. The others follow, up to the next net's first.
+    pub first_node: usize,
+}
+
+/// Where in the file a line stands.
+#[derive(Clone, Copy, PartialEq, Eq)]
+pub(crate) enum Section {
+    /// The first line, which tells the size.
+    Size,
+    /// Before the line `Routing:`.
+    Before,
+    /// Behind it.
+    Nets,
+}
+
+/// What a `.route` file tells.
+#[derive(Drop)]
+pub(crate) struct Routed<'t> {
+    pub(crate) nets: Vec<Net<'t>>,
+    /// The nodes of all routes, net by net.
+    pub(crate) nodes: Vec<RouteNode>,
+    pub(crate) section: Section,
+}
+
+impl<'t> Routed<'t> {
+    /// Nothing yet.
+    pub(crate) fn new(alloc: Global) -> Self
+        ensures { length result.nodes.items ≡ 0 }
+    {
+        Routed {
+            nets: Vec::new(alloc),
+            nodes: Vec::new(alloc),
+            section: Section::Size,
+        }
+    }
+
+    /// Takes the lines of the `.route` file of a strip of that size. At a fault it holds what stands before the line.
+    pub(crate) fn read(
+        &mut self,
+        text: &'t [u8],
+        size: StripSize,
+    ) -> Result<(), TextError<FileFault>>
+        requires { length self.old.nodes.items ≡ 0 }
+        ensures { OnOk result (AreTold (node_lines text.now) self.new.nodes.items) }
+    {
+        let mut number = 0usize;
+        let mut rest = text;
+        while !rest.is_empty() {
+            let (line, later) = split_line(rest);
+            number = number.saturating_add(1);
+            if let Err(error) = self.line(line, size) {
+                return Err(in_file(error, File::Route, number));
+            }
+            rest = later;
+        }
+        if self.section != Section::Nets {
+            return Err(in_file(TextError::Fault(Fault::Unfinished), File::Route, number));
+        }
+        Ok(())
+    }
+
+    /// Takes a line.
+    fn line(&mut self, line: &'t [u8], size: StripSize) -> Result<(), TextError<Fault>>
+        ensures { OnOk result (IsReadOn line.now self.old.nodes.items self.new.nodes.items) }
+    {
+        let mut scanner = Scanner::new(line);
+        match take_kind(&mut scanner) {
+            Some(kind) => self.node(size, kind, scanner),
+            None => self.other(line, size),
+        }
+    }
+
+    /// Takes the end of the line of a node of that kind.
+    fn node(
+        &mut self,
+        size: StripSize,
+        kind: NodeKind,
+        tail: Scanner<'_>,
+    ) -> Result<(), TextError<Fault>>
+        ensures { OnOk result ((read : RouteNode) × (self.new.nodes.items ≡ self.old.nodes.items ++ read ∷ []) × (read.node.kind ≡ kind) × IsTailOf tail.entry read.node) }
+    {
+        if self.nets.is_empty() {
+            return Err(TextError::Fault(Fault::UnknownLine));
+        }
+        match read_node(size, kind, tail) {
+            Ok(node) => {
+                self.nodes.push(node)?;
+                Ok(())
+            }
+            Err(fault) => Err(TextError::Fault(fault)),
+        }
+    }
+
+    /// Takes a line that is no node's.
+    fn other(&mut self, line: &'t [u8], size: StripSize) -> Result<(), TextError<Fault>>
+        ensures { self.new.nodes.items ≡ self.old.nodes.items }
+    {
+        match self.section {
+            Section::Size => self.heading(line, size),
+            Section::Before if is_word(line, "Routing:") => {
+                self.section = Section::Nets;
+                Ok(())
+            }
+            _ if line.is_empty() => Ok(()),
+            Section::Before => Err(TextError::Fault(Fault::UnknownLine)),
+            Section::Nets if line.starts_with(b"Block ") && !self.nets.is_empty() => Ok(()),
+            Section::Nets => self.net(line),
+        }
+    }
+
+    /// Takes the first line, which tells the size.
+    fn heading(&mut self, line: &[u8], size: StripSize) -> Result<(), TextError<Fault>>
+        ensures { self.new.nodes.items ≡ self.old.nodes.items }
+    {
+        let Some(told) = read_size(line, " logic blocks.") else {
+            return Err(TextError::Fault(Fault::BadSize));
+        };
+        if told != size {
+            return Err(TextError::Fault(Fault::OtherSize));
+        }
+        self.section = Section::Before;
+        Ok(())
+    }
+
+    /// Takes the first line of a net.
+    fn net(&mut self, line: &'t [u8]) -> Result<(), TextError<Fault>>
+        ensures { self.new.nodes.items ≡ self.old.nodes.items }
+    {
+        if !line.starts_with(b"Net ") {
+            return Err(TextError::Fault(Fault::UnknownLine));
+        }
+        let Some((number, name, is_global)) = read_net(line) else {
+            return Err(TextError::Fault(Fault::BadNet));
+        };
+        if number as usize != self.nets.len() {
+            return Err(TextError::Fault(Fault::OutOfOrder));
+        }
+        if self.nets.len() >= MAX_NETS {
+            return Err(TextError::Fault(Fault::OverLimit));
+        }
+        self.nets.push(Net {
+            name,
+            is_global,
+            first_node: self.nodes.len(),
+        })?;
+        Ok(())
+    }
+}
+
+/// The number and the name of a net's line, and whether the net is global: `Net NUMBER (NAME)`, or that and `: global net connecting:`.
+fn read_net(line: &[u8]) -> Option<(u32, &[u8], bool)> {
+    let mut scanner = Scanner::new(line);
+    scanner.text("Net ")?;
+    let number = scanner.number()?;
+    scanner.text(" (")?;
+    let word = scanner.word();
+    let is_global = scanner.takes(" global net connecting:");
+    if !scanner.is_done() {
+        return None;
+    }
+    let end = if is_global { "):" } else { ")" };
+    let name = word.strip_suffix(end.as_bytes())?;
+    Some((number, name, is_global))
+}

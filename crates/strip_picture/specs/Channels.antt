@@ -1,0 +1,60 @@
+-- How many tracks of each channel are used.
+use Rattle.std.specs.Prelude.{ℕ, ◌≡◌, ◌+◌, ◌*◌, ◌/◌, ◌%◌, ◌<◌, ◌≤◌, List, length, map, count_by, cond, Bool, true, false, ◌&&◌, ◌==◌}
+use Rattle.std.specs.List.{list_any, range_with_len, slice_index}
+use Rattle.std.specs.Int.{bit_at}
+use Rattle.rr_graph.specs.declared.node.NodeKind.{NodeKind}
+use Rattle.rr_graph.specs.declared.node.NodeKind.TheVariants.{Source, Sink, Opin, Ipin, ChanX, ChanY}
+use Rattle.picture_lines.specs.declared.lattice.Direction.{Direction}
+use Rattle.picture_lines.specs.declared.lattice.Direction.TheVariants.{Across, Up}
+use Rattle.strip_files.specs.declared.route_node.RouteNode.{RouteNode}
+use Rattle.strip_files.specs.declared.size.StripSize.{StripSize}
+use Rattle.strip_picture.specs.declared.channels.ChannelUse.{ChannelUse}
+use Rattle.strip_picture.specs.declared.channels.TheConstants.{CHANNELS, MOST_TRACKS}
+
+-- whether it is a wire of a channel that goes that way
+abbrev pub goes : Direction → NodeKind → Bool
+goes Across ChanX = true
+goes Across ChanY = false
+goes Across Source = false
+goes Across Sink = false
+goes Across Opin = false
+goes Across Ipin = false
+goes Up ChanY = true
+goes Up ChanX = false
+goes Up Source = false
+goes Up Sink = false
+goes Up Opin = false
+goes Up Ipin = false
+
+-- whether a node is the wire of that track of a channel
+abbrev pub is_wire : Direction → ℕ → ℕ → ℕ → RouteNode → Bool
+is_wire direction x y track read = goes direction read.node.kind && (read.node.x == x) && (read.node.y == y) && (read.node.n == track)
+
+-- how many tracks of a channel the nodes use: of how many tracks one of them is the wire
+abbrev pub tracks_in : Direction → ℕ → ℕ → List RouteNode → ℕ
+tracks_in direction x y nodes = count_by (λ track. list_any (is_wire direction x y track) nodes) (range_with_len 0 MOST_TRACKS)
+
+-- a channel, and how many of its tracks are used
+abbrev pub use_of : List RouteNode → Direction → ℕ → ℕ → ChannelUse
+use_of nodes direction x y = record { direction = direction; x = x; y = y; tracks = tracks_in direction x y nodes }
+
+-- the channels above rows, column by column from column 1 on, in each from row 0 on
+abbrev pub across_uses : StripSize → List RouteNode → List ChannelUse
+across_uses size nodes =
+    map (λ number. use_of nodes Across (number / (size.rows + 1) + 1) (number % (size.rows + 1))) (range_with_len 0 (size.columns * (size.rows + 1)))
+
+-- the channels right of columns, column by column from column 0 on, in each from row 1 on
+abbrev pub up_uses : StripSize → List RouteNode → List ChannelUse
+up_uses size nodes =
+    map (λ number. use_of nodes Up (number / size.rows) (number % size.rows + 1)) (range_with_len 0 ((size.columns + 1) * size.rows))
+
+-- private: the number of a channel among all of the largest strip
+abbrev pub channel_number : Direction → ℕ → ℕ → ℕ
+channel_number Across x y = 2 * (65 * x + y)
+channel_number Up x y = 2 * (65 * x + y) + 1
+
+-- private: in the numbers of all channels the bits of those tracks are set that the nodes use
+pub record HasTracks (nodes : List RouteNode) (used : List ℕ) : Type 0 where
+  pub long : length used ≡ CHANNELS
+  pub bits : (direction : Direction) (x y track : ℕ) → x ≤ 256 → y ≤ 64 → track < MOST_TRACKS
+      → bit_at (slice_index used (channel_number direction x y)) track ≡ cond (list_any (is_wire direction x y track) nodes) 1 0

@@ -1,0 +1,13 @@
+-- Bytes as the text of an XML element or attribute.
+use Rattle.std.specs.Prelude.{ℕ, ◌==◌, ◌&&◌, if◌then◌else◌, nat_le, List, [], ◌∷◌, codes}
+
+-- a byte that XML would take for its own stands by its name, and one that is no printing ASCII character as the sign for a character that is not known
+abbrev pub escaped : ℕ → List ℕ
+escaped byte =
+    if byte == 38 then codes "&amp;"
+    else if byte == 60 then codes "&lt;"
+    else if byte == 62 then codes "&gt;"
+    else if byte == 34 then codes "&quot;"
+    else if byte == 39 then codes "&#39;"
+    else if nat_le 32 byte && nat_le byte 126 then byte ∷ []
+    else codes "&#65533;"

@@ -1,0 +1,29 @@
+-- The numbers that are written into channels.
+use Rattle.std.specs.Prelude.{ℕ, ◌+◌, ◌*◌, ◌/◌, Bool, true, false, List, [], ◌∷◌, codes, decimal, if◌then◌else◌}
+use Rattle.std.specs.List.{concat}
+use Rattle.picture_lines.specs.declared.lattice.Direction.{Direction}
+use Rattle.picture_lines.specs.declared.lattice.Direction.TheVariants.{Across, Up}
+use Rattle.picture_lines.specs.declared.lattice.Lattice.{Lattice}
+use Rattle.strip_picture.specs.declared.channels.ChannelUse.{ChannelUse}
+
+-- the middle of a column or row, or of the channel behind it
+abbrev pub middle : Lattice → ℕ → Bool → ℕ
+middle lattice number behind =
+    if behind then number * (lattice.block + lattice.channel) + (lattice.block + lattice.channel / 2)
+    else number * (lattice.block + lattice.channel) + lattice.block / 2
+
+-- whether a channel goes upwards, or across
+abbrev pub goes_up : Direction → Bool
+goes_up Up = true
+goes_up Across = false
+
+abbrev pub goes_across : Direction → Bool
+goes_across Up = false
+goes_across Across = true
+
+-- the text in the middle of a channel: how many of its tracks are used
+abbrev pub number_text : Lattice → ChannelUse → List ℕ
+number_text lattice channel = concat (
+    codes "<text x=\"" ∷ decimal (middle lattice channel.x (goes_up channel.direction))
+    ∷ codes "\" y=\"-" ∷ decimal (middle lattice channel.y (goes_across channel.direction))
+    ∷ codes "\" dy=\".35em\">" ∷ decimal channel.tracks ∷ codes "</text>\n" ∷ [])

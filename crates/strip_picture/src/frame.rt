@@ -1,0 +1,262 @@
+//! The sheet that the picture stands on: its size, its styles, its headings, the numbers beside it, and its legend.
+ghost use Rattle.std.specs.Prelude.{◌≤◌};
+
+use crate::plan::Plan;
+use line_text::{Failed, Sink};
+use text_parts::{Part, write_parts};
+
+/// The styles: letters, names, numbers of channels, empty places, clusters, input and output pads, wires and pins of nets, a picked net, its
+/// driver and its readers, the others, bars.
+const STYLES: &str = "<style>text{font-family:sans-serif;fill:#222}\
+.m text{font-family:monospace}.n text{text-anchor:middle}\
+.e{fill:#fafafa;stroke:#ddd;stroke-width:.15}\
+.k{fill:#e6eef8;stroke:#7c8fa6;stroke-width:.2}\
+.i{fill:#e2f3e2;stroke:#5d9c5d;stroke-width:.2}\
+.o{fill:#fdecd8;stroke:#c78f4b;stroke-width:.2}\
+.r{fill:none;stroke-width:.5;stroke-linecap:round;stroke-linejoin:round}.d{stroke-width:1.1}\
+.q{stroke:#d6d6d6}.z{stroke:#d62728;stroke-width:.9}.z.d{stroke-width:1.9}\
+.s{fill:#f4a6a6;stroke:#d62728;stroke-width:.4}.t{fill:#fbdcdc;stroke:#d62728;stroke-width:.4}\
+.c0{stroke:#1f77b4}.c1{stroke:#d62728}.c2{stroke:#2ca02c}.c3{stroke:#9467bd}.c4{stroke:#ff7f0e}.c5{stroke:#17a2b8}\
+.c6{stroke:#8c564b}.c7{stroke:#e377c2}.c8{stroke:#8a8d0f}.c9{stroke:#3949ab}.c10{stroke:#00796b}.c11{stroke:#ad1457}\
+.h{stroke:#d8d8d8;stroke-width:.15}.h0{fill:#f5f5f5}.h1{fill:#fff1dc}.h2{fill:#fedfb8}.h3{fill:#fdc68a}.h4{fill:#fdab67}\
+.h5{fill:#fb8a50}.h6{fill:#f3693f}.h7{fill:#e34a33}.h8{fill:#d02f26}</style>\n";
+
+/// How things are laid out on the sheet.
+#[derive(Clone, Copy)]
+pub(crate) struct Frame {
+    pub(crate) plan: Plan,
+    /// How long the sheet is.
+    width: u32,
+    ghost width_small: { (1 ≤ width) × (width ≤ 100_000) },
+}
+
+impl Frame {
+    /// That of a picture.
+    pub(crate) fn of(plan: Plan) -> Self {
+        Frame {
+            plan,
+            width: (plan.length() + 6 * plan.font).max(52 * plan.font),
+        }
+    }
+
+    /// How far the strip stands from the left.
+    fn left(&self) -> u32
+        ensures { result ≤ 4000 }
+    {
+        4 * self.plan.font
+    }
+
+    /// How far the strip's lower end stands from above.
+    fn ground(&self) -> u32
+        ensures { result ≤ 40_000 }
+    {
+        6 * self.plan.font + self.plan.height()
+    }
+
+    /// How high the sheet is.
+    fn height(&self) -> u32
+        ensures { (1 ≤ result) × (result ≤ 60_000) }
+    {
+        self.ground() + 7 * self.plan.font
+    }
+
+    /// How many dots of a screen the sheet is long.
+    fn dots(&self) -> u32
+        ensures { (1 ≤ result) × (result ≤ 8000) }
+    {
+        if self.width <= 100 {
+            14 * self.width
+        } else {
+            (3 * self.width / 2).clamp(1400, 8000)
+        }
+    }
+
+    /// Writes the beginning: the size, the styles, and the ground.
+    pub(crate) fn write_head<K: Sink>(&self, sink: &mut K) -> Result<(), Failed> {
+        let dots = self.dots();
+        let height = self.height();
+        write_parts(
+            sink,
+            &[
+                Part::Text("<svg xmlns=\"http://www.w3.org/2000/svg\" width=\""),
+                Part::Number(dots),
+                Part::Text("\" height=\""),
+                Part::Number(height * dots / self.width),
+                Part::Text("\" viewBox=\"0 0 "),
+                Part::Number(self.width),
+                Part::Text(" "),
+                Part::Number(height),
+                Part::Text("\" font-size=\""),
+                Part::Number(self.plan.font),
+                Part::Text("\">\n"),
+                Part::Text(STYLES),
+                Part::Text("<rect width=\"100%\" height=\"100%\" fill=\"#fff\"/>\n"),
+            ],
+        )
+    }
+
+    /// Begins a heading: the first or the second.
+    pub(crate) fn begin_heading<K: Sink>(&self, sink: &mut K, line: u32) -> Result<(), Failed>
+        requires { line ≤ 2 }
+    {
+        let weight = if line == 1 { "bold" } else { "normal" };
+        write_parts(
+            sink,
+            &[
+                Part::Text("<text x=\""),
+                Part::Number(self.plan.font),
+                Part::Text("\" y=\""),
+                Part::Number(2 * line * self.plan.font),
+                Part::Text("\" font-weight=\""),
+                Part::Text(weight),
+                Part::Text("\">"),
+            ],
+        )
+    }
+
+    /// Begins the group in which heights count upwards.
+    pub(crate) fn begin_shapes<K: Sink>(&self, sink: &mut K) -> Result<(), Failed> {
+        self.begin_group(sink, " scale(1 -1)\">\n")
+    }
+
+    /// Begins a group of texts of a class, so many tenths large, in which heights count downwards from row 0.
+    pub(crate) fn begin_texts<K: Sink>(
+        &self,
+        sink: &mut K,
+        class: &str,
+        tenths: u32,
+        turn: &str,
+    ) -> Result<(), Failed> {
+        self.begin_group(sink, turn)?;
+        write_parts(
+            sink,
+            &[
+                Part::Text("\" class=\""),
+                Part::Text(class),
+                Part::Text("\" font-size=\""),
+                Part::Number(tenths / 10),
+                Part::Text("."),
+                Part::Number(tenths % 10),
+                Part::Text("\">\n"),
+            ],
+        )
+    }
+
+    /// Begins a group with its point 0 where column 0 and row 0 begin, and what is done with it then.
+    fn begin_group<K: Sink>(&self, sink: &mut K, turn: &str) -> Result<(), Failed> {
+        write_parts(
+            sink,
+            &[
+                Part::Text("<g transform=\"translate("),
+                Part::Number(self.left()),
+                Part::Text(" "),
+                Part::Number(self.ground()),
+                Part::Text(") translate(-"),
+                Part::Number(self.plan.lattice.block),
+                Part::Text(" 0)"),
+                Part::Text(turn),
+            ],
+        )
+    }
+
+    /// Ends a group.
+    pub(crate) fn end_group<K: Sink>(&self, sink: &mut K) -> Result<(), Failed> {
+        write_parts(sink, &[Part::Text("</g>\n")])
+    }
+
+    /// Writes the numbers of columns below the strip.
+    pub(crate) fn write_columns<K: Sink>(&self, sink: &mut K) -> Result<(), Failed> {
+        let lattice = self.plan.lattice;
+        let step = self.step();
+        self.begin_group(sink, "\" text-anchor=\"middle\">\n")?;
+        for column in 1..=self.plan.size.columns {
+            if column % step == 0 {
+                let x = lattice.start(column) + lattice.block / 2;
+                write_place(sink, "<text dy=\"1.2em\" x=\"", x, column)?;
+            }
+        }
+        self.end_group(sink)
+    }
+
+    /// Writes the numbers of rows left of the strip.
+    pub(crate) fn write_rows<K: Sink>(&self, sink: &mut K) -> Result<(), Failed> {
+        let lattice = self.plan.lattice;
+        let step = self.step();
+        write_parts(
+            sink,
+            &[
+                Part::Text("<g transform=\"translate("),
+                Part::Number(3 * self.plan.font),
+                Part::Text(" "),
+                Part::Number(self.ground()),
+                Part::Text(")\" text-anchor=\"end\">\n"),
+            ],
+        )?;
+        for row in 1..=self.plan.size.rows {
+            if row % step == 0 {
+                let y = lattice.start(row) + lattice.block / 2;
+                write_place(sink, "<text dy=\".35em\" y=\"-", y, row)?;
+            }
+        }
+        self.end_group(sink)
+    }
+
+    /// Of so many columns, or rows, one has its number beside it.
+    fn step(&self) -> u32
+        ensures { 1 ≤ result }
+    {
+        for step in [1, 2, 5, 10, 20, 50].iter() {
+            if *step * self.plan.lattice.pitch() >= 2 * self.plan.font {
+                return *step;
+            }
+        }
+        100
+    }
+
+    /// Writes an entry of the legend: a square of a class, and words.
+    pub(crate) fn write_entry<K: Sink>(
+        &self,
+        sink: &mut K,
+        entry: u32,
+        class: &str,
+        words: &str,
+    ) -> Result<(), Failed>
+        requires { entry ≤ 8 }
+    {
+        let font = self.plan.font;
+        write_parts(
+            sink,
+            &[
+                Part::Text("<g transform=\"translate("),
+                Part::Number(font + entry * 9 * font),
+                Part::Text(" "),
+                Part::Number(self.ground() + 4 * font),
+                Part::Text(")\"><rect class=\""),
+                Part::Text(class),
+                Part::Text("\" style=\"stroke-width:.12em\" width=\""),
+                Part::Number(font),
+                Part::Text("\" height=\""),
+                Part::Number(font),
+                Part::Text("\"/><text x=\""),
+                Part::Number(2 * font),
+                Part::Text("\" dy=\".85em\">"),
+                Part::Text(words),
+                Part::Text("</text></g>\n"),
+            ],
+        )
+    }
+}
+
+/// Writes a number at a place.
+fn write_place<K: Sink>(sink: &mut K, start: &str, place: u32, number: u32) -> Result<(), Failed> {
+    write_parts(
+        sink,
+        &[
+            Part::Text(start),
+            Part::Number(place),
+            Part::Text("\">"),
+            Part::Number(number),
+            Part::Text("</text>\n"),
+        ],
+    )
+}

@@ -1,0 +1,123 @@
+//! The channels by use: a bar in each, in a colour that tells how full it is, with the number of its used tracks.
+ghost use Rattle.std.specs.Prelude.{◌≡◌, ◌≤◌};
+ghost use Rattle.std.specs.List.{flat_map};
+ghost use Rattle.line_text.specs.Writing.{Writes};
+ghost use Rattle.strip_picture.specs.Numbers.{middle, number_text};
+
+use crate::channels::{ChannelUse, Channels};
+use crate::plan::Plan;
+use line_text::{Failed, Sink};
+use picture_lines::{Direction, Lattice, write_box};
+use text_parts::{Part, write_parts};
+
+/// How many colours bars have, but for that of an unused channel.
+const LEVELS: usize = 8;
+
+/// Writes the bars of all channels, the emptier ones first.
+pub(crate) fn write_bars<K: Sink>(
+    sink: &mut K,
+    plan: Plan,
+    channels: &Channels,
+    fullest: usize,
+) -> Result<(), Failed> {
+    for level in 0..=LEVELS {
+        write_parts(
+            sink,
+            &[
+                Part::Text("<path class=\"h h"),
+                Part::Number(level as u32),
+                Part::Text("\" d=\""),
+            ],
+        )?;
+        write_level(sink, plan, &channels.across, fullest, level)?;
+        write_level(sink, plan, &channels.up, fullest, level)?;
+        write_parts(sink, &[Part::Text("\"/>\n")])?;
+    }
+    Ok(())
+}
+
+/// Writes the bars of a level.
+fn write_level<K: Sink>(
+    sink: &mut K,
+    plan: Plan,
+    channels: &[ChannelUse],
+    fullest: usize,
+    level: usize,
+) -> Result<(), Failed> {
+    for channel in channels {
+        if level_of(channel.tracks, fullest) == level {
+            write_bar(sink, plan, *channel)?;
+        }
+    }
+    Ok(())
+}
+
+/// The level of a channel with so many used tracks: 0 where none is, the highest where as many are as in the fullest channel.
+fn level_of(tracks: usize, fullest: usize) -> usize {
+    tracks
+        .saturating_mul(LEVELS)
+        .div_ceil(fullest.max(1))
+        .min(LEVELS)
+}
+
+/// Writes the bar of a channel.
+fn write_bar<K: Sink>(sink: &mut K, plan: Plan, channel: ChannelUse) -> Result<(), Failed> {
+    let lattice = plan.lattice;
+    let x = lattice.start(channel.x.min(256));
+    let y = lattice.start(channel.y.min(256));
+    let width = lattice.channel.saturating_sub(2);
+    match channel.direction {
+        Direction::Across => write_box(sink, x, y + lattice.block + 1, lattice.block, width),
+        Direction::Up => write_box(sink, x + lattice.block + 1, y, width, lattice.block),
+    }
+}
+
+/// Writes the numbers of all channels, as texts of a group in which heights count downwards from row 0.
+pub(crate) fn write_numbers<K: Sink>(
+    sink: &mut K,
+    lattice: Lattice,
+    channels: &[ChannelUse],
+) -> Result<(), Failed>
+    ensures { Writes K.contents K.has_failed sink.old sink.new (flat_map (number_text lattice) channels.now) result }
+{
+    for channel in channels {
+        write_number(sink, lattice, *channel)?;
+    }
+    Ok(())
+}
+
+/// Writes how many tracks of a channel are used, in its middle.
+pub fn write_number<K: Sink>(
+    sink: &mut K,
+    lattice: Lattice,
+    channel: ChannelUse,
+) -> Result<(), Failed>
+    ensures { Writes K.contents K.has_failed sink.old sink.new (number_text lattice channel) result }
+{
+    let x = middle(lattice, channel.x, channel.direction == Direction::Up);
+    let y = middle(lattice, channel.y, channel.direction == Direction::Across);
+    write_parts(
+        sink,
+        &[
+            Part::Text("<text x=\""),
+            Part::Long(x),
+            Part::Text("\" y=\"-"),
+            Part::Long(y),
+            Part::Text("\" dy=\".35em\">"),
+            Part::Long(channel.tracks as u64),
+            Part::Text("</text>\n"),
+        ],
+    )
+}
+
+/// The middle of a column or row, or of the channel behind it.
+fn middle(lattice: Lattice, number: u32, behind: bool) -> u64
+    ensures { result ≡ middle lattice number behind }
+{
+    let start = u64::from(number) * u64::from(lattice.block + lattice.channel);
+    if behind {
+        start + u64::from(lattice.block + lattice.channel / 2)
+    } else {
+        start + u64::from(lattice.block / 2)
+    }
+}

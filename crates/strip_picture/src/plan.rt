@@ -1,0 +1,152 @@
+//! Where things stand in the picture of a strip.
+//!
+//! Blocks are large enough for ten letters side by side, or for the longest name. Pads are as high as a block: those of row 0 stand at
+//! its upper end, those above the last row at their row's lower end.
+ghost use Rattle.std.specs.Prelude.{◌+◌, ◌*◌, ◌≤◌};
+
+use picture_lines::Lattice;
+use rr_graph::NodeKind;
+use strip_files::{RoutedStrip, StripSize};
+
+/// The letters of a line in a block, at most.
+const MOST_LETTERS: u32 = 10;
+
+/// The tracks of a channel that has room for a number.
+const NUMBER_TRACKS: u32 = 9;
+
+/// Where things stand. Heights count upwards.
+#[derive(Clone, Copy)]
+pub struct Plan {
+    pub lattice: Lattice,
+    pub size: StripSize,
+    /// How far the pads of an end of a column stand apart.
+    pub pad: u32,
+    /// How many letters stand side by side in a block.
+    pub letters: u32,
+    /// How large the letters of blocks are, in tenths.
+    pub name_font: u32,
+    /// How large the letters of pads are, in tenths.
+    pub pad_font: u32,
+    /// How large other letters are.
+    pub font: u32,
+    ghost pad_small: { (1 ≤ pad) × (pad ≤ 65) },
+    ghost letters_small: { (3 ≤ letters) × (letters ≤ 10) },
+    ghost name_small: { (1 ≤ name_font) × (name_font ≤ 400) },
+    ghost pad_font_small: { (1 ≤ pad_font) × (pad_font ≤ 400) },
+    ghost font_small: { (1 ≤ font) × (font ≤ 1000) },
+}
+
+/// What a strip has most of.
+#[derive(Clone, Copy)]
+struct Most {
+    /// The least number of tracks of a channel, by those that are used.
+    tracks: u32,
+    /// The largest number of a pin.
+    pin: u32,
+    /// The pads of an end of a column, by those that are used.
+    pads: u32,
+    /// The letters of a name.
+    letters: u32,
+    ghost tracks_small: { (1 ≤ tracks) × (tracks ≤ 64) },
+    ghost pin_small: { pin ≤ 144 },
+    ghost pads_small: { (1 ≤ pads) × (pads ≤ 8) },
+    ghost letters_small: { (3 ≤ letters) × (letters ≤ 10) },
+}
+
+impl Plan {
+    /// That of a strip whose tracks are drawn.
+    pub(crate) fn of_tracks(strip: &RoutedStrip<'_>) -> Self {
+        let most = Most::of(strip);
+        Plan::new(strip.size, most, most.tracks)
+    }
+
+    /// That of a strip with a number in each channel.
+    pub(crate) fn of_numbers(strip: &RoutedStrip<'_>) -> Self {
+        Plan::new(strip.size, Most::of(strip), NUMBER_TRACKS)
+    }
+
+    /// That of a strip with so many tracks.
+    fn new(size: StripSize, most: Most, tracks: u32) -> Self
+        requires { (1 ≤ tracks) × (tracks ≤ 64) }
+    {
+        let channel = tracks + 1;
+        let block = channel.max(12).max(most.pin + 2).max(3 * most.pads).min(65);
+        let pad = block / most.pads;
+        let name_font = (block - 1) * 100 / (6 * most.letters);
+        let lattice = Lattice { block, channel };
+        let length = size.columns * lattice.pitch() + channel;
+        Plan {
+            lattice,
+            size,
+            pad,
+            letters: most.letters,
+            name_font: name_font.min(3 * block).max(1),
+            pad_font: name_font.min((pad - 1) * 8).max(1),
+            font: (length / 80).clamp(1, 40),
+        }
+    }
+
+    /// How wide a pad is.
+    pub(crate) fn pad_width(&self) -> u32 {
+        self.pad - self.pad / 4
+    }
+
+    /// Where a pad begins in its column.
+    pub(crate) fn pad_start(&self, column: u32, pad: u32) -> u32
+        requires column { column ≤ 257 }
+        requires pad { pad ≤ 144 }
+        ensures { result ≤ 43_000 }
+    {
+        self.lattice.start(column) + pad * self.pad
+    }
+
+    /// How long the strip is, from its first channel to its last one.
+    pub(crate) fn length(&self) -> u32
+        ensures { (1 ≤ result) × (result ≤ 33_500) }
+    {
+        self.lattice.span(self.size.columns) + self.lattice.channel
+    }
+
+    /// How high the strip is, from the lower pads to the upper ones.
+    pub(crate) fn height(&self) -> u32
+        ensures { (1 ≤ result) × (result ≤ 33_700) }
+    {
+        self.lattice.span(self.size.rows) + self.lattice.channel + 2 * self.lattice.block
+    }
+}
+
+impl Most {
+    /// That of a strip.
+    fn of(strip: &RoutedStrip<'_>) -> Self {
+        let mut most = Most {
+            tracks: 1,
+            pin: 0,
+            pads: 1,
+            letters: 3,
+        };
+        most.see_nodes(strip);
+        most.see_blocks(strip);
+        most
+    }
+
+    /// Looks at the nodes.
+    fn see_nodes(&mut self, strip: &RoutedStrip<'_>) {
+        for read in strip.nodes.iter() {
+            let n = read.node.n;
+            match read.node.kind {
+                NodeKind::ChanX | NodeKind::ChanY => self.tracks = self.tracks.max(n + 1).min(64),
+                NodeKind::Opin | NodeKind::Ipin => self.pin = self.pin.max(n),
+                NodeKind::Source | NodeKind::Sink => {}
+            }
+        }
+    }
+
+    /// Looks at the blocks.
+    fn see_blocks(&mut self, strip: &RoutedStrip<'_>) {
+        for block in strip.blocks.iter() {
+            self.pads = self.pads.max(block.place.subblock + 1);
+            let letters = block.name.len().min(MOST_LETTERS as usize) as u32;
+            self.letters = self.letters.max(letters);
+        }
+    }
+}
