@@ -5,9 +5,9 @@ use crate::paths::{FileRole, make_folder, read_file, write_file};
 use crate::outcome::Outcome;
 use crate::silence::Silence;
 use arch_file::ArchError;
-use line_text::{MAX_TEXT, MemorySink, Sink, Text, TextError, write_parts};
+use line_text::{Failed, MAX_TEXT, MemorySink, Sink, Text, TextError, write_parts};
 use one_user::{
-    DevicePlan, Files as Results, Least, Outcome as End, Request, Run, least_tracks, run_with,
+    DevicePlan, Figures, Files as Results, Least, Outcome as End, Request, Run, least_tracks, run_with,
     write_figures,
 };
 use option_words::{Given, OptionWord, Program, Takes};
@@ -15,6 +15,7 @@ use script_replies::advice_for;
 use sessions::write_reply;
 use std::alloc::Global;
 use std::rt::Files;
+use text_parts::Part;
 use tenant_slot::{Ending, Refusal, Reply, SharedText, StateName, Status};
 
 const NO_FILE: &str = "an architecture, a netlist and a folder are wanted";
@@ -187,8 +188,8 @@ pub(crate) fn run<H: Files + AllocGlobal, W: Sink, E: Sink>(
     drop(arch);
     drop(netlist);
     match least {
-        Ok(Least::Routed { run, .. }) => ended(rt, wishes, run, writer, teller),
-        Ok(Least::Refused(run)) => ended(rt, wishes, run, writer, teller),
+        Ok(Least::Routed { tracks, run }) => ended(rt, wishes, tracks, run, writer, teller),
+        Ok(Least::Refused(run)) => ended(rt, wishes, 0, run, writer, teller),
         Ok(Least::Unrouted) => Err(Outcome::Unrouted),
         Err(TextError::NoMemory) => Err(Outcome::NoMemory),
         Err(TextError::Fault(fault)) => Err(Outcome::ArchRefused(fault)),
@@ -226,6 +227,7 @@ fn searched<E: Sink>(
 fn ended<H: Files + AllocGlobal, W: Sink, E: Sink>(
     rt: &H,
     wishes: Wishes<'_>,
+    tracks: u32,
     run: Run,
     writer: &mut W,
     teller: &mut E,
@@ -237,12 +239,20 @@ fn ended<H: Files + AllocGlobal, W: Sink, E: Sink>(
         End::Refused(refusal) => return Err(told_refused(rt.alloc(), refusal, teller)),
     }
     match figures {
-        Some(figures) => match write_figures(writer, &figures) {
-            Ok(()) => Ok(()),
-            Err(_) => Err(Outcome::OutputFailed),
-        },
+        Some(figures) => print(writer, tracks, &figures).or(Err(Outcome::OutputFailed)),
         None => Ok(()),
     }
+}
+
+/// Prints with how many tracks it was routed, and what it uses.
+fn print<W: Sink>(writer: &mut W, tracks: u32, figures: &Figures) -> Result<(), Failed> {
+    let parts = [
+        Part::Text("tracks "),
+        Part::Number(tracks),
+        Part::Text("\n"),
+    ];
+    text_parts::write_parts(writer, parts.as_slice())?;
+    write_figures(writer, figures)
 }
 
 /// Writes the three files.

@@ -4,6 +4,7 @@ ghost use Rattle.std.specs.Prelude.{None, true, false};
 use line_text::{Failed, Sink};
 
 /// Takes all bytes, and keeps none.
+#[derive(Drop)]
 pub(crate) struct Silence;
 
 impl Sink for Silence {

@@ -1,6 +1,7 @@
 //! What the picture of a device shows and why an input for it is refused, what a report tells of it, and which scripts are made to measure with.
 //!
 //! - `pictures`: marks and lines whose places follow from the sizes by hand, and a sink that fails.
+//! - `desk_files`: what the tools of the desk that read and write files print and leave.
 //! - `inputs`: the fault of each input that is refused, with its line.
 //! - `own_devices`: what comes of netlists on a device of one user's own.
 //! - `reports`: texts whose numbers were counted by hand.
@@ -8,6 +9,8 @@
 //! - `scripts`: architectures and netlists that the service's own readers take, and the limits of a plan.
 #![tactic(auto)]
 
+#[cfg(test)]
+mod desk_files;
 #[cfg(test)]
 mod inputs;
 #[cfg(test)]

@@ -1,9 +1,9 @@
 //! What the tools print for their words and input, and how they end.
+use clap::Error;
 use clap::error::ErrorKind;
-use desk::{Outcome, run_words};
+use desk::{Outcome, Streams, run_words};
 use line_text::{MemorySink, MemorySource};
 use random_script::{Phase, Plan, Wishes, write_script};
-use std::alloc::Global;
 use std::test::Fail;
 
 /// A netlist whose last line is not ended, and one of whose lines ends in CR and LF.
@@ -24,11 +24,36 @@ const SCRIPT: &[u8] = b"op admit T_1 2
 @T_1 routefile
 ";
 
-/// How the words end on that input, and whether just these bytes are written.
-fn ends(alloc: Global, words: &[&str], input: &[u8], status: u8, written: &[u8]) -> bool {
+/// How the words end on that input, with what is written.
+pub(crate) fn run_on(
+    rt: &HostRuntime,
+    words: &[&str],
+    input: &[u8],
+    sink: &mut MemorySink,
+) -> Result<Outcome, Error> {
     let mut source = MemorySource::new(input);
-    let mut sink = MemorySink::new(alloc);
-    let is_so = match run_words(alloc, words, &mut source, &mut sink) {
+    let mut told = MemorySink::new(rt.alloc());
+    let streams = Streams {
+        reader: &mut source,
+        writer: sink,
+        teller: &mut told,
+        is_terminal: false,
+    };
+    let outcome = run_words(rt, words, streams);
+    drop(told);
+    outcome
+}
+
+/// Whether the words end so on that input, and just these bytes are written.
+pub(crate) fn ends(
+    rt: &HostRuntime,
+    words: &[&str],
+    input: &[u8],
+    status: u8,
+    written: &[u8],
+) -> bool {
+    let mut sink = MemorySink::new(rt.alloc());
+    let is_so = match run_on(rt, words, input, &mut sink) {
         Ok(outcome) => outcome.status() == status,
         Err(error) => error.kind() != ErrorKind::OutOfMemory && status == 2,
     };
@@ -38,10 +63,9 @@ fn ends(alloc: Global, words: &[&str], input: &[u8], status: u8, written: &[u8])
 }
 
 /// Whether the words are refused in that way.
-fn refuses(alloc: Global, words: &[&str], kind: ErrorKind) -> bool {
-    let mut source = MemorySource::new(NETLIST);
-    let mut sink = MemorySink::new(alloc);
-    let is_so = match run_words(alloc, words, &mut source, &mut sink) {
+fn refuses(rt: &HostRuntime, words: &[&str], kind: ErrorKind) -> bool {
+    let mut sink = MemorySink::new(rt.alloc());
+    let is_so = match run_on(rt, words, NETLIST, &mut sink) {
         Ok(_) => false,
         Err(error) => error.kind() == kind,
     };
@@ -61,12 +85,12 @@ fn scripts_of_a_tenancy(rt: HostRuntime) {
         "--seed=18446744073709551615",
         "--effort=100",
     ];
-    assert!(rt; ends(rt.alloc(), words.as_slice(), NETLIST, 0, SCRIPT));
+    assert!(rt; ends(&rt, words.as_slice(), NETLIST, 0, SCRIPT));
     let refused = b".model m\n.\nop evict victim\n";
-    assert!(rt; ends(rt.alloc(), words.as_slice(), refused, 3, b""));
+    assert!(rt; ends(&rt, words.as_slice(), refused, 3, b""));
     assert!(rt;
         ends(
-            rt.alloc(),
+            &rt,
             words.as_slice(),
             b".model m\n.end\n.\r\n",
             3,
@@ -77,7 +101,6 @@ fn scripts_of_a_tenancy(rt: HostRuntime) {
 
 #[test]
 fn words_that_are_refused(rt: HostRuntime) {
-    let alloc = rt.alloc();
     for (words, kind) in [
         (
             ["fpgad_desk", "script", "--name=T-1"],
@@ -101,18 +124,18 @@ fn words_that_are_refused(rt: HostRuntime) {
         ),
         (["fpgad_desk", "random", "--help"], ErrorKind::DisplayHelp),
     ] {
-        assert!(rt; refuses(alloc, words.as_slice(), kind));
+        assert!(rt; refuses(&rt, words.as_slice(), kind));
     }
     assert!(rt;
         refuses(
-            alloc,
+            &rt,
             ["fpgad_desk"].as_slice(),
             ErrorKind::MissingSubcommand
         )
     );
     assert!(rt;
         refuses(
-            alloc,
+            &rt,
             ["fpgad_desk", "draw"].as_slice(),
             ErrorKind::InvalidSubcommand
         )
@@ -122,10 +145,9 @@ fn words_that_are_refused(rt: HostRuntime) {
 /// The line of an input that is no reply is told.
 #[test]
 fn inputs_that_are_refused(rt: HostRuntime) -> Result<(), Fail> {
-    let mut source = MemorySource::new(b"== op\nok 1\nnothing\n");
     let mut sink = MemorySink::new(rt.alloc());
     let words = ["fpgad_desk", "picture"];
-    let ended = run_words(rt.alloc(), words.as_slice(), &mut source, &mut sink);
+    let ended = run_on(&rt, words.as_slice(), b"== op\nok 1\nnothing\n", &mut sink);
     drop(sink);
     let Ok(outcome) = ended else {
         return Err("the words are refused".into());
@@ -160,7 +182,7 @@ fn random_scripts(rt: HostRuntime) -> Result<(), Fail> {
         sink.as_bytes()
             .starts_with(b"# fpgad --tracks 8 --columns 11 --rows 4\n")
     );
-    assert!(rt; ends(rt.alloc(), words.as_slice(), b"", 0, sink.as_bytes()));
+    assert!(rt; ends(&rt, words.as_slice(), b"", 0, sink.as_bytes()));
     drop(sink);
     Ok(())
 }
