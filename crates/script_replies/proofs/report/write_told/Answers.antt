@@ -1,5 +1,3 @@
-use Rattle.std.proofs.Common.{◌≡◌, ◌∙◌, Some, ap, sym}
-use Rattle.std.specs.List.{slice_get}
 use Rattle.std.proofs.lemmas.Option.{slice_get-get_or}
 use Rattle.line_text.proofs.WritingLemmas.{all_loop, part_loop, writes_part}
 use Rattle.script_replies.specs.Told.{told_text}
@@ -7,11 +5,9 @@ use Rattle.script_replies.proofs.report.write_told.Goals as goal
 
 pub returns-in_err-write_line : goal.returns-in_err-write_line
 returns-in_err-write_line g c =
-    let here : slice_get c.args.told.now c.loop-line.line-index ≡ Some c.line-item.result = slice_get-get_or _ _ c.line-item.result c.loop-line-test.true ∙ ap Some (sym c.line-item.is) in
     writes_part _ c.from_residual.ensures.0
-    (part_loop told_text c.args.told.now c.loop-line.line-index c.line-item.result here c.loop-line.invariant c.in_err-write_line.ensures)
+    (part_loop told_text c.args.told.now c.loop-line.line-index _ (slice_get-get_or _ _ _ c.loop-line-test.true) c.loop-line.invariant c.in_err-write_line.ensures)
 
 pub loop-line-preserved : goal.loop-line-preserved
 loop-line-preserved g c =
-    let here : slice_get c.args.told.now c.loop-line.line-index ≡ Some c.line-item.result = slice_get-get_or _ _ c.line-item.result c.loop-line-test.true ∙ ap Some (sym c.line-item.is) in
-    all_loop told_text c.args.told.now c.loop-line.line-index c.line-item.result here c.loop-line.invariant c.in_ok-write_line.ensures
+    all_loop told_text c.args.told.now c.loop-line.line-index _ (slice_get-get_or _ _ _ c.loop-line-test.true) c.loop-line.invariant c.in_ok-write_line.ensures
