@@ -2,4 +2,5 @@ pub mod BehindLemmas
 pub mod FileLemmas
 pub mod FirstPlaces
 pub mod LengthLemmas
+pub mod PrintLemmas
 pub mod ReadLemmas

@@ -1,4 +1,5 @@
 pub mod Files
 pub mod Lengths
 pub mod Parts
+pub mod Printing
 pub mod Replies

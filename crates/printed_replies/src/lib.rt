@@ -14,6 +14,7 @@
 mod answered;
 mod asked;
 mod file;
+mod law;
 mod length;
 mod reading;
 mod replies;
@@ -21,6 +22,7 @@ mod replies;
 pub use answered::Answered;
 pub use asked::{Asked, ReplyForm};
 pub use file::file_in;
+pub use law::printed_is_read;
 pub use length::told_file;
 pub use reading::{ReadError, names_of, read_replies};
 pub use replies::Replies;

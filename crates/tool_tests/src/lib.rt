@@ -6,6 +6,7 @@
 //! - `own_devices`: what comes of netlists on a device of one user's own.
 //! - `reports`: texts whose numbers were counted by hand.
 //! - `tools`: what the tools of the desk print for their words and input, and how they end.
+//! - `replies`: what is read back of a printed text whose files hold lines like headings, what is told beside a script, and texts that don't fit.
 //! - `scripts`: architectures and netlists that the service's own readers take, and the limits of a plan.
 #![tactic(auto)]
 
@@ -17,6 +18,8 @@ mod inputs;
 mod own_devices;
 #[cfg(test)]
 mod pictures;
+#[cfg(test)]
+mod replies;
 #[cfg(test)]
 mod reports;
 #[cfg(test)]

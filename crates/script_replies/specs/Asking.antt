@@ -1,0 +1,35 @@
+-- What the acts of a script were told, by the printed text.
+use Rattle.std.specs.Prelude.{ℕ, List, map, Option, Some, None}
+use Rattle.script_text.specs.declared.act.Act.{Act}
+use Rattle.script_text.specs.declared.act.Act.TheVariants.{Operator, Session}
+use Rattle.script_text.specs.declared.operator_line.OperatorLine.{OperatorLine}
+use Rattle.script_text.specs.declared.operator_line.OperatorLine.TheVariants.{Admit, Evict, Move, List as ListAll, Owners as OwnersLine, Step, Take, Put}
+use Rattle.sessions.specs.declared.line.SessionLine.{SessionLine}
+use Rattle.sessions.specs.declared.line.SessionLine.TheVariants.{Blank}
+use Rattle.printed_replies.specs.declared.asked.ReplyForm.{ReplyForm}
+use Rattle.printed_replies.specs.declared.asked.ReplyForm.TheVariants.{Silence, Line, Session as SessionReply, Admission, Eviction, Lines, Tenancies, Owners}
+use Rattle.printed_replies.specs.Replies.{AnsweredLine, AskedLine, Reading, replies_in as printed_replies_in}
+
+-- what form the reply to a line of the operator has
+abbrev pub operator_form : OperatorLine (List ℕ) → ReplyForm
+operator_form (Admit name width) = Admission
+operator_form (Evict name) = Eviction
+operator_form (Move name offset) = Line
+operator_form ListAll = Tenancies
+operator_form OwnersLine = Owners
+operator_form (Step name count) = Lines count
+operator_form (Take name) = Line
+operator_form (Put number) = Line
+
+-- and to a session's line
+abbrev pub session_form : SessionLine → ReplyForm
+session_form Blank = Silence
+session_form line = SessionReply
+
+abbrev pub asked_of : Act (List ℕ) → AskedLine
+asked_of (Operator line) = record { speaker = None; form = operator_form line }
+asked_of (Session name line) = record { speaker = Some name; form = session_form line }
+
+-- each act with its reply, of what was printed for acts; or how many bytes are left where they don't fit
+abbrev pub replies_in : List (Act (List ℕ)) → List ℕ → Reading (List AnsweredLine)
+replies_in acts printed = printed_replies_in (map asked_of acts) printed

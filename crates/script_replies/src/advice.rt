@@ -1,0 +1,141 @@
+//! What refusals mean, in words.
+
+/// What a refusal or a failed routing means, and what may be done.
+#[derive(Clone, Copy, Debug, PartialEq, Eq)]
+pub enum Advice {
+    /// The operator's refusals 1 to 7, and what a step came to.
+    NoMemory,
+    NoRoom,
+    TooManyStrips,
+    BadWidth,
+    NoSuchTenancy,
+    IdsSpent,
+    NameInUse,
+    StepLacksMemory,
+    /// A tenant's refusals 2 to 7; 4 is a netlist's fault.
+    JournalFull,
+    WrongState,
+    Netlist(NetlistAdvice),
+    CannotPack,
+    TooFewBlocks,
+    TooFewPads,
+    BadEffort,
+    /// A session's refusals 1 to 4.
+    UnknownCommand,
+    BadNumber,
+    UnfinishedUpload,
+    Evicted,
+    /// How a routing ended without routes.
+    GaveUp,
+    NoPath,
+}
+
+/// What a fault of a netlist, 1 to 12, comes from in most cases.
+#[derive(Clone, Copy, Debug, PartialEq, Eq)]
+pub enum NetlistAdvice {
+    Unknown,
+    BadCover,
+    MixedCover,
+    TooWide,
+    TwoDrivers,
+    Undriven,
+    RepeatedOutput,
+    BadLatch,
+    NoModel,
+    OverLimit,
+    NotAscii,
+    LineTooLong,
+}
+
+impl Advice {
+    /// The words.
+    pub fn words(self) -> &'static str {
+        match self {
+            Advice::NoMemory => "memory lacked, and nothing changed: ask again",
+            Advice::NoRoom => {
+                "no free columns in a row with a free one on each side of them: a narrower strip, an eviction or a move, or more --columns"
+            }
+            Advice::TooManyStrips => "64 tenancies live, and no more can: evict one",
+            Advice::BadWidth => "a width is 1 up to --columns",
+            Advice::NoSuchTenancy => {
+                "no tenancy of that name lives: it was never admitted, its admission was refused, or it was evicted"
+            }
+            Advice::IdsSpent =>
+                "65,535 tenancies were admitted, and no more can be: begin a new run",
+            Advice::NameInUse => "a tenancy of that name lives: another name, or evict it first",
+            Advice::StepLacksMemory =>
+                "memory lacked for the step, and its job was given back: ask again",
+            Advice::JournalFull => {
+                "the tenancy's journal has 65,536 entries, and nothing more is served: evict it, and admit it anew"
+            }
+            Advice::WrongState => {
+                "not lawful in that state: look for an earlier refusal, behind which the lines that follow are often refused so, too"
+            }
+            Advice::Netlist(fault) => fault.words(),
+            Advice::CannotPack => {
+                "that BLE reads more nets than a block has input pins: a smaller table in synthesis (abc -lut), or more pins of class 0"
+            }
+            Advice::TooFewBlocks => {
+                "the strip has fewer logic places (the first number) than are needed (the second): a wider strip, more --rows, or bigger clusters"
+            }
+            Advice::TooFewPads => {
+                "the strip has fewer pads (the first number) than are needed (the second): a wider strip, or fewer ports"
+            }
+            Advice::BadEffort => "an effort is 0 to 100",
+            Advice::UnknownCommand => "no command, a word too many, or a line above 4,096 bytes",
+            Advice::BadNumber => "`place SEED EFFORT` has two decimals, and no word more",
+            Advice::UnfinishedUpload => {
+                "no line that is `.` alone ends the text, so all lines behind it are part of it"
+            }
+            Advice::Evicted => {
+                "no tenancy of that name lives: it was never admitted, its admission was refused, or it was evicted"
+            }
+            Advice::GaveUp => {
+                "after 30 iterations nets still want one wire: place again with another seed or more effort, a wider strip, or more --tracks"
+            }
+            Advice::NoPath => {
+                "no way leads from that net's driver to one of its readers, whatever other nets do: raise Fc_output or Fc_input, or use more --tracks"
+            }
+        }
+    }
+}
+
+impl NetlistAdvice {
+    /// The words.
+    pub fn words(self) -> &'static str {
+        match self {
+            NetlistAdvice::Unknown => {
+                "a line that is read by nobody here, as .subckt, .gate, .attr, a second .model, or text behind .end: synth -flatten, and abc -lut; write_blif without -gates, -attr, -param, -cname, -conn"
+            }
+            NetlistAdvice::BadCover => {
+                "a row has another number of characters than its table has inputs, or others than 0, 1 and -: write the file by write_blif"
+            }
+            NetlistAdvice::MixedCover => {
+                "a table has rows with output 0 and rows with output 1: keep those of one output"
+            }
+            NetlistAdvice::TooWide => {
+                "a table has more inputs than subblock_lut_size: abc -lut with that number"
+            }
+            NetlistAdvice::TwoDrivers => {
+                "that net is driven twice: two assignments, or a port that is driven from inside, too"
+            }
+            NetlistAdvice::Undriven => {
+                "nothing drives that net: setundef -undriven -zero, and for $false, $true or $undef write_blif without -impltf"
+            }
+            NetlistAdvice::RepeatedOutput => "that net is named twice in .outputs: name it once",
+            NetlistAdvice::BadLatch => {
+                "a latch with a type or a first value that is none: dfflegalize -cell $_DFF_P_ 01"
+            }
+            NetlistAdvice::NoModel => {
+                "the first line isn't .model, or there is none: see whether synthesis ended"
+            }
+            NetlistAdvice::OverLimit => {
+                "more than 8,192 nets, or a text above 1 MiB (line 0): a smaller module"
+            }
+            NetlistAdvice::NotAscii =>
+                "letters with accents, or quotes of a word processor: plain names",
+            NetlistAdvice::LineTooLong =>
+                "a joined line is above 262,144 bytes: write_blif breaks lines by itself",
+        }
+    }
+}

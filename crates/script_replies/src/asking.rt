@@ -1,0 +1,92 @@
+//! The replies to acts.
+ghost use Rattle.std.specs.Prelude.{◌≡◌, List, ℕ, map, option_map, IfOk};
+ghost use Rattle.printed_replies.specs.Files.{file_of};
+ghost use Rattle.printed_replies.specs.Replies.{Gives, asked_line, names_of};
+ghost use Rattle.script_replies.specs.Asking.{asked_of, operator_form, replies_in, session_form};
+ghost use Rattle.script_text.specs.Script.{named_act, named_operator};
+ghost use Rattle.tenant_slot.specs.Names.{file_text};
+
+use line_text::NameSet;
+use printed_replies::{Asked, ReadError, Replies, ReplyForm};
+use script_text::{Act, OperatorLine};
+use sessions::SessionLine;
+use std::alloc::{AllocError, Global};
+use tenant_slot::FileKind;
+
+/// What form the reply to a line of the operator has.
+fn operator_form(line: &OperatorLine<&[u8]>) -> ReplyForm
+    ensures { result ≡ operator_form (named_operator line.now) }
+{
+    match line {
+        OperatorLine::Admit(..) => ReplyForm::Admission,
+        OperatorLine::Evict(_) => ReplyForm::Eviction,
+        OperatorLine::List => ReplyForm::Tenancies,
+        OperatorLine::Owners => ReplyForm::Owners,
+        OperatorLine::Step(_, count) => ReplyForm::Lines(*count),
+        OperatorLine::Move(..) | OperatorLine::Take(_) | OperatorLine::Put(_) => ReplyForm::Line,
+    }
+}
+
+/// What form the reply to a session's line has.
+fn session_form(line: &SessionLine) -> ReplyForm
+    ensures { result ≡ session_form line.now }
+{
+    match line {
+        SessionLine::Blank => ReplyForm::Silence,
+        SessionLine::Command(_) | SessionLine::Wait | SessionLine::Refused(_) => ReplyForm::Session,
+    }
+}
+
+/// Who asks, and what form the reply has.
+fn asked_of<'t>(act: &Act<&'t [u8]>) -> Asked<'t>
+    ensures { asked_line result ≡ asked_of (named_act act.now) }
+{
+    match act {
+        Act::Operator(line) => Asked {
+            name: None,
+            form: operator_form(line),
+        },
+        Act::Session(name, line) => Asked {
+            name: Some(*name),
+            form: session_form(line),
+        },
+    }
+}
+
+/// The acts as they were asked.
+fn asked_lines<'t>(alloc: Global, acts: &[Act<&'t [u8]>]) -> Result<Vec<Asked<'t>>, AllocError>
+    ensures { IfOk result (λ asked. map asked_line asked.items ≡ map asked_of (map named_act acts.now)) }
+{
+    let mut asked = Vec::new(alloc);
+    for act in acts {
+        asked.push(asked_of(act))?;
+    }
+    Ok(asked)
+}
+
+/// The acts' replies in the acts' order, or the line of the printed text that fits none.
+pub fn read_replies<'t, 'p>(
+    alloc: Global,
+    acts: &[Act<&'t [u8]>],
+    printed: &'p [u8],
+) -> Result<Replies<'t, 'p>, ReadError>
+    ensures { Gives printed.now (replies_in (map named_act acts.now) printed.now) result }
+{
+    let asked = asked_lines(alloc, acts)?;
+    printed_replies::read_replies(alloc, &asked, printed)
+}
+
+/// The names of the acts' sessions, in the order of their first lines: the printed text has a section for each.
+pub fn session_names<'t>(alloc: Global, acts: &[Act<&'t [u8]>]) -> Result<NameSet<'t>, AllocError>
+    ensures { IfOk result (λ names. names ≡ names_of (map asked_of (map named_act acts.now))) }
+{
+    let asked = asked_lines(alloc, acts)?;
+    printed_replies::names_of(alloc, &asked)
+}
+
+/// The last file of that kind that the name's session was told.
+pub fn file_of<'p>(replies: &Replies<'_, 'p>, name: &[u8], kind: FileKind) -> Option<&'p [u8]>
+    ensures { option_map (λ file. file.now) result ≡ file_of name.now (file_text kind) replies.now }
+{
+    replies.file_of(name, kind.name().as_bytes())
+}
