@@ -1,0 +1,5 @@
+mod Events
+mod Asking
+mod Running
+mod Packings
+mod Routings
