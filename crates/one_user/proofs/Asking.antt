@@ -84,18 +84,18 @@ module _ (task : Task) (id generation entries : ℕ) (room : entries < 65536) wh
   places circuit said fits low None enough slot refusal is after_it =
       let state : State = state_at task Packed 0 0 generation entries in
       let answer : answer_to state (Asked (Place task.seed task.effort)) ≡ (Some (begun_placing state task.seed task.effort), Accepted Placing) =
-        ap place_it said ∙ ap (λ (b : Bool). if b then (None, RefusedReply BadEffort) else place_unless state task.seed task.effort (misfit_of (fit_of task.strip (packed_of circuit task.arch)))) low
-        ∙ ap (place_unless state task.seed task.effort) enough in
+      ap place_it said ∙ ap (λ (b : Bool). if b then (None, RefusedReply BadEffort) else place_unless state task.seed task.effort (misfit_of (fit_of task.strip (packed_of circuit task.arch)))) low
+      ∙ ap (place_unless state task.seed task.effort) enough in
       let none : refusal ≡ None = is ∙ ap (λ (p : Option State × Reply). refusal_in p.1) answer in
       let slot_is : slot ≡ slot_in id (state_at task Placing task.seed task.effort (generation + 1) (entries + 1)) =
-        after_it ∙ changed_by (slot_in id state) (Asked (Place task.seed task.effort)) (begun_placing state task.seed task.effort) (Accepted Placing) room answer in
+      after_it ∙ changed_by (slot_in id state) (Asked (Place task.seed task.effort)) (begun_placing state task.seed task.effort) (Accepted Placing) room answer in
       subst (Leads task IsPlaced (state_at task Placing task.seed task.effort (generation + 1) (entries + 1)) slot) (sym none)
       (record { circuit = circuit; said = said; fits = fits; enough = enough }, slot_is ∙ ap (λ (s : SlotState). slot_in s.id (state_at task Placing task.seed task.effort (generation + 1) (entries + 1))) (sym slot_is))
   places circuit said fits low (Some misfit) enough slot refusal is after_it =
       let state : State = state_at task Packed 0 0 generation entries in
       let answer : answer_to state (Asked (Place task.seed task.effort)) ≡ (None, RefusedReply (DoesNotFit misfit)) =
-        ap place_it said ∙ ap (λ (b : Bool). if b then (None, RefusedReply BadEffort) else place_unless state task.seed task.effort (misfit_of (fit_of task.strip (packed_of circuit task.arch)))) low
-        ∙ ap (place_unless state task.seed task.effort) enough in
+      ap place_it said ∙ ap (λ (b : Bool). if b then (None, RefusedReply BadEffort) else place_unless state task.seed task.effort (misfit_of (fit_of task.strip (packed_of circuit task.arch)))) low
+      ∙ ap (place_unless state task.seed task.effort) enough in
       let some : refusal ≡ Some (DoesNotFit misfit) = is ∙ ap (λ (p : Option State × Reply). refusal_in p.1) answer in
       subst (Leads task IsPlaced (state_at task Placing task.seed task.effort (generation + 1) (entries + 1)) slot) (sym some)
       (ap (by_netlist task) said ∙ ap (by_packing task circuit) fits ∙ ap (by_fit task circuit) enough)

@@ -59,14 +59,14 @@ module _ (old : SlotState) (kind : JobKind) (runs : running old.state.name ≡ S
       IsAdvanceOf old.state next made → (step old.state (Stepped made)).1 ≡ Some (Step reply) → new ≡ after_event (record old { here = None }) (Stepped made) → Goes kind old reply new
   told_step true is made reply new of told after_it =
       let answer : answer_to old.state (Stepped made) ≡ (Some (finished old.state kind), Step Finished) =
-        goes_on made of ∙ ap (λ (b : Bool). if b then (Some (finished old.state kind), Step Finished) else (Some (advanced old.state), Step Advanced)) is in
+      goes_on made of ∙ ap (λ (b : Bool). if b then (Some (finished old.state kind), Step Finished) else (Some (advanced old.state), Step Advanced)) is in
       let said : Some (Step Finished) ≡ Some (Step reply) = sym (ap (λ (p : State × Option Reply). p.1) (step_is old.state (Stepped made) (Some (finished old.state kind)) (Step Finished) room answer)) ∙ told in
       let replied : Finished ≡ reply = cc in
       let goes = after_it ∙ changed_by (record old { here = None }) (Stepped made) (finished old.state kind) (Step Finished) room answer in
       subst (λ (r : StepReply). Goes kind old r new) replied (is, goes)
   told_step false is made reply new of told after_it =
       let answer : answer_to old.state (Stepped made) ≡ (Some (advanced old.state), Step Advanced) =
-        goes_on made of ∙ ap (λ (b : Bool). if b then (Some (finished old.state kind), Step Finished) else (Some (advanced old.state), Step Advanced)) is in
+      goes_on made of ∙ ap (λ (b : Bool). if b then (Some (finished old.state kind), Step Finished) else (Some (advanced old.state), Step Advanced)) is in
       let said : Some (Step Advanced) ≡ Some (Step reply) = sym (ap (λ (p : State × Option Reply). p.1) (step_is old.state (Stepped made) (Some (advanced old.state)) (Step Advanced) room answer)) ∙ told in
       let replied : Advanced ≡ reply = cc in
       let goes = after_it ∙ changed_by (record old { here = None }) (Stepped made) (advanced old.state) (Step Advanced) room answer in

@@ -40,8 +40,7 @@ module _ (kind : JobKind) (old : SlotState) (steps : ℕ) where
   pub steps_more : (made : StepMade) (new : SlotState) → MakesStep kind mid made new → made.reply ≡ Advanced → (new ≡ slot_in old.id (state_after old.state (steps + 1))) × (steps + 1 ≤ 8192)
   steps_more made new makes replied =
       let goes : Goes kind mid Advanced new = subst (λ (r : StepReply). Goes kind mid r new) replied makes.goes in
-      let sum : old.state.entries + steps + 1 ≡ old.state.entries + (steps + 1) = omega arith in
-      (
+      let sum : old.state.entries + steps + 1 ≡ old.state.entries + (steps + 1) = omega arith in (
         goes.1 ∙ ap (λ entries. slot_in old.id (record old.state { steps = steps + 1; entries = entries })) sum,
         omega (arith, makes.few, makes.number),
       )
@@ -59,5 +58,5 @@ module _ (kind : JobKind) (old : SlotState) (steps : ℕ) where
         last = ap (λ (s : Sources). is_last s made.number) (sym own) ∙ last;
         count = makes.count last ∙ ap (λ (s : Sources). step_count s) own;
         new = goes.1 ∙ ap (slot_in old.id) (finished_later old.state steps (old.state.entries + steps + 1) kind)
-          ∙ ap (λ entries. slot_in old.id (record (finished old.state kind) { entries = entries })) sum;
+            ∙ ap (λ entries. slot_in old.id (record (finished old.state kind) { entries = entries })) sum;
       }

@@ -27,8 +27,8 @@ fullest_line tracks None = concat (codes "fullest channel none\n" ∷ [])
 abbrev pub figures_text : Figures → List ℕ
 figures_text figures =
     concat (
-      codes "logic blocks " ∷ decimal figures.blocks.used ∷ codes "/" ∷ decimal figures.blocks.there
-      ∷ codes "\npads " ∷ decimal figures.pads.used ∷ codes "/" ∷ decimal figures.pads.there
-      ∷ codes "\nnets " ∷ decimal figures.nets ∷ codes "\nwire length " ∷ decimal figures.wires.used ∷ codes "/" ∷ decimal figures.wires.there
-      ∷ codes "\niterations " ∷ decimal figures.iterations ∷ codes "\n" ∷ [])
+    codes "logic blocks " ∷ decimal figures.blocks.used ∷ codes "/" ∷ decimal figures.blocks.there
+    ∷ codes "\npads " ∷ decimal figures.pads.used ∷ codes "/" ∷ decimal figures.pads.there
+    ∷ codes "\nnets " ∷ decimal figures.nets ∷ codes "\nwire length " ∷ decimal figures.wires.used ∷ codes "/" ∷ decimal figures.wires.there
+    ∷ codes "\niterations " ∷ decimal figures.iterations ∷ codes "\n" ∷ [])
     ++ fullest_line figures.tracks figures.fullest
