@@ -1,5 +1,8 @@
 mod Events
 mod Asking
-mod Running
+pub mod Running
 mod Packings
 mod Routings
+mod Least
+mod Passes
+mod Examples
