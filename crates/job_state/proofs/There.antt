@@ -1,5 +1,5 @@
 -- What routes hold is on the strip, and so is a list of it.
-use Rattle.std.proofs.Common.{ℕ, ◌≡◌, ◌+◌, ◌<◌, inl, inr, true, List, [], ◌∷◌, ◌++◌, map, get_or, arith, sym, subst, ◌∙◌}
+use Rattle.std.proofs.Common.{ℕ, ◌≡◌, inl, inr, true, List, [], ◌∷◌, ◌++◌, get_or, arith, sym, subst, ◌∙◌}
 use Rattle.std.specs.Prelude.{All}
 use Rattle.std.specs.Option.{option_to_list}
 use Rattle.std.proofs.lemmas.Bool.{false≢true, or_cases}
@@ -10,16 +10,12 @@ use Rattle.rr_graph.specs.declared.node.NodeKind.{NodeKind}
 use Rattle.rr_graph.specs.declared.node.NodeKind.TheVariants.{Source, Sink, Opin, Ipin, ChanX, ChanY}
 use Rattle.rr_graph.specs.declared.resource.Resource.{Resource}
 use Rattle.rr_graph.specs.Geometry.{is_node}
-use Rattle.rr_graph.specs.Graph.{Basis, IsRoutingGraph, graph_of}
+use Rattle.rr_graph.specs.Graph.{Basis}
 use Rattle.rr_graph.specs.Resources.{has, is_same, is_there, resource_of}
 use Rattle.arch_file.specs.declared.arch.Arch.{Arch}
 use Rattle.grid.specs.declared.Strip.{Strip}
-use Rattle.pathfinder.specs.Negotiation.{Tree, routed_after}
-use Rattle.pathfinder.specs.PlacedNets.{wiring_of}
-use Rattle.pathfinder.specs.Wiring.{IsWiring}
-use Rattle.pathfinder.specs.Routings.{IsDone, RoutingState, told_by_node}
+use Rattle.pathfinder.specs.Routings.{IsDone, RoutingState}
 use Rattle.job_state.specs.RoutedCircuits.{AreThere, ListsAll, on_path, on_tree, on_trees}
-use Rattle.job_state.specs.UnderWay.{GoesOn}
 use Rattle.job_state.proofs.InOrder.{is_itself, same_is}
 
 -- what holds of each of them holds of one that they have

@@ -3,7 +3,7 @@ ghost use Rattle.std.specs.Prelude.{◌≡◌, ◌↔◌, ◌≤◌, IfSome, IsT
 ghost use Rattle.strips.specs.Windows.{is_on_device};
 ghost use Rattle.job_state.specs.Job.{Steps, next_step};
 ghost use Rattle.job_state.specs.declared.work.Work.{Work};
-ghost use Rattle.job_state.specs.JobValue.{basis_in, is_last, job_value};
+ghost use Rattle.job_state.specs.JobValue.{basis_in, is_last, job_value, step_count};
 ghost use Rattle.job_state.specs.Progress.{IsProgress};
 
 use crate::parked::Parked;
@@ -193,6 +193,7 @@ impl Done {
         requires { G.basis graph.now ≡ basis_in self.now.sources }
         ensures made { (work : Work) × (job_value self.now.sources self.now.number ≡ Ok work) × IsProgress work result }
         ensures few { self.now.number ≤ 8192 }
+        ensures last { is_last self.now.sources self.now.number ≡ true → self.now.number ≡ step_count self.now.sources }
     {
         self.work.progress(graph)
     }

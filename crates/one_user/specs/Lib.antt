@@ -3,4 +3,5 @@ pub mod Lines
 pub mod Figures
 pub mod Counts
 pub mod Steps
+pub mod Service
 pub mod Tracks

@@ -1,10 +1,16 @@
 -- The lines that are written.
-use Rattle.std.specs.Prelude.{ℕ, List, [], ◌∷◌, ◌++◌, codes, decimal, Option, Some, None}
+use Rattle.std.specs.Prelude.{ℕ, ◌+◌, ◌-◌, ◌^◌, min, List, [], ◌∷◌, ◌++◌, codes, decimal, Option, Some, None}
 use Rattle.std.specs.List.{concat}
 use Rattle.device_report.specs.declared.channels.ChannelUse.{ChannelUse}
 use Rattle.device_report.specs.Text.{channel_word}
+use Rattle.grid.specs.declared.Strip.{Strip}
+use Rattle.job_state.specs.JobValue.{pass_count}
+use Rattle.job_state.specs.declared.progress.Progress.{Progress}
+use Rattle.job_state.specs.declared.progress.Progress.TheVariants.{Packing, Packed, Placing, Routing, Routed, GaveUp, NoPath}
+use Rattle.rr_graph.specs.declared.node.Node.{Node}
 use Rattle.rr_graph.specs.declared.node.NodeKind.{NodeKind}
 use Rattle.rr_graph.specs.declared.node.NodeKind.TheVariants.{Source, Sink, Opin, Ipin, ChanX, ChanY}
+use Rattle.strip_place.specs.Anneal.{temperature_at}
 use Rattle.one_user.specs.declared.figures.Figures.{Figures}
 
 -- the word of the route file for a kind of node
@@ -15,6 +21,42 @@ kind_word Opin = codes "OPIN"
 kind_word Ipin = codes "IPIN"
 kind_word ChanX = codes "CHANX"
 kind_word ChanY = codes "CHANY"
+
+-- the line of a cluster, of a packing that makes so many at most
+abbrev pub cluster_line : ℕ → ℕ → List ℕ
+cluster_line number most = concat (codes "cluster " ∷ decimal number ∷ codes " of at most " ∷ decimal most ∷ codes "\n" ∷ [])
+
+-- the line of a packing that is whole
+abbrev pub packed_line : ℕ → ℕ → ℕ → List ℕ
+packed_line clusters pads nets =
+    concat (codes "packed: " ∷ decimal clusters ∷ codes " clusters, " ∷ decimal pads ∷ codes " pads, " ∷ decimal nets ∷ codes " nets\n" ∷ [])
+
+-- the line of a pass
+abbrev pub pass_line : Strip → ℕ → ℕ → List ℕ
+pass_line strip number cost = concat (
+    codes "pass " ∷ decimal number ∷ codes " of " ∷ decimal (pass_count strip) ∷ codes ": temperature " ∷ decimal (temperature_at strip (number - 1))
+    ∷ codes ", cost " ∷ decimal cost ∷ codes "\n" ∷ [])
+
+-- the line of an iteration that ends so
+abbrev pub iteration_line : ℕ → List ℕ → List ℕ
+iteration_line number end = concat (codes "iteration " ∷ decimal number ∷ codes " of 30: " ∷ end ∷ codes "\n" ∷ [])
+
+-- the line of an iteration after which so many nodes are overused, and that one most
+abbrev pub overuse_line : ℕ → ℕ → Option Node → List ℕ
+overuse_line number nodes None = iteration_line number (codes "no node overused")
+overuse_line number nodes (Some most) = concat (
+    codes "iteration " ∷ decimal number ∷ codes " of 30: " ∷ decimal nodes ∷ codes " nodes overused, most at " ∷ kind_word most.kind
+    ∷ codes " (" ∷ decimal most.x ∷ codes "," ∷ decimal most.y ∷ codes ")\n" ∷ [])
+
+-- the line of the step of that number, on a strip; a circuit has fewer tables and latches than a number can tell
+abbrev pub step_line : Strip → ℕ → Progress → List ℕ
+step_line strip number (Packing tables latches) = cluster_line number (min (tables + latches) (2 ^ 64 - 1))
+step_line strip number (Packed clusters pads nets) = packed_line clusters pads nets
+step_line strip number (Placing cost) = pass_line strip number cost
+step_line strip number (Routing overuse) = overuse_line number overuse.nodes overuse.most
+step_line strip number Routed = iteration_line number (codes "no node overused")
+step_line strip number GaveUp = iteration_line number (codes "nodes overused, given up")
+step_line strip number NoPath = iteration_line number (codes "a net has no path")
 
 -- the line of the fullest channel, which has so many tracks
 abbrev pub fullest_line : ℕ → Option ChannelUse → List ℕ
@@ -27,8 +69,8 @@ fullest_line tracks None = concat (codes "fullest channel none\n" ∷ [])
 abbrev pub figures_text : Figures → List ℕ
 figures_text figures =
     concat (
-      codes "logic blocks " ∷ decimal figures.blocks.used ∷ codes "/" ∷ decimal figures.blocks.there
-      ∷ codes "\npads " ∷ decimal figures.pads.used ∷ codes "/" ∷ decimal figures.pads.there
-      ∷ codes "\nnets " ∷ decimal figures.nets ∷ codes "\nwire length " ∷ decimal figures.wires.used ∷ codes "/" ∷ decimal figures.wires.there
-      ∷ codes "\niterations " ∷ decimal figures.iterations ∷ codes "\n" ∷ [])
+    codes "logic blocks " ∷ decimal figures.blocks.used ∷ codes "/" ∷ decimal figures.blocks.there
+    ∷ codes "\npads " ∷ decimal figures.pads.used ∷ codes "/" ∷ decimal figures.pads.there
+    ∷ codes "\nnets " ∷ decimal figures.nets ∷ codes "\nwire length " ∷ decimal figures.wires.used ∷ codes "/" ∷ decimal figures.wires.there
+    ∷ codes "\niterations " ∷ decimal figures.iterations ∷ codes "\n" ∷ [])
     ++ fullest_line figures.tracks figures.fullest

@@ -1,7 +1,5 @@
 //! What a routed circuit uses of its device.
 ghost use Rattle.std.specs.Prelude.{◌≡◌, ◌*◌, count_by};
-ghost use Rattle.arch_file.specs.Arch.{IsArch};
-ghost use Rattle.grid.specs.Sizes.{IsStripSize};
 ghost use Rattle.one_user.specs.Counts.{HasCounts, IsWhole};
 ghost use Rattle.one_user.specs.Figures.{is_channel_wire, wires_there};
 
@@ -62,8 +60,6 @@ pub(crate) fn figures_of(
     held: &[Resource],
     iterations: u32,
 ) -> Figures
-    requires arch { IsArch window.now.arch }
-    requires size { IsStripSize window.now.strip }
     ensures blocks { result.blocks ≡ record { used = packed.clusters; there = window.now.strip.width * window.now.strip.rows } }
     ensures pads { result.pads ≡ record { used = packed.pads; there = window.now.strip.width * 2 * window.now.strip.io_rat } }
     ensures nets { result.nets ≡ packed.nets }
@@ -71,6 +67,7 @@ pub(crate) fn figures_of(
     ensures tracks { result.tracks ≡ window.now.arch.tracks }
     ensures iterations { result.iterations ≡ iterations }
 {
+    let _count = window.count();
     let strip = window.strip();
     let tracks = window.arch().tracks;
     let across = strip.width * (strip.rows + 1) * tracks;

@@ -6,9 +6,10 @@ ghost use Rattle.one_user.specs.Tracks.{ComesTo, HasFiguresWith, IsLeast, fault_
 
 use crate::device::{OwnDevice, Request};
 use crate::outcome::{Outcome, Run};
-use arch_file::{Arch, ArchError, read_arch};
-use line_text::Sink;
-use std::alloc::{AllocError, Global};
+use arch_file::{ArchError, read_arch};
+use line_text::{Failed, Sink};
+use std::alloc::Global;
+use text_parts::{Part, write_parts};
 
 /// The most tracks of a channel.
 pub const MAX_TRACKS: u32 = 64;
@@ -49,6 +50,7 @@ pub fn least_tracks<W: Sink>(
     ensures fault { IfErr result (λ error. (tracks : ℕ) × Fails (fault_of (arch_of plan.text.now tracks)) error) }
 {
     for tracks in 1..MAX_TRACKS + 1 {
+        let _told = tell_tracks(teller, tracks);
         let run = run_with(alloc, plan, tracks, request, teller)?;
         match run.outcome {
             Outcome::Unrouted(_) => drop(run),
@@ -57,6 +59,18 @@ pub fn least_tracks<W: Sink>(
         }
     }
     Ok(Least::Unrouted)
+}
+
+/// Writes the line of a number of tracks.
+fn tell_tracks<W: Sink>(sink: &mut W, tracks: u32) -> Result<(), Failed> {
+    write_parts(
+        sink,
+        &[
+            Part::Text("tracks "),
+            Part::Number(tracks),
+            Part::Text("\n"),
+        ],
+    )
 }
 
 /// Has a netlist run with so many tracks.

@@ -17,7 +17,9 @@ use crate::steps::make_steps;
 use line_text::Sink;
 use std::alloc::AllocError;
 use strips::Window;
-use tenant_slot::{Command, Ending, NotServed, Refusal, Reply, SharedText, Slot, StateName, Status};
+use tenant_slot::{
+    Command, Ending, NotServed, Refusal, Reply, SharedText, Slot, StateName, Status,
+};
 
 /// Has the netlist loaded, and then packed.
 pub(crate) fn upload<W: Sink>(
@@ -214,10 +216,12 @@ fn ending_in(reply: &Reply) -> Result<Ending, AllocError>
     ensures { IfOk result (λ ending. ending_in reply.now ≡ Some ending) }
 {
     match reply {
-        Reply::Status(Status {
-            ending: Some(ending),
-            ..
-        }) => ending.clone(),
+        Reply::Status(
+            Status {
+                ending: Some(ending),
+                ..
+            },
+        ) => ending.clone(),
         _ => unreachable!(),
     }
 }

@@ -36,7 +36,7 @@ pub(crate) fn make_steps<W: Sink>(
     requires window { window.now ≡ device_of slot.old.state }
     ensures { IfOk result (λ made. (kind : JobKind) → running slot.old.state.name ≡ Some kind → Finishes kind slot.old made slot.new) }
 {
-    for _ in 0..MAX_STEPS + 1 {
+    for _step in 0..MAX_STEPS + 1 {
         let made = make_step(slot, window)?;
         let _told = tell_step(teller, window, made);
         if made.reply == StepReply::Finished {

@@ -1,9 +1,9 @@
 //! A line for each step.
 ghost use Rattle.std.specs.Prelude.{◌≡◌};
 ghost use Rattle.line_text.specs.Writing.{Writes};
-ghost use Rattle.one_user.specs.Lines.{kind_word};
+ghost use Rattle.one_user.specs.Lines.{cluster_line, iteration_line, kind_word, overuse_line, packed_line, pass_line, step_line};
 
-use crate::passes::{pass_count, temperature_of};
+use crate::passes::{pass_count, temperature_after};
 use crate::steps::StepMade;
 use job_state::Progress;
 use line_text::{Failed, Sink};
@@ -17,7 +17,9 @@ pub(crate) fn tell_step<W: Sink>(
     sink: &mut W,
     window: &Window<'_>,
     made: StepMade,
-) -> Result<(), Failed> {
+) -> Result<(), Failed>
+    ensures { Writes W.contents W.has_failed sink.old sink.new (step_line window.now.strip made.number made.progress) result }
+{
     match made.progress {
         Progress::Packing { tables, latches } => {
             tell_cluster(sink, made.number, tables.saturating_add(latches))
@@ -36,7 +38,9 @@ pub(crate) fn tell_step<W: Sink>(
 }
 
 /// Writes the line of a cluster, of a packing that makes so many at most.
-fn tell_cluster<W: Sink>(sink: &mut W, number: u32, most: usize) -> Result<(), Failed> {
+fn tell_cluster<W: Sink>(sink: &mut W, number: u32, most: usize) -> Result<(), Failed>
+    ensures { Writes W.contents W.has_failed sink.old sink.new (cluster_line number most) result }
+{
     write_parts(
         sink,
         &[
@@ -55,7 +59,9 @@ fn tell_packed<W: Sink>(
     clusters: usize,
     pads: usize,
     nets: usize,
-) -> Result<(), Failed> {
+) -> Result<(), Failed>
+    ensures { Writes W.contents W.has_failed sink.old sink.new (packed_line clusters pads nets) result }
+{
     write_parts(
         sink,
         &[
@@ -76,7 +82,10 @@ fn tell_pass<W: Sink>(
     window: &Window<'_>,
     number: u32,
     cost: u64,
-) -> Result<(), Failed> {
+) -> Result<(), Failed>
+    ensures { Writes W.contents W.has_failed sink.old sink.new (pass_line window.now.strip number cost) result }
+{
+    let _count = window.count();
     let strip = window.strip();
     write_parts(
         sink,
@@ -86,7 +95,7 @@ fn tell_pass<W: Sink>(
             Part::Text(" of "),
             Part::Number(pass_count(strip)),
             Part::Text(": temperature "),
-            Part::Number(temperature_of(strip, number)),
+            Part::Number(temperature_after(strip, number.saturating_sub(1))),
             Part::Text(", cost "),
             Part::Long(cost),
             Part::Text("\n"),
@@ -95,7 +104,9 @@ fn tell_pass<W: Sink>(
 }
 
 /// Writes the line of an iteration that ends so.
-fn tell_iteration<W: Sink>(sink: &mut W, number: u32, end: &str) -> Result<(), Failed> {
+fn tell_iteration<W: Sink>(sink: &mut W, number: u32, end: &str) -> Result<(), Failed>
+    ensures { Writes W.contents W.has_failed sink.old sink.new (iteration_line number end.now) result }
+{
     write_parts(
         sink,
         &[
@@ -109,7 +120,9 @@ fn tell_iteration<W: Sink>(sink: &mut W, number: u32, end: &str) -> Result<(), F
 }
 
 /// Writes the line of an iteration after which nodes are overused.
-fn tell_overuse<W: Sink>(sink: &mut W, number: u32, overuse: Overuse) -> Result<(), Failed> {
+fn tell_overuse<W: Sink>(sink: &mut W, number: u32, overuse: Overuse) -> Result<(), Failed>
+    ensures { Writes W.contents W.has_failed sink.old sink.new (overuse_line number overuse.nodes overuse.most) result }
+{
     let Some(most) = overuse.most else {
         return tell_iteration(sink, number, "no node overused");
     };

@@ -1,4 +1,3 @@
-use Rattle.std.proofs.lemmas.List.Elements.{All-append}
 use Rattle.job_state.specs.RoutedCircuits.{on_trees}
 use Rattle.job_state.proofs.There.{both_there}
 use Rattle.job_state.proofs.routing.routed_on.Goals as goal

@@ -1,2 +1,0 @@
-use Rattle.job_state.proofs.Stages.{begun_is}
-use Rattle.job_state.proofs.stage.Begun.on.Goals as goal

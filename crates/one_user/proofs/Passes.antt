@@ -1,0 +1,27 @@
+-- How many passes a placing makes.
+use Rattle.std.proofs.Common.{ℕ, ◌≡◌, ◌≢◌, ◌+◌, ◌*◌, ◌/◌, ◌<◌, ◌≤◌, zero, suc, true, false, arith, refl, sym, subst, ap, ◌∙◌}
+use Rattle.std.specs.Prelude.{◌==◌}
+use Rattle.std.proofs.lemmas.Bool.Decides.{nat_tests}
+use Rattle.grid.specs.declared.Strip.{Strip}
+use Rattle.job_state.specs.JobValue.{pass_count}
+use Rattle.job_state.proofs.StepCounts.{pass_count_is}
+use Rattle.strip_place.specs.Anneal.{is_past_last, temperature_at}
+
+-- the temperature of the next pass
+pub next_temperature : (strip : Strip) (passes : ℕ) → temperature_at strip (passes + 1) ≡ 9 * temperature_at strip passes / 10
+unfolding temperature_at
+next_temperature strip passes = let next : passes + 1 ≡ suc passes = omega arith in rw next refl
+
+pub first_temperature : (strip : Strip) → temperature_at strip 0 ≡ strip.width + strip.rows
+unfolding temperature_at
+first_temperature strip = refl
+
+not_past : (strip : Strip) (passes : ℕ) → ((before : ℕ) → before < passes → 0 < temperature_at strip before) → (fewer : ℕ) → fewer < passes + 1 → is_past_last strip fewer ≡ false
+not_past strip passes warm zero l = refl
+not_past strip passes warm (suc fewer) l = let some = warm fewer (omega (arith, l)) in grind (arith, nat_tests, some)
+
+pub passes_are : (strip : Strip) (passes : ℕ) → passes ≤ 320 → temperature_at strip passes ≡ 0 → ((before : ℕ) → before < passes → 0 < temperature_at strip before) → passes + 1 ≡ pass_count strip
+passes_are strip passes few cold warm =
+    let next : suc passes ≡ passes + 1 = omega arith in
+    let at : is_past_last strip (suc passes) ≡ true = ap (λ t. t == 0) cold in
+    sym (pass_count_is strip (passes + 1) (omega (arith, few)) (not_past strip passes warm) (subst (λ n. is_past_last strip n ≡ true) next at))

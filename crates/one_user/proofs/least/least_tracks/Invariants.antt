@@ -1,0 +1,9 @@
+use Rattle.std.proofs.Common.{◌≤◌}
+use Rattle.one_user.specs.Tracks.{AreUnroutedBelow}
+use Rattle.one_user.proofs.least.least_tracks.Given as goal
+
+abbrev pub invariant-loop-tracks : goal.invariant-loop-tracks
+invariant-loop-tracks g l = record {
+  low : 1 ≤ l.tracks;
+  below : AreUnroutedBelow l.plan l.request l.tracks;
+}

@@ -1,0 +1,9 @@
+use Rattle.std.proofs.Common.{◌≡◌, ◌≤◌}
+use Rattle.strip_place.specs.Anneal.{temperature_at}
+use Rattle.one_user.proofs.passes.temperature_after.Given as goal
+
+abbrev pub invariant-loop-pass : goal.invariant-loop-pass
+invariant-loop-pass l = record {
+  is : l.temperature ≡ temperature_at l.strip l._pass-index;
+  low : l.temperature ≤ 320;
+}

@@ -1,0 +1,27 @@
+-- What the files are to the service: by its main theorem each tenancy is in the state of the service for a single user and is told what that
+-- service tells, on whatever device and beside whomever.
+use Rattle.std.specs.Prelude.{◌≡◌, ℕ, []}
+use Rattle.tenant_slot.specs.SingleUser.{State, answer_to}
+use Rattle.tenant_slot.specs.declared.command.Command.TheVariants.{Net, PlaceFile, RouteFile}
+use Rattle.tenant_slot.specs.declared.event.Event.TheVariants.{Command as Asked}
+use Rattle.tenant_slot.specs.declared.reply.FileKind.TheVariants.{Net as NetFile, Place as PlacesFile, Route as RoutesFile}
+use Rattle.tenant_slot.specs.declared.reply.Reply.TheVariants.{File}
+use Rattle.tenant_slot.specs.declared.reply.StateName.TheVariants.{Routed}
+use Rattle.one_user.specs.Outcomes.{Task}
+use Rattle.one_user.specs.declared.outcome.Files.{Files}
+
+-- a tenancy has the netlist routed, on a strip of the device's size, placed with that seed and that effort from no kept places
+pub record HasRouted (task : Task) (state : State) : Type 0 where
+  pub name : state.name ≡ Routed
+  pub arch : state.arch ≡ task.arch
+  pub strip : state.strip ≡ task.strip
+  pub text : state.text ≡ task.text
+  pub kept : state.kept ≡ []
+  pub seed : state.seed ≡ task.seed
+  pub effort : state.effort ≡ task.effort
+
+-- it is told these files when it asks for them
+pub record AreTold (files : Files) (state : State) : Type 0 where
+  pub net : (answer_to state (Asked Net)).1 ≡ File NetFile files.net
+  pub places : (answer_to state (Asked PlaceFile)).1 ≡ File PlacesFile files.places
+  pub routes : (answer_to state (Asked RouteFile)).1 ≡ File RoutesFile files.routes
