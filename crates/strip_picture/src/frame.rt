@@ -214,12 +214,12 @@ impl Frame {
     }
 
     /// Writes an entry of the legend: a square of a class, and words.
-    pub(crate) fn write_entry<K: Sink>(
+    pub(crate) fn write_entry<'p, K: Sink>(
         &self,
         sink: &mut K,
         entry: u32,
-        class: &str,
-        words: &str,
+        class: &'p str,
+        words: &'p str,
     ) -> Result<(), Failed>
         requires { entry ≤ 8 }
     {
