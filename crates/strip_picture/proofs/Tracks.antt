@@ -4,6 +4,7 @@ use Rattle.std.specs.List.{list_any, range_with_len, count_by, slice_index}
 use Rattle.std.specs.Int.{bit_at}
 use Rattle.std.proofs.lemmas.List.{get_or-set_same, get_or-set_other, get_or-replicate, length-replicate}
 use Rattle.std.proofs.lemmas.List.Folds.{list_any-append}
+use Rattle.std.proofs.lemmas.List.Sums.{sum_by-cons}
 use Rattle.std.proofs.lemmas.Nat.Bits.{bit_at_set_same, bit_at_set_other, bit_at-zero, shr_and_one, bit_at-lt}
 use Rattle.std.proofs.lemmas.Bool.Decides.{eqb_tells, nat_tests}
 use Rattle.rr_graph.specs.declared.node.NodeKind.{NodeKind}
@@ -146,8 +147,11 @@ no_wire read across up d x y t ly lt = ap (λ b. b && (read.node.x == x) && (rea
 same_count : (p q : ℕ → Bool) (a n : ℕ) → ((t : ℕ) → a ≤ t → t < a + n → p t ≡ q t) → count_by p (range_with_len a n) ≡ count_by q (range_with_len a n)
 same_count p q a zero h = refl
 same_count p q a (suc n) h =
-    ap (λ b. cond {A = ℕ} b 1 0 + count_by p (range_with_len (a + 1) n)) (h a (omega arith) (omega arith))
-    ∙ ap (λ m. cond {A = ℕ} (q a) 1 0 + m) (same_count p q (a + 1) n (λ t least most. h t (omega arith) (omega arith)))
+    let one : (Bool → ℕ) = λ b. cond {A = ℕ} b 1 0 in
+    sum_by-cons (λ t. one (p t)) a (range_with_len (a + 1) n)
+    ∙ (ap (λ b. one b + count_by p (range_with_len (a + 1) n)) (h a (omega arith) (omega arith))
+    ∙ (ap (λ m. one (q a) + m) (same_count p q (a + 1) n (λ t least most. h t (omega arith) (omega arith)))
+    ∙ sym (sum_by-cons (λ t. one (q t)) a (range_with_len (a + 1) n))))
 
 one_bit : (b : Bool) (m : ℕ) → m ≡ cond {A = ℕ} b 1 0 → (m == 1) ≡ b
 one_bit true m e = ap (λ k. k == 1) e
@@ -162,7 +166,7 @@ counted nodes used d x y lx ly h =
     (λ t least most. one_bit (list_any (is_wire d x y t) nodes) _ (shr_and_one (get_or used (channel_number d x y) 0) t ∙ h.bits d x y t lx ly most))
 
 -- where no bit is set no node was seen
-zeros : (channels : ℕ) (d : Direction) (x y : ℕ) → channels ≡ CHANNELS → x ≤ 256 → y ≤ 64 → get_or (replicate channels 0) (channel_number d x y) 0 ≡ 0
+zeros : (channels : ℕ) (d : Direction) (x y : ℕ) → channels ≡ CHANNELS → x ≤ 256 → y ≤ 64 → ◌≡◌ {A = ℕ} (get_or (replicate channels 0) (channel_number d x y) 0) 0
 zeros channels Across x y long lx ly = get_or-replicate channels (channel_number Across x y) 0 0 (omega arith)
 zeros channels Up x y long lx ly = get_or-replicate channels (channel_number Up x y) 0 0 (omega arith)
 
@@ -171,3 +175,8 @@ none_used channels long = record {
   long = length-replicate channels 0 ∙ long;
   bits = λ d x y t lx ly lt. ap (λ m. bit_at m t) (zeros channels d x y long lx ly) ∙ bit_at-zero t;
 }
+
+pub counted_at : (nodes : List RouteNode) (used : List ℕ) (d : Direction) (x y number count : ℕ) → x ≤ 256 → y ≤ 64 → number ≡ channel_number d x y
+    → count ≡ count_by (λ t. bit_and (get_or used number 0 / 2 ^ t) 1 == 1) (range_with_len 0 MOST_TRACKS) → HasTracks nodes used → count ≡ tracks_in d x y nodes
+counted_at nodes used d x y number count lx ly is told h =
+    told ∙ (ap (λ k. count_by (λ t. bit_and (get_or used k 0 / 2 ^ t) 1 == 1) (range_with_len 0 MOST_TRACKS)) is ∙ counted nodes used d x y lx ly h)

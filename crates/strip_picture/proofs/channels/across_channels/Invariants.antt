@@ -8,4 +8,4 @@ use Rattle.strip_picture.proofs.channels.across_channels.Given as goal
 -- the channels before this one are told
 abbrev pub invariant-loop-number : goal.invariant-loop-number
 invariant-loop-number l =
-    (nodes : List RouteNode) → HasTracks nodes l.used → l.channels.items ≡ map (λ number. use_of nodes Across (number / l.rows + 1) (number % l.rows)) (range_with_len 0 l.number)
+    (nodes : List RouteNode) → HasTracks nodes l.used → l.channels.items ≡ map (λ number. use_of nodes Across (number / (l.fn.size.rows + 1) + 1) (number % (l.fn.size.rows + 1))) (range_with_len 0 l.number)
