@@ -135,7 +135,7 @@ pub(crate) fn write_pad_names<K: Sink>(
     plan: Plan,
     strip: &RoutedStrip<'_>,
 ) -> Result<(), Failed> {
-    let letters = 100 * (plan.lattice.block - 1) / (6 * plan.pad_font);
+    let letters = (100 * plan.lattice.block / (6 * plan.pad_font)).saturating_sub(1);
     for block in strip.blocks.iter() {
         if block.kind != BlockKind::Cluster {
             let place = block.place;

@@ -75,8 +75,8 @@ impl Plan {
         let channel = tracks + 1;
         let block = channel.max(12).max(most.pin + 2).max(3 * most.pads).min(65);
         let pad = block / most.pads;
-        let name_font = (block - 1) * 100 / (6 * most.letters);
-        let pad_font = (block - 1) * 100 / (6 * most.pad_letters);
+        let name_font = 100 * block / (6 * (most.letters + 1));
+        let pad_font = 100 * block / (6 * (most.pad_letters + 1));
         let lattice = Lattice { block, channel };
         let length = size.columns * lattice.pitch() + channel;
         Plan {

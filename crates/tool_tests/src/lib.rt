@@ -1,8 +1,9 @@
-//! What the picture of a device shows and why an input for it is refused, what a report tells of it, and which scripts are made to measure with.
+//! What the pictures of a device and of a strip show and why an input for one is refused, what a report tells of a device, and which scripts are made to measure with.
 //!
 //! - `pictures`: marks and lines whose places follow from the sizes by hand, and a sink that fails.
 //! - `inputs`: the fault of each input that is refused, with its line.
 //! - `reports`: texts whose numbers were counted by hand.
+//! - `strip_pictures`: paths and numbers of a strip's picture that follow from the sizes by hand, and files that are refused.
 //! - `tools`: what the tools of the desk print for their words and input, and how they end.
 //! - `scripts`: architectures and netlists that the service's own readers take, and the limits of a plan.
 #![tactic(auto)]
@@ -15,5 +16,7 @@ mod pictures;
 mod reports;
 #[cfg(test)]
 mod scripts;
+#[cfg(test)]
+mod strip_pictures;
 #[cfg(test)]
 mod tools;
