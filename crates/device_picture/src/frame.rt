@@ -183,7 +183,7 @@ impl Frame {
                 Part::Text(" "),
                 Part::Number(y),
                 Part::Text(") translate(-"),
-                Part::Number(self.geometry.block),
+                Part::Number(self.geometry.lattice.block),
                 Part::Text(" 0)"),
             ],
         )
@@ -202,7 +202,7 @@ impl Frame {
         write_parts(sink, &[Part::Text("\" text-anchor=\"middle\">\n")])?;
         for column in 1..=geometry.columns {
             if column % step == 0 {
-                let x = geometry.start(column) + geometry.block / 2;
+                let x = geometry.lattice.start(column) + geometry.lattice.block / 2;
                 write_number(sink, "<text x=\"", x, column)?;
             }
         }
@@ -226,7 +226,7 @@ impl Frame {
         )?;
         for row in 1..=geometry.rows {
             if row % step == 0 {
-                let y = geometry.start(row) + geometry.block / 2;
+                let y = geometry.lattice.start(row) + geometry.lattice.block / 2;
                 write_number(sink, "<text dy=\".35em\" y=\"-", y, row)?;
             }
         }
@@ -238,7 +238,7 @@ impl Frame {
         ensures { 1 ≤ result }
     {
         for step in [1, 2, 5, 10, 20, 50].iter() {
-            if *step * self.geometry.pitch() >= 3 * self.font {
+            if *step * self.geometry.lattice.pitch() >= 3 * self.font {
                 return *step;
             }
         }

@@ -1,19 +1,15 @@
-//! Where things stand in the picture.
-//!
-//! Lengths are counted in the distance of two tracks. Columns and rows are squares side by side, `pitch` long: of column x the
-//! blocks and pads stand in the first `block` of it, and the vertical channel right of them in the rest. So does row y upwards, with the
-//! horizontal channel above its blocks. The pads of row 0 stand at its upper end, those above the last row at their row's lower end.
+//! Where things stand in the picture: columns, rows and tracks as [`picture_lines::Lattice`] has them. The pads of row 0 stand at its upper
+//! end, those above the last row at their row's lower end.
 ghost use Rattle.std.specs.Prelude.{◌+◌, ◌*◌, ◌≤◌};
 
 use crate::device::Device;
+use picture_lines::Lattice;
 
 /// Where things stand. Heights count upwards.
 #[derive(Clone, Copy)]
 pub(crate) struct Geometry {
-    /// How long and high a block is.
-    pub(crate) block: u32,
-    /// How wide a channel is.
-    pub(crate) channel: u32,
+    /// How large blocks and channels are.
+    pub(crate) lattice: Lattice,
     /// Columns of the device.
     pub(crate) columns: u32,
     /// Rows of the device.
@@ -28,12 +24,10 @@ pub(crate) struct Geometry {
     pub(crate) pin: u32,
     /// How far the pins stand from the sides of their block.
     pub(crate) inset: u32,
-    ghost block_small: { (4 ≤ block) × (block ≤ 65) },
-    ghost channel_small: { (1 ≤ channel) × (channel ≤ 65) },
     ghost columns_small: { (1 ≤ columns) × (columns ≤ 256) },
     ghost rows_small: { (1 ≤ rows) × (rows ≤ 64) },
     ghost pad_small: { (2 ≤ pad) × (pad ≤ 65) },
-    ghost pad_low: { (2 ≤ pad_height) × (pad_height ≤ block) },
+    ghost pad_low: { (2 ≤ pad_height) × (pad_height ≤ lattice.block) },
     ghost side_small: { (1 ≤ side) × (side ≤ 13) },
     ghost pin_small: { (1 ≤ pin) × (pin ≤ 65) },
     ghost inset_small: { inset ≤ 65 },
@@ -48,8 +42,7 @@ impl Geometry {
         let block = channel.max(side + 2).max(2 * size.pads).max(4);
         let pin = (block - 2) / side;
         Geometry {
-            block,
-            channel,
+            lattice: Lattice { block, channel },
             columns: size.columns,
             rows: size.rows,
             pad: block / size.pads,
@@ -60,59 +53,25 @@ impl Geometry {
         }
     }
 
-    /// How far two columns, or two rows, stand apart.
-    pub(crate) fn pitch(&self) -> u32
-        ensures small { result ≤ 130 }
-        ensures block { self.now.block ≤ result }
-        ensures some { 5 ≤ result }
-    {
-        self.block + self.channel
-    }
-
-    /// Where column or row `number` begins.
-    pub(crate) fn start(&self, number: u32) -> u32
-        requires { number ≤ 257 }
-        ensures { result ≤ 33_410 }
-    {
-        number * self.pitch()
-    }
-
-    /// The line of a track in the channel behind column or row `number`.
-    pub(crate) fn track(&self, number: u32, track: u32) -> u32
-        requires number { number ≤ 257 }
-        requires track { track ≤ 144 }
-        ensures { result ≤ 33_700 }
-    {
-        self.start(number) + self.block + track + 1
-    }
-
-    /// The length of so many columns or rows.
-    pub(crate) fn span(&self, count: u32) -> u32
-        requires { count ≤ 257 }
-        ensures { result ≤ 33_410 }
-    {
-        count * self.pitch()
-    }
-
     /// How long the device is, from its first channel to its last one.
     pub(crate) fn length(&self) -> u32
         ensures { result ≤ 33_500 }
     {
-        self.span(self.columns) + self.channel
+        self.lattice.span(self.columns) + self.lattice.channel
     }
 
     /// How high the device is, from the lower pads to the upper ones.
     pub(crate) fn height(&self) -> u32
         ensures { result ≤ 33_700 }
     {
-        self.span(self.rows) + self.channel + 2 * self.pad_height
+        self.lattice.span(self.rows) + self.lattice.channel + 2 * self.pad_height
     }
 
     /// How high the lower end of the lower pads stands.
     pub(crate) fn bottom(&self) -> u32
         ensures { result ≤ 65 }
     {
-        self.block - self.pad_height
+        self.lattice.block - self.pad_height
     }
 }
 

@@ -5,8 +5,8 @@ use crate::colours::write_colour;
 use crate::device::Device;
 use crate::geometry::Geometry;
 use crate::tenancy::Tenancy;
-use crate::wires::write_line;
 use line_text::{Failed, Sink};
+use picture_lines::{write_box, write_line};
 use text_parts::{Part, write_parts};
 
 /// Writes the device under what its tenancies own.
@@ -31,7 +31,13 @@ pub(crate) fn write_column<K: Sink>(
 {
     write_parts(sink, &[Part::Text("<defs><path id=\"c\" class=\"b\" d=\"")])?;
     for row in 1..=geometry.rows {
-        write_box(sink, 0, geometry.start(row), geometry.block, geometry.block)?;
+        write_box(
+            sink,
+            0,
+            geometry.lattice.start(row),
+            geometry.lattice.block,
+            geometry.lattice.block,
+        )?;
     }
     for pad in 0..pads {
         write_pads(sink, geometry, pad)?;
@@ -47,21 +53,12 @@ fn write_pads<K: Sink>(sink: &mut K, geometry: Geometry, pad: u32) -> Result<(),
     let width = geometry.pad - 1;
     let height = geometry.pad_height;
     write_box(sink, x, geometry.bottom(), width, height)?;
-    write_box(sink, x, geometry.start(geometry.rows + 1), width, height)
-}
-
-/// Writes a rectangle, as part of a path.
-fn write_box<K: Sink>(sink: &mut K, x: u32, y: u32, width: u32, height: u32) -> Result<(), Failed> {
-    write_line(sink, x, y, "h", width)?;
-    write_parts(
+    write_box(
         sink,
-        &[
-            Part::Text("v"),
-            Part::Number(height),
-            Part::Text("h-"),
-            Part::Number(width),
-            Part::Text("z"),
-        ],
+        x,
+        geometry.lattice.start(geometry.rows + 1),
+        width,
+        height,
     )
 }
 
@@ -72,7 +69,7 @@ fn write_columns<K: Sink>(sink: &mut K, geometry: Geometry) -> Result<(), Failed
             sink,
             &[
                 Part::Text("<use href=\"#c\" x=\""),
-                Part::Number(geometry.start(column)),
+                Part::Number(geometry.lattice.start(column)),
                 Part::Text("\"/>\n"),
             ],
         )?;
@@ -96,10 +93,10 @@ fn write_tracks<K: Sink>(sink: &mut K, geometry: Geometry, tracks: u32) -> Resul
 fn write_across<K: Sink>(sink: &mut K, geometry: Geometry, track: u32) -> Result<(), Failed>
     requires { track ≤ 64 }
 {
-    let end = geometry.track(geometry.columns, track);
-    let length = geometry.span(geometry.columns);
+    let end = geometry.lattice.track(geometry.columns, track);
+    let length = geometry.lattice.span(geometry.columns);
     for row in 0..=geometry.rows {
-        write_line(sink, end, geometry.track(row, track), "h-", length)?;
+        write_line(sink, end, geometry.lattice.track(row, track), "h-", length)?;
     }
     Ok(())
 }
@@ -108,10 +105,16 @@ fn write_across<K: Sink>(sink: &mut K, geometry: Geometry, track: u32) -> Result
 fn write_upwards<K: Sink>(sink: &mut K, geometry: Geometry, track: u32) -> Result<(), Failed>
     requires { track ≤ 64 }
 {
-    let end = geometry.track(geometry.rows, track);
-    let length = geometry.span(geometry.rows);
+    let end = geometry.lattice.track(geometry.rows, track);
+    let length = geometry.lattice.span(geometry.rows);
     for column in 0..=geometry.columns {
-        write_line(sink, geometry.track(column, track), end, "v-", length)?;
+        write_line(
+            sink,
+            geometry.lattice.track(column, track),
+            end,
+            "v-",
+            length,
+        )?;
     }
     Ok(())
 }
@@ -136,8 +139,8 @@ fn write_strip<K: Sink>(
     geometry: Geometry,
     tenancy: Tenancy<'_>,
 ) -> Result<(), Failed> {
-    let x = geometry.start(tenancy.offset) + geometry.block;
-    let width = geometry.span(tenancy.width) + geometry.channel;
+    let x = geometry.lattice.start(tenancy.offset) + geometry.lattice.block;
+    let width = geometry.lattice.span(tenancy.width) + geometry.lattice.channel;
     write_parts(sink, &[Part::Text("\" d=\"")])?;
     write_box(sink, x, geometry.bottom(), width, geometry.height())?;
     write_parts(sink, &[Part::Text("\"/>\n")])
@@ -152,12 +155,12 @@ fn write_guards<K: Sink>(
     write_parts(sink, &[Part::Text("<path class=\"g\" d=\"")])?;
     for column in 1..=geometry.columns {
         if device.is_guard(column) {
-            let x = geometry.start(column);
+            let x = geometry.lattice.start(column);
             write_box(
                 sink,
                 x,
                 geometry.bottom(),
-                geometry.block,
+                geometry.lattice.block,
                 geometry.height(),
             )?;
         }

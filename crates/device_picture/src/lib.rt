@@ -27,7 +27,8 @@ mod wires;
 
 pub use device::{Device, Owned};
 pub use fault::{Fault, InputFault, ReadError};
-pub use picture::{DrawError, draw};
+pub use picture::draw;
+pub use picture_lines::DrawError;
 pub use reader::read_device;
 pub use size::DeviceSize;
 pub use tenancy::Tenancy;

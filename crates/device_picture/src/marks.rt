@@ -99,11 +99,11 @@ fn pad_mark(geometry: Geometry, node: Resource, height: u32) -> Mark
     requires height { height ≤ geometry.pad_height }
 {
     Mark {
-        x: geometry.start(node.x) + node.n * geometry.pad,
+        x: geometry.lattice.start(node.x) + node.n * geometry.pad,
         y: if node.y == 0 {
-            geometry.block.saturating_sub(height)
+            geometry.lattice.block.saturating_sub(height)
         } else {
-            geometry.start(node.y)
+            geometry.lattice.start(node.y)
         },
         width: geometry.pad - 1,
         height,
@@ -118,8 +118,8 @@ fn pin_mark(geometry: Geometry, node: Resource) -> Mark
 {
     let length = geometry.pin - geometry.pin / 4;
     Mark {
-        x: geometry.start(node.x) + geometry.inset + node.n % geometry.side * geometry.pin,
-        y: geometry.start(node.y) + geometry.inset + node.n / geometry.side * geometry.pin,
+        x: geometry.lattice.start(node.x) + geometry.inset + node.n % geometry.side * geometry.pin,
+        y: geometry.lattice.start(node.y) + geometry.inset + node.n / geometry.side * geometry.pin,
         width: length,
         height: length,
     }

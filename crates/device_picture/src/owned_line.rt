@@ -3,9 +3,9 @@ ghost use Rattle.std.specs.Prelude.{◌≡◌, ◌≤◌, true};
 
 use crate::device::Owned;
 use crate::fault::Fault;
-use text_parts::Scanner;
 use crate::size::DeviceSize;
 use rr_graph::{Resource, ResourceKind};
+use text_parts::Scanner;
 
 /// How many pins a block has at most: 128 inputs, 16 outputs and a clock.
 const MOST_PINS: u32 = 145;

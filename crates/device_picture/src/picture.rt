@@ -8,32 +8,12 @@ use crate::legend::write_legend;
 use crate::marks::write_marks;
 use crate::runs::Runs;
 use crate::tenancy::Tenancy;
-use crate::wires::{Direction, write_wires};
+use crate::wires::write_wires;
 use line_text::{Failed, Sink};
+use picture_lines::{Direction, DrawError};
 use rr_graph::ResourceKind;
-use std::alloc::{AllocError, Global};
+use std::alloc::Global;
 use text_parts::{Part, write_parts};
-
-/// Why no picture was drawn, or not all of it.
-#[derive(Clone, Copy, Debug, PartialEq, Eq)]
-pub enum DrawError {
-    /// There is no memory. Nothing was written.
-    NoMemory,
-    /// The sink failed. It has taken a beginning of the picture.
-    Failed,
-}
-
-impl From<AllocError> for DrawError {
-    fn from(_error: AllocError) -> Self {
-        DrawError::NoMemory
-    }
-}
-
-impl From<Failed> for DrawError {
-    fn from(_failed: Failed) -> Self {
-        DrawError::Failed
-    }
-}
 
 /// How many runs of horizontal wires may grow at a time: the channels over 65 rows, with 65 places each.
 const LANES: usize = 4225;
@@ -103,7 +83,7 @@ fn write_owned<K: Sink>(
         return Ok(());
     }
     write_wires(sink, geometry, owned, Direction::Across, runs)?;
-    write_wires(sink, geometry, owned, Direction::Upwards, runs)?;
+    write_wires(sink, geometry, owned, Direction::Up, runs)?;
     write_marks(sink, geometry, owned, ResourceKind::Pad, "p")?;
     write_marks(sink, geometry, owned, ResourceKind::Opin, "o")?;
     write_marks(sink, geometry, owned, ResourceKind::Ipin, "i")

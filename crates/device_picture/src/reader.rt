@@ -5,11 +5,11 @@ ghost use Rattle.device_picture.specs.Owning.{AreOwners, IsOwners};
 use crate::device::{Device, Owned};
 use crate::fault::{Fault, InputFault, ReadError};
 use crate::owned_line::read_owned;
-use text_parts::Scanner;
 use crate::size::DeviceSize;
 use crate::tenancy::Tenancy;
 use line_text::is_word;
 use std::alloc::{AllocError, Global};
+use text_parts::Scanner;
 
 /// The operator's replies that tell nothing of the picture, by their first words.
 const OTHER_REPLIES: [&str; 9] = [

@@ -1,9 +1,9 @@
 //! The lines of `op list`.
 ghost use Rattle.std.specs.Prelude.{◌≡◌, ◌+◌, ◌≤◌, ◌<◌, length, true};
 
-use text_parts::Scanner;
 use crate::size::DeviceSize;
 use rr_graph::{Resource, ResourceKind};
+use text_parts::Scanner;
 
 /// How long a name may be.
 const LONGEST_NAME: usize = 32;

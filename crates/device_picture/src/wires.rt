@@ -5,15 +5,9 @@ use crate::geometry::Geometry;
 use crate::marks::LONGEST_PATH;
 use crate::runs::{Run, Runs};
 use line_text::{Failed, Sink};
+use picture_lines::{Direction, write_line};
 use rr_graph::ResourceKind;
 use text_parts::{Part, write_parts};
-
-/// Which way a channel goes.
-#[derive(Clone, Copy)]
-pub(crate) enum Direction {
-    Across,
-    Upwards,
-}
 
 /// Writes the wires that go one way among these nodes, as paths. Wires that adjoin are one line.
 pub(crate) fn write_wires<K: Sink>(
@@ -83,7 +77,7 @@ fn wire_of(owned: Owned, direction: Direction) -> Option<Run> {
     let node = owned.node;
     match (node.kind, direction) {
         (ResourceKind::ChanX, Direction::Across) => Some(Run::new(node.y, node.n, node.x)),
-        (ResourceKind::ChanY, Direction::Upwards) => Some(Run::new(node.x, node.n, node.y)),
+        (ResourceKind::ChanY, Direction::Up) => Some(Run::new(node.x, node.n, node.y)),
         _ => None,
     }
 }
@@ -91,8 +85,8 @@ fn wire_of(owned: Owned, direction: Direction) -> Option<Run> {
 /// Where a wire's run grows. In node order the wires of a column come one column at a time.
 fn lane_of(geometry: Geometry, wire: Run, direction: Direction) -> usize {
     let lane = match direction {
-        Direction::Across => wire.channel * geometry.channel + wire.track,
-        Direction::Upwards => wire.track,
+        Direction::Across => wire.channel * geometry.lattice.channel + wire.track,
+        Direction::Up => wire.track,
     };
     lane as usize
 }
@@ -104,32 +98,11 @@ fn write_run<K: Sink>(
     run: Run,
     direction: Direction,
 ) -> Result<(), Failed> {
-    let along = geometry.track(run.last, run.track);
-    let across = geometry.track(run.channel, run.track);
-    let length = geometry.span(run.count);
+    let along = geometry.lattice.track(run.last, run.track);
+    let across = geometry.lattice.track(run.channel, run.track);
+    let length = geometry.lattice.span(run.count);
     match direction {
         Direction::Across => write_line(sink, along, across, "h-", length),
-        Direction::Upwards => write_line(sink, across, along, "v-", length),
+        Direction::Up => write_line(sink, across, along, "v-", length),
     }
-}
-
-/// Writes a line back from a point, by the command for its direction.
-pub(crate) fn write_line<K: Sink>(
-    sink: &mut K,
-    x: u32,
-    y: u32,
-    command: &str,
-    length: u32,
-) -> Result<(), Failed> {
-    write_parts(
-        sink,
-        &[
-            Part::Text("M"),
-            Part::Number(x),
-            Part::Text(" "),
-            Part::Number(y),
-            Part::Text(command),
-            Part::Number(length),
-        ],
-    )
 }

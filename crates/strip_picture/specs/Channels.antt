@@ -1,5 +1,5 @@
 -- How many tracks of each channel are used.
-use Rattle.std.specs.Prelude.{ℕ, ◌≡◌, ◌+◌, ◌*◌, ◌/◌, ◌%◌, ◌<◌, ◌≤◌, List, length, map, count_by, cond, Bool, true, false, ◌&&◌, ◌==◌}
+use Rattle.std.specs.Prelude.{ℕ, ◌≡◌, ◌+◌, ◌*◌, ◌/◌, ◌%◌, ◌<◌, ◌≤◌, List, length, map, count_by, cond, Bool, true, false, ◌&&◌, ◌==◌, eqb}
 use Rattle.std.specs.List.{list_any, range_with_len, slice_index}
 use Rattle.std.specs.Int.{bit_at}
 use Rattle.rr_graph.specs.declared.node.NodeKind.{NodeKind}
@@ -12,26 +12,22 @@ use Rattle.strip_picture.specs.declared.channels.ChannelUse.{ChannelUse}
 use Rattle.strip_picture.specs.declared.channels.TheConstants.{CHANNELS, MOST_TRACKS}
 
 -- whether it is a wire of a channel that goes that way
-abbrev pub goes : Direction → NodeKind → Bool
-goes Across ChanX = true
-goes Across ChanY = false
-goes Across Source = false
-goes Across Sink = false
-goes Across Opin = false
-goes Across Ipin = false
-goes Up ChanY = true
-goes Up ChanX = false
-goes Up Source = false
-goes Up Sink = false
-goes Up Opin = false
-goes Up Ipin = false
+abbrev pub goes : NodeKind → Direction → Bool
+goes ChanX Across = true
+goes ChanX Up = false
+goes ChanY Across = false
+goes ChanY Up = true
+goes Source direction = false
+goes Sink direction = false
+goes Opin direction = false
+goes Ipin direction = false
 
 -- whether a node is the wire of that track of a channel
 abbrev pub is_wire : Direction → ℕ → ℕ → ℕ → RouteNode → Bool
-is_wire direction x y track read = goes direction read.node.kind && (read.node.x == x) && (read.node.y == y) && (read.node.n == track)
+is_wire direction x y track read = goes read.node.kind direction && (read.node.x == x) && (read.node.y == y) && (read.node.n == track)
 
 -- how many tracks of a channel the nodes use: of how many tracks one of them is the wire
-abbrev pub tracks_in : Direction → ℕ → ℕ → List RouteNode → ℕ
+unfoldable pub tracks_in : Direction → ℕ → ℕ → List RouteNode → ℕ
 tracks_in direction x y nodes = count_by (λ track. list_any (is_wire direction x y track) nodes) (range_with_len 0 MOST_TRACKS)
 
 -- a channel, and how many of its tracks are used
@@ -52,6 +48,17 @@ up_uses size nodes =
 abbrev pub channel_number : Direction → ℕ → ℕ → ℕ
 channel_number Across x y = 2 * (65 * x + y)
 channel_number Up x y = 2 * (65 * x + y) + 1
+
+-- private: a node is no wire
+abbrev pub IsNoWire : RouteNode → Type 0
+IsNoWire read = (direction : Direction) (x y track : ℕ) → y ≤ 64 → track < MOST_TRACKS → is_wire direction x y track read ≡ false
+
+-- private: a node is a wire of the channel of that number, and of no other
+pub record IsWireOf (read : RouteNode) (number : ℕ) : Type 0 where
+  pub within : number < CHANNELS
+  pub small : read.node.n < MOST_TRACKS
+  pub only : (direction : Direction) (x y track : ℕ) → y ≤ 64
+      → is_wire direction x y track read ≡ (eqb number (channel_number direction x y) && eqb read.node.n track)
 
 -- private: in the numbers of all channels the bits of those tracks are set that the nodes use
 pub record HasTracks (nodes : List RouteNode) (used : List ℕ) : Type 0 where

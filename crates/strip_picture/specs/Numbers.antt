@@ -21,9 +21,12 @@ abbrev pub goes_across : Direction → Bool
 goes_across Up = false
 goes_across Across = true
 
+-- a number at a point of the picture
+abbrev pub text_at : ℕ → ℕ → ℕ → List ℕ
+text_at x y number =
+    concat (codes "<text x=\"" ∷ decimal x ∷ codes "\" y=\"-" ∷ decimal y ∷ codes "\" dy=\".35em\">" ∷ decimal number ∷ codes "</text>\n" ∷ [])
+
 -- the text in the middle of a channel: how many of its tracks are used
 abbrev pub number_text : Lattice → ChannelUse → List ℕ
-number_text lattice channel = concat (
-    codes "<text x=\"" ∷ decimal (middle lattice channel.x (goes_up channel.direction))
-    ∷ codes "\" y=\"-" ∷ decimal (middle lattice channel.y (goes_across channel.direction))
-    ∷ codes "\" dy=\".35em\">" ∷ decimal channel.tracks ∷ codes "</text>\n" ∷ [])
+number_text lattice channel =
+    text_at (middle lattice channel.x (goes_up channel.direction)) (middle lattice channel.y (goes_across channel.direction)) channel.tracks

@@ -135,7 +135,7 @@ pub(crate) fn write_pad_names<K: Sink>(
     plan: Plan,
     strip: &RoutedStrip<'_>,
 ) -> Result<(), Failed> {
-    let letters = 100 * (plan.lattice.block - 1) / (6 * plan.pad_font);
+    let letters = (100 * plan.lattice.block / (6 * plan.pad_font)).saturating_sub(1);
     for block in strip.blocks.iter() {
         if block.kind != BlockKind::Cluster {
             let place = block.place;
@@ -156,12 +156,12 @@ pub(crate) fn write_pad_names<K: Sink>(
 }
 
 /// Begins a text at a point, with what parts its coordinates and what follows them.
-fn begin_name<K: Sink>(
+fn begin_name<'p, K: Sink>(
     sink: &mut K,
     x: u32,
-    between: &str,
+    between: &'p str,
     y: u32,
-    end: &str,
+    end: &'p str,
 ) -> Result<(), Failed> {
     write_parts(
         sink,

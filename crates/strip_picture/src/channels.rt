@@ -1,7 +1,8 @@
 //! How many tracks of each channel are used.
-ghost use Rattle.std.specs.Prelude.{◌≡◌, ◌≤◌, ◌<◌, ◌++◌, ◌∷◌, [], ℕ, List, length, IfOk};
+ghost use Rattle.std.specs.Prelude.{◌≡◌, ◌≤◌, ◌<◌, ◌++◌, ◌∷◌, ◌*◌, ◌/◌, ◌%◌, ◌^◌, ◌==◌, [], List, bit_and, bit_or, count_by, length, slice_index, slice_set as set, IfOk, MatchOption};
+ghost use Rattle.std.specs.List.{range_with_len};
 ghost use Rattle.strip_files.specs.declared.route_node.RouteNode.{RouteNode};
-ghost use Rattle.strip_picture.specs.Channels.{HasTracks, across_uses, channel_number, tracks_in, up_uses};
+ghost use Rattle.strip_picture.specs.Channels.{HasTracks, IsNoWire, IsWireOf, across_uses, channel_number, tracks_in, up_uses};
 
 use picture_lines::Direction;
 use rr_graph::{Node, NodeKind};
@@ -47,29 +48,55 @@ pub fn channels_of(alloc: Global, strip: &RoutedStrip<'_>) -> Result<Channels, A
 fn used_tracks(alloc: Global, nodes: &[RouteNode]) -> Result<Vec<u64>, AllocError>
     ensures { IfOk result (λ used. HasTracks nodes.now used.items) }
 {
-    let mut used = Vec::from_elem(alloc, 0, CHANNELS)?;
+    let mut used = no_tracks(alloc, CHANNELS)?;
     for read in nodes {
         used = marked(used, *read);
     }
     Ok(used)
 }
 
+/// No tracks of so many channels.
+fn no_tracks(alloc: Global, channels: usize) -> Result<Vec<u64>, AllocError>
+    requires { channels ≡ CHANNELS }
+    ensures { IfOk result (λ used. HasTracks [] used.items) }
+{
+    Vec::from_elem(alloc, 0, channels)
+}
+
 /// The used tracks with that of a node, if it is a wire.
-fn marked(mut used: Vec<u64>, read: RouteNode) -> Vec<u64>
+fn marked(used: Vec<u64>, read: RouteNode) -> Vec<u64>
     requires { length used.items ≡ CHANNELS }
     ensures { (nodes : List RouteNode) → HasTracks nodes used.items → HasTracks (nodes ++ read ∷ []) result.items }
 {
-    let Node { x, kind, y, n } = read.node;
-    let direction = match kind {
-        NodeKind::ChanX => Direction::Across,
-        NodeKind::ChanY => Direction::Up,
-        _ => return used,
-    };
-    if y <= 64 && n < MOST_TRACKS {
-        let place = channel_number(direction, x, y);
-        used[place] |= 1 << n;
+    match channel_of(read) {
+        Some(number) => with_track(used, number, read.node.n),
+        None => used,
     }
+}
+
+/// The used tracks with one more of the channel of that number.
+fn with_track(mut used: Vec<u64>, number: usize, track: u32) -> Vec<u64>
+    requires channel { number < length used.items }
+    requires track { track < MOST_TRACKS }
+    ensures { result.items ≡ set used.items number (bit_or (slice_index used.items number) (1 * 2 ^ track % 2 ^ 64)) }
+{
+    used[number] |= 1 << track;
     used
+}
+
+/// The number of the channel that a node is a wire of.
+fn channel_of(read: RouteNode) -> Option<usize>
+    ensures { MatchOption result (IsNoWire read) (IsWireOf read) }
+{
+    let Node { x, kind, y, n } = read.node;
+    if y > 64 || n >= MOST_TRACKS {
+        return None;
+    }
+    match kind {
+        NodeKind::ChanX => Some(channel_number(Direction::Across, x, y)),
+        NodeKind::ChanY => Some(channel_number(Direction::Up, x, y)),
+        _ => None,
+    }
 }
 
 /// The number of a channel.
@@ -92,10 +119,15 @@ fn tracks_in(used: &[u64], direction: Direction, x: u32, y: u32) -> usize
     requires row { y ≤ 64 }
     ensures { (nodes : List RouteNode) → HasTracks nodes used.now → result ≡ tracks_in direction x y nodes }
 {
-    let bits = used[channel_number(direction, x, y)];
-    (0..MOST_TRACKS)
-        .filter(|track| bits >> *track & 1 == 1)
-        .count()
+    bits_set(used[channel_number(direction, x, y)], MOST_TRACKS)
+}
+
+/// How many of the first so many bits are set.
+fn bits_set(bits: u64, count: u32) -> usize
+    requires { count ≤ 64 }
+    ensures { result ≡ count_by (λ track. bit_and (bits / 2 ^ track) 1 == 1) (range_with_len 0 count) }
+{
+    (0..count).filter(|track| bits >> *track & 1 == 1).count()
 }
 
 /// The channels above rows.

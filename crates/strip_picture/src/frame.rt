@@ -19,7 +19,7 @@ const STYLES: &str = "<style>text{font-family:sans-serif;fill:#222}\
 .c0{stroke:#1f77b4}.c1{stroke:#d62728}.c2{stroke:#2ca02c}.c3{stroke:#9467bd}.c4{stroke:#ff7f0e}.c5{stroke:#17a2b8}\
 .c6{stroke:#8c564b}.c7{stroke:#e377c2}.c8{stroke:#8a8d0f}.c9{stroke:#3949ab}.c10{stroke:#00796b}.c11{stroke:#ad1457}\
 .h{stroke:#d8d8d8;stroke-width:.15}.h0{fill:#f5f5f5}.h1{fill:#fff1dc}.h2{fill:#fedfb8}.h3{fill:#fdc68a}.h4{fill:#fdab67}\
-.h5{fill:#fb8a50}.h6{fill:#f3693f}.h7{fill:#e34a33}.h8{fill:#d02f26}</style>\n";
+.h5{fill:#fb8a50}.h6{fill:#f3693f}.h7{fill:#e34a33}.h8{fill:#d93a2b}</style>\n";
 
 /// How things are laid out on the sheet.
 #[derive(Clone, Copy)]
@@ -214,12 +214,12 @@ impl Frame {
     }
 
     /// Writes an entry of the legend: a square of a class, and words.
-    pub(crate) fn write_entry<K: Sink>(
+    pub(crate) fn write_entry<'p, K: Sink>(
         &self,
         sink: &mut K,
         entry: u32,
-        class: &str,
-        words: &str,
+        class: &'p str,
+        words: &'p str,
     ) -> Result<(), Failed>
         requires { entry ≤ 8 }
     {

@@ -2,7 +2,7 @@
 ghost use Rattle.std.specs.Prelude.{◌≡◌, ◌≤◌};
 ghost use Rattle.std.specs.List.{flat_map};
 ghost use Rattle.line_text.specs.Writing.{Writes};
-ghost use Rattle.strip_picture.specs.Numbers.{middle, number_text};
+ghost use Rattle.strip_picture.specs.Numbers.{goes_across, goes_up, middle, number_text, text_at};
 
 use crate::channels::{ChannelUse, Channels};
 use crate::plan::Plan;
@@ -94,8 +94,15 @@ pub fn write_number<K: Sink>(
 ) -> Result<(), Failed>
     ensures { Writes K.contents K.has_failed sink.old sink.new (number_text lattice channel) result }
 {
-    let x = middle(lattice, channel.x, channel.direction == Direction::Up);
-    let y = middle(lattice, channel.y, channel.direction == Direction::Across);
+    let x = middle(lattice, channel.x, goes_up(channel.direction));
+    let y = middle(lattice, channel.y, goes_across(channel.direction));
+    write_at(sink, x, y, channel.tracks as u64)
+}
+
+/// Writes a number at a point.
+fn write_at<K: Sink>(sink: &mut K, x: u64, y: u64, number: u64) -> Result<(), Failed>
+    ensures { Writes K.contents K.has_failed sink.old sink.new (text_at x y number) result }
+{
     write_parts(
         sink,
         &[
@@ -104,7 +111,7 @@ pub fn write_number<K: Sink>(
             Part::Text("\" y=\"-"),
             Part::Long(y),
             Part::Text("\" dy=\".35em\">"),
-            Part::Long(channel.tracks as u64),
+            Part::Long(number),
             Part::Text("</text>\n"),
         ],
     )
@@ -119,5 +126,25 @@ fn middle(lattice: Lattice, number: u32, behind: bool) -> u64
         start + u64::from(lattice.block + lattice.channel / 2)
     } else {
         start + u64::from(lattice.block / 2)
+    }
+}
+
+/// Whether a channel goes upwards.
+fn goes_up(direction: Direction) -> bool
+    ensures { result ≡ goes_up direction }
+{
+    match direction {
+        Direction::Up => true,
+        Direction::Across => false,
+    }
+}
+
+/// Whether a channel goes across.
+fn goes_across(direction: Direction) -> bool
+    ensures { result ≡ goes_across direction }
+{
+    match direction {
+        Direction::Up => false,
+        Direction::Across => true,
     }
 }

@@ -1,12 +1,12 @@
 //! Where things stand in the picture of a strip.
 //!
-//! Blocks are large enough for ten letters side by side, or for the longest name. Pads are as high as a block: those of row 0 stand at
-//! its upper end, those above the last row at their row's lower end.
+//! Letters of clusters, and those of pads, are as large as the longest name lets them be in one line, but for ten letters a line at most. Pads
+//! are as high as a block.
 ghost use Rattle.std.specs.Prelude.{◌+◌, ◌*◌, ◌≤◌};
 
 use picture_lines::Lattice;
 use rr_graph::NodeKind;
-use strip_files::{RoutedStrip, StripSize};
+use strip_files::{BlockKind, RoutedStrip, StripSize};
 
 /// The letters of a line in a block, at most.
 const MOST_LETTERS: u32 = 10;
@@ -45,12 +45,15 @@ struct Most {
     pin: u32,
     /// The pads of an end of a column, by those that are used.
     pads: u32,
-    /// The letters of a name.
+    /// The letters of a cluster's name.
     letters: u32,
+    /// The letters of a pad's name.
+    pad_letters: u32,
     ghost tracks_small: { (1 ≤ tracks) × (tracks ≤ 64) },
     ghost pin_small: { pin ≤ 144 },
     ghost pads_small: { (1 ≤ pads) × (pads ≤ 8) },
     ghost letters_small: { (3 ≤ letters) × (letters ≤ 10) },
+    ghost pad_letters_small: { (3 ≤ pad_letters) × (pad_letters ≤ 10) },
 }
 
 impl Plan {
@@ -72,7 +75,8 @@ impl Plan {
         let channel = tracks + 1;
         let block = channel.max(12).max(most.pin + 2).max(3 * most.pads).min(65);
         let pad = block / most.pads;
-        let name_font = (block - 1) * 100 / (6 * most.letters);
+        let name_font = 100 * block / (6 * (most.letters + 1));
+        let pad_font = 100 * block / (6 * (most.pad_letters + 1));
         let lattice = Lattice { block, channel };
         let length = size.columns * lattice.pitch() + channel;
         Plan {
@@ -81,7 +85,7 @@ impl Plan {
             pad,
             letters: most.letters,
             name_font: name_font.min(3 * block).max(1),
-            pad_font: name_font.min((pad - 1) * 8).max(1),
+            pad_font: pad_font.min((pad - 1) * 8).max(1),
             font: (length / 80).clamp(1, 40),
         }
     }
@@ -123,6 +127,7 @@ impl Most {
             pin: 0,
             pads: 1,
             letters: 3,
+            pad_letters: 3,
         };
         most.see_nodes(strip);
         most.see_blocks(strip);
@@ -146,7 +151,11 @@ impl Most {
         for block in strip.blocks.iter() {
             self.pads = self.pads.max(block.place.subblock + 1);
             let letters = block.name.len().min(MOST_LETTERS as usize) as u32;
-            self.letters = self.letters.max(letters);
+            if block.kind == BlockKind::Cluster {
+                self.letters = self.letters.max(letters);
+            } else {
+                self.pad_letters = self.pad_letters.max(letters);
+            }
         }
     }
 }

@@ -16,7 +16,7 @@ pub(crate) const TOLD_LETTERS: usize = 60;
 const COLOURS: usize = 12;
 
 /// How many lines are drawn, at most. More would make a picture of more than 10 MB.
-const MOST_LINES: u64 = 400_000;
+const MOST_LINES: u64 = 300_000;
 
 /// How much of the routes is drawn.
 #[derive(Clone, Copy, Debug, PartialEq, Eq)]

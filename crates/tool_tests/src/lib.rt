@@ -1,10 +1,11 @@
-//! What the picture of a device shows and why an input for it is refused, what a report tells of it, and which scripts are made to measure with.
+//! What the pictures of a device and of a strip show and why an input for one is refused, what a report tells of a device, and which scripts are made to measure with.
 //!
 //! - `pictures`: marks and lines whose places follow from the sizes by hand, and a sink that fails.
 //! - `desk_files`: what the tools of the desk that read and write files print and leave.
 //! - `inputs`: the fault of each input that is refused, with its line.
 //! - `own_devices`: what comes of netlists on a device of one user's own.
 //! - `reports`: texts whose numbers were counted by hand.
+//! - `strip_pictures`: paths and numbers of a strip's picture that follow from the sizes by hand, and files that are refused.
 //! - `tools`: what the tools of the desk print for their words and input, and how they end.
 //! - `replies`: what is read back of a printed text whose files hold lines like headings, what is told beside a script, and texts that don't fit.
 //! - `scripts`: architectures and netlists that the service's own readers take, and the limits of a plan.
@@ -24,5 +25,7 @@ mod replies;
 mod reports;
 #[cfg(test)]
 mod scripts;
+#[cfg(test)]
+mod strip_pictures;
 #[cfg(test)]
 mod tools;

@@ -1,0 +1,25 @@
+use Rattle.std.proofs.Common.{◌≡◌, ◌∙◌, ◌+◌, ◌*◌, ◌/◌, ◌%◌, ◌++◌, ◌∷◌, [], ℕ, List, map, ap, sym, arith, zero-add}
+use Rattle.std.specs.List.{range_with_len}
+use Rattle.std.proofs.lemmas.List.FromFn.{map-range_with_len_more}
+use Rattle.picture_lines.specs.declared.lattice.Direction.TheVariants.{Up}
+use Rattle.strip_files.specs.declared.size.StripSize.{StripSize}
+use Rattle.strip_picture.specs.declared.channels.ChannelUse.{ChannelUse}
+use Rattle.strip_picture.specs.Channels.{use_of}
+use Rattle.strip_picture.proofs.channels.up_channels.Goals as goal
+
+pub loop-number-preserved : goal.loop-number-preserved
+loop-number-preserved c nodes h =
+    let size : StripSize = c.args.size in
+    let n : ℕ = c.loop-number.number in
+    let f : ℕ → ChannelUse = λ number. use_of nodes Up (number / size.rows) (number % size.rows + 1) in
+    let one : ℕ → ChannelUse = λ tracks. record { direction = Up; x = n / size.rows; y = n % size.rows + 1; tracks = tracks } in
+    c.in_ok-push.ensures.items
+    ∙ (ap (λ (told : List ChannelUse). told ++ one c.tracks_in-tracks.result ∷ []) (c.loop-number.invariant nodes h)
+    ∙ (ap (λ tracks. map f (range_with_len 0 n) ++ one tracks ∷ []) (c.tracks_in-tracks.ensures nodes h) ∙ sym (map-range_with_len_more f 0 n n (zero-add n))))
+
+pub returns : goal.returns
+returns c nodes h =
+    let size : StripSize = c.args.size in
+    let f : ℕ → ChannelUse = λ number. use_of nodes Up (number / size.rows) (number % size.rows + 1) in
+    let all : c.loop-number.number ≡ (size.columns + 1) * size.rows = omega arith in
+    c.loop-number.invariant nodes h ∙ ap (λ n. map f (range_with_len 0 n)) all

@@ -1,0 +1,19 @@
+use Rattle.std.proofs.lemmas.Option.{slice_get-get_or}
+use Rattle.line_text.proofs.WritingLemmas.{all_loop, part_loop, writes_part}
+use Rattle.picture_lines.specs.declared.lattice.Direction.TheVariants.{Across}
+use Rattle.strip_picture.specs.declared.channels.ChannelUse.{ChannelUse}
+use Rattle.strip_picture.specs.Numbers.{number_text}
+use Rattle.strip_picture.proofs.heat.write_numbers.Goals as goal
+
+-- a channel, where a list has none
+abbrev none : ChannelUse
+none = record { direction = Across; x = 0; y = 0; tracks = 0 }
+
+pub returns-in_err-write_number : goal.returns-in_err-write_number
+returns-in_err-write_number g c =
+    writes_part _ c.from_residual.ensures.0
+    (part_loop (number_text c.args.lattice) _ c.loop-channel.channel-index _ (slice_get-get_or _ _ none c.loop-channel-test.true) c.loop-channel.invariant c.in_err-write_number.ensures)
+
+pub loop-channel-preserved : goal.loop-channel-preserved
+loop-channel-preserved g c =
+    all_loop (number_text c.args.lattice) c.args.channels.now c.loop-channel.channel-index _ (slice_get-get_or _ _ none c.loop-channel-test.true) c.loop-channel.invariant c.in_ok-write_number.ensures
