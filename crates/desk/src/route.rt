@@ -1,22 +1,22 @@
 //! The tool that routes one netlist on a device of its own.
 ghost use Rattle.std.specs.Prelude.{◌≤◌, IfOk, IfSome};
 
-use crate::paths::{FileRole, make_folder, read_file, write_file};
 use crate::outcome::Outcome;
+use crate::paths::{FileRole, make_folder, read_file, write_file};
 use crate::silence::Silence;
 use arch_file::ArchError;
 use line_text::{Failed, MAX_TEXT, MemorySink, Sink, Text, TextError, write_parts};
 use one_user::{
-    DevicePlan, Figures, Files as Results, Least, Outcome as End, Request, Run, least_tracks, run_with,
-    write_figures,
+    DevicePlan, Figures, Files as Results, Least, Outcome as End, Request, Run, least_tracks,
+    run_with, write_figures,
 };
 use option_words::{Given, OptionWord, Program, Takes};
 use script_replies::advice_for;
 use sessions::write_reply;
 use std::alloc::Global;
 use std::rt::Files;
-use text_parts::Part;
 use tenant_slot::{Ending, Refusal, Reply, SharedText, StateName, Status};
+use text_parts::Part;
 
 const NO_FILE: &str = "an architecture, a netlist and a folder are wanted";
 
@@ -299,7 +299,10 @@ fn told_refused<E: Sink>(alloc: Global, refusal: Refusal, teller: &mut E) -> Out
 fn tell<E: Sink>(alloc: Global, reply: Reply, teller: &mut E) {
     let mut line = MemorySink::new(alloc);
     if write_reply(&mut line, &reply).is_ok() {
-        let _ = write_parts(teller, &[line.as_bytes(), advice_on(line.as_bytes()), b"\n"]);
+        let _ = write_parts(
+            teller,
+            &[line.as_bytes(), advice_on(line.as_bytes()), b"\n"],
+        );
     }
     drop(line);
     drop(reply);

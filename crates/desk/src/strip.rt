@@ -1,6 +1,6 @@
 //! The tool that draws one tenancy.
-use crate::paths::{FileRole, read_file};
 use crate::outcome::Outcome;
+use crate::paths::{FileRole, read_file};
 use line_text::{Sink, TextError};
 use option_words::{Given, OptionWord, Program, Takes};
 use std::alloc::Global;

@@ -67,10 +67,30 @@ fn a_netlist_that_is_routed_and_drawn(rt: HostRuntime) {
         "desk_route/and.blif",
         "desk_route/results",
     ];
-    assert!(rt; begins(&rt, route.as_slice(), b"", 0, "tracks 2\nlogic blocks 1/1\n"));
+    assert!(rt;
+        begins(
+            &rt,
+            route.as_slice(),
+            b"",
+            0,
+            "tracks 2\nlogic blocks 1/1\n"
+        )
+    );
     assert!(rt; holds(&rt, "desk_route/results/and.net", ROUTED_AND.net.as_bytes()));
-    assert!(rt; holds(&rt, "desk_route/results/and.place", ROUTED_AND.places.as_bytes()));
-    assert!(rt; holds(&rt, "desk_route/results/and.route", ROUTED_AND.routes.as_bytes()));
+    assert!(rt;
+        holds(
+            &rt,
+            "desk_route/results/and.place",
+            ROUTED_AND.places.as_bytes()
+        )
+    );
+    assert!(rt;
+        holds(
+            &rt,
+            "desk_route/results/and.route",
+            ROUTED_AND.routes.as_bytes()
+        )
+    );
     let strip = [
         "fpgad_desk",
         "strip",

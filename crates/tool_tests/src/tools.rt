@@ -88,15 +88,7 @@ fn scripts_of_a_tenancy(rt: HostRuntime) {
     assert!(rt; ends(&rt, words.as_slice(), NETLIST, 0, SCRIPT));
     let refused = b".model m\n.\nop evict victim\n";
     assert!(rt; ends(&rt, words.as_slice(), refused, 3, b""));
-    assert!(rt;
-        ends(
-            &rt,
-            words.as_slice(),
-            b".model m\n.end\n.\r\n",
-            3,
-            b""
-        )
-    );
+    assert!(rt; ends(&rt, words.as_slice(), b".model m\n.end\n.\r\n", 3, b""));
 }
 
 #[test]
@@ -126,13 +118,7 @@ fn words_that_are_refused(rt: HostRuntime) {
     ] {
         assert!(rt; refuses(&rt, words.as_slice(), kind));
     }
-    assert!(rt;
-        refuses(
-            &rt,
-            ["fpgad_desk"].as_slice(),
-            ErrorKind::MissingSubcommand
-        )
-    );
+    assert!(rt; refuses(&rt, ["fpgad_desk"].as_slice(), ErrorKind::MissingSubcommand));
     assert!(rt;
         refuses(
             &rt,
