@@ -24,6 +24,7 @@ mod script;
 mod silence;
 mod size;
 mod strip;
+mod words;
 
 pub use outcome::Outcome;
 pub use paths::FileRole;

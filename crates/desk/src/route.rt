@@ -4,6 +4,7 @@ ghost use Rattle.std.specs.Prelude.{◌≤◌, IfOk, IfSome};
 use crate::outcome::Outcome;
 use crate::paths::{FileRole, make_folder, read_file, write_file};
 use crate::silence::Silence;
+use crate::words::{COLUMNS, EFFORT, NO_DEVICE, ROWS, SEED};
 use arch_file::ArchError;
 use line_text::{Failed, MAX_TEXT, MemorySink, Sink, Text, TextError, write_parts};
 use one_user::{
@@ -21,8 +22,6 @@ use text_parts::Part;
 const NO_FILE: &str = "an architecture, a netlist and a folder are wanted";
 
 const NO_TRACKS: &str = "--tracks W or --least-tracks is wanted, and not both";
-
-const NO_DEVICE: &str = "no device has these sizes";
 
 /// As much of a text as is looked at: one byte more than it may have.
 const MAX_READ: u64 = MAX_TEXT as u64 + 1;
@@ -57,34 +56,10 @@ Example: fpgad_desk route --arch my.arch --tracks 8 --columns 10 --rows 10 --eff
             takes: Takes::Nothing,
             default: None,
         },
-        OptionWord {
-            name: "columns",
-            value_name: "NX",
-            help: "Columns of the device, 1 to 256",
-            takes: Takes::Number(1, 256),
-            default: Some("9"),
-        },
-        OptionWord {
-            name: "rows",
-            value_name: "NY",
-            help: "Rows of the device, 1 to 64",
-            takes: Takes::Number(1, 64),
-            default: Some("1"),
-        },
-        OptionWord {
-            name: "seed",
-            value_name: "S",
-            help: "Where the placing's draws begin, 0 to 18446744073709551615",
-            takes: Takes::Long,
-            default: Some("1"),
-        },
-        OptionWord {
-            name: "effort",
-            value_name: "E",
-            help: "How hard the placing tries, 0 to 100",
-            takes: Takes::Number(0, 100),
-            default: Some("50"),
-        },
+        COLUMNS,
+        ROWS,
+        SEED,
+        EFFORT,
         OptionWord {
             name: "progress",
             value_name: "",

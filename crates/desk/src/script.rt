@@ -2,6 +2,7 @@
 ghost use Rattle.desk.specs.Scripts.{Prints};
 
 use crate::outcome::Outcome;
+use crate::words::{EFFORT, SEED};
 use line_text::Sink;
 use option_words::{Given, OptionWord, Program, Takes};
 use tenancy_script::{TenancyScript, Wishes, is_name};
@@ -31,20 +32,8 @@ Example: fpgad_desk script --name T --width 2 --seed 1 --effort 50 < t.blif >> m
             takes: Takes::Number(1, 256),
             default: None,
         },
-        OptionWord {
-            name: "seed",
-            value_name: "S",
-            help: "Where the placing's draws begin, 0 to 18446744073709551615",
-            takes: Takes::Long,
-            default: Some("1"),
-        },
-        OptionWord {
-            name: "effort",
-            value_name: "E",
-            help: "How hard the placing tries, 0 to 100",
-            takes: Takes::Number(0, 100),
-            default: Some("50"),
-        },
+        SEED,
+        EFFORT,
     ],
 };
 

@@ -1,9 +1,7 @@
 //! The size of a device, as the tools take it.
+use crate::words::{COLUMNS, NO_DEVICE, ROWS};
 use device_picture::DeviceSize;
 use option_words::{Given, OptionWord, Takes};
-
-/// Why numbers are refused that are no device's.
-const NO_DEVICE: &str = "no device has these sizes";
 
 /// The options with a device's size.
 pub(crate) const SIZES: &[OptionWord] = &[
@@ -14,20 +12,8 @@ pub(crate) const SIZES: &[OptionWord] = &[
         takes: Takes::Number(1, 64),
         default: Some("2"),
     },
-    OptionWord {
-        name: "columns",
-        value_name: "NX",
-        help: "Columns of the device, 1 to 256",
-        takes: Takes::Number(1, 256),
-        default: Some("9"),
-    },
-    OptionWord {
-        name: "rows",
-        value_name: "NY",
-        help: "Rows of the device, 1 to 64",
-        takes: Takes::Number(1, 64),
-        default: Some("1"),
-    },
+    COLUMNS,
+    ROWS,
     OptionWord {
         name: "pads",
         value_name: "P",
