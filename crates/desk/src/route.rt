@@ -6,7 +6,9 @@ use crate::paths::{FileRole, make_folder, read_file, write_file};
 use crate::silence::Silence;
 use crate::words::{COLUMNS, EFFORT, NO_DEVICE, ROWS, SEED};
 use arch_file::ArchError;
-use line_text::{Failed, MAX_TEXT, MemorySink, Sink, Text, TextError, write_parts};
+use line_text::{
+    Failed, MAX_TEXT, MemorySink, Sink, Text, TextError, split_line, write_all, write_parts,
+};
 use one_user::{
     DevicePlan, Figures, Files as Results, Least, Outcome as End, Request, Run, least_tracks,
     run_with, write_figures,
@@ -270,23 +272,16 @@ fn told_refused<E: Sink>(alloc: Global, refusal: Refusal, teller: &mut E) -> Out
     Outcome::NetlistRefused
 }
 
-/// Tells a reply and what may be done, if that can be written.
+/// Tells a reply's line and what may be done, if that can be written.
 fn tell<E: Sink>(alloc: Global, reply: Reply, teller: &mut E) {
     let mut line = MemorySink::new(alloc);
     if write_reply(&mut line, &reply).is_ok() {
-        let _ = write_parts(
-            teller,
-            &[line.as_bytes(), advice_on(line.as_bytes()), b"\n"],
-        );
+        let _ = write_all(teller, line.as_bytes());
+        let (first, _) = split_line(line.as_bytes());
+        if let Some(advice) = advice_for(false, first) {
+            let _ = write_parts(teller, &[advice.words().as_bytes(), b"\n"]);
+        }
     }
     drop(line);
     drop(reply);
-}
-
-/// What may be done about a reply.
-fn advice_on(reply: &[u8]) -> &[u8] {
-    match advice_for(false, reply) {
-        Some(advice) => advice.words().as_bytes(),
-        None => b"",
-    }
 }
