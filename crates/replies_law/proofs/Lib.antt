@@ -1,0 +1,4 @@
+pub mod AnswerLemmas
+pub mod FeedLemmas
+pub mod FormLemmas
+pub mod LiveLemmas

@@ -1,0 +1,8 @@
+use Rattle.std.proofs.Common.{refl}
+use Rattle.replies_law.proofs.FormLemmas.{owners_are_read, lines_more, file_behind, plain_line}
+use Rattle.replies_law.proofs.AnswerLemmas.{step_plain, reply_is_read}
+use Rattle.replies_law.proofs.LiveLemmas.{list_has_lines, lives-run, lives-moved, lives-ended}
+use Rattle.replies_law.proofs.law.replies_are_read.Goals as goal
+
+pub returns : goal.returns
+returns c = λ n. refl
