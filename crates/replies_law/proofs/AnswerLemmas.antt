@@ -7,7 +7,7 @@ use Rattle.blif.specs.CircuitOf.{circuit_of}
 use Rattle.blif.specs.Faults.{net_of, number_of}
 use Rattle.blif.specs.declared.circuit.Circuit.{Circuit}
 use Rattle.blif.specs.declared.fault.BlifFault.{BlifFault}
-use Rattle.cluster.specs.Blocks.{block_nets, net_name}
+use Rattle.cluster.specs.Blocks.{BlockNet, block_nets, net_name}
 use Rattle.cluster.specs.Clusters.{packed_of}
 use Rattle.tenant_slot.specs.declared.command.Command.{Command}
 use Rattle.tenant_slot.specs.declared.command.Command.TheVariants.{Upload, Change, Pack, Place, Route, Cancel, Withdraw, Status, Net, PlaceFile, RouteFile}
@@ -30,7 +30,7 @@ use Rattle.tenant_slot.specs.declared.reply.StepReply.{StepReply}
 use Rattle.tenant_slot.specs.declared.reply.StepReply.TheVariants.{Advanced, Finished, Stale}
 use Rattle.tenant_slot.specs.Names.{file_text, refusal_number, refusal_text, state_text}
 use Rattle.tenant_slot.specs.Results.{ending_told}
-use Rattle.tenant_slot.specs.SingleUser.{State, answer_to, circuit_in, is_lawful, misfit_of, pack_unless, place, place_unless, serve, step, with_circuit}
+use Rattle.tenant_slot.specs.SingleUser.{State, after, answer_to, circuit_in, is_lawful, misfit_of, pack_unless, place, place_unless, serve, step, with_circuit}
 use Rattle.sessions.specs.SessionText.{blank_word, cause_text, ending_text, numbered_line, reply_text, step_text}
 use Rattle.printed_replies.specs.Lengths.{behind, session_length}
 use Rattle.replies_law.specs.ReadBack.{NetsAreWords, NoFeed}
@@ -131,7 +131,7 @@ place_plain : (state : State) (seed effort : ℕ) (misfit : Option Misfit) → I
 place_plain state seed effort None = tt
 place_plain state seed effort (Some misfit) = tt
 
-effort_plain : (state : State) (seed effort : ℕ) (b : Bool) (misfit : Option Misfit) → IsPlain (cond b (None, Refused BadEffort) (place_unless state seed effort misfit)).1
+effort_plain : (state : State) (seed effort : ℕ) (b : Bool) (misfit : Option Misfit) → IsPlain (cond {A = Option State × Reply} b (None, Refused BadEffort) (place_unless state seed effort misfit)).1
 effort_plain state seed effort true misfit = tt
 effort_plain state seed effort false misfit = place_plain state seed effort misfit
 
@@ -141,7 +141,7 @@ told_plain words text lut_size arch (Err fault) e failure = refl
 told_plain words text lut_size arch (Ok circuit) e FailedAll = refl
 told_plain words text lut_size arch (Ok circuit) e (FailedNet net) = by_block (slice_get (block_nets (packed_of circuit arch)) net)
   where
-    by_block : (o : Option _) → NoFeed (blank_word (option_map_or (λ found. net_name (packed_of circuit arch).circuit found.net) o []))
+    by_block : (o : Option BlockNet) → NoFeed (blank_word (option_map_or (λ found. net_name (packed_of circuit arch).circuit found.net) o []))
     by_block None = refl
     by_block (Some found) = words.nets text lut_size circuit found.net e
 
@@ -165,9 +165,9 @@ serve_plain words state RouteFile = tt
 pub step_plain : NetsAreWords → (state : State) (command : Command) (reply : Reply) → (step state (Asked command)).1 ≡ Some reply → IsPlain reply
 step_plain words state command reply is = by_full (eqb state.entries 65536) is
   where
-    lawful : (b : Bool) → IsPlain (cond b (serve state command) (None, Refused (WrongState state.name))).1
+    lawful : (b : Bool) → IsPlain (cond {A = Option State × Reply} b (serve state command) (None, Refused (WrongState state.name))).1
     lawful true = serve_plain words state command
     lawful false = tt
-    by_full : (b : Bool) → (cond b (state, None) ((step state (Asked command)).0, Some (answer_to state (Asked command)).1)).1 ≡ Some reply → IsPlain reply
+    by_full : (b : Bool) → (cond {A = State × Option Reply} b (state, None) (after state (answer_to state (Asked command)).0, Some (answer_to state (Asked command)).1)).1 ≡ Some reply → IsPlain reply
     by_full true never = cc
     by_full false e = let same : (answer_to state (Asked command)).1 ≡ reply = cc in subst IsPlain same (lawful (is_lawful state.name command))

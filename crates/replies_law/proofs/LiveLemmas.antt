@@ -1,6 +1,7 @@
 -- How many tenancies live, and their lines in the operator's list.
 use Rattle.std.proofs.Common.{◌≡◌, ℕ, zero, suc, ◌+◌, ◌-◌, ◌<◌, ◌≤◌, Bool, true, false, cond, eqb, List, [], ◌∷◌, ◌++◌, length, take, map, get_or, slice_get, codes, decimal, Result, Ok, Err, Option, Some, None, refl, sym, ap, ◌∙◌, arith, subst, append-nil}
 use Rattle.std.specs.Prelude.{⊤, IsSome, option_and_then, unwrap_or}
+use Rattle.std.proofs.lemmas.Bool.{false≢true}
 use Rattle.std.proofs.lemmas.Bool.Decides.{nat_tests}
 use Rattle.std.proofs.lemmas.List.{take_more}
 use Rattle.std.proofs.Math.Seq.{take-length}
@@ -29,7 +30,7 @@ lives [] = 0
 lives (h ∷ hs) = cond h.live 1 0 + lives hs
 
 pub lives-append : (xs ys : List History) → lives (xs ++ ys) ≡ lives xs + lives ys
-lives-append [] ys = refl
+lives-append [] ys = omega arith
 lives-append (h ∷ xs) ys = let more = lives-append xs ys in omega (arith, more)
 
 -- a change that keeps who lives
@@ -43,7 +44,7 @@ lives-kept (h ∷ hs) id change same = by_test (eqb id 1) (lives-kept hs (id - 1
 
 -- and one by which a tenancy ends
 pub lives-ended : (hs : List History) (id : ℕ) (change : History → History) → ((h : History) → (change h).live ≡ false) → IsSome (live_of hs id) → lives (modified hs id change) + 1 ≡ lives hs
-lives-ended [] id change ends is = absurd is
+lives-ended [] id change ends is = absurd (false≢true is)
 lives-ended (h ∷ hs) id change ends is = by_test (eqb id 1) is (lives-ended hs (id - 1) change ends)
   where
     own : (b : Bool) → h.live ≡ b → IsSome (cond b (Some h) None) → lives (change h ∷ hs) + 1 ≡ lives (h ∷ hs)
@@ -51,7 +52,7 @@ lives-ended (h ∷ hs) id change ends is = by_test (eqb id 1) is (lives-ended hs
         let before : lives (h ∷ hs) ≡ 1 + lives hs = ap (λ b. cond b 1 0 + lives hs) e in
         let after : lives (change h ∷ hs) ≡ 0 + lives hs = ap (λ b. cond b 1 0 + lives hs) (ends h) in
         omega (arith, before, after)
-    own false e none = absurd none
+    own false e none = absurd (false≢true none)
     by_test : (b : Bool) → IsSome (option_and_then (λ (g : History). cond g.live (Some g) None) (cond b (Some h) (history_of hs (id - 1)))) → (IsSome (live_of hs (id - 1)) → lives (modified hs (id - 1) change) + 1 ≡ lives hs) →
         lives (cond b (change h ∷ hs) (h ∷ modified hs (id - 1) change)) + 1 ≡ lives (h ∷ hs)
     by_test true some more = own h.live refl some
