@@ -5,3 +5,5 @@ pub mod LiveLemmas
 pub mod OwnerLemmas
 pub mod SectionLemmas
 pub mod ServedLemmas
+pub mod StageLemmas
+pub mod ToldLemmas

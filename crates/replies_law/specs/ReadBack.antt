@@ -12,8 +12,12 @@ use Rattle.script_text.specs.declared.operator_line.OperatorLine.{OperatorLine}
 use Rattle.script_text.specs.declared.operator_line.OperatorLine.TheVariants.{Admit}
 use Rattle.printed_replies.specs.Lengths.{is_line_feed}
 use Rattle.printed_replies.specs.Replies.{AnsweredLine, replied}
-use Rattle.script_replies.specs.Asking.{asked_of}
-use Rattle.fpgad_run.specs.Run.{Telling}
+use Rattle.script_replies.specs.Asking.{asked_of, replies_in}
+use Rattle.service_core.specs.declared.device.Device.{Device}
+use Rattle.service_core.specs.Service.{empty}
+use Rattle.sessions.specs.Fitting.{own_graph}
+use Rattle.operator.specs.Serving.{Stage}
+use Rattle.fpgad_run.specs.Run.{Telling, Tells, written}
 
 -- no byte ends a line
 abbrev pub is_other : ℕ → Bool
@@ -40,3 +44,8 @@ HasName act = ⊤
 abbrev pub AreTellable : List Telling → Type 0
 AreTellable [] = ⊤
 AreTellable (t ∷ ts) = (HasName t.act × (length t.text < 2 ^ 64)) × AreTellable ts
+
+-- what the acts of a run from an empty device were told is read back from what is written
+abbrev pub AreReadBack : Type 0
+AreReadBack = (device : Device) (tellings : List Telling) (last : Stage) → Tells (record { names = []; jobs = []; service = empty device; graph = own_graph device }) tellings last → AreTellable tellings →
+    replies_in (map (λ t. t.act) tellings) (written tellings) ≡ Ok (map answered tellings)

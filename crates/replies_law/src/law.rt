@@ -1,9 +1,8 @@
 //! The law.
-ghost use Rattle.std.specs.Prelude.{◌≡◌, ℕ};
-ghost use Rattle.std.specs.Fmt.{decimal};
+ghost use Rattle.replies_law.specs.ReadBack.{AreReadBack, NetsAreWords};
 
-/// Draft.
+/// What the acts of a run were told is read back from what is written, act by act, if no net that a netlist names holds a line feed.
 pub fn replies_are_read()
-    ensures { (n : ℕ) → decimal n ≡ decimal n }
+    ensures { NetsAreWords → AreReadBack }
 {
 }
