@@ -1,8 +1,8 @@
 //! The law.
-ghost use Rattle.replies_law.specs.ReadBack.{AreReadBack, NetsAreWords};
+ghost use Rattle.replies_law.specs.ReadBack.{AreReadBack};
 
-/// What the acts of a run were told is read back from what is written, act by act, if no net that a netlist names holds a line feed.
+/// What the acts of a run were told is read back from what is written, act by act, whatever names and nets tenants choose.
 pub fn replies_are_read()
-    ensures { NetsAreWords → AreReadBack }
+    ensures { AreReadBack }
 {
 }
