@@ -117,7 +117,7 @@ kind_other lut_size above Inputs words each = drivers_other (driven above) (args
 kind_other lut_size above Outputs words each =
     each-map PlacedOther WordOther (λ name. record { word = name.0; kind = RepeatedOutput name.1 }) (λ name is. is) (repeats_from 0 above.outputs (args_of words)) (repeats_other 0 above.outputs (args_of words) (each-drop NoFeed 1 words each))
 kind_other lut_size above Clock words each =
-    let test = λ name. not (has_name above.declared name) && has_name above.drivers name in
+    let test : List ℕ → Bool = λ name. not (has_name above.declared name) && has_name above.drivers name in
     each-map PlacedOther WordOther (λ name. record { word = name.0; kind = TwoDrivers name.1 }) (λ name is. is) (placed test (args_of words)) (placed_other test (args_of words) (each-drop NoFeed 1 words each))
 kind_other lut_size above Names words each = table_other lut_size (driven above) (args_of words) (each-drop NoFeed 1 words each)
 kind_other lut_size above Latch words each = latch_faults_other (is_latch (args_of words)) (driven above) (args_of words) (each-drop NoFeed 1 words each)
@@ -163,7 +163,7 @@ reads_other Skipped words each = tt
 undriven_other : (drivers : List (List ℕ)) (line : JoinedLine) → HasWords line → Each FoundOther (undriven_faults drivers line)
 unfolding undriven_faults
 undriven_other drivers line each =
-    let test = λ name. not (has_name drivers name) in
+    let test : List ℕ → Bool = λ name. not (has_name drivers name) in
     let names = reads_in (kind_of line) line.words in
     at_other true line.number (at_words Undriven (placed test names))
     (each-map PlacedOther WordOther (λ name. record { word = name.0; kind = Undriven name.1 }) (λ name is. is) (placed test names) (placed_other test names (reads_other (kind_of line) line.words each)))

@@ -118,8 +118,8 @@ operator_told old new Owners calls text is fine other small =
     let rows = old.service.device.rows in
     let P : List ℕ → Type 0 = λ t. IsReply (lives old.service.histories) (operator_form Owners) t in
     let Q : List ℕ → Type 0 = λ t. length t < 2 ^ 64 in
-    stays old new (operator_form Owners) text is.3 fine
-    (subst P (sym is.2) (λ rest. owners_are_read _ rest (length is.0) (owners_small rows is.0 (subst Q is.2 small)) (owners_lines rows is.0))) refl
+    stays old new (operator_form Owners) text is.4 fine
+    (subst P (sym is.3) (λ rest. owners_are_read _ rest (length is.0) (owners_small rows is.0 (subst Q is.3 small)) (owners_lines rows is.0))) refl
 operator_told old new (Step name count) calls text is fine other small =
     let P : List ℕ → Type 0 = λ t. IsReply (lives old.service.histories) (Lines count) t in
     let Q : ℕ → Type 0 = λ n. AreLines n (tried_text is.0) in
