@@ -1,0 +1,12 @@
+pub mod AnswerLemmas
+pub mod EachLemmas
+pub mod FeedLemmas
+pub mod FormLemmas
+pub mod LiveLemmas
+pub mod NetLemmas
+pub mod OwnerLemmas
+pub mod SectionLemmas
+pub mod ServedLemmas
+pub mod StageLemmas
+pub mod ToldLemmas
+pub mod WordLemmas

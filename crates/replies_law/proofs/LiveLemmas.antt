@@ -1,0 +1,169 @@
+-- How many tenancies live, and their lines in the operator's list.
+use Rattle.std.proofs.Common.{◌≡◌, ℕ, zero, suc, ◌+◌, ◌-◌, ◌<◌, ◌≤◌, Bool, true, false, cond, eqb, List, [], ◌∷◌, ◌++◌, length, take, map, get_or, slice_get, codes, decimal, Result, Ok, Err, Option, Some, None, refl, sym, ap, ◌∙◌, arith, subst, append-nil}
+use Rattle.std.specs.Prelude.{⊤, IsSome, option_and_then, unwrap_or}
+use Rattle.std.proofs.lemmas.Bool.{false≢true}
+use Rattle.std.proofs.lemmas.Bool.Decides.{nat_tests}
+use Rattle.std.proofs.lemmas.List.{take_more}
+use Rattle.std.proofs.Math.Seq.{take-length}
+use Rattle.job_state.specs.Job.{JobState}
+use Rattle.service_core.specs.declared.not_served.NotServed.TheVariants.{JournalFull, NoMemory as NotServedNoMemory, NoSuchTenancy}
+use Rattle.service_core.specs.declared.op_refusal.OpRefusal.{OpRefusal}
+use Rattle.service_core.specs.declared.op_refusal.OpRefusal.TheVariants as Op
+use Rattle.service_core.specs.declared.put_reply.PutReply.TheVariants.{Recorded as PutRecorded, Full as PutFull, Gone as PutGone}
+use Rattle.service_core.specs.Calls.{IsAdmitted, IsEvicted, IsGivenBackTo, IsMoved}
+use Rattle.service_core.specs.History.{History, state_of}
+use Rattle.service_core.specs.Run.{Call, Happens, Run}
+use Rattle.service_core.specs.Run.Call.{Admit, Evict, Move, Tenant, Take, Put, GiveBack, Owners}
+use Rattle.service_core.specs.Service.{ServiceState, history_of, live_of, modified}
+use Rattle.strips.specs.Plan.{offset_of}
+use Rattle.sessions.specs.SessionText.{blank_word}
+use Rattle.tenant_slot.specs.Names.{state_text}
+use Rattle.operator.specs.OperatorText.{list_text, listed, listed_text}
+use Rattle.operator.proofs.Stepping.{AreSteady, Steady}
+use Rattle.replies_law.specs.ReadBack.{NoFeed}
+use Rattle.replies_law.proofs.FeedLemmas.{IsLine, decimal_no_feed, no_feed-append}
+use Rattle.replies_law.proofs.FormLemmas.{AreLines, lines_more}
+use Rattle.replies_law.proofs.AnswerLemmas.{line_of_bytes, state_no_feed}
+
+abbrev pub lives : List History → ℕ
+lives [] = 0
+lives (h ∷ hs) = cond h.live 1 0 + lives hs
+
+pub lives-append : (xs ys : List History) → lives (xs ++ ys) ≡ lives xs + lives ys
+lives-append [] ys = omega arith
+lives-append (h ∷ xs) ys = let more = lives-append xs ys in omega (arith, more)
+
+-- a change that keeps who lives
+lives-kept : (hs : List History) (id : ℕ) (change : History → History) → ((h : History) → (change h).live ≡ h.live) → lives (modified hs id change) ≡ lives hs
+lives-kept [] id change same = refl
+lives-kept (h ∷ hs) id change same = by_test (eqb id 1) (lives-kept hs (id - 1) change same)
+  where
+    by_test : (b : Bool) → lives (modified hs (id - 1) change) ≡ lives hs → lives (cond b (change h ∷ hs) (h ∷ modified hs (id - 1) change)) ≡ lives (h ∷ hs)
+    by_test true more = ap (λ b. cond b 1 0 + lives hs) (same h)
+    by_test false more = ap (λ n. cond h.live 1 0 + n) more
+
+-- and one by which a tenancy ends
+pub lives-ended : (hs : List History) (id : ℕ) (change : History → History) → ((h : History) → (change h).live ≡ false) → IsSome (live_of hs id) → lives (modified hs id change) + 1 ≡ lives hs
+lives-ended [] id change ends is = absurd (false≢true is)
+lives-ended (h ∷ hs) id change ends is = by_test (eqb id 1) is (lives-ended hs (id - 1) change ends)
+  where
+    own : (b : Bool) → h.live ≡ b → IsSome (cond b (Some h) None) → lives (change h ∷ hs) + 1 ≡ lives (h ∷ hs)
+    own true e some =
+        let before : lives (h ∷ hs) ≡ 1 + lives hs = ap (λ b. cond b 1 0 + lives hs) e in
+        let after : lives (change h ∷ hs) ≡ 0 + lives hs = ap (λ b. cond b 1 0 + lives hs) (ends h) in
+        omega (arith, before, after)
+    own false e none = absurd (false≢true none)
+    by_test : (b : Bool) → IsSome (option_and_then (λ (g : History). cond g.live (Some g) None) (cond b (Some h) (history_of hs (id - 1)))) → (IsSome (live_of hs (id - 1)) → lives (modified hs (id - 1) change) + 1 ≡ lives hs) →
+        lives (cond b (change h ∷ hs) (h ∷ modified hs (id - 1) change)) + 1 ≡ lives (h ∷ hs)
+    by_test true some more = own h.live refl some
+    by_test false some more = let rest = more some in omega (arith, rest)
+
+same : (old new : ServiceState) → new ≡ old → lives old.histories ≡ lives new.histories
+same old new is = ap (λ (s : ServiceState). lives s.histories) (sym is)
+
+changed : (old new : ServiceState) (id : ℕ) (change : History → History) → ((h : History) → (change h).live ≡ h.live) → new ≡ record old { histories = modified old.histories id change } → lives old.histories ≡ lives new.histories
+changed old new id change keeps is = rw is (sym (lives-kept old.histories id change keeps))
+
+given : (o : Option History) (old new : ServiceState) (job : JobState) → IsGivenBackTo o old job new → lives old.histories ≡ lives new.histories
+given None old new job is = same old new is
+given (Some h) old new job is = changed old new job.step.id _ (λ g. refl) is.2
+
+lives-happens : (old new : ServiceState) (call : Call) → Steady call → Happens old call new → lives old.histories ≡ lives new.histories
+lives-happens old new (Admit width answer) never is = absurd never
+lives-happens old new (Evict id answer) never is = absurd never
+lives-happens old new (Move id offset answer) never is = absurd never
+lives-happens old new (Tenant id command (Ok r)) steady is = changed old new id _ (λ g. refl) is.1
+lives-happens old new (Tenant id command (Err (JournalFull note))) steady is = same old new is.2
+lives-happens old new (Tenant id command (Err (NoSuchTenancy note))) steady is = same old new is.2
+lives-happens old new (Tenant id command (Err NotServedNoMemory)) steady is = same old new is.1
+lives-happens old new (Take id None) steady is = same old new is.1
+lives-happens old new (Take id (Some job)) steady is = changed old new id _ (λ g. refl) is.1
+lives-happens old new (Put done foreign (Ok (PutRecorded reply))) steady is = changed old new done.id _ (λ g. refl) is.1
+lives-happens old new (Put done foreign (Ok PutFull)) steady is = same old new is.1
+lives-happens old new (Put done foreign (Ok PutGone)) steady is = same old new is.1
+lives-happens old new (Put done foreign (Err back)) steady is = same old new is.2
+lives-happens old new (GiveBack job) steady is = given (live_of old.histories job.step.id) old new job is
+lives-happens old new (Owners list) steady is = same old new is.1
+
+pub lives-run : (old new : ServiceState) (calls : List Call) → AreSteady calls → Run old calls new → lives old.histories ≡ lives new.histories
+lives-run old new [] steady run = same old new run
+lives-run old new (call ∷ calls) steady run = lives-happens old run.0 call steady.0 run.1 ∙ lives-run run.0 new calls steady.1 run.2
+
+pub lives-moved : (old new : ServiceState) (id offset : ℕ) (answer : Result (Unit {0}) OpRefusal) → IsMoved old id offset answer new → lives old.histories ≡ lives new.histories
+lives-moved old new id offset (Ok nothing) is = ap (λ (s : ServiceState). lives s.histories) (sym is.2)
+lives-moved old new id offset (Err Op.NoSuchTenancy) is = same old new is.1
+lives-moved old new id offset (Err Op.NoRoom) is = same old new is.2
+lives-moved old new id offset (Err Op.NoMemory) is = absurd is
+lives-moved old new id offset (Err Op.TooManyStrips) is = absurd is
+lives-moved old new id offset (Err Op.BadWidth) is = absurd is
+lives-moved old new id offset (Err Op.IdsSpent) is = absurd is
+
+-- names without a line feed
+abbrev pub AreOther : List (List ℕ) → Type 0
+AreOther [] = ⊤
+AreOther (name ∷ names) = NoFeed name × AreOther names
+
+-- the history of an id, by its place
+history_at : (hs : List History) (k : ℕ) (d : History) → k < length hs → history_of hs (k + 1) ≡ Some (get_or hs k d)
+history_at [] k d within = absurd (omega arith)
+history_at (h ∷ hs) zero d within = refl
+history_at (h ∷ hs) (suc k) d within =
+    let past : eqb (suc k + 1) 1 ≡ false = grind (arith, nat_tests) in
+    let next : suc k + 1 - 1 ≡ k + 1 = omega arith in
+    ap (λ b. cond b (Some h) (history_of hs (suc k + 1 - 1))) past ∙ ap (history_of hs) next ∙ history_at hs k d (omega (arith, within))
+
+listed_line : (h : History) (offset : Option ℕ) (id : ℕ) (name : List ℕ) → NoFeed name → IsLine (listed_text (Some h) offset id name)
+listed_line h offset id name all =
+    let front = decimal id ++ blank_word name in
+    let placed = front ++ blank_word (decimal (unwrap_or offset 0)) in
+    let wide = placed ++ blank_word (decimal h.strip.width) in
+    line_of_bytes (wide ++ blank_word (state_text (state_of h).name))
+    (no_feed-append wide (blank_word (state_text (state_of h).name))
+    (no_feed-append placed (blank_word (decimal h.strip.width))
+    (no_feed-append front (blank_word (decimal (unwrap_or offset 0))) (no_feed-append (decimal id) (blank_word name) (decimal_no_feed id) all) (decimal_no_feed (unwrap_or offset 0)))
+    (decimal_no_feed h.strip.width)) (state_no_feed (state_of h).name))
+
+-- the list has a line for each tenancy that lives
+listed_so_far : (service : ServiceState) (names : List (List ℕ)) (d : History) → length names ≤ length service.histories → AreOther names → AreLines (lives (take (length names) service.histories)) (list_text service names)
+listed_so_far service [] d few all = refl
+listed_so_far service (newest ∷ older) d few all =
+    let hs = service.histories in
+    let k = length older in
+    let h = get_or hs k d in
+    let within : k < length hs = omega (arith, few) in
+    let front = listed_so_far service older d (omega (arith, few)) all.1 in
+    let more : lives (take (k + 1) hs) ≡ lives (take k hs) + (cond h.live 1 0 + 0) = ap lives (take_more hs k d within) ∙ lives-append (take k hs) (h ∷ []) in
+    let live : live_of hs (k + 1) ≡ cond h.live (Some h) None = ap (option_and_then (λ (g : History). cond g.live (Some g) None)) (history_at hs k d within) in
+    let P : ℕ → Type 0 = λ n. AreLines (lives (take n hs)) (list_text service (newest ∷ older)) in
+    let Q : ℕ → Type 0 = λ n. AreLines n (list_text service (newest ∷ older)) in
+    let R : Option History → Type 0 = λ o. AreLines (lives (take k hs) + (cond h.live 1 0 + 0)) (list_text service older ++ listed_text o (offset_of service.plan.strips (k + 1)) (k + 1) newest) in
+    let e : k + 1 ≡ suc k = omega arith in
+    subst P e (subst Q (sym more) (subst R (sym live) (by_live h.live front)))
+  where
+    by_live : (b : Bool) → AreLines (lives (take (length older) service.histories)) (list_text service older) →
+        AreLines (lives (take (length older) service.histories) + (cond b 1 0 + 0)) (list_text service older ++ listed_text (cond b (Some (get_or service.histories (length older) d)) None) (offset_of service.plan.strips (length older + 1)) (length older + 1) newest)
+    by_live true front =
+        let h = get_or service.histories (length older) d in
+        lines_more (lives (take (length older) service.histories)) (list_text service older) (listed_text (Some h) (offset_of service.plan.strips (length older + 1)) (length older + 1) newest) front
+        (listed_line h (offset_of service.plan.strips (length older + 1)) (length older + 1) newest all.0)
+    by_live false front =
+        let n = lives (take (length older) service.histories) in
+        let P : List ℕ → Type 0 = λ t. AreLines (n + 0) t in
+        let Q : ℕ → Type 0 = λ m. AreLines m (list_text service older) in
+        let e : n ≡ n + 0 = omega arith in
+        subst P (sym (append-nil (list_text service older))) (subst Q e front)
+
+pub list_has_lines : (service : ServiceState) (names : List (List ℕ)) → length names ≡ length service.histories → AreOther names → AreLines (lives service.histories) (list_text service names)
+list_has_lines service [] even all = by_none service.histories even
+  where
+    by_none : (hs : List History) → 0 ≡ length hs → AreLines (lives hs) []
+    by_none [] e = refl
+    by_none (h ∷ hs) e = absurd (omega arith)
+list_has_lines service (newest ∷ older) even all = by_some service.histories refl
+  where
+    by_some : (hs : List History) → service.histories ≡ hs → AreLines (lives service.histories) (list_text service (newest ∷ older))
+    by_some [] e = let none = ap length e in absurd (omega (arith, even, none))
+    by_some (h ∷ hs) e =
+        let P : List History → Type 0 = λ l. AreLines (lives l) (list_text service (newest ∷ older)) in
+        let whole : take (length (newest ∷ older)) service.histories ≡ service.histories = ap (λ n. take n service.histories) even ∙ take-length service.histories in
+        subst P whole (listed_so_far service (newest ∷ older) h (omega (arith, even)) all)

@@ -1,0 +1,93 @@
+-- The words of a netlist hold no line feed.
+use Rattle.std.proofs.Common.{◌≡◌, ℕ, zero, suc, ◌+◌, ◌-◌, Bool, true, false, not, cond, eqb, List, [], ◌∷◌, ◌++◌, length, take, drop, map, Result, Ok, Err, refl, sym, ap, ◌∙◌, subst}
+use Rattle.std.specs.Prelude.{⊤, ◌&&◌, filter, flat_map}
+use Rattle.std.specs.List.{enumerate_from, filter_map, list_all, onto_first, position_or_len, slice_split, suffix_len}
+use Rattle.std.proofs.lemmas.Bool.{and_from, and_parts}
+use Rattle.line_text.specs.declared.fault.LineFault.{LineFault}
+use Rattle.line_text.specs.Lines.{JoinedLine, blanked, ends_in_backslash, fault_of, is_continued, joined, joined_bytes, kept, lines_of, lines_of_runs, physical_lines, runs, trimmed, unless_fault, without_comment, without_last}
+use Rattle.line_text.specs.Words.{is_blank, is_filled, words_of}
+use Rattle.printed_replies.specs.Lengths.{is_line_feed}
+use Rattle.replies_law.specs.ReadBack.{NoFeed, is_other}
+use Rattle.replies_law.proofs.EachLemmas.{Each, each-filter, each-map}
+use Rattle.replies_law.proofs.FeedLemmas.{no_feed-append}
+
+take_other : (n : ℕ) (bytes : List ℕ) → NoFeed bytes → NoFeed (take n bytes)
+take_other zero bytes all = refl
+take_other (suc n) [] all = refl
+take_other (suc n) (b ∷ bytes) all =
+    let parts = and_parts (is_other b) (list_all is_other bytes) all in
+    and_from _ _ parts.0 (take_other n bytes parts.1)
+
+onto_other : (b : ℕ) (parts : List (List ℕ)) → is_other b ≡ true → Each NoFeed parts → Each NoFeed (onto_first b parts)
+onto_other b [] is each = (and_from _ _ is refl, tt)
+onto_other b (part ∷ parts) is each = (and_from _ _ is each.0, each.1)
+
+lines_other : (bytes : List ℕ) → Each NoFeed (physical_lines bytes)
+lines_other [] = tt
+lines_other (b ∷ bytes) = by_test (is_line_feed b) refl (lines_other bytes)
+  where
+    by_test : (t : Bool) → is_line_feed b ≡ t → Each NoFeed (physical_lines bytes) → Each NoFeed (cond t ([] ∷ physical_lines bytes) (onto_first b (physical_lines bytes)))
+    by_test true e rest = (refl, rest)
+    by_test false e rest = onto_other b (physical_lines bytes) (ap not e) rest
+
+abbrev IsNumbered : ℕ × List ℕ → Type 0
+IsNumbered line = NoFeed line.1
+
+numbered_other : (n : ℕ) (lines : List (List ℕ)) → Each NoFeed lines → Each IsNumbered (enumerate_from n lines)
+numbered_other n [] each = tt
+numbered_other n (line ∷ lines) each = (each.0, numbered_other (n + 1) lines each.1)
+
+onto_run : (line : ℕ × List ℕ) (all : List (List (ℕ × List ℕ))) → IsNumbered line → Each (Each IsNumbered) all → Each (Each IsNumbered) (onto_first line all)
+onto_run line [] is each = ((is, tt), tt)
+onto_run line (run ∷ all) is each = ((is, each.0), each.1)
+
+runs_other : (lines : List (ℕ × List ℕ)) → Each IsNumbered lines → Each (Each IsNumbered) (runs lines)
+runs_other [] each = tt
+runs_other (line ∷ lines) each = by_test (is_continued line.1) (runs_other lines each.1)
+  where
+    by_test : (t : Bool) → Each (Each IsNumbered) (runs lines) → Each (Each IsNumbered) (cond t (onto_first line (runs lines)) ((line ∷ []) ∷ runs lines))
+    by_test true rest = onto_run line (runs lines) each.0 rest
+    by_test false rest = ((each.0, tt), rest)
+
+kept_other : (line : List ℕ) → NoFeed line → NoFeed (kept line)
+kept_other line all =
+    let before = take_other (position_or_len (λ byte. eqb byte 35) line) line all in
+    let bytes = trimmed (without_comment line) in
+    let short : NoFeed bytes = take_other (length (without_comment line) - suffix_len is_blank (without_comment line)) (without_comment line) before in
+    by_test bytes (ends_in_backslash bytes) short
+  where
+    by_test : (bytes : List ℕ) (t : Bool) → NoFeed bytes → NoFeed (cond t (without_last bytes ++ 32 ∷ []) bytes)
+    by_test bytes true short = no_feed-append (without_last bytes) (32 ∷ []) (take_other (length bytes - 1) bytes short) refl
+    by_test bytes false short = short
+
+bytes_other : (run : List (ℕ × List ℕ)) → Each IsNumbered run → NoFeed (joined_bytes run)
+bytes_other [] each = refl
+bytes_other (line ∷ run) each = no_feed-append (kept line.1) (joined_bytes run) (kept_other line.1 each.0) (bytes_other run each.1)
+
+split_other : (bytes : List ℕ) → NoFeed bytes → Each NoFeed (slice_split is_blank bytes)
+split_other [] all = (refl, tt)
+split_other (b ∷ bytes) all =
+    let parts = and_parts (is_other b) (list_all is_other bytes) all in
+    by_test (is_blank b) parts.0 (split_other bytes parts.1)
+  where
+    by_test : (t : Bool) → is_other b ≡ true → Each NoFeed (slice_split is_blank bytes) → Each NoFeed (cond t ([] ∷ slice_split is_blank bytes) (onto_first b (slice_split is_blank bytes)))
+    by_test true is rest = (refl, rest)
+    by_test false is rest = onto_other b (slice_split is_blank bytes) is rest
+
+-- the words of a joined line
+abbrev pub HasWords : JoinedLine → Type 0
+HasWords line = Each NoFeed line.words
+
+joined_other : (run : List (ℕ × List ℕ)) → Each IsNumbered run → HasWords (joined run)
+joined_other run each = each-filter NoFeed is_filled (slice_split is_blank (joined_bytes run)) (split_other (joined_bytes run) (bytes_other run each))
+
+unless_other : (faults : List LineFault) (lines read : List JoinedLine) → unless_fault faults lines ≡ Ok read → Each HasWords lines → Each HasWords read
+unless_other [] lines read is each = let e : lines ≡ read = cc in subst (Each HasWords) e each
+unless_other (fault ∷ faults) lines read is each = cc
+
+pub words_other : (text : List ℕ) (lines : List JoinedLine) → lines_of text ≡ Ok lines → Each HasWords lines
+unfolding lines_of
+words_other text lines is =
+    let all = runs (enumerate_from 1 (physical_lines text)) in
+    let each = each-map (Each IsNumbered) HasWords joined joined_other all (runs_other (enumerate_from 1 (physical_lines text)) (numbered_other 1 (physical_lines text) (lines_other text))) in
+    unless_other (filter_map fault_of all) (filter (λ line. is_filled line.words) (map joined all)) lines is (each-filter HasWords (λ line. is_filled line.words) (map joined all) each)

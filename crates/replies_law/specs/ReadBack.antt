@@ -1,0 +1,51 @@
+-- What a run writes is read back.
+use Rattle.std.specs.Prelude.{ℕ, ◌≡◌, ◌<◌, ◌^◌, Bool, true, not, List, [], ◌∷◌, length, map, Option, IfSome, Ok, Err, ⊤}
+use Rattle.std.specs.List.{list_all}
+use Rattle.blif.specs.CircuitOf.{circuit_of}
+use Rattle.blif.specs.Faults.{net_of}
+use Rattle.blif.specs.declared.circuit.Circuit.{Circuit}
+use Rattle.blif.specs.declared.fault.BlifFault.{BlifFault}
+use Rattle.cluster.specs.Blocks.{net_name}
+use Rattle.script_text.specs.declared.act.Act.{Act}
+use Rattle.script_text.specs.declared.act.Act.TheVariants.{Operator}
+use Rattle.script_text.specs.declared.operator_line.OperatorLine.{OperatorLine}
+use Rattle.script_text.specs.declared.operator_line.OperatorLine.TheVariants.{Admit}
+use Rattle.printed_replies.specs.Lengths.{is_line_feed}
+use Rattle.printed_replies.specs.Replies.{AnsweredLine, replied}
+use Rattle.script_replies.specs.Asking.{asked_of, replies_in}
+use Rattle.service_core.specs.declared.device.Device.{Device}
+use Rattle.service_core.specs.Service.{empty}
+use Rattle.sessions.specs.Fitting.{own_graph}
+use Rattle.operator.specs.Serving.{Stage}
+use Rattle.fpgad_run.specs.Run.{Telling, Tells, written}
+
+-- no byte ends a line
+abbrev pub is_other : ℕ → Bool
+is_other b = not (is_line_feed b)
+
+abbrev pub NoFeed : List ℕ → Type 0
+NoFeed bytes = list_all is_other bytes ≡ true
+
+-- no net that a netlist names, in a fault or in its circuit, holds a line feed
+pub record NetsAreWords : Type 0 where
+  pub faults : (text : List ℕ) (lut_size : ℕ) (fault : BlifFault) → circuit_of text lut_size ≡ Err fault → IfSome (net_of fault.kind) NoFeed
+  pub nets : (text : List ℕ) (lut_size : ℕ) (circuit : Circuit) (net : ℕ) → circuit_of text lut_size ≡ Ok circuit → NoFeed (net_name circuit net)
+
+-- an act with its reply
+abbrev pub answered : Telling → AnsweredLine
+answered t = replied (asked_of t.act) t.text
+
+-- a name that a tenancy is to be admitted under holds no line feed; a script's names never do
+abbrev pub HasName : Act (List ℕ) → Type 0
+HasName (Operator (Admit name width)) = NoFeed name
+HasName act = ⊤
+
+-- each telling is of such an act, and its text fits into memory
+abbrev pub AreTellable : List Telling → Type 0
+AreTellable [] = ⊤
+AreTellable (t ∷ ts) = (HasName t.act × (length t.text < 2 ^ 64)) × AreTellable ts
+
+-- what the acts of a run from an empty device were told is read back from what is written
+abbrev pub AreReadBack : Type 0
+AreReadBack = (device : Device) (tellings : List Telling) (last : Stage) → Tells (record { names = []; jobs = []; service = empty device; graph = own_graph device }) tellings last → AreTellable tellings →
+    replies_in (map (λ t. t.act) tellings) (written tellings) ≡ Ok (map answered tellings)
