@@ -1,4 +1,4 @@
-use Rattle.std.proofs.Common.{◌≡◌, ◌∙◌, ℕ, Bool, ap}
+use Rattle.std.proofs.Common.{◌≡◌, ◌∙◌, Bool, ap}
 use Rattle.line_text.proofs.WritingLemmas.{writes_same}
 use Rattle.picture_lines.specs.declared.lattice.Lattice.{Lattice}
 use Rattle.strip_picture.specs.declared.channels.ChannelUse.{ChannelUse}
