@@ -1,9 +1,9 @@
 -- Labels of which the upper halves of the costs stand apart.
-use Rattle.std.proofs.Common.{◌≡◌, ◌≢◌, ℕ, zero, refl, ◌+◌, ◌-◌, ◌*◌, ◌^◌, ◌<◌, ◌≤◌, List, [], ◌++◌, length, take, get_or, set, map, replicate, arith, ◌∙◌, inl, inr, sym, ap, length-set, length-append}
+use Rattle.std.proofs.Common.{◌≡◌, ℕ, refl, ◌-◌, ◌<◌, ◌≤◌, List, ◌++◌, length, take, get_or, set, replicate, arith, ◌∙◌, inl, inr, sym, ap, length-set}
 use Rattle.std.specs.List.{All, range_with_len}
 use Rattle.std.specs.Prelude.{slice_index}
 use Rattle.std.proofs.lemmas.Bool.{cases_eq, cases_lt}
-use Rattle.std.proofs.lemmas.List.{ext_get_or, get_or-map, get_or_default, get_or-set_same, get_or-set_other, get_or_append_left, get_or-append_right, get_or-replicate, length-map, length-replicate, set-get_or, take_all, get_or_past}
+use Rattle.std.proofs.lemmas.List.{ext_get_or, get_or-map, get_or-set_same, get_or-set_other, get_or_append_left, get_or-append_right, get_or-replicate, length-map, length-replicate, take_all, get_or_past}
 use Rattle.std.proofs.lemmas.List.FromFn.{get_or-range_with_len, length-range_with_len}
 use Rattle.least_path.specs.declared.search.Label.{Label}
 use Rattle.least_path.specs.declared.search.labels.Cell.{Cell}

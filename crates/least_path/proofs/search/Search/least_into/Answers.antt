@@ -1,4 +1,4 @@
-use Rattle.std.proofs.Common.{ap, ◌∙◌, arith}
+use Rattle.std.proofs.Common.{ap, ◌∙◌}
 use Rattle.least_path.specs.Frontier.{no_label}
 use Rattle.least_path.specs.declared.search.Label.{Label}
 use Rattle.least_path.proofs.Exact.{least_path-is, least_path-none, path_within}

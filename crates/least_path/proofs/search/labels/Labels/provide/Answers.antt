@@ -1,4 +1,4 @@
-use Rattle.std.proofs.Common.{◌≡◌, ◌<◌, ◌≤◌, arith, length}
+use Rattle.std.proofs.Common.{arith}
 use Rattle.least_path.proofs.Halves.{labels_len, past_kept, past_grown}
 use Rattle.least_path.proofs.search.labels.Labels.provide.Goals as goal
 

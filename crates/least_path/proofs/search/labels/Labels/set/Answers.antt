@@ -1,4 +1,4 @@
-use Rattle.std.proofs.Common.{◌≡◌, ◌<◌, ◌+◌, ◌*◌, ◌/◌, ◌%◌, ◌^◌, ◌∙◌, ℕ, arith, sym, ap, length, set}
+use Rattle.std.proofs.Common.{◌≡◌, ◌<◌, ◌/◌, ◌%◌, ◌^◌, ◌∙◌, ℕ, arith, ap, length, set}
 use Rattle.std.proofs.lemmas.Nat.{div-add-mod'}
 use Rattle.least_path.specs.Labels.{label_of, labels_of}
 use Rattle.least_path.specs.declared.search.Label.{Label}
