@@ -5,6 +5,7 @@ pub mod Bounds
 mod Examples
 mod Links
 mod Buckets
+mod Halves
 mod Labels
 mod Settles
 mod Choices

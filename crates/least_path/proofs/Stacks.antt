@@ -403,9 +403,9 @@ found_by {g} {starts} {goal} {s} law bs b z =
 
 -- the starts are raised
 pub walking_starts : {g : Graph} {starts : List ℕ} {goal : ℕ} {s v : Search} → IsLawful g → All (λ start. start < g.count) starts → goal < g.count → IsSettled g starts goal s
-    → All (λ (label : Label). label.epoch ≤ s.epoch) s.labels.items
+    → All (λ (label : Label). label.epoch ≤ s.epoch) s.labels
     → Begins g starts goal (cost_at s goal) s v
-    → Walking g starts goal (cost_at s goal) v.epoch v.labels.items (reverse v.turns.items)
+    → Walking g starts goal (cost_at s goal) v.epoch v.labels (reverse v.turns.items)
 walking_starts {g} {starts} {goal} {s} {v} law bs b z past k =
     let f = found_by law bs b z in
     let t : Search = k.t in
@@ -435,9 +435,9 @@ bounds_kept g goal epoch labels node cost room bounds v b old =
     ]
 
 -- A node is entered, and what may come after it is raised.
-pub walking_enters : {g : Graph} {starts : List ℕ} {goal best : ℕ} {s v : Search} (stop : Stop) → Walking g starts goal best s.epoch s.labels.items (Ahead stop ∷ reverse s.turns.items) → stop.node ≢ goal
+pub walking_enters : {g : Graph} {starts : List ℕ} {goal best : ℕ} {s v : Search} (stop : Stop) → Walking g starts goal best s.epoch s.labels (Ahead stop ∷ reverse s.turns.items) → stop.node ≢ goal
     → GoesOn g goal best s v stop
-    → Walking g starts goal best v.epoch v.labels.items (reverse v.turns.items)
+    → Walking g starts goal best v.epoch v.labels (reverse v.turns.items)
 walking_enters {g} {starts} {goal} {best} {s} {v} stop w ne k =
     let t : Search = k.t in
     let u : Search = k.u in
@@ -446,18 +446,18 @@ walking_enters {g} {starts} {goal} {best} {s} {v} stop w ne k =
     let r = k.raises in
     let below : List Turn = reverse s.turns.items in
     let at = ahead_in stop below w in
-    let room : stop.node < length s.labels.items = omega (arith, at, w.room) in
+    let room : stop.node < length s.labels = omega (arith, at, w.room) in
     let label : Label = record { cost = stop.cost; epoch = s.epoch; ahead = 0 } in
     let reached : Reached g starts stop.node stop.cost = rw w.stands.0.cost (next_reached w.found below stop.node w.stands.1 w.stands.0.end) in
     let stack : reverse u.turns.items ≡ Entered stop ∷ below = rw (l.turns, e.turns) (reverse-push (Entered stop) s.turns.items) in
     rw (r.turns, stack, r.epoch, r.labels, l.epoch, l.labels)
-    (raised_walks g starts goal best (Entered stop ∷ below) refl u.frame.items r.nodes w.found (rw (e.labels, length-set s.labels.items stop.node label) w.room) (rw e.epoch w.begun) (rw (e.epoch, e.labels) (bounds_kept g goal s.epoch s.labels.items stop.node stop.cost room w.bounds))
+    (raised_walks g starts goal best (Entered stop ∷ below) refl u.frame.items r.nodes w.found (rw (e.labels, length-set s.labels stop.node label) w.room) (rw e.epoch w.begun) (rw (e.epoch, e.labels) (bounds_kept g goal s.epoch s.labels stop.node stop.cost room w.bounds))
     (w.stands.0, (ne, (w.covers, w.stands.1)))
-    (λ y c rest b own lt way. elim (label_cases s.labels.items stop.node y label room) [
+    (λ y c rest b own lt way. elim (label_cases s.labels stop.node y label room) [
       | inl q ↦ absurd (omega (arith, q.2, own, e.epoch, ap (λ z. epoch_in z y) e.labels))
       | inr q ↦ w.labelled y c rest b (omega (arith, q.2, own, e.epoch, ap (λ z. epoch_in z y) e.labels)) (omega (arith, q.1, lt, ap (λ z. cost_in z y) e.labels)) way
     ])
-    (λ y c rest b own le way. elim (label_cases s.labels.items stop.node y label room) [
+    (λ y c rest b own le way. elim (label_cases s.labels stop.node y label room) [
       | inl q ↦ (let low : stop.cost ≤ c = omega (arith, q.1, le, ap (λ z. cost_in z y) e.labels) in
           elim (cases_lt stop.cost c) [
             | inl more ↦ absurd (not_dearer w.found stop.node stop.cost c rest reached more (let P : ℕ → Type 0 = λ z. IsShortWay g goal best z c rest in subst P q.0 way))
@@ -469,19 +469,19 @@ walking_enters {g} {starts} {goal} {best} {s} {v} stop w ne k =
 
 -- ---- the loop's turns
 
-module _ {g : Graph} {starts : List ℕ} {goal best : ℕ} {s t : Search} (stop : Stop) (k : TakesTurn s t (Ahead stop)) (w : Walking g starts goal best s.epoch s.labels.items (reverse s.turns.items)) where
-  pub taken : Walking g starts goal best t.epoch t.labels.items (Ahead stop ∷ reverse t.turns.items)
-  taken = rw (k.epoch, k.labels) (let P : List Turn → Type 0 = λ z. Walking g starts goal best s.epoch s.labels.items z in subst P (ap reverse k.turns ∙ reverse-push (Ahead stop) t.turns.items) w)
+module _ {g : Graph} {starts : List ℕ} {goal best : ℕ} {s t : Search} (stop : Stop) (k : TakesTurn s t (Ahead stop)) (w : Walking g starts goal best s.epoch s.labels (reverse s.turns.items)) where
+  pub taken : Walking g starts goal best t.epoch t.labels (Ahead stop ∷ reverse t.turns.items)
+  taken = rw (k.epoch, k.labels) (let P : List Turn → Type 0 = λ z. Walking g starts goal best s.epoch s.labels z in subst P (ap reverse k.turns ∙ reverse-push (Ahead stop) t.turns.items) w)
 
-pub left_behind : {g : Graph} {starts : List ℕ} {goal best : ℕ} {s t : Search} (stop : Stop) → TakesTurn s t (Entered stop) → Walking g starts goal best s.epoch s.labels.items (reverse s.turns.items)
-    → Walking g starts goal best t.epoch t.labels.items (reverse t.turns.items)
+pub left_behind : {g : Graph} {starts : List ℕ} {goal best : ℕ} {s t : Search} (stop : Stop) → TakesTurn s t (Entered stop) → Walking g starts goal best s.epoch s.labels (reverse s.turns.items)
+    → Walking g starts goal best t.epoch t.labels (reverse t.turns.items)
 left_behind {g} {starts} {goal} {best} {s} {t} stop k w =
-    rw (k.epoch, k.labels) (goes_back stop (reverse t.turns.items) (let P : List Turn → Type 0 = λ z. Walking g starts goal best s.epoch s.labels.items z in subst P (ap reverse k.turns ∙ reverse-push (Entered stop) t.turns.items) w))
+    rw (k.epoch, k.labels) (goes_back stop (reverse t.turns.items) (let P : List Turn → Type 0 = λ z. Walking g starts goal best s.epoch s.labels z in subst P (ap reverse k.turns ∙ reverse-push (Entered stop) t.turns.items) w))
 
 -- The stack is never empty before the goal is reached.
-pub not_empty : {g : Graph} {starts : List ℕ} {goal best : ℕ} (s : Search) → Walking g starts goal best s.epoch s.labels.items (reverse s.turns.items) → s.turns.items ≡ [] → ⊥
+pub not_empty : {g : Graph} {starts : List ℕ} {goal best : ℕ} (s : Search) → Walking g starts goal best s.epoch s.labels (reverse s.turns.items) → s.turns.items ≡ [] → ⊥
 not_empty {g} {starts} {goal} {best} s w e =
-    let w' : Walking g starts goal best s.epoch s.labels.items [] = (let P : List Turn → Type 0 = λ z. Walking g starts goal best s.epoch s.labels.items z in subst P (ap reverse e) w) in
+    let w' : Walking g starts goal best s.epoch s.labels [] = (let P : List Turn → Type 0 = λ z. Walking g starts goal best s.epoch s.labels z in subst P (ap reverse e) w) in
     elim w.found.path as (λ p. IsPath g starts goal p → cost_of g p ≡ best → ⊥) [
       | [] ↦ λ p c. p
       | (x ∷ rest) ↦ λ p c. (let q = w'.covers x rest p.0 (record { leads = p.1; tight = omega (arith, c) }) in omega (arith, q.1))

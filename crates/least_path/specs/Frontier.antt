@@ -32,10 +32,10 @@ abbrev pub IsLabelledIn : ℕ → List Label → ℕ → Type 0
 IsLabelledIn epoch labels node = epoch_in labels node ≡ epoch
 
 abbrev pub cost_at : Search → ℕ → ℕ
-cost_at s node = cost_in s.labels.items node
+cost_at s node = cost_in s.labels node
 
 abbrev pub IsLabelled : Search → ℕ → Type 0
-IsLabelled s node = IsLabelledIn s.epoch s.labels.items node
+IsLabelled s node = IsLabelledIn s.epoch s.labels node
 
 -- falls with each label
 abbrev pub potential : ℕ → List Label → ℕ
@@ -47,7 +47,7 @@ fresh epoch labels = sum_by (λ label. if label.epoch == epoch then 0 else 1) la
 
 -- falls with each label and each entry that is taken
 abbrev pub left : Search → ℕ
-left s = 2 * potential s.epoch s.labels.items + length s.queue
+left s = 2 * potential s.epoch s.labels + length s.queue
 
 -- A path leads there at that cost.
 pub record Reached (g : Graph) (starts : List ℕ) (node cost : ℕ) : Type 0 where
@@ -91,7 +91,7 @@ pub record Frontier (g : Graph) (starts : List ℕ) (goal except epoch : ℕ) (l
   pub room : g.count ≤ length labels
   pub few : length labels ≤ 2 ^ 23
   pub begun : 1 ≤ epoch
-  pub more : epoch + 1 < 2 ^ 32
+  pub more : epoch + 1 < 2 ^ 16
   pub cheap : (v : ℕ) → v < g.count → IsLabelledIn epoch labels v → cost_in labels v + fresh epoch labels * 2 ^ 36 ≤ length labels * 2 ^ 36
   pub reached : (v : ℕ) → v < g.count → IsLabelledIn epoch labels v → Reached g starts v (cost_in labels v)
   pub bounds : AreBounds g goal (epoch + 1) labels
@@ -99,20 +99,20 @@ pub record Frontier (g : Graph) (starts : List ℕ) (goal except epoch : ℕ) (l
   pub entries : All (IsEntry g goal epoch labels) queue
 
 abbrev pub IsFrontier : Graph → List ℕ → ℕ → ℕ → Search → Type 0
-IsFrontier g starts goal except s = Frontier g starts goal except s.epoch s.labels.items s.queue
+IsFrontier g starts goal except s = Frontier g starts goal except s.epoch s.labels s.queue
 
 -- the state before the first label
 pub record IsBegun (s : Search) (count : ℕ) : Type 0 where
-  pub room : count ≤ length s.labels.items
-  pub few : length s.labels.items ≤ 2 ^ 23
+  pub room : count ≤ length s.labels
+  pub few : length s.labels ≤ 2 ^ 23
   pub begun : 1 ≤ s.epoch
-  pub more : s.epoch + 1 < 2 ^ 32
-  pub none_labelled : All (λ label. label.epoch < s.epoch) s.labels.items
+  pub more : s.epoch + 1 < 2 ^ 16
+  pub none_labelled : All (λ label. label.epoch < s.epoch) s.labels
   pub nothing_waits : s.queue ≡ []
 
 pub record IsSame (s t : Search) : Type 0 where
   pub epoch : t.epoch ≡ s.epoch
-  pub labels : t.labels.items ≡ s.labels.items
+  pub labels : t.labels ≡ s.labels
   pub queue : t.queue ≡ s.queue
 
 -- A cheaper label, and an entry for it.
@@ -120,7 +120,7 @@ pub record AddsLabel (g : Graph) (goal : ℕ) (s t : Search) (node cost : ℕ) :
   pub at_least : ℕ
   pub ahead : ℕ
   pub epoch : t.epoch ≡ s.epoch
-  pub labels : t.labels.items ≡ set s.labels.items node (record { cost = cost; epoch = s.epoch; ahead = ahead })
+  pub labels : t.labels ≡ set s.labels node (record { cost = cost; epoch = s.epoch; ahead = ahead })
   pub cheaper : IsLabelled s node → cost < cost_at s node
   pub from : cost ≤ at_least
   pub to : (rest : List ℕ) → Leads g goal node rest → at_least ≤ cost + sum_by g.cost rest
@@ -129,28 +129,28 @@ pub record AddsLabel (g : Graph) (goal : ℕ) (s t : Search) (node cost : ℕ) :
 
 -- what an offer changes
 abbrev pub Offers : Graph → ℕ → Search → Search → ℕ → ℕ → Type 0
-Offers g goal s t node cost = (IsSame s t × IsServed g goal s.epoch s.labels.items node cost) ⊎ AddsLabel g goal s t node cost
+Offers g goal s t node cost = (IsSame s t × IsServed g goal s.epoch s.labels node cost) ⊎ AddsLabel g goal s t node cost
 
 -- The nearest waits no longer.
 pub record Pops (s t : Search) (waiting : Waiting) : Type 0 where
   pub epoch : t.epoch ≡ s.epoch
-  pub labels : t.labels.items ≡ s.labels.items
+  pub labels : t.labels ≡ s.labels
   pub takes : TakesNearest s.queue (record { 0 = waiting }) t.queue
 
 -- Labels come and fall.
 pub record Falls (s t : Search) : Type 0 where
   pub epoch : t.epoch ≡ s.epoch
   pub left : left t ≤ left s
-  pub served : (g : Graph) (goal node cost : ℕ) → IsServed g goal s.epoch s.labels.items node cost → IsServed g goal t.epoch t.labels.items node cost
+  pub served : (g : Graph) (goal node cost : ℕ) → IsServed g goal s.epoch s.labels node cost → IsServed g goal t.epoch t.labels node cost
 
 -- the search before it looks at a further node
 pub record IsGoing (g : Graph) (starts : List ℕ) (goal : ℕ) (s : Search) : Type 0 where
   pub frontier : IsFrontier g starts goal g.count s
-  pub entered : All (λ start. IsServed g goal s.epoch s.labels.items start 0) starts
+  pub entered : All (λ start. IsServed g goal s.epoch s.labels start 0) starts
 
 -- the search when the goal was taken: no entry that is left leads to a path that is less
 pub record IsSettled (g : Graph) (starts : List ℕ) (goal : ℕ) (s : Search) : Type 0 where
   pub frontier : IsFrontier g starts goal goal s
-  pub entered : All (λ start. IsServed g goal s.epoch s.labels.items start 0) starts
+  pub entered : All (λ start. IsServed g goal s.epoch s.labels start 0) starts
   pub goal_labelled : IsLabelled s goal
   pub no_less : All (λ entry. cost_at s goal ≤ entry.0.at_least) s.queue

@@ -47,9 +47,9 @@ pub record Selects (P Q : ℕ → Type 0) (xs ys : List ℕ) : Type 0 where
 -- The frame is what may come next of a list.
 pub record Lists (g : Graph) (goal best : ℕ) (parent : Option Stop) (xs : List ℕ) (s t : Search) : Type 0 where
   pub epoch : t.epoch ≡ s.epoch
-  pub labels : t.labels.items ≡ s.labels.items
+  pub labels : t.labels ≡ s.labels
   pub turns : t.turns.items ≡ s.turns.items
-  pub listed : Selects (λ y. after g parent y ≤ best) (λ y. Needs g goal best s.epoch s.labels.items y (after g parent y)) xs t.frame.items
+  pub listed : Selects (λ y. after g parent y ≤ best) (λ y. Needs g goal best s.epoch s.labels y (after g parent y)) xs t.frame.items
 
 abbrev pub ahead_of : Graph → Option Stop → ℕ → Turn
 ahead_of g parent node = Ahead (record { node = node; cost = after g parent node })
@@ -58,7 +58,7 @@ ahead_of g parent node = Ahead (record { node = node; cost = after g parent node
 pub record Raises (g : Graph) (parent : Option Stop) (s t : Search) : Type 0 where
   pub nodes : List ℕ
   pub epoch : t.epoch ≡ s.epoch
-  pub labels : t.labels.items ≡ s.labels.items
+  pub labels : t.labels ≡ s.labels
   pub same : IsPermutation s.frame.items nodes
   pub rising : IsNonDecreasing nodes
   pub turns : reverse t.turns.items ≡ map (ahead_of g parent) nodes ++ reverse s.turns.items
@@ -66,7 +66,7 @@ pub record Raises (g : Graph) (parent : Option Stop) (s t : Search) : Type 0 whe
 -- The frame is put in order.
 pub record Sorts (s t : Search) : Type 0 where
   pub epoch : t.epoch ≡ s.epoch
-  pub labels : t.labels.items ≡ s.labels.items
+  pub labels : t.labels ≡ s.labels
   pub turns : t.turns.items ≡ s.turns.items
   pub same : IsPermutation s.frame.items t.frame.items
   pub rising : IsNonDecreasing t.frame.items
@@ -74,26 +74,26 @@ pub record Sorts (s t : Search) : Type 0 where
 -- The last of the frame leaves it, if there is one.
 pub record TakesListed (s t : Search) (node : Option ℕ) : Type 0 where
   pub epoch : t.epoch ≡ s.epoch
-  pub labels : t.labels.items ≡ s.labels.items
+  pub labels : t.labels ≡ s.labels
   pub turns : t.turns.items ≡ s.turns.items
   pub frame : s.frame.items ≡ t.frame.items ++ option_to_list node
 
 -- The top of the stack leaves it.
 pub record TakesTurn (s t : Search) (turn : Turn) : Type 0 where
   pub epoch : t.epoch ≡ s.epoch
-  pub labels : t.labels.items ≡ s.labels.items
+  pub labels : t.labels ≡ s.labels
   pub turns : s.turns.items ≡ t.turns.items ++ turn ∷ []
 
 -- The node stands on the stack, and its label says at which cost.
 pub record Enters (s t : Search) (stop : Stop) : Type 0 where
   pub epoch : t.epoch ≡ s.epoch
-  pub labels : t.labels.items ≡ set s.labels.items stop.node (record { cost = stop.cost; epoch = s.epoch; ahead = 0 })
+  pub labels : t.labels ≡ set s.labels stop.node (record { cost = stop.cost; epoch = s.epoch; ahead = 0 })
   pub turns : t.turns.items ≡ s.turns.items ++ Entered stop ∷ []
 
 -- A pass begins: with an empty stack, and labels that are not its own.
 pub record Renews (s t : Search) : Type 0 where
   pub epoch : t.epoch ≡ s.epoch + 1
-  pub labels : t.labels.items ≡ s.labels.items
+  pub labels : t.labels ≡ s.labels
   pub turns : t.turns.items ≡ []
 
 -- The starts that may come first are raised.

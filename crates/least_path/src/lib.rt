@@ -4,7 +4,7 @@
 //! can tell, at least how much the way from a node to a goal costs. Among all paths from some
 //! starts to a goal, [`least`] finds the one that is least by the sum of its costs without the
 //! start's, and then by its nodes, as a dictionary orders words. A [`Search`] does so again and
-//! again in the same room: 16 bytes for each node of the largest graph, a queue and a stack.
+//! again in the same room: 12 bytes for each node of the largest graph, a queue and a stack.
 //!
 //! A search has two passes. The first labels nodes with what the cheapest path to them costs, the
 //! nearest first by that cost and the bound on the rest (A*, and Dijkstra's algorithm where the

@@ -1,16 +1,18 @@
 //! A searcher that keeps its room.
-ghost use Rattle.std.specs.Prelude.{◌≡◌, ◌^◌, ◌<◌, ◌≤◌, true, false, All, OnOk, IfOk, IfSome, IfNone, vec_len, if◌then◌else◌};
+ghost use Rattle.std.specs.Prelude.{◌≡◌, ◌+◌, ◌^◌, ◌<◌, ◌≤◌, true, false, All, OnOk, IfOk, IfSome, IfNone, length, if◌then◌else◌};
 ghost use Rattle.least_path.specs.Graph.{AreNodes};
 ghost use Rattle.least_path.specs.LeastPath.{least_path, TellsLeastPath, HasNoPath, nodes_of};
 
 mod bounds;
 mod buckets;
 mod frontier;
+mod labels;
 mod queue;
 mod walk;
 
 use crate::path::Path;
 use crate::roads::Roads;
+use crate::search::labels::Labels;
 use crate::search::queue::Queue;
 use std::alloc::{AllocError, Global};
 use std::cmp::Reverse;
@@ -20,9 +22,9 @@ use std::cmp::Reverse;
 struct Label {
     cost: u64,
     /// The search that wrote the label. To every other one the node has none.
-    epoch: u32,
+    epoch: u16,
     /// At least what any way from the node to that search's goal costs.
-    ahead: u32,
+    ahead: u16,
 }
 
 /// A node whose edges are to be looked at. Of two that lie far off the lesser comes first.
@@ -55,14 +57,14 @@ enum Turn {
 /// A searcher that keeps its room from one search to the next, and clears none of it.
 #[derive(Drop)]
 pub struct Search {
-    epoch: u32,
-    labels: Vec<Label>,
+    epoch: u16,
+    labels: Labels,
     queue: Queue,
     turns: Vec<Turn>,
     /// The nodes that come next to the stack.
     frame: Vec<usize>,
-    ghost past: { All (λ label. label.epoch ≤ epoch) labels.items },
-    ghost few: { vec_len labels ≤ 2 ^ 23 },
+    ghost past: { All (λ label. label.epoch ≤ epoch) labels },
+    ghost few: { length labels ≤ 2 ^ 23 },
 }
 
 impl Search {
@@ -72,7 +74,7 @@ impl Search {
     pub fn new(alloc: Global) -> Self {
         Search {
             epoch: 0,
-            labels: Vec::new(alloc),
+            labels: Labels::new(alloc),
             queue: Queue::new(alloc),
             turns: Vec::new(alloc),
             frame: Vec::new(alloc),
@@ -128,9 +130,20 @@ impl Search {
         if !self.settle(roads, starts, goal)? {
             return Ok(false);
         }
-        path.cost = self.labels[goal].cost;
+        path.cost = self.labels.get(goal).cost;
         self.walk(roads, starts, goal, &mut path.nodes)?;
         Ok(true)
+    }
+
+    /// Forgets all labels where there is no number left for another search with its two passes.
+    fn make_way(&mut self)
+        ensures { self.new.epoch + 2 < 2 ^ 16 }
+    {
+        if self.epoch < u16::MAX - 1 {
+            return;
+        }
+        self.labels.clear();
+        self.epoch = 0;
     }
 
     /// Makes room for the labels of `count` nodes, and forgets those of the searches before.
@@ -138,18 +151,8 @@ impl Search {
         requires { count ≤ 2 ^ 23 }
         ensures { OnOk result (IsBegun self.new count) }
     {
-        const NONE: Label = Label {
-            cost: 0,
-            epoch: 0,
-            ahead: 0,
-        };
-        if self.epoch >= u32::MAX - 1 {
-            self.labels.clear();
-            self.epoch = 0;
-        }
-        if self.labels.len() < count {
-            self.labels.resize(count, NONE)?;
-        }
+        self.make_way();
+        self.labels.provide(count)?;
         self.epoch += 1;
         self.queue.clear()
     }

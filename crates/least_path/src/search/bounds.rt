@@ -6,13 +6,13 @@ use crate::roads::Roads;
 use crate::search::Label;
 
 /// The bound, or the greatest that a label can keep.
-fn capped(bound: u64) -> u32
+fn capped(bound: u64) -> u16
     ensures { result ≤ bound }
 {
-    if bound < u32::MAX as u64 {
-        bound as u32
+    if bound < u16::MAX as u64 {
+        bound as u16
     } else {
-        u32::MAX
+        u16::MAX
     }
 }
 
@@ -24,8 +24,8 @@ pub(super) fn ahead_of<R: Roads>(
     label: Label,
     node: usize,
     goal: usize,
-    pass: u32,
-) -> Option<u32>
+    pass: u16,
+) -> Option<u16>
     requires within { node < (R.graph roads.now).count }
     requires goal { goal < (R.graph roads.now).count }
     requires bound { label.epoch ≡ pass → IsLowerBound (R.graph roads.now) goal node (Some label.ahead) }

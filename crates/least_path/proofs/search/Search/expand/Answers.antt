@@ -1,5 +1,4 @@
 use Rattle.std.proofs.Common.{refl, ap, sym, arith}
-use Rattle.std.proofs.lemmas.List.{get_or_read}
 use Rattle.least_path.specs.Frontier.{no_label}
 use Rattle.least_path.specs.declared.search.Label.{Label}
 use Rattle.least_path.proofs.Labels.{meets, expanding_none, expanding_more, expanded}
@@ -8,8 +7,7 @@ use Rattle.least_path.proofs.search.Search.expand.Goals as goal
 
 pub loop-end-init : goal.loop-end-init
 loop-end-init g c =
-    let f = c.requires.frontier.1 in
-    let r = get_or_read c.args.self.now.labels.items c.args.node c.index.result.now (omega (arith, f.room, c.requires.within)) c.index.ensures no_label in
+    let r = c.get-cost.ensures no_label in
     expanding_none (ap (λ (y : Label). y.cost) (sym r)) c.requires.labelled
 
 pub overflow_add-end : goal.overflow_add-end
@@ -24,7 +22,7 @@ offer_end-requires-clause-within g c =
 pub offer_end-requires-clause-room : goal.offer_end-requires-clause-room
 offer_end-requires-clause-room g c =
     let m = meets c.loop-end.invariant c.requires.lawful c.requires.within c.requires.frontier c.ends-ends.result.list.now c.ends-ends.result.base c.ends-ends.ensures c.loop-end-test.true in
-    omega (arith, m.room, c.loop-end.self.labels.ok.0)
+    m.room
 
 pub offer_end-requires-clause-small : goal.offer_end-requires-clause-small
 offer_end-requires-clause-small g c =

@@ -1,5 +1,4 @@
-use Rattle.std.proofs.Common.{ap, ◌∙◌, arith}
-use Rattle.std.proofs.lemmas.List.{get_or_read}
+use Rattle.std.proofs.Common.{ap, ◌∙◌}
 use Rattle.least_path.specs.Frontier.{no_label}
 use Rattle.least_path.specs.declared.search.Label.{Label}
 use Rattle.least_path.proofs.Exact.{least_path-is, least_path-none, path_within}
@@ -14,7 +13,7 @@ returns-then-not-branch-clause-exact g c = least_path-none _ _ _ (c.in_ok-settle
 pub returns-clause-found : goal.returns-clause-found
 returns-clause-found g c =
     let z = c.in_ok-settle.ensures.found (cc) in
-    let r = get_or_read c.settle.new.self.labels.items c.args.goal c.index.result.now (omega (arith, z.frontier.room, c.requires.goal)) c.index.ensures no_label in
+    let r = c.get.ensures no_label in
     let found = c.in_ok-walk.ensures in
     λ _. record {
       least = found.least;

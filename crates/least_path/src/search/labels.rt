@@ -1,0 +1,151 @@
+//! The labels of all nodes, in half the room that they take one by one.
+ghost use Rattle.std.specs.Prelude.{◌≡◌, ◌+◌, ◌*◌, ◌/◌, ◌^◌, ◌<◌, ◌≤◌, [], ℕ, All, OnOk, length, false, slice_index, slice_index_or};
+ghost use Rattle.std.proofs.Common.{set};
+
+use crate::search::Label;
+use std::alloc::{AllocError, Global};
+use std::marker::Model;
+
+/// Of a cost the lower half counts up to here.
+const HALF: u64 = 1 << 32;
+
+/// What is read of a label where its cost is low.
+#[derive(Clone, Copy)]
+struct Cell {
+    /// The lower half of the cost.
+    low: u32,
+    epoch: u16,
+    ahead: u16,
+}
+
+/// The labels of all nodes. Costs are nearly always so low that their upper half is 0, so it stands apart and is seldom
+/// read: the nearer labels stand to one another, the sooner one is at hand. Its value is the list of the labels by node.
+#[derive(Drop)]
+pub(super) struct Labels {
+    cells: Vec<Cell>,
+    /// The upper half of each cost.
+    highs: Vec<u32>,
+    /// Whether any may be more than 0.
+    are_high: bool,
+}
+
+impl Model for Labels {
+    ghost use Rattle.std.specs.Prelude.{List};
+    ghost use Rattle.least_path.specs.declared.search.Label.{Label};
+    ghost use Rattle.least_path.specs.Labels.{labels_of, AreHalves};
+
+    ghost Value = { List Label };
+
+    ghost view = { λ l. labels_of l.cells.items l.highs.items };
+
+    ghost invariant = { λ l. AreHalves l.cells.items l.highs.items l.are_high };
+}
+
+/// The upper half of a cost.
+#[inline(always)]
+fn high_at(highs: &[u32], are_high: bool, node: usize) -> u32
+    requires within { node < length highs.now }
+    requires low { are_high ≡ false → slice_index highs.now node ≡ 0 }
+    ensures { result ≡ slice_index highs.now node }
+{
+    if are_high { highs[node] } else { 0 }
+}
+
+/// Writes the upper half of a cost, and tells whether any may be more than 0 then.
+#[inline(always)]
+fn write_high(highs: &mut Vec<u32>, are_high: bool, node: usize, high: u32) -> bool
+    requires within { node < length highs.old.items }
+    requires low { are_high ≡ false → (place : ℕ) → slice_index highs.old.items place ≡ 0 }
+    ensures written { highs.new.items ≡ set highs.old.items node high }
+    ensures low { result ≡ false → (place : ℕ) → slice_index highs.new.items place ≡ 0 }
+{
+    if !are_high {
+        if high == 0 {
+            return false;
+        }
+    }
+    highs[node] = high;
+    true
+}
+
+/// Makes room for the upper halves of so many costs.
+fn lengthen(highs: &mut Vec<u32>, count: usize) -> Result<(), AllocError>
+    ensures long { OnOk result (count ≤ length highs.new.items) }
+    ensures longer { length highs.old.items ≤ length highs.new.items }
+    ensures low { ((place : ℕ) → slice_index highs.old.items place ≡ 0) → (place : ℕ) → slice_index highs.new.items place ≡ 0 }
+{
+    if count <= highs.len() {
+        return Ok(());
+    }
+    highs.resize(count, 0)
+}
+
+impl Labels {
+    /// No label, and no room yet.
+    pub(super) fn new(alloc: Global) -> Self
+        ensures { result ≡ [] }
+    {
+        Labels {
+            cells: Vec::new(alloc),
+            highs: Vec::new(alloc),
+            are_high: false,
+        }
+    }
+
+    /// Forgets all.
+    pub(super) fn clear(&mut self)
+        ensures { self.new ≡ [] }
+    {
+        self.cells.clear();
+    }
+
+    /// Makes room for so many, where there is none yet: with labels of no search.
+    pub(super) fn provide(&mut self, count: usize) -> Result<(), AllocError>
+        ensures long { OnOk result (count ≤ length self.new) }
+        ensures few { (most : ℕ) → count ≤ most → length self.old ≤ most → length self.new ≤ most }
+        ensures past { (epoch : ℕ) → All (λ label. label.epoch ≤ epoch) self.old → All (λ label. label.epoch ≤ epoch) self.new }
+    {
+        const NONE: Cell = Cell {
+            low: 0,
+            epoch: 0,
+            ahead: 0,
+        };
+        if count <= self.cells.len() {
+            return Ok(());
+        }
+        lengthen(&mut self.highs, count)?;
+        self.cells.resize(count, NONE)?;
+        Ok(())
+    }
+
+    /// The label of a node.
+    #[inline(always)]
+    pub(super) fn get(&self, node: usize) -> Label
+        requires { node < length self.now }
+        ensures { (d : Label) → result ≡ slice_index_or self.now node d }
+    {
+        let Cell { low, epoch, ahead } = self.cells[node];
+        let high = high_at(&self.highs, self.are_high, node);
+        Label {
+            cost: high as u64 * HALF + low as u64,
+            epoch,
+            ahead,
+        }
+    }
+
+    /// Gives a node a label.
+    #[inline(always)]
+    pub(super) fn set(&mut self, node: usize, label: Label)
+        requires { node < length self.old }
+        ensures { self.new ≡ set self.old node label }
+    {
+        let high = (label.cost / HALF) as u32;
+        let low = (label.cost % HALF) as u32;
+        self.are_high = write_high(&mut self.highs, self.are_high, node, high);
+        self.cells[node] = Cell {
+            low,
+            epoch: label.epoch,
+            ahead: label.ahead,
+        };
+    }
+}
