@@ -4,9 +4,12 @@ pub mod FeedLemmas
 pub mod FormLemmas
 pub mod LiveLemmas
 pub mod NetLemmas
+pub mod OutputLemmas
 pub mod OwnerLemmas
+pub mod ScriptNames
 pub mod SectionLemmas
 pub mod ServedLemmas
+pub mod SizeLemmas
 pub mod StageLemmas
 pub mod ToldLemmas
 pub mod WordLemmas

@@ -13,11 +13,10 @@ use Rattle.script_text.specs.declared.operator_line.OperatorLine.TheVariants.{Ad
 use Rattle.printed_replies.specs.Lengths.{is_line_feed}
 use Rattle.printed_replies.specs.Replies.{AnsweredLine, replied}
 use Rattle.script_replies.specs.Asking.{asked_of, replies_in}
-use Rattle.service_core.specs.declared.device.Device.{Device}
-use Rattle.service_core.specs.Service.{empty}
-use Rattle.sessions.specs.Fitting.{own_graph}
-use Rattle.operator.specs.Serving.{Stage}
-use Rattle.fpgad_run.specs.Run.{Telling, Tells, written}
+use Rattle.fpgad_run.specs.declared.inputs.Architecture.{Architecture}
+use Rattle.fpgad_run.specs.declared.options.Options.{Options}
+use Rattle.fpgad_run.specs.Program.{IsReplies, start_of}
+use Rattle.fpgad_run.specs.Run.{Telling}
 
 -- no byte ends a line
 abbrev pub is_other : ℕ → Bool
@@ -26,7 +25,7 @@ is_other b = not (is_line_feed b)
 abbrev pub NoFeed : List ℕ → Type 0
 NoFeed bytes = list_all is_other bytes ≡ true
 
--- no net that a netlist names, in a fault or in its circuit, holds a line feed
+-- private: no net that a netlist names, in a fault or in its circuit, holds a line feed
 pub record NetsAreWords : Type 0 where
   pub faults : (text : List ℕ) (lut_size : ℕ) (fault : BlifFault) → circuit_of text lut_size ≡ Err fault → IfSome (net_of fault.kind) NoFeed
   pub nets : (text : List ℕ) (lut_size : ℕ) (circuit : Circuit) (net : ℕ) → circuit_of text lut_size ≡ Ok circuit → NoFeed (net_name circuit net)
@@ -35,17 +34,17 @@ pub record NetsAreWords : Type 0 where
 abbrev pub answered : Telling → AnsweredLine
 answered t = replied (asked_of t.act) t.text
 
--- a name that a tenancy is to be admitted under holds no line feed; a script's names never do
+-- private: a name that a tenancy is to be admitted under holds no line feed; a script's names never do
 abbrev pub HasName : Act (List ℕ) → Type 0
 HasName (Operator (Admit name width)) = NoFeed name
 HasName act = ⊤
 
--- each telling is of such an act, and its text fits into memory
+-- private: each telling is of such an act, and its text fits into memory
 abbrev pub AreTellable : List Telling → Type 0
 AreTellable [] = ⊤
 AreTellable (t ∷ ts) = (HasName t.act × (length t.text < 2 ^ 64)) × AreTellable ts
 
--- what the acts of a run from an empty device were told is read back from what is written
-abbrev pub AreReadBack : Type 0
-AreReadBack = (device : Device) (tellings : List Telling) (last : Stage) → Tells (record { names = []; jobs = []; service = empty device; graph = own_graph device }) tellings last → AreTellable tellings →
-    replies_in (map (λ t. t.act) tellings) (written tellings) ≡ Ok (map answered tellings)
+-- what the acts of a script were told is read back from what the program writes for it
+abbrev pub IsOutputReadBack : Type 0
+IsOutputReadBack = (options : Options) (tracks : ℕ) (architecture : Architecture) (input output : List ℕ) → (r : IsReplies options (start_of tracks architecture input) output) → length output < 2 ^ 64 →
+    replies_in r.acts output ≡ Ok (map answered r.tellings)

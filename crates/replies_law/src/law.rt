@@ -1,8 +1,8 @@
 //! The law.
-ghost use Rattle.replies_law.specs.ReadBack.{AreReadBack};
+ghost use Rattle.replies_law.specs.ReadBack.{IsOutputReadBack};
 
-/// What the acts of a run were told is read back from what is written, act by act, whatever names and nets tenants choose.
+/// What each act of a script was told is read back from what the program writes for the script, whatever names and nets tenants choose.
 pub fn replies_are_read()
-    ensures { AreReadBack }
+    ensures { IsOutputReadBack }
 {
 }
