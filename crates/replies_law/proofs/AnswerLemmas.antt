@@ -168,6 +168,7 @@ step_plain words state command reply is = by_full (eqb state.entries 65536) is
     lawful : (b : Bool) → IsPlain (cond {A = Option State × Reply} b (serve state command) (None, Refused (WrongState state.name))).1
     lawful true = serve_plain words state command
     lawful false = tt
+
     by_full : (b : Bool) → (cond {A = State × Option Reply} b (state, None) (after state (answer_to state (Asked command)).0, Some (answer_to state (Asked command)).1)).1 ≡ Some reply → IsPlain reply
     by_full true never = cc
     by_full false e = let same : (answer_to state (Asked command)).1 ≡ reply = cc in subst IsPlain same (lawful (is_lawful state.name command))

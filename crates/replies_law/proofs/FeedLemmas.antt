@@ -70,6 +70,7 @@ line_parts (b ∷ bytes) is = by_test (is_line_feed b) refl is (λ more. line_pa
     ended : (bytes : List ℕ) → is_none bytes ≡ true → is_line_feed b ≡ true → Parted (b ∷ bytes)
     ended [] none e = record { line = []; is = ap (λ x. x ∷ []) (eqb-true b 10 e); other = refl }
     ended (c ∷ cs) none e = absurd (false≢true none)
+
     by_test : (t : Bool) → is_line_feed b ≡ t → cond t (is_none bytes) (is_line bytes) ≡ true → (IsLine bytes → Parted bytes) → Parted (b ∷ bytes)
     by_test true e none more = ended bytes none e
     by_test false e rest more =

@@ -53,6 +53,7 @@ lives-ended (h ∷ hs) id change ends is = by_test (eqb id 1) is (lives-ended hs
         let after : lives (change h ∷ hs) ≡ 0 + lives hs = ap (λ b. cond b 1 0 + lives hs) (ends h) in
         omega (arith, before, after)
     own false e none = absurd (false≢true none)
+
     by_test : (b : Bool) → IsSome (option_and_then (λ (g : History). cond g.live (Some g) None) (cond b (Some h) (history_of hs (id - 1)))) → (IsSome (live_of hs (id - 1)) → lives (modified hs (id - 1) change) + 1 ≡ lives hs) →
         lives (cond b (change h ∷ hs) (h ∷ modified hs (id - 1) change)) + 1 ≡ lives (h ∷ hs)
     by_test true some more = own h.live refl some

@@ -182,6 +182,7 @@ least_other (found ∷ all) each = by_least (least_by precedes all) (least_other
     by_test : (b : Bool) (other : Found BlifFault) → FoundOther other → FoundOther (cond b found other)
     by_test true other is = each.0
     by_test false other is = is
+
     by_least : (o : Option (Found BlifFault)) → IfSome o FoundOther → FoundOther (earlier_by precedes found o)
     by_least None is = each.0
     by_least (Some other) is = by_test (precedes found other) other is

@@ -111,6 +111,7 @@ not_named (n ∷ names) new name none = by_test (bytes_eq new n) refl (λ e. not
     parts : (a b : Bool) → (a || b) ≡ false → (a ≡ false) × (b ≡ false)
     parts true b e = absurd (false≢true (sym e))
     parts false b e = (refl, e)
+
     by_test : (b : Bool) → bytes_eq new n ≡ b → (has_name (with_name names new) name ≡ false → (has_name names name ≡ false) × (bytes_eq name new ≡ false)) →
         ((bytes_eq name n || has_name names name) ≡ false) × (bytes_eq name new ≡ false)
     by_test true e more =
@@ -139,7 +140,7 @@ sections_told (t ∷ ts) names f distinct none = by_act t.act (sections_told ts 
     by_act (Session name line) same more =
         ap (λ ss. sections_after ss ts) (one_told f name t.text names distinct (none name)) ∙ more name
         ∙ map_same (λ n. sec n ((f n ++ more_for name t.text n) ++ told_to (Some n) (lines_of ts))) (λ n. sec n (f n ++ (more_for name t.text n ++ told_to (Some n) (lines_of ts))))
-          (λ n. ap (sec n) (append_assoc (f n) (more_for name t.text n) (told_to (Some n) (lines_of ts)))) (names_from (with_name names name) (asked_in (lines_of ts)))
+        (λ n. ap (sec n) (append_assoc (f n) (more_for name t.text n) (told_to (Some n) (lines_of ts)))) (names_from (with_name names name) (asked_in (lines_of ts)))
 
 section_texts : (f : List ℕ → List ℕ) (names : List (List ℕ)) → flat_map section_text (map (λ n. sec n (f n)) names) ≡ flat_map (λ n. heading (Some n) ++ f n) names
 section_texts f [] = refl

@@ -36,6 +36,7 @@ session_has words name old new (t ∷ ts) live tells tellable =
         HasReply b live (replied (asked_of (Session n line)) t.text) (λ next. HaveReplies (Some name) next (lines_of ts))
     by_name true n line reads more = (reads, more (live_after live (session_form line) t.text))
     by_name false n line reads more = more live
+
     by_act : (act : Act (List ℕ)) → IsAnswered old act t.calls t.text tells.0 → ((next : ℕ) → HaveReplies (Some name) next (lines_of ts)) → HaveReplies (Some name) live (replied (asked_of act) t.text ∷ lines_of ts)
     by_act (Operator line) is more = more live
     by_act (Session n line) is more = by_name (bytes_eq name n) n line (session_told words old tells.0 n line t.calls t.text live is tellable.0.1) more
