@@ -6,5 +6,4 @@ ghost use Rattle.printed_replies.specs.Replies.{AnsweredLine};
 /// Whatever stands in the replies to lines, what is printed for them is read back: each line with its own reply.
 pub fn printed_is_read()
     ensures { (lines : List AnsweredLine) → IsReadBack lines }
-{
-}
+{}
