@@ -1,6 +1,6 @@
 -- Bytes without a line feed, and lines.
-use Rattle.std.proofs.Common.{◌≡◌, ℕ, zero, suc, ◌+◌, ◌-◌, ◌<◌, ◌≤◌, ◌/◌, ◌%◌, Bool, true, false, not, cond, eqb, List, [], ◌∷◌, ◌++◌, length, take, drop, codes, decimal, position, Option, Some, None, refl, sym, ap, ◌∙◌, arith, length-append, append_assoc}
-use Rattle.std.specs.Prelude.{◌&&◌, nat_lt, option_map, option_and_then}
+use Rattle.std.proofs.Common.{◌≡◌, ℕ, zero, suc, ◌+◌, ◌/◌, ◌%◌, Bool, true, false, not, cond, eqb, List, [], ◌∷◌, ◌++◌, length, decimal, Some, None, refl, ap, ◌∙◌, arith, length-append, append_assoc}
+use Rattle.std.specs.Prelude.{nat_lt, option_map}
 use Rattle.std.specs.Fmt.{digits, digits_onto, digit_glyph}
 use Rattle.std.specs.List.{list_all, position_or_len}
 use Rattle.std.proofs.lemmas.Bool.{and_from, and_parts, eqb-true, false≢true}
@@ -70,6 +70,7 @@ line_parts (b ∷ bytes) is = by_test (is_line_feed b) refl is (λ more. line_pa
     ended : (bytes : List ℕ) → is_none bytes ≡ true → is_line_feed b ≡ true → Parted (b ∷ bytes)
     ended [] none e = record { line = []; is = ap (λ x. x ∷ []) (eqb-true b 10 e); other = refl }
     ended (c ∷ cs) none e = absurd (false≢true none)
+
     by_test : (t : Bool) → is_line_feed b ≡ t → cond t (is_none bytes) (is_line bytes) ≡ true → (IsLine bytes → Parted bytes) → Parted (b ∷ bytes)
     by_test true e none more = ended bytes none e
     by_test false e rest more =

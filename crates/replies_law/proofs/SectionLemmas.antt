@@ -3,14 +3,13 @@ use Rattle.std.proofs.Common.{◌≡◌, ℕ, Bool, true, false, cond, ◌||◌,
 use Rattle.std.specs.Prelude.{⊤, flat_map}
 use Rattle.std.specs.Str.{bytes_eq}
 use Rattle.std.proofs.lemmas.Bool.{false≢true}
-use Rattle.std.proofs.lemmas.List.Folds.{list_any-append}
 use Rattle.std.proofs.lemmas.Slice.Eq.{bytes_eq-Decides}
 use Rattle.line_text.specs.Names.{has_name, with_name}
 use Rattle.line_text.proofs.NameLemmas.{with_name-first, with_name-later}
 use Rattle.script_text.specs.declared.act.Act.{Act}
 use Rattle.script_text.specs.declared.act.Act.TheVariants.{Operator, Session}
 use Rattle.printed_replies.specs.Printing.{asked_in, printed_for, section_of, told_to}
-use Rattle.printed_replies.specs.Replies.{AnsweredLine, AskedLine, Speaker, heading, names_of, replied, with_speaker}
+use Rattle.printed_replies.specs.Replies.{AnsweredLine, AskedLine, heading, names_of, replied, with_speaker}
 use Rattle.script_replies.specs.Asking.{asked_of}
 use Rattle.fpgad_run.specs.Run.{Section, Telling, section_text, sections_after, told_operator, told_session, with_text, written}
 use Rattle.replies_law.specs.ReadBack.{answered}
@@ -111,6 +110,7 @@ not_named (n ∷ names) new name none = by_test (bytes_eq new n) refl (λ e. not
     parts : (a b : Bool) → (a || b) ≡ false → (a ≡ false) × (b ≡ false)
     parts true b e = absurd (false≢true (sym e))
     parts false b e = (refl, e)
+
     by_test : (b : Bool) → bytes_eq new n ≡ b → (has_name (with_name names new) name ≡ false → (has_name names name ≡ false) × (bytes_eq name new ≡ false)) →
         ((bytes_eq name n || has_name names name) ≡ false) × (bytes_eq name new ≡ false)
     by_test true e more =
@@ -139,7 +139,7 @@ sections_told (t ∷ ts) names f distinct none = by_act t.act (sections_told ts 
     by_act (Session name line) same more =
         ap (λ ss. sections_after ss ts) (one_told f name t.text names distinct (none name)) ∙ more name
         ∙ map_same (λ n. sec n ((f n ++ more_for name t.text n) ++ told_to (Some n) (lines_of ts))) (λ n. sec n (f n ++ (more_for name t.text n ++ told_to (Some n) (lines_of ts))))
-          (λ n. ap (sec n) (append_assoc (f n) (more_for name t.text n) (told_to (Some n) (lines_of ts)))) (names_from (with_name names name) (asked_in (lines_of ts)))
+        (λ n. ap (sec n) (append_assoc (f n) (more_for name t.text n) (told_to (Some n) (lines_of ts)))) (names_from (with_name names name) (asked_in (lines_of ts)))
 
 section_texts : (f : List ℕ → List ℕ) (names : List (List ℕ)) → flat_map section_text (map (λ n. sec n (f n)) names) ≡ flat_map (λ n. heading (Some n) ++ f n) names
 section_texts f [] = refl
