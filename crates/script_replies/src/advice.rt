@@ -1,7 +1,7 @@
 //! What refusals mean, in words.
 
 /// What a refusal or a failed routing means, and what may be done.
-#[derive(Clone, Copy, Debug, PartialEq, Eq)]
+#[derive(Clone, Copy)]
 pub enum Advice {
     /// The operator's refusals 1 to 7, and what a step came to.
     NoMemory,
@@ -31,7 +31,7 @@ pub enum Advice {
 }
 
 /// What a fault of a netlist, 1 to 12, comes from in most cases.
-#[derive(Clone, Copy, Debug, PartialEq, Eq)]
+#[derive(Clone, Copy)]
 pub enum NetlistAdvice {
     Unknown,
     BadCover,

@@ -18,4 +18,5 @@ pub use advice::{Advice, NetlistAdvice};
 pub use advising::advice_for;
 pub use asking::{file_of, read_replies, session_names};
 pub use lines::{ScriptLine, script_lines};
+pub use printed_replies::{ReadError, Replies};
 pub use report::{ToldLine, told_lines, write_told};
