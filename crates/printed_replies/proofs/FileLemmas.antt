@@ -1,9 +1,9 @@
 -- The last file of a kind, line by line.
-use Rattle.std.proofs.Common.{◌≡◌, ℕ, ◌+◌, ◌<◌, List, [], ◌∷◌, ◌++◌, length, take, map, get_or, Option, Some, None, refl, sym, ap, ◌∙◌, arith}
+use Rattle.std.proofs.Common.{◌≡◌, ℕ, ◌+◌, ◌<◌, List, [], ◌∷◌, ◌++◌, length, take, map, get_or, Option, Some, None, refl, sym, ap, ◌∙◌}
 use Rattle.std.specs.Prelude.{option_map}
 use Rattle.std.specs.Borrow.{Bor}
 use Rattle.std.specs.Option.{option_or}
-use Rattle.std.proofs.lemmas.List.{get_or-map, length-map, take-map, take_more}
+use Rattle.std.proofs.lemmas.List.{take_more}
 use Rattle.printed_replies.specs.declared.answered.Answered.{Answered}
 use Rattle.printed_replies.specs.Files.{file_of, file_told}
 use Rattle.printed_replies.specs.Parts.{answered_lines}

@@ -1,4 +1,5 @@
 pub mod BehindLemmas
+mod Examples
 pub mod FileLemmas
 pub mod FirstPlaces
 pub mod LengthLemmas

@@ -1,16 +1,14 @@
 -- What is printed for lines is read back.
-use Rattle.std.proofs.Common.{◌≡◌, ℕ, ◌+◌, Bool, true, false, cond, ◌||◌, List, [], ◌∷◌, ◌++◌, length, take, drop, map, fold, Result, Ok, Err, Option, Some, None, refl, sym, ap, ◌∙◌, append_assoc}
+use Rattle.std.proofs.Common.{◌≡◌, ℕ, Bool, true, false, cond, ◌||◌, List, [], ◌∷◌, ◌++◌, length, take, drop, map, fold, Ok, Some, None, refl, sym, ap, ◌∙◌, append_assoc}
 use Rattle.std.specs.Prelude.{flat_map}
-use Rattle.std.specs.List.{list_any}
 use Rattle.std.specs.Str.{bytes_eq}
 use Rattle.std.proofs.lemmas.Bool.{false≢true}
 use Rattle.std.proofs.lemmas.List.Folds.{list_any-append}
 use Rattle.std.proofs.lemmas.Slice.Eq.{bytes_eq-Decides}
 use Rattle.std.proofs.Math.Seq.{drop-append_seam, take-append_seam}
 use Rattle.line_text.specs.Names.{has_name, with_name}
-use Rattle.printed_replies.specs.Lengths.{behind, reply_length}
 use Rattle.printed_replies.specs.Printing.{HasReply, HaveReplies, IsReadBack, IsReply, asked_in, printed_for, section_of, told_to}
-use Rattle.printed_replies.specs.Replies.{AnsweredLine, AskedLine, Reading, Rest, Speaker, and_then, begun, fitting, heading, is_of, line_read, lines_read, live_after, names_of, onto, read_from, replied, replies_in, reply_read, rest_of, section_read, sections_read, unanswered, with_speaker}
+use Rattle.printed_replies.specs.Replies.{AnsweredLine, AskedLine, Speaker, and_then, begun, fitting, heading, is_of, lines_read, live_after, names_of, onto, read_from, replied, replies_in, reply_read, rest_of, section_read, sections_read, unanswered, with_speaker}
 use Rattle.printed_replies.proofs.BehindLemmas.{behind-append}
 
 -- the lines once the sections of some speakers are read

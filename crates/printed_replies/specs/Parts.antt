@@ -1,5 +1,5 @@
 -- Private: what the parts of reading give.
-use Rattle.std.specs.Prelude.{ℕ, ◌≡◌, ◌≤◌, ◌+◌, List, map, length, option_map, Option, Result, Ok, Err}
+use Rattle.std.specs.Prelude.{ℕ, ◌≡◌, List, map, option_map, Option, Result, Ok, Err}
 use Rattle.std.specs.Borrow.{Bor}
 use Rattle.printed_replies.specs.declared.answered.Answered.{Answered}
 use Rattle.printed_replies.specs.declared.reading.Left.{Left}

@@ -1,5 +1,5 @@
 -- What is printed for lines and their replies, and that it is read back.
-use Rattle.std.specs.Prelude.{ℕ, ◌≡◌, Bool, true, false, if◌then◌else◌, List, [], ◌∷◌, ◌++◌, length, map, flat_map, Option, Some, None, Ok, ⊤}
+use Rattle.std.specs.Prelude.{ℕ, ◌≡◌, Bool, true, false, if◌then◌else◌, List, [], ◌∷◌, ◌++◌, length, map, flat_map, Some, None, Ok, ⊤}
 use Rattle.printed_replies.specs.declared.asked.ReplyForm.{ReplyForm}
 use Rattle.printed_replies.specs.Lengths.{reply_length}
 use Rattle.printed_replies.specs.Replies.{AnsweredLine, AskedLine, Speaker, heading, is_of, live_after, names_of, replies_in}

@@ -1,7 +1,7 @@
 //! Lines that were asked, as far as their replies depend on them.
 
 /// What form a reply has.
-#[derive(Clone, Copy, Debug, PartialEq, Eq)]
+#[derive(Clone, Copy)]
 pub enum ReplyForm {
     /// Nothing is printed.
     Silence,

@@ -18,7 +18,7 @@ pub(crate) fn file_told<'p>(name: &[u8], kind: &[u8], line: &Answered<'_, 'p>) -
 }
 
 /// The file of that kind that a reply tells: what stands behind its first line.
-pub fn file_in<'p>(kind: &[u8], reply: &'p [u8]) -> Option<&'p [u8]>
+pub(crate) fn file_in<'p>(kind: &[u8], reply: &'p [u8]) -> Option<&'p [u8]>
     ensures { option_map (λ file. file.now) result ≡ file_in kind.now reply.now }
 {
     let line = line_length(reply)?;

@@ -56,7 +56,7 @@ fn kind_and_length(words: &[u8]) -> Option<(&[u8], u64)>
 }
 
 /// The kind and the length of the file that a line `text KIND LENGTH` tells of.
-pub fn told_file(line: &[u8]) -> Option<(&[u8], u64)>
+pub(crate) fn told_file(line: &[u8]) -> Option<(&[u8], u64)>
     ensures { option_map (λ told. (told.0.now, told.1)) result ≡ told_file line.now }
 {
     kind_and_length(behind(b"text ", line)?)

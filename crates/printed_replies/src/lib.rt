@@ -21,8 +21,6 @@ mod replies;
 
 pub use answered::Answered;
 pub use asked::{Asked, ReplyForm};
-pub use file::file_in;
 pub use law::printed_is_read;
-pub use length::told_file;
 pub use reading::{ReadError, names_of, read_replies};
 pub use replies::Replies;

@@ -1,5 +1,5 @@
 -- What sessions are answered is read as it is.
-use Rattle.std.proofs.Common.{◌≡◌, ℕ, ◌+◌, ◌<◌, ◌≤◌, ◌^◌, Bool, true, false, cond, eqb, List, [], ◌∷◌, ◌++◌, length, codes, decimal, Result, Ok, Err, Option, Some, None, refl, sym, ap, ◌∙◌, arith, length-append, subst, append_assoc}
+use Rattle.std.proofs.Common.{◌≡◌, ℕ, ◌<◌, ◌^◌, Bool, true, false, cond, eqb, List, [], ◌∷◌, ◌++◌, length, codes, decimal, Result, Ok, Err, Option, Some, None, refl, arith, length-append, subst}
 use Rattle.std.specs.Prelude.{⊤, IfSome, nat_lt, option_and_then, slice_get}
 use Rattle.std.specs.Option.{option_map_or}
 use Rattle.arch_file.specs.declared.arch.Arch.{Arch}
@@ -14,8 +14,6 @@ use Rattle.tenant_slot.specs.declared.command.Command.TheVariants.{Upload, Chang
 use Rattle.tenant_slot.specs.declared.event.Event.TheVariants.{Command as Asked}
 use Rattle.tenant_slot.specs.declared.failure.RoutingFailure.{RoutingFailure}
 use Rattle.tenant_slot.specs.declared.failure.RoutingFailure.TheVariants.{GaveUp as FailedAll, NoPath as FailedNet}
-use Rattle.tenant_slot.specs.declared.reply.Ending.{Ending}
-use Rattle.tenant_slot.specs.declared.reply.Ending.TheVariants.{GaveUp, NoPath}
 use Rattle.tenant_slot.specs.declared.reply.FileKind.{FileKind}
 use Rattle.tenant_slot.specs.declared.reply.FileKind.TheVariants.{Net as NetFile, Place as PlacesFile, Route as RoutesFile}
 use Rattle.tenant_slot.specs.declared.reply.Misfit.{Misfit}
@@ -26,13 +24,12 @@ use Rattle.tenant_slot.specs.declared.reply.Reply.{Reply}
 use Rattle.tenant_slot.specs.declared.reply.Reply.TheVariants.{Accepted, Status as InState, File, Refused, Step}
 use Rattle.tenant_slot.specs.declared.reply.StateName.{StateName}
 use Rattle.tenant_slot.specs.declared.reply.StateName.TheVariants.{Empty, Loaded, Packing, Packed, Placing, Placed, Routing, Routed, Unrouted}
-use Rattle.tenant_slot.specs.declared.reply.StepReply.{StepReply}
 use Rattle.tenant_slot.specs.declared.reply.StepReply.TheVariants.{Advanced, Finished, Stale}
 use Rattle.tenant_slot.specs.Names.{file_text, refusal_number, refusal_text, state_text}
 use Rattle.tenant_slot.specs.Results.{ending_told}
-use Rattle.tenant_slot.specs.SingleUser.{State, after, answer_to, circuit_in, is_lawful, misfit_of, pack_unless, place, place_unless, serve, step, with_circuit}
-use Rattle.sessions.specs.SessionText.{blank_word, cause_text, ending_text, numbered_line, reply_text, step_text}
-use Rattle.printed_replies.specs.Lengths.{behind, session_length}
+use Rattle.tenant_slot.specs.SingleUser.{State, after, answer_to, circuit_in, is_lawful, pack_unless, place_unless, serve, step, with_circuit}
+use Rattle.sessions.specs.SessionText.{blank_word, cause_text, ending_text, numbered_line, reply_text}
+use Rattle.printed_replies.specs.Lengths.{session_length}
 use Rattle.replies_law.specs.ReadBack.{NetsAreWords, NoFeed}
 use Rattle.replies_law.proofs.FeedLemmas.{IsLine, decimal_no_feed, line_behind, no_feed-append}
 use Rattle.replies_law.proofs.FormLemmas.{file_behind, plain_line}

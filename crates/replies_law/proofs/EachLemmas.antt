@@ -1,5 +1,5 @@
 -- What holds of each element of a list.
-use Rattle.std.proofs.Common.{◌≡◌, ℕ, zero, suc, ◌+◌, Bool, true, false, cond, List, [], ◌∷◌, ◌++◌, take, drop, map, get_or, Option, Some, None, refl}
+use Rattle.std.proofs.Common.{ℕ, zero, suc, Bool, true, false, cond, List, [], ◌∷◌, ◌++◌, take, drop, map, get_or}
 use Rattle.std.specs.Prelude.{⊤, filter, flat_map}
 
 abbrev pub Each : {A : Type 0} → (A → Type 0) → List A → Type 0

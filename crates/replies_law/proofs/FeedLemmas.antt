@@ -1,6 +1,6 @@
 -- Bytes without a line feed, and lines.
-use Rattle.std.proofs.Common.{◌≡◌, ℕ, zero, suc, ◌+◌, ◌-◌, ◌<◌, ◌≤◌, ◌/◌, ◌%◌, Bool, true, false, not, cond, eqb, List, [], ◌∷◌, ◌++◌, length, take, drop, codes, decimal, position, Option, Some, None, refl, sym, ap, ◌∙◌, arith, length-append, append_assoc}
-use Rattle.std.specs.Prelude.{◌&&◌, nat_lt, option_map, option_and_then}
+use Rattle.std.proofs.Common.{◌≡◌, ℕ, zero, suc, ◌+◌, ◌/◌, ◌%◌, Bool, true, false, not, cond, eqb, List, [], ◌∷◌, ◌++◌, length, decimal, Some, None, refl, ap, ◌∙◌, arith, length-append, append_assoc}
+use Rattle.std.specs.Prelude.{nat_lt, option_map}
 use Rattle.std.specs.Fmt.{digits, digits_onto, digit_glyph}
 use Rattle.std.specs.List.{list_all, position_or_len}
 use Rattle.std.proofs.lemmas.Bool.{and_from, and_parts, eqb-true, false≢true}

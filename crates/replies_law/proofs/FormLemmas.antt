@@ -1,6 +1,6 @@
 -- Replies of each form.
-use Rattle.std.proofs.Common.{◌≡◌, ℕ, zero, suc, ◌+◌, ◌-◌, ◌*◌, ◌<◌, ◌≤◌, ◌/◌, ◌%◌, ◌^◌, Bool, true, false, not, cond, eqb, List, [], ◌∷◌, ◌++◌, length, take, drop, codes, decimal, Option, Some, None, refl, sym, ap, ◌∙◌, arith, length-append, append_assoc, append-nil, subst}
-use Rattle.std.specs.Prelude.{◌&&◌, nat_le, nat_lt, option_map, option_and_then, unwrap_or}
+use Rattle.std.proofs.Common.{◌≡◌, ℕ, zero, suc, ◌+◌, ◌-◌, ◌*◌, ◌<◌, ◌≤◌, ◌/◌, ◌%◌, ◌^◌, Bool, true, false, cond, eqb, List, [], ◌∷◌, ◌++◌, length, take, drop, codes, decimal, Option, Some, None, refl, sym, ap, ◌∙◌, arith, length-append, append_assoc, append-nil, subst}
+use Rattle.std.specs.Prelude.{nat_le, nat_lt, option_map, option_and_then, unwrap_or}
 use Rattle.std.specs.List.{list_all}
 use Rattle.std.proofs.lemmas.Bool.{and_from}
 use Rattle.std.proofs.lemmas.Bool.Decides.{nat_tests}
@@ -9,9 +9,9 @@ use Rattle.std.proofs.lemmas.List.Sums.{fold-append}
 use Rattle.std.proofs.lemmas.Fmt.{decimal_by_steps, decimal_nonempty}
 use Rattle.std.proofs.Math.Seq.{drop-append_seam, take-append_seam}
 use Rattle.line_text.specs.Decimal.{decimal_of, is_digit, value_of, with_digit}
-use Rattle.printed_replies.specs.Lengths.{behind, kind_and_length, line_length, line_of, lines_length, owners_length, session_length, told_bytes, told_file, told_owners, within}
+use Rattle.printed_replies.specs.Lengths.{behind, kind_and_length, line_of, lines_length, owners_length, session_length, told_bytes, told_file, told_owners, within}
 use Rattle.replies_law.specs.ReadBack.{NoFeed}
-use Rattle.replies_law.proofs.FeedLemmas.{IsLine, Parted, decimal_no_feed, ended_length, line_is_first, line_parts, no_feed-append}
+use Rattle.replies_law.proofs.FeedLemmas.{IsLine, decimal_no_feed, ended_length, line_is_first, line_parts, no_feed-append}
 
 -- the digits of a number, and their value
 digit_one : (n : ℕ) → n < 10 → (list_all is_digit ((48 + n) ∷ []) ≡ true) × (value_of ((48 + n) ∷ []) ≡ n)

@@ -1,5 +1,5 @@
 -- How many tenancies live, and their lines in the operator's list.
-use Rattle.std.proofs.Common.{◌≡◌, ℕ, zero, suc, ◌+◌, ◌-◌, ◌<◌, ◌≤◌, Bool, true, false, cond, eqb, List, [], ◌∷◌, ◌++◌, length, take, map, get_or, slice_get, codes, decimal, Result, Ok, Err, Option, Some, None, refl, sym, ap, ◌∙◌, arith, subst, append-nil}
+use Rattle.std.proofs.Common.{◌≡◌, ℕ, zero, suc, ◌+◌, ◌-◌, ◌<◌, ◌≤◌, Bool, true, false, cond, eqb, List, [], ◌∷◌, ◌++◌, length, take, get_or, decimal, Result, Ok, Err, Option, Some, None, refl, sym, ap, ◌∙◌, arith, subst, append-nil}
 use Rattle.std.specs.Prelude.{⊤, IsSome, option_and_then, unwrap_or}
 use Rattle.std.proofs.lemmas.Bool.{false≢true}
 use Rattle.std.proofs.lemmas.Bool.Decides.{nat_tests}
@@ -10,7 +10,7 @@ use Rattle.service_core.specs.declared.not_served.NotServed.TheVariants.{Journal
 use Rattle.service_core.specs.declared.op_refusal.OpRefusal.{OpRefusal}
 use Rattle.service_core.specs.declared.op_refusal.OpRefusal.TheVariants as Op
 use Rattle.service_core.specs.declared.put_reply.PutReply.TheVariants.{Recorded as PutRecorded, Full as PutFull, Gone as PutGone}
-use Rattle.service_core.specs.Calls.{IsAdmitted, IsEvicted, IsGivenBackTo, IsMoved}
+use Rattle.service_core.specs.Calls.{IsGivenBackTo, IsMoved}
 use Rattle.service_core.specs.History.{History, state_of}
 use Rattle.service_core.specs.Run.{Call, Happens, Run}
 use Rattle.service_core.specs.Run.Call.{Admit, Evict, Move, Tenant, Take, Put, GiveBack, Owners}
@@ -18,7 +18,7 @@ use Rattle.service_core.specs.Service.{ServiceState, history_of, live_of, modifi
 use Rattle.strips.specs.Plan.{offset_of}
 use Rattle.sessions.specs.SessionText.{blank_word}
 use Rattle.tenant_slot.specs.Names.{state_text}
-use Rattle.operator.specs.OperatorText.{list_text, listed, listed_text}
+use Rattle.operator.specs.OperatorText.{list_text, listed_text}
 use Rattle.operator.proofs.Stepping.{AreSteady, Steady}
 use Rattle.replies_law.specs.ReadBack.{NoFeed}
 use Rattle.replies_law.proofs.FeedLemmas.{IsLine, decimal_no_feed, no_feed-append}

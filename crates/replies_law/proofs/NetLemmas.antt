@@ -1,6 +1,6 @@
 -- The nets of a netlist are words of it.
-use Rattle.std.proofs.Common.{◌≡◌, ℕ, ◌+◌, ◌-◌, Bool, true, false, not, cond, List, [], ◌∷◌, ◌++◌, length, take, drop, map, reverse, Result, Ok, Err, Option, Some, None, codes, refl, sym, ap, ◌∙◌, subst}
-use Rattle.std.specs.Prelude.{⊤, ◌&&◌, ◌||◌, IfSome, filter, flat_map, nat_lt, option_map}
+use Rattle.std.proofs.Common.{◌≡◌, ℕ, ◌+◌, ◌-◌, Bool, true, false, not, cond, List, [], ◌∷◌, ◌++◌, length, take, drop, Result, Ok, Err, Option, Some, None, codes, refl, subst}
+use Rattle.std.specs.Prelude.{◌&&◌, ◌||◌, IfSome, flat_map, nat_lt, option_map}
 use Rattle.std.specs.List.{enumerate_from}
 use Rattle.std.specs.Option.{option_to_list}
 use Rattle.std.specs.Str.{bytes_eq}
@@ -17,17 +17,16 @@ use Rattle.blif.specs.declared.fault.BlifFaultKind.{BlifFaultKind}
 use Rattle.blif.specs.declared.fault.BlifFaultKind.TheVariants.{Unknown, BadCover, MixedCover, TooWide, TwoDrivers, Undriven, RepeatedOutput, BadLatch, NoModel, OverLimit}
 use Rattle.blif.specs.declared.keyword.Keyword.{Keyword}
 use Rattle.blif.specs.declared.keyword.Keyword.TheVariants.{Model, Inputs, Outputs, Clock, Names, Latch, End, Skipped, Other, Row}
-use Rattle.blif.specs.BlifFaults.{WordFault, at_words, clock_faults, driven, driver_faults, fault_where, faults_in, is_model, kind_faults, latch_faults, of_line, row_faults, table_faults}
+use Rattle.blif.specs.BlifFaults.{WordFault, at_words, driven, driver_faults, fault_where, faults_in, is_model, kind_faults, of_line, row_faults, table_faults}
 use Rattle.blif.specs.CircuitOf.{all_faults, at_line, circuit_of, circuit_of_lines, circuit_of_read, declared_in, final_faults, line_faults, undriven_faults, unless_fault}
 use Rattle.blif.specs.Circuits.{circuit_from}
 use Rattle.blif.specs.Covers.{is_mixed, is_row}
 use Rattle.blif.specs.Faults.{fault_of_lines, net_of, number_of}
 use Rattle.blif.specs.Keywords.{args_of, last_of}
 use Rattle.blif.specs.LatchLines.{control_of, is_latch}
-use Rattle.blif.specs.LineNets.{front_of, latch_nets, latch_output, latch_reads, names_in, output_of, reads_in}
+use Rattle.blif.specs.LineNets.{latch_output, names_in, output_of, reads_in}
 use Rattle.blif.specs.Names.{has_name, placed, repeats_from, with_name, with_names}
 use Rattle.blif.specs.Sights.{Sights, kind_of, names_of, sights_of}
-use Rattle.cluster.specs.Blocks.{net_name}
 use Rattle.replies_law.specs.ReadBack.{NetsAreWords, NoFeed}
 use Rattle.replies_law.proofs.EachLemmas.{Each, each-append, each-drop, each-filter, each-flat_map, each-get, each-map, each-take}
 use Rattle.replies_law.proofs.WordLemmas.{HasWords, words_other}

@@ -10,10 +10,9 @@ use Rattle.service_core.specs.Service.{empty}
 use Rattle.sessions.specs.Fitting.{own_graph}
 use Rattle.fpgad_run.specs.declared.inputs.Architecture.{Architecture}
 use Rattle.fpgad_run.specs.declared.inputs.Architecture.TheVariants.{InScript, Text, Unreadable}
-use Rattle.fpgad_run.specs.Program.{IsReplies, checked, device_of, start_of}
-use Rattle.fpgad_run.specs.Run.{written}
+use Rattle.fpgad_run.specs.Program.{checked, device_of, start_of}
 use Rattle.script_replies.specs.Asking.{replies_in}
-use Rattle.replies_law.specs.ReadBack.{HasName, IsOutputReadBack, answered}
+use Rattle.replies_law.specs.ReadBack.{HasName, IsOutputReadBack}
 use Rattle.replies_law.proofs.EachLemmas.{Each}
 use Rattle.replies_law.proofs.NetLemmas.{nets_are_words}
 use Rattle.replies_law.proofs.ScriptNames.{script_has}

@@ -1,5 +1,5 @@
 -- The owners are told in lines.
-use Rattle.std.proofs.Common.{◌≡◌, ℕ, zero, suc, ◌+◌, ◌<◌, ◌≤◌, ◌^◌, Bool, true, false, List, [], ◌∷◌, ◌++◌, length, codes, decimal, refl, sym, ap, ◌∙◌, arith, length-append}
+use Rattle.std.proofs.Common.{ℕ, ◌<◌, ◌≤◌, ◌^◌, Bool, true, false, List, [], ◌∷◌, ◌++◌, length, codes, decimal, refl, arith, length-append}
 use Rattle.std.specs.Prelude.{◌||◌, ◌==◌, nat_lt, flat_map}
 use Rattle.device_book.specs.declared.book.Owned.{Owned}
 use Rattle.rr_graph.specs.declared.node.Node.{Node}

@@ -1,11 +1,10 @@
 -- A script admits tenancies under names without a line feed.
-use Rattle.std.proofs.Common.{◌≡◌, ℕ, ◌+◌, Bool, true, false, not, cond, eqb, List, [], ◌∷◌, length, codes, Result, Ok, Err, Option, Some, None, refl, sym, ap, ◌∙◌, subst}
+use Rattle.std.proofs.Common.{◌≡◌, ℕ, ◌+◌, Bool, true, false, not, cond, eqb, List, [], ◌∷◌, length, codes, Ok, Err, Option, Some, None, refl, sym, ap, ◌∙◌, subst}
 use Rattle.std.specs.Prelude.{⊤, ◌&&◌, nat_le, nat_lt, option_map}
 use Rattle.std.specs.List.{after_first, before_first, list_all}
 use Rattle.std.specs.Str.{bytes_eq}
-use Rattle.std.proofs.lemmas.Bool.{and_from, and_parts, eqb-true, false≢true, true≢false}
+use Rattle.std.proofs.lemmas.Bool.{and_from, and_parts, eqb-true, true≢false}
 use Rattle.line_text.specs.Decimal.{decimal_of}
-use Rattle.line_text.specs.Lines.{physical_lines}
 use Rattle.line_text.specs.Words.{is_blank, words_of}
 use Rattle.sessions.specs.Items.{ends_text, text_ahead, text_item, without_cr}
 use Rattle.sessions.specs.SessionLines.{line_form}

@@ -3,14 +3,13 @@ use Rattle.std.proofs.Common.{◌≡◌, ℕ, Bool, true, false, cond, ◌||◌,
 use Rattle.std.specs.Prelude.{⊤, flat_map}
 use Rattle.std.specs.Str.{bytes_eq}
 use Rattle.std.proofs.lemmas.Bool.{false≢true}
-use Rattle.std.proofs.lemmas.List.Folds.{list_any-append}
 use Rattle.std.proofs.lemmas.Slice.Eq.{bytes_eq-Decides}
 use Rattle.line_text.specs.Names.{has_name, with_name}
 use Rattle.line_text.proofs.NameLemmas.{with_name-first, with_name-later}
 use Rattle.script_text.specs.declared.act.Act.{Act}
 use Rattle.script_text.specs.declared.act.Act.TheVariants.{Operator, Session}
 use Rattle.printed_replies.specs.Printing.{asked_in, printed_for, section_of, told_to}
-use Rattle.printed_replies.specs.Replies.{AnsweredLine, AskedLine, Speaker, heading, names_of, replied, with_speaker}
+use Rattle.printed_replies.specs.Replies.{AnsweredLine, AskedLine, heading, names_of, replied, with_speaker}
 use Rattle.script_replies.specs.Asking.{asked_of}
 use Rattle.fpgad_run.specs.Run.{Section, Telling, section_text, sections_after, told_operator, told_session, with_text, written}
 use Rattle.replies_law.specs.ReadBack.{answered}

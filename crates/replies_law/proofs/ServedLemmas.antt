@@ -1,7 +1,6 @@
 -- What the operator and sessions are answered is read as it is, and how many tenancies live then.
-use Rattle.std.proofs.Common.{◌≡◌, ℕ, zero, suc, ◌+◌, ◌-◌, ◌<◌, ◌≤◌, ◌^◌, Bool, true, false, cond, List, [], ◌∷◌, ◌++◌, length, codes, decimal, Result, Ok, Err, Option, Some, None, refl, sym, ap, ◌∙◌, arith, subst, length-append}
-use Rattle.std.specs.Prelude.{⊤, All, flat_map, is_some, option_map}
-use Rattle.job_state.specs.Job.{JobState}
+use Rattle.std.proofs.Common.{◌≡◌, ℕ, suc, ◌<◌, ◌^◌, List, [], ◌∷◌, ◌++◌, length, codes, decimal, Result, Ok, Err, Option, Some, None, refl, sym, arith, subst}
+use Rattle.std.specs.Prelude.{All}
 use Rattle.service_core.specs.declared.not_served.NotServed.{NotServed}
 use Rattle.service_core.specs.declared.not_served.NotServed.TheVariants.{JournalFull, NoMemory as NotServedNoMemory, NoSuchTenancy}
 use Rattle.service_core.specs.declared.op_refusal.OpRefusal.{OpRefusal}
@@ -11,8 +10,7 @@ use Rattle.service_core.specs.History.{History, state_of}
 use Rattle.service_core.specs.Names.{op_refusal_number, op_refusal_text}
 use Rattle.service_core.specs.Receipt.{Receipted}
 use Rattle.service_core.specs.Run.{Call, Run}
-use Rattle.service_core.specs.Run.Call.{Tenant}
-use Rattle.service_core.specs.Service.{ServiceState, admitted, live_of}
+use Rattle.service_core.specs.Service.{ServiceState, live_of}
 use Rattle.tenant_slot.specs.declared.command.Command.{Command as TenantCommand}
 use Rattle.tenant_slot.specs.declared.command.Command.TheVariants.{Status}
 use Rattle.tenant_slot.specs.declared.reply.StepReply.TheVariants.{Advanced, Finished, Stale}
@@ -23,14 +21,14 @@ use Rattle.sessions.specs.declared.refusal.SessionRefusal.TheVariants.{UnknownCo
 use Rattle.sessions.specs.declared.steps.StepOutcome.{StepOutcome}
 use Rattle.sessions.specs.declared.steps.StepOutcome.TheVariants.{Recorded, Full, Gone, NoMemory, Nothing, Unfit}
 use Rattle.sessions.specs.declared.told.Answer.{Answer}
-use Rattle.sessions.specs.declared.told.Answer.TheVariants.{Nothing as NoAnswer, Served, Refused as RefusedAnswer}
+use Rattle.sessions.specs.declared.told.Answer.TheVariants.{Served}
 use Rattle.sessions.specs.SessionAnswer.{Asks, AsksCommand, EndsWait}
-use Rattle.sessions.specs.SessionText.{answer_text, session_refusal_name, session_refusal_number, session_refusal_text, unserved_text}
+use Rattle.sessions.specs.SessionText.{answer_text, session_refusal_text, unserved_text}
 use Rattle.sessions.specs.Steps.{MakesStep}
-use Rattle.operator.specs.OperatorText.{admitted_text, evicted_text, moved_text, names_after, outcome_text, refused_text, taken_text}
-use Rattle.operator.specs.Serving.{Stage, Tried, tried_calls, tried_text}
-use Rattle.operator.proofs.Stepping.{AreSteady, Steady, steady_step}
-use Rattle.printed_replies.specs.Lengths.{behind, line_length, reply_length}
+use Rattle.operator.specs.OperatorText.{admitted_text, evicted_text, moved_text, outcome_text, refused_text, taken_text}
+use Rattle.operator.specs.Serving.{Tried, tried_calls, tried_text}
+use Rattle.operator.proofs.Stepping.{AreSteady, steady_step}
+use Rattle.printed_replies.specs.Lengths.{line_length, reply_length}
 use Rattle.printed_replies.specs.Printing.{IsReply}
 use Rattle.script_replies.specs.Asking.{session_form}
 use Rattle.replies_law.specs.ReadBack.{NetsAreWords, NoFeed}

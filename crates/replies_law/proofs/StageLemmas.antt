@@ -1,28 +1,25 @@
 -- From one stage of a run to the next.
-use Rattle.std.proofs.Common.{◌≡◌, ℕ, ◌+◌, ◌-◌, ◌<◌, ◌^◌, Bool, true, false, cond, List, [], ◌∷◌, ◌++◌, length, codes, decimal, Result, Ok, Err, Option, Some, None, refl, sym, ap, ◌∙◌, arith, subst, length-append}
+use Rattle.std.proofs.Common.{◌≡◌, ℕ, ◌+◌, ◌-◌, ◌<◌, ◌^◌, false, cond, List, [], ◌∷◌, ◌++◌, length, codes, Result, Ok, Err, Option, Some, None, refl, sym, ap, ◌∙◌, arith, subst, length-append}
 use Rattle.std.specs.Prelude.{is_some}
 use Rattle.service_core.specs.declared.op_refusal.OpRefusal.{OpRefusal}
 use Rattle.service_core.specs.Calls.{IsAdmitted, IsEvicted}
 use Rattle.service_core.specs.History.{History}
 use Rattle.service_core.specs.Run.{Call}
 use Rattle.service_core.specs.Service.{ServiceState, admitted, live_of}
-use Rattle.script_text.specs.declared.act.Act.{Act}
-use Rattle.script_text.specs.declared.act.Act.TheVariants.{Operator, Session}
+use Rattle.script_text.specs.declared.act.Act.TheVariants.{Operator}
 use Rattle.script_text.specs.declared.operator_line.OperatorLine.{OperatorLine}
 use Rattle.script_text.specs.declared.operator_line.OperatorLine.TheVariants.{Admit, Evict, Move, List as ListAll, Owners, Step, Take, Put}
 use Rattle.operator.specs.OperatorText.{admitted_text, evicted_text, last_id, list_text, moved_text, names_after, outcome_text, refused_text, taken_text}
-use Rattle.operator.specs.OwnersText.{owners_text}
 use Rattle.operator.specs.Serving.{IsAdmission, IsServed, Stage, tried_text}
 use Rattle.operator.proofs.OperatorLemmas.{lengths-evicted, lengths-moved}
-use Rattle.operator.proofs.Stepping.{AreSteady, lengths-run, steady_asks, steady_held, steady_take}
+use Rattle.operator.proofs.Stepping.{AreSteady, lengths-run, steady_held, steady_take}
 use Rattle.printed_replies.specs.declared.asked.ReplyForm.{ReplyForm}
 use Rattle.printed_replies.specs.declared.asked.ReplyForm.TheVariants.{Admission, Eviction, Lines, Tenancies}
-use Rattle.printed_replies.specs.Lengths.{behind, lines_length, owners_length}
+use Rattle.printed_replies.specs.Lengths.{behind}
 use Rattle.printed_replies.specs.Printing.{IsReply}
 use Rattle.printed_replies.specs.Replies.{live_after}
 use Rattle.script_replies.specs.Asking.{operator_form}
 use Rattle.replies_law.specs.ReadBack.{HasName, NoFeed}
-use Rattle.replies_law.proofs.FeedLemmas.{IsLine}
 use Rattle.replies_law.proofs.FormLemmas.{AreLines, lines_are_first, owners_are_read}
 use Rattle.replies_law.proofs.LiveLemmas.{AreOther, list_has_lines, lives, lives-append, lives-ended, lives-moved, lives-run}
 use Rattle.replies_law.proofs.OwnerLemmas.{owners_lines, owners_small}

@@ -1,19 +1,17 @@
 -- All that was told is read back.
-use Rattle.std.proofs.Common.{◌≡◌, ℕ, ◌<◌, ◌^◌, Bool, true, false, List, [], ◌∷◌, length, map, Ok, Option, Some, None, refl, sym, ap, ◌∙◌, subst}
-use Rattle.std.specs.Prelude.{⊤}
+use Rattle.std.proofs.Common.{◌≡◌, ℕ, ◌<◌, ◌^◌, Bool, true, false, List, [], ◌∷◌, length, map, Ok, Some, None, refl, sym, ap, ◌∙◌, subst}
 use Rattle.std.specs.Str.{bytes_eq}
 use Rattle.script_text.specs.declared.act.Act.{Act}
 use Rattle.script_text.specs.declared.act.Act.TheVariants.{Operator, Session}
-use Rattle.sessions.specs.SessionText.{answer_text}
 use Rattle.operator.specs.OperatorText.{last_id}
 use Rattle.operator.specs.Serving.{Stage}
 use Rattle.operator.proofs.Stepping.{lengths-run, steady_asks}
-use Rattle.printed_replies.specs.Printing.{HasReply, HaveReplies, IsReply, asked_in, printed_for}
-use Rattle.printed_replies.specs.Replies.{AnsweredLine, Speaker, is_of, live_after, replied, replies_in as printed_replies_in}
+use Rattle.printed_replies.specs.Printing.{HasReply, HaveReplies, IsReply, asked_in}
+use Rattle.printed_replies.specs.Replies.{Speaker, live_after, replied, replies_in as printed_replies_in}
 use Rattle.printed_replies.proofs.PrintLemmas.{read_back}
-use Rattle.script_replies.specs.Asking.{asked_of, operator_form, replies_in, session_form}
+use Rattle.script_replies.specs.Asking.{asked_of, replies_in, session_form}
 use Rattle.fpgad_run.specs.Run.{IsAnswered, Telling, Tells, written}
-use Rattle.replies_law.specs.ReadBack.{AreTellable, HasName, NetsAreWords, answered}
+use Rattle.replies_law.specs.ReadBack.{AreTellable, HasName, NetsAreWords}
 use Rattle.replies_law.proofs.LiveLemmas.{lives, lives-run}
 use Rattle.replies_law.proofs.SectionLemmas.{lines_of, printed_is_written}
 use Rattle.replies_law.proofs.ServedLemmas.{session_read}

@@ -1,11 +1,11 @@
 -- The words of a netlist hold no line feed.
-use Rattle.std.proofs.Common.{◌≡◌, ℕ, zero, suc, ◌+◌, ◌-◌, Bool, true, false, not, cond, eqb, List, [], ◌∷◌, ◌++◌, length, take, drop, map, Result, Ok, Err, refl, sym, ap, ◌∙◌, subst}
-use Rattle.std.specs.Prelude.{⊤, ◌&&◌, filter, flat_map}
+use Rattle.std.proofs.Common.{◌≡◌, ℕ, zero, suc, ◌+◌, ◌-◌, Bool, true, false, not, cond, eqb, List, [], ◌∷◌, ◌++◌, length, take, map, Ok, refl, ap, subst}
+use Rattle.std.specs.Prelude.{filter}
 use Rattle.std.specs.List.{enumerate_from, filter_map, list_all, onto_first, position_or_len, slice_split, suffix_len}
 use Rattle.std.proofs.lemmas.Bool.{and_from, and_parts}
 use Rattle.line_text.specs.declared.fault.LineFault.{LineFault}
-use Rattle.line_text.specs.Lines.{JoinedLine, blanked, ends_in_backslash, fault_of, is_continued, joined, joined_bytes, kept, lines_of, lines_of_runs, physical_lines, runs, trimmed, unless_fault, without_comment, without_last}
-use Rattle.line_text.specs.Words.{is_blank, is_filled, words_of}
+use Rattle.line_text.specs.Lines.{JoinedLine, ends_in_backslash, fault_of, is_continued, joined, joined_bytes, kept, lines_of, physical_lines, runs, trimmed, unless_fault, without_comment, without_last}
+use Rattle.line_text.specs.Words.{is_blank, is_filled}
 use Rattle.printed_replies.specs.Lengths.{is_line_feed}
 use Rattle.replies_law.specs.ReadBack.{NoFeed, is_other}
 use Rattle.replies_law.proofs.EachLemmas.{Each, each-filter, each-map}

@@ -1,5 +1,5 @@
 -- What a run writes is read back.
-use Rattle.std.specs.Prelude.{ℕ, ◌≡◌, ◌<◌, ◌^◌, Bool, true, not, List, [], ◌∷◌, length, map, Option, IfSome, Ok, Err, ⊤}
+use Rattle.std.specs.Prelude.{ℕ, ◌≡◌, ◌<◌, ◌^◌, Bool, true, not, List, [], ◌∷◌, length, map, IfSome, Ok, Err, ⊤}
 use Rattle.std.specs.List.{list_all}
 use Rattle.blif.specs.CircuitOf.{circuit_of}
 use Rattle.blif.specs.Faults.{net_of}
@@ -8,7 +8,6 @@ use Rattle.blif.specs.declared.fault.BlifFault.{BlifFault}
 use Rattle.cluster.specs.Blocks.{net_name}
 use Rattle.script_text.specs.declared.act.Act.{Act}
 use Rattle.script_text.specs.declared.act.Act.TheVariants.{Operator}
-use Rattle.script_text.specs.declared.operator_line.OperatorLine.{OperatorLine}
 use Rattle.script_text.specs.declared.operator_line.OperatorLine.TheVariants.{Admit}
 use Rattle.printed_replies.specs.Lengths.{is_line_feed}
 use Rattle.printed_replies.specs.Replies.{AnsweredLine, replied}

@@ -1,9 +1,31 @@
 //! What refusals mean, in words.
 
 /// What a refusal or a failed routing means, and what may be done.
-#[derive(Clone, Copy, Debug, PartialEq, Eq)]
+#[derive(Clone, Copy)]
 pub enum Advice {
-    /// The operator's refusals 1 to 7, and what a step came to.
+    Operator(OperatorAdvice),
+    Tenant(TenantAdvice),
+    Netlist(NetlistAdvice),
+    Session(SessionAdvice),
+    Routing(RoutingAdvice),
+}
+
+impl Advice {
+    /// The words.
+    pub fn words(self) -> &'static str {
+        match self {
+            Advice::Operator(advice) => advice.words(),
+            Advice::Tenant(advice) => advice.words(),
+            Advice::Netlist(advice) => advice.words(),
+            Advice::Session(advice) => advice.words(),
+            Advice::Routing(advice) => advice.words(),
+        }
+    }
+}
+
+/// The operator's refusals 1 to 7, and what a step came to.
+#[derive(Clone, Copy)]
+pub enum OperatorAdvice {
     NoMemory,
     NoRoom,
     TooManyStrips,
@@ -12,26 +34,125 @@ pub enum Advice {
     IdsSpent,
     NameInUse,
     StepLacksMemory,
-    /// A tenant's refusals 2 to 7; 4 is a netlist's fault.
+    JournalFull,
+}
+
+impl OperatorAdvice {
+    /// The words.
+    pub fn words(self) -> &'static str {
+        match self {
+            OperatorAdvice::NoMemory => { "memory lacked, and nothing changed: ask again" }
+            OperatorAdvice::NoRoom => {
+                "no free columns in a row with a free one on each side of them: a narrower strip, an eviction or a move, or more --columns"
+            }
+            OperatorAdvice::TooManyStrips => { "64 tenancies live, and no more can: evict one" }
+            OperatorAdvice::BadWidth => { "a width is 1 up to --columns" }
+            OperatorAdvice::NoSuchTenancy => {
+                "no tenancy of that name lives: it was never admitted, its admission was refused, or it was evicted"
+            }
+            OperatorAdvice::IdsSpent => {
+                "65,535 tenancies were admitted, and no more can be: begin a new run"
+            }
+            OperatorAdvice::NameInUse => {
+                "a tenancy of that name lives: another name, or evict it first"
+            }
+            OperatorAdvice::StepLacksMemory => {
+                "memory lacked for the step, and its job was given back: ask again"
+            }
+            OperatorAdvice::JournalFull => {
+                "the tenancy's journal has 65,536 entries, and nothing more is served: evict it, and admit it anew"
+            }
+        }
+    }
+}
+
+/// A tenant's refusals 1 to 7, but for the netlist's faults.
+#[derive(Clone, Copy)]
+pub enum TenantAdvice {
+    NoMemory,
     JournalFull,
     WrongState,
-    Netlist(NetlistAdvice),
     CannotPack,
     TooFewBlocks,
     TooFewPads,
     BadEffort,
-    /// A session's refusals 1 to 4.
+}
+
+impl TenantAdvice {
+    /// The words.
+    pub fn words(self) -> &'static str {
+        match self {
+            TenantAdvice::NoMemory => { "memory lacked, and nothing changed: ask again" }
+            TenantAdvice::JournalFull => {
+                "the tenancy's journal has 65,536 entries, and nothing more is served: evict it, and admit it anew"
+            }
+            TenantAdvice::WrongState => {
+                "not lawful in that state: look for an earlier refusal, behind which the lines that follow are often refused so, too"
+            }
+            TenantAdvice::CannotPack => {
+                "that BLE reads more nets than a block has input pins: a smaller table in synthesis (abc -lut), or more pins of class 0"
+            }
+            TenantAdvice::TooFewBlocks => {
+                "the strip has fewer logic places (the first number) than are needed (the second): a wider strip, more --rows, or bigger clusters"
+            }
+            TenantAdvice::TooFewPads => {
+                "the strip has fewer pads (the first number) than are needed (the second): a wider strip, or fewer ports"
+            }
+            TenantAdvice::BadEffort => { "an effort is 0 to 100" }
+        }
+    }
+}
+
+/// A session's refusals 1 to 4.
+#[derive(Clone, Copy)]
+pub enum SessionAdvice {
     UnknownCommand,
     BadNumber,
     UnfinishedUpload,
     Evicted,
-    /// How a routing ended without routes.
+}
+
+impl SessionAdvice {
+    /// The words.
+    pub fn words(self) -> &'static str {
+        match self {
+            SessionAdvice::UnknownCommand => {
+                "no command, a word too many, or a line above 4,096 bytes"
+            }
+            SessionAdvice::BadNumber => { "`place SEED EFFORT` has two decimals, and no word more" }
+            SessionAdvice::UnfinishedUpload => {
+                "no line that is `.` alone ends the text, so all lines behind it are part of it"
+            }
+            SessionAdvice::Evicted => {
+                "no tenancy of that name lives: it was never admitted, its admission was refused, or it was evicted"
+            }
+        }
+    }
+}
+
+/// How a routing ended without routes.
+#[derive(Clone, Copy)]
+pub enum RoutingAdvice {
     GaveUp,
     NoPath,
 }
 
+impl RoutingAdvice {
+    /// The words.
+    pub fn words(self) -> &'static str {
+        match self {
+            RoutingAdvice::GaveUp => {
+                "after 30 iterations nets still want one wire: place again with another seed or more effort, a wider strip, or more --tracks"
+            }
+            RoutingAdvice::NoPath => {
+                "no way leads from that net's driver to one of its readers, whatever other nets do: raise Fc_output or Fc_input, or use more --tracks"
+            }
+        }
+    }
+}
+
 /// What a fault of a netlist, 1 to 12, comes from in most cases.
-#[derive(Clone, Copy, Debug, PartialEq, Eq)]
+#[derive(Clone, Copy)]
 pub enum NetlistAdvice {
     Unknown,
     BadCover,
@@ -45,59 +166,6 @@ pub enum NetlistAdvice {
     OverLimit,
     NotAscii,
     LineTooLong,
-}
-
-impl Advice {
-    /// The words.
-    pub fn words(self) -> &'static str {
-        match self {
-            Advice::NoMemory => "memory lacked, and nothing changed: ask again",
-            Advice::NoRoom => {
-                "no free columns in a row with a free one on each side of them: a narrower strip, an eviction or a move, or more --columns"
-            }
-            Advice::TooManyStrips => "64 tenancies live, and no more can: evict one",
-            Advice::BadWidth => "a width is 1 up to --columns",
-            Advice::NoSuchTenancy => {
-                "no tenancy of that name lives: it was never admitted, its admission was refused, or it was evicted"
-            }
-            Advice::IdsSpent =>
-                "65,535 tenancies were admitted, and no more can be: begin a new run",
-            Advice::NameInUse => "a tenancy of that name lives: another name, or evict it first",
-            Advice::StepLacksMemory =>
-                "memory lacked for the step, and its job was given back: ask again",
-            Advice::JournalFull => {
-                "the tenancy's journal has 65,536 entries, and nothing more is served: evict it, and admit it anew"
-            }
-            Advice::WrongState => {
-                "not lawful in that state: look for an earlier refusal, behind which the lines that follow are often refused so, too"
-            }
-            Advice::Netlist(fault) => fault.words(),
-            Advice::CannotPack => {
-                "that BLE reads more nets than a block has input pins: a smaller table in synthesis (abc -lut), or more pins of class 0"
-            }
-            Advice::TooFewBlocks => {
-                "the strip has fewer logic places (the first number) than are needed (the second): a wider strip, more --rows, or bigger clusters"
-            }
-            Advice::TooFewPads => {
-                "the strip has fewer pads (the first number) than are needed (the second): a wider strip, or fewer ports"
-            }
-            Advice::BadEffort => "an effort is 0 to 100",
-            Advice::UnknownCommand => "no command, a word too many, or a line above 4,096 bytes",
-            Advice::BadNumber => "`place SEED EFFORT` has two decimals, and no word more",
-            Advice::UnfinishedUpload => {
-                "no line that is `.` alone ends the text, so all lines behind it are part of it"
-            }
-            Advice::Evicted => {
-                "no tenancy of that name lives: it was never admitted, its admission was refused, or it was evicted"
-            }
-            Advice::GaveUp => {
-                "after 30 iterations nets still want one wire: place again with another seed or more effort, a wider strip, or more --tracks"
-            }
-            Advice::NoPath => {
-                "no way leads from that net's driver to one of its readers, whatever other nets do: raise Fc_output or Fc_input, or use more --tracks"
-            }
-        }
-    }
 }
 
 impl NetlistAdvice {

@@ -1,6 +1,8 @@
 //! From a reply to what may be done.
 
-use crate::advice::{Advice, NetlistAdvice};
+use crate::advice::{
+    Advice, NetlistAdvice, OperatorAdvice, RoutingAdvice, SessionAdvice, TenantAdvice,
+};
 use line_text::{decimal_u32, is_word, skip_blanks, split_word};
 
 /// What the first line of a reply means, and what may be done, where it refuses or tells that a routing failed.
@@ -34,13 +36,13 @@ fn next_word(line: &[u8]) -> (&[u8], &[u8]) {
 fn operator_refusal(words: &[u8]) -> Option<Advice> {
     let (number, _) = next_word(words);
     match decimal_u32(number)? {
-        1 => Some(Advice::NoMemory),
-        2 => Some(Advice::NoRoom),
-        3 => Some(Advice::TooManyStrips),
-        4 => Some(Advice::BadWidth),
-        5 => Some(Advice::NoSuchTenancy),
-        6 => Some(Advice::IdsSpent),
-        7 => Some(Advice::NameInUse),
+        1 => Some(Advice::Operator(OperatorAdvice::NoMemory)),
+        2 => Some(Advice::Operator(OperatorAdvice::NoRoom)),
+        3 => Some(Advice::Operator(OperatorAdvice::TooManyStrips)),
+        4 => Some(Advice::Operator(OperatorAdvice::BadWidth)),
+        5 => Some(Advice::Operator(OperatorAdvice::NoSuchTenancy)),
+        6 => Some(Advice::Operator(OperatorAdvice::IdsSpent)),
+        7 => Some(Advice::Operator(OperatorAdvice::NameInUse)),
         _ => None,
     }
 }
@@ -51,14 +53,14 @@ fn tenant_refusal(words: &[u8]) -> Option<Advice> {
     let (_, cause) = next_word(rest);
     let (first, _) = next_word(cause);
     match decimal_u32(number)? {
-        1 => Some(Advice::NoMemory),
-        2 => Some(Advice::JournalFull),
-        3 => Some(Advice::WrongState),
+        1 => Some(Advice::Tenant(TenantAdvice::NoMemory)),
+        2 => Some(Advice::Tenant(TenantAdvice::JournalFull)),
+        3 => Some(Advice::Tenant(TenantAdvice::WrongState)),
         4 => Some(Advice::Netlist(netlist_fault(decimal_u32(first)?)?)),
-        5 => Some(Advice::CannotPack),
-        6 if is_word(first, "pads") => Some(Advice::TooFewPads),
-        6 => Some(Advice::TooFewBlocks),
-        7 => Some(Advice::BadEffort),
+        5 => Some(Advice::Tenant(TenantAdvice::CannotPack)),
+        6 if is_word(first, "pads") => Some(Advice::Tenant(TenantAdvice::TooFewPads)),
+        6 => Some(Advice::Tenant(TenantAdvice::TooFewBlocks)),
+        7 => Some(Advice::Tenant(TenantAdvice::BadEffort)),
         _ => None,
     }
 }
@@ -86,10 +88,10 @@ fn netlist_fault(number: u32) -> Option<NetlistAdvice> {
 fn session_refusal(words: &[u8]) -> Option<Advice> {
     let (number, _) = next_word(words);
     match decimal_u32(number)? {
-        1 => Some(Advice::UnknownCommand),
-        2 => Some(Advice::BadNumber),
-        3 => Some(Advice::UnfinishedUpload),
-        4 => Some(Advice::Evicted),
+        1 => Some(Advice::Session(SessionAdvice::UnknownCommand)),
+        2 => Some(Advice::Session(SessionAdvice::BadNumber)),
+        3 => Some(Advice::Session(SessionAdvice::UnfinishedUpload)),
+        4 => Some(Advice::Session(SessionAdvice::Evicted)),
         _ => None,
     }
 }
@@ -100,9 +102,9 @@ fn routing_failure(words: &[u8]) -> Option<Advice> {
     let (_, ending) = next_word(rest);
     let (word, _) = next_word(ending);
     if is_word(word, "gaveup") {
-        Some(Advice::GaveUp)
+        Some(Advice::Routing(RoutingAdvice::GaveUp))
     } else if is_word(word, "nopath") {
-        Some(Advice::NoPath)
+        Some(Advice::Routing(RoutingAdvice::NoPath))
     } else {
         None
     }
@@ -111,11 +113,11 @@ fn routing_failure(words: &[u8]) -> Option<Advice> {
 /// Of what a step came to.
 fn step_failure(word: &[u8]) -> Option<Advice> {
     if is_word(word, "nomemory") {
-        Some(Advice::StepLacksMemory)
+        Some(Advice::Operator(OperatorAdvice::StepLacksMemory))
     } else if is_word(word, "full") {
-        Some(Advice::JournalFull)
+        Some(Advice::Operator(OperatorAdvice::JournalFull))
     } else if is_word(word, "gone") {
-        Some(Advice::NoSuchTenancy)
+        Some(Advice::Operator(OperatorAdvice::NoSuchTenancy))
     } else {
         None
     }

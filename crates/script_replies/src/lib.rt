@@ -14,8 +14,11 @@ mod asking;
 mod lines;
 mod report;
 
-pub use advice::{Advice, NetlistAdvice};
+pub use advice::{
+    Advice, NetlistAdvice, OperatorAdvice, RoutingAdvice, SessionAdvice, TenantAdvice,
+};
 pub use advising::advice_for;
 pub use asking::{file_of, read_replies, session_names};
 pub use lines::{ScriptLine, script_lines};
+pub use printed_replies::{ReadError, Replies};
 pub use report::{ToldLine, told_lines, write_told};

@@ -1,8 +1,9 @@
 //! What is read back of printed replies, and told beside a script.
 
 use line_text::MemorySink;
-use printed_replies::{ReadError, Replies};
-use script_replies::{file_of, read_replies, script_lines, told_lines, write_told};
+use script_replies::{
+    ReadError, Replies, file_of, read_replies, script_lines, told_lines, write_told,
+};
 use script_text::{Act, read_script};
 use std::alloc::Global;
 use tenant_slot::FileKind;

@@ -1,4 +1,4 @@
-use Rattle.std.proofs.Common.{◌≡◌, ◌<◌, ◌≤◌, ◌+◌, length, Ok, Err, Some, slice_get, sym, ◌∙◌, arith, rules}
+use Rattle.std.proofs.Common.{◌≡◌, ◌<◌, length, Ok, Err, Some, slice_get, sym, ◌∙◌, arith, rules}
 use Rattle.printed_replies.specs.Parts.{answered_lines, rest_at}
 use Rattle.printed_replies.specs.Replies.{section_read}
 use Rattle.printed_replies.proofs.ReadLemmas.{section_is_not, section_is_read}
