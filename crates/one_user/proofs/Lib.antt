@@ -3,7 +3,7 @@ mod Asking
 pub mod Running
 mod Packings
 mod Routings
-pub mod Stages
-mod Least
-mod Passes
+mod Courses
+mod Upward
+mod Coolings
 mod Examples

@@ -57,6 +57,6 @@ module _ (kind : JobKind) (old : SlotState) (steps : ℕ) where
         told = subst (λ (s : Sources). IsTold s made.number made.progress) own makes.told;
         last = ap (λ (s : Sources). is_last s made.number) (sym own) ∙ last;
         count = makes.count last ∙ ap (λ (s : Sources). step_count s) own;
-        new = goes.1 ∙ ap (slot_in old.id) (finished_later old.state steps (old.state.entries + steps + 1) kind)
+        after = goes.1 ∙ ap (slot_in old.id) (finished_later old.state steps (old.state.entries + steps + 1) kind)
             ∙ ap (λ entries. slot_in old.id (record (finished old.state kind) { entries = entries })) sum;
       }

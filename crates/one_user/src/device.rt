@@ -67,8 +67,8 @@ impl OwnDevice {
     /// Has a netlist packed, placed and routed, and tells a line a step. A line that can't be told is left out, and changes nothing.
     pub fn run<W: Sink>(&self, request: Request<'_>, teller: &mut W) -> Result<Run, AllocError>
         requires { request.effort ≤ 100 }
-        ensures outcome { IfOk result (λ run. run.outcome ≡ outcome_of (task_on self.now request.netlist.now request.seed request.effort)) }
-        ensures figures { IfOk result (λ run. IfSome run.figures (HasFigures (task_on self.now request.netlist.now request.seed request.effort))) }
+        ensures outcome { IfOk result (λ run. run.outcome ≡ outcome_of (task_on self.now request.entry.netlist.now request.entry.seed request.entry.effort)) }
+        ensures figures { IfOk result (λ run. IfSome run.figures (HasFigures (task_on self.now request.entry.netlist.now request.entry.seed request.entry.effort))) }
     {
         let Some(window) = Window::new(&self.graph, 0, self.strip) else {
             unreachable!()

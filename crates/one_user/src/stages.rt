@@ -31,8 +31,8 @@ pub(crate) fn upload<W: Sink>(
     requires slot { slot.old ≡ slot_in slot.old.id (start slot.old.state.arch slot.old.state.strip) }
     requires window { window.now ≡ device_of slot.old.state }
     requires effort { request.effort ≤ 100 }
-    ensures outcome { IfOk result (λ run. run.outcome ≡ outcome_of (task_on window.now request.netlist.now request.seed request.effort)) }
-    ensures figures { IfOk result (λ run. IfSome run.figures (HasFigures (task_on window.now request.netlist.now request.seed request.effort))) }
+    ensures outcome { IfOk result (λ run. run.outcome ≡ outcome_of (task_on window.now request.entry.netlist.now request.entry.seed request.entry.effort)) }
+    ensures figures { IfOk result (λ run. IfSome run.figures (HasFigures (task_on window.now request.entry.netlist.now request.entry.seed request.entry.effort))) }
 {
     match ask(slot, Command::Upload(request.netlist.clone()?))? {
         Some(refusal) => Ok(refused(refusal)),
@@ -51,8 +51,8 @@ fn pack<W: Sink>(
     requires window { window.now ≡ device_of slot.old.state }
     requires effort { request.effort ≤ 100 }
     requires loaded { IsLoaded (task_in slot.old.state request.seed request.effort) }
-    ensures outcome { IfOk result (λ run. run.outcome ≡ outcome_of (task_in slot.old.state request.seed request.effort)) }
-    ensures figures { IfOk result (λ run. IfSome run.figures (HasFigures (task_in slot.old.state request.seed request.effort))) }
+    ensures outcome { IfOk result (λ run. run.outcome ≡ outcome_of (task_in slot.old.state request.entry.seed request.entry.effort)) }
+    ensures figures { IfOk result (λ run. IfSome run.figures (HasFigures (task_in slot.old.state request.entry.seed request.entry.effort))) }
 {
     if let Some(refusal) = ask(slot, Command::Pack)? {
         return Ok(refused(refusal));
@@ -74,8 +74,8 @@ fn place<W: Sink>(
     requires effort { request.effort ≤ 100 }
     requires packed { IsPacked (task_in slot.old.state request.seed request.effort) }
     requires counts { AreCounts (task_in slot.old.state request.seed request.effort) packed }
-    ensures outcome { IfOk result (λ run. run.outcome ≡ outcome_of (task_in slot.old.state request.seed request.effort)) }
-    ensures figures { IfOk result (λ run. IfSome run.figures (HasFigures (task_in slot.old.state request.seed request.effort))) }
+    ensures outcome { IfOk result (λ run. run.outcome ≡ outcome_of (task_in slot.old.state request.entry.seed request.entry.effort)) }
+    ensures figures { IfOk result (λ run. IfSome run.figures (HasFigures (task_in slot.old.state request.entry.seed request.entry.effort))) }
 {
     let command = Command::Place {
         seed: request.seed,

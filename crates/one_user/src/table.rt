@@ -1,4 +1,5 @@
 //! The figures as a text.
+ghost use Rattle.std.specs.Prelude.{◌≡◌};
 ghost use Rattle.line_text.specs.Writing.{Writes};
 ghost use Rattle.one_user.specs.Lines.{figures_text, fullest_line};
 

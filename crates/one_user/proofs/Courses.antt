@@ -31,7 +31,7 @@ use Rattle.one_user.proofs.Packings.{packing_told}
 
 -- a job that runs has a kind
 pub some_kind : (kind : Option JobKind) → IsSome kind → (k : JobKind) × (kind ≡ Some k)
-some_kind None is = absurd is
+some_kind None is = absurd (cc)
 some_kind (Some k) is = (k, refl)
 
 -- there is a step to take
@@ -110,11 +110,11 @@ pub packing_done : (task : Task) (generation entries id : ℕ) (mid new : SlotSt
 packing_done task generation entries id mid new made packed is few finishes =
     let done = subst (λ (s : SlotState). (kind : JobKind) → running s.state.name ≡ Some kind → Finishes kind s made new) is finishes PackingJob refl in
     let told = packing_told task packed.circuit made.number made.progress packed.said done.last done.told in
-    (at_own task Packed 0 0 generation (entries + made.number) 8194 id new done.new (omega (arith, few, done.few)), told.0, told.1)
+    (at_own task Packed 0 0 generation (entries + made.number) 8194 id new done.after (omega (arith, few, done.few)), told.0, told.1)
 
 -- of a placing
 pub placing_done : (task : Task) (generation entries id : ℕ) (mid new : SlotState) (made : StepMade) → mid ≡ slot_in id (state_at task Placing task.seed task.effort generation entries) → entries ≤ 8195 →
     ((kind : JobKind) → running mid.state.name ≡ Some kind → Finishes kind mid made new) → IsAt task Placed task.seed task.effort 16387 new
 placing_done task generation entries id mid new made is few finishes =
     let done = subst (λ (s : SlotState). (kind : JobKind) → running s.state.name ≡ Some kind → Finishes kind s made new) is finishes PlacingJob refl in
-    at_own task Placed task.seed task.effort generation (entries + made.number) 16387 id new done.new (omega (arith, few, done.few))
+    at_own task Placed task.seed task.effort generation (entries + made.number) 16387 id new done.after (omega (arith, few, done.few))
