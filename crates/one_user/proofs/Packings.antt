@@ -59,4 +59,4 @@ packing_told task circuit number progress said last is =
     let packed : found.0 ≡ packed_of circuit task.arch = subst (λ (r : Result Circuit BlifFault). IfOk r (λ circuit. found.0 ≡ packed_of circuit task.arch)) said (packed_made sources number found.0 refl value) in
     let tells = whole_told found.0 progress (subst (λ (w : Work). IsProgress w progress) found.1 is.2) in
     let told = subst (λ (p : PackedCircuit). (counts : PackedCounts) → HasCounts progress counts → CountsOf p counts) packed tells.1 in
-    (tells.0, λ counts has. (circuit, said, told counts has))
+    (tells.0, λ counts has. (let t = told counts has in (circuit, said, t.0, t.1, t.2)))

@@ -1,7 +1,8 @@
 //! The figures as a text.
 ghost use Rattle.std.specs.Prelude.{◌≡◌};
 ghost use Rattle.line_text.specs.Writing.{Writes};
-ghost use Rattle.one_user.specs.Lines.{figures_text, fullest_line};
+ghost use Rattle.device_report.specs.Text.{channel_word};
+ghost use Rattle.one_user.specs.Lines.{counts_text, figures_text, fullest_line};
 
 use crate::figures::Figures;
 use device_report::{ChannelUse, Direction};
@@ -11,6 +12,14 @@ use text_parts::{Part, write_parts};
 /// Writes a line for each figure. Where the sink fails, it has taken a beginning of them.
 pub fn write_figures<W: Sink>(sink: &mut W, figures: &Figures) -> Result<(), Failed>
     ensures { Writes W.contents W.has_failed sink.old sink.new (figures_text figures.now) result }
+{
+    write_counts(sink, figures)?;
+    write_fullest(sink, figures.fullest, figures.tracks)
+}
+
+/// Writes the lines of all but the fullest channel.
+fn write_counts<W: Sink>(sink: &mut W, figures: &Figures) -> Result<(), Failed>
+    ensures { Writes W.contents W.has_failed sink.old sink.new (counts_text figures.now) result }
 {
     write_parts(
         sink,
@@ -33,8 +42,7 @@ pub fn write_figures<W: Sink>(sink: &mut W, figures: &Figures) -> Result<(), Fai
             Part::Number(figures.iterations),
             Part::Text("\n"),
         ],
-    )?;
-    write_fullest(sink, figures.fullest, figures.tracks)
+    )
 }
 
 /// Writes the line of the fullest channel, which has so many tracks.
