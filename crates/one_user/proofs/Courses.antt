@@ -7,7 +7,7 @@ use Rattle.cluster.specs.Clusters.{packed_of, unfit_of}
 use Rattle.grid.specs.Fits.{fit_of}
 use Rattle.grid.specs.Sizes.{IsStripSize}
 use Rattle.grid.specs.declared.Strip.{Strip}
-use Rattle.job_state.specs.JobValue.{basis_in, end_value, is_last, packing_sources}
+use Rattle.job_state.specs.JobValue.{basis_in, end_value, is_last, packing_sources, step_count}
 use Rattle.job_state.specs.declared.progress.Progress.{Progress}
 use Rattle.job_state.specs.declared.sources.JobKind.{JobKind}
 use Rattle.job_state.specs.declared.sources.JobKind.TheVariants.{Packing as PackingJob, Placing as PlacingJob, Routing as RoutingJob}
@@ -27,6 +27,7 @@ use Rattle.one_user.specs.Steps.{AreCounts, Finishes, IsAt, IsLoaded, IsPacked, 
 use Rattle.one_user.specs.declared.figures.PackedCounts.{PackedCounts}
 use Rattle.one_user.specs.declared.steps.StepMade.{StepMade}
 use Rattle.one_user.proofs.Asking.{Leads, loads, packs, places, routes}
+use Rattle.one_user.proofs.Routings.{after_end}
 use Rattle.one_user.proofs.Packings.{packing_told}
 
 -- a job that runs has a kind
@@ -118,3 +119,11 @@ pub placing_done : (task : Task) (generation entries id : ℕ) (mid new : SlotSt
 placing_done task generation entries id mid new made is few finishes =
     let done = subst (λ (s : SlotState). (kind : JobKind) → running s.state.name ≡ Some kind → Finishes kind s made new) is finishes PlacingJob refl in
     at_own task Placed task.seed task.effort generation (entries + made.number) 16387 id new done.after (omega (arith, few, done.few))
+
+-- of a routing
+pub routing_done : (task : Task) (placed : IsPlaced task) (generation entries id : ℕ) (mid new : SlotState) (made : StepMade) → mid ≡ slot_in id (state_at task Routing task.seed task.effort generation entries) →
+    ((kind : JobKind) → running mid.state.name ≡ Some kind → Finishes kind mid made new) →
+    (new ≡ slot_in id (after_end task placed generation entries (entries + made.number) (failure_of (end_value (routing_of task))))) × (made.number ≡ step_count (routing_of task)) × (made.number ≤ 8192)
+routing_done task placed generation entries id mid new made is finishes =
+    let done = subst (λ (s : SlotState). (kind : JobKind) → running s.state.name ≡ Some kind → Finishes kind s made new) is finishes RoutingJob refl in
+    (done.after, done.count, done.few)

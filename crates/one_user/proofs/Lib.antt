@@ -6,4 +6,3 @@ mod Routings
 mod Courses
 mod Upward
 mod Coolings
-mod Examples

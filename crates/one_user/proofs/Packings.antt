@@ -50,6 +50,7 @@ whole_told packed told.NoPath is = absurd is
 pub packing_told : (task : Task) (circuit : Circuit) (number : ℕ) (progress : Progress) → circuit_of task.text task.arch.lut_size ≡ Ok circuit →
     is_last (packing_sources task.arch task.strip task.text) number ≡ true → IsTold (packing_sources task.arch task.strip task.text) number progress →
     IsWhole progress × ((counts : PackedCounts) → HasCounts progress counts → AreCounts task counts)
+unfolding packed_of
 packing_told task circuit number progress said last is =
     let sources = packing_sources task.arch task.strip task.text in
     let kind : kind_of is.0 ≡ PackingJob = kind_made sources number is.0 is.1 in

@@ -62,11 +62,17 @@ step_line strip number GaveUp = iteration_line number (codes "given up")
 step_line strip number NoPath = iteration_line number (codes "a net has no path")
 
 -- the line of the fullest channel, which has so many tracks
-abbrev pub fullest_line : ℕ → Option ChannelUse → List ℕ
-fullest_line tracks (Some channel) = concat (
+abbrev pub channel_line : ℕ → ChannelUse → List ℕ
+channel_line tracks channel = concat (
     codes "fullest channel " ∷ channel_word channel.direction ∷ codes " (" ∷ decimal channel.x ∷ codes "," ∷ decimal channel.y ∷ codes ") "
     ∷ decimal channel.wires ∷ codes "/" ∷ decimal tracks ∷ codes "\n" ∷ [])
-fullest_line tracks None = concat (codes "fullest channel none\n" ∷ [])
+
+abbrev pub none_line : List ℕ
+none_line = concat (codes "fullest channel none\n" ∷ [])
+
+abbrev pub fullest_line : ℕ → Option ChannelUse → List ℕ
+fullest_line tracks (Some channel) = channel_line tracks channel
+fullest_line tracks None = none_line
 
 -- the lines of all other figures
 abbrev pub counts_text : Figures → List ℕ

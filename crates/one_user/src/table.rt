@@ -2,7 +2,7 @@
 ghost use Rattle.std.specs.Prelude.{◌≡◌};
 ghost use Rattle.line_text.specs.Writing.{Writes};
 ghost use Rattle.device_report.specs.Text.{channel_word};
-ghost use Rattle.one_user.specs.Lines.{counts_text, figures_text, fullest_line};
+ghost use Rattle.one_user.specs.Lines.{channel_line, counts_text, figures_text, fullest_line, none_line};
 
 use crate::figures::Figures;
 use device_report::{ChannelUse, Direction};
@@ -54,24 +54,38 @@ fn write_fullest<W: Sink>(
     ensures { Writes W.contents W.has_failed sink.old sink.new (fullest_line tracks fullest) result }
 {
     match fullest {
-        Some(channel) => write_parts(
-            sink,
-            &[
-                Part::Text("fullest channel "),
-                Part::Text(channel_word(channel.direction)),
-                Part::Text(" ("),
-                Part::Number(channel.x),
-                Part::Text(","),
-                Part::Number(channel.y),
-                Part::Text(") "),
-                Part::Long(channel.wires as u64),
-                Part::Text("/"),
-                Part::Number(tracks),
-                Part::Text("\n"),
-            ],
-        ),
-        None => write_parts(sink, &[Part::Text("fullest channel none\n")]),
+        Some(channel) => write_channel(sink, channel, tracks),
+        None => write_none(sink),
     }
+}
+
+/// Writes the line of that channel.
+fn write_channel<W: Sink>(sink: &mut W, channel: ChannelUse, tracks: u32) -> Result<(), Failed>
+    ensures { Writes W.contents W.has_failed sink.old sink.new (channel_line tracks channel) result }
+{
+    write_parts(
+        sink,
+        &[
+            Part::Text("fullest channel "),
+            Part::Text(channel_word(channel.direction)),
+            Part::Text(" ("),
+            Part::Number(channel.x),
+            Part::Text(","),
+            Part::Number(channel.y),
+            Part::Text(") "),
+            Part::Long(channel.wires as u64),
+            Part::Text("/"),
+            Part::Number(tracks),
+            Part::Text("\n"),
+        ],
+    )
+}
+
+/// Writes that there is none.
+fn write_none<W: Sink>(sink: &mut W) -> Result<(), Failed>
+    ensures { Writes W.contents W.has_failed sink.old sink.new none_line result }
+{
+    write_parts(sink, &[Part::Text("fullest channel none\n")])
 }
 
 /// The word for a channel.

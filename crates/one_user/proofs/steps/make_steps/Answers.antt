@@ -21,11 +21,11 @@ make_step-requires-clause-room g c = omega (arith, ap (λ (s : SlotState). s.sta
 pub make_step-requires-clause-window : goal.make_step-requires-clause-window
 make_step-requires-clause-window g c = c.requires.window ∙ ap (λ (s : SlotState). device_of s.state) (sym c.loop-step.invariant.is)
 
-pub returns-then-eq : goal.returns-then-eq
-returns-then-eq g c =
-    step_ends c.args.slot.now c.loop-step.slot c.make_step.new.slot c.loop-step._step c.in_ok-made.made c.loop-step.invariant.is c.in_ok-made.ensures c.if-eq.ensures
+pub returns-in-Finished : goal.returns-in-Finished
+returns-in-Finished g c =
+    step_ends c.args.slot.now c.loop-step.slot c.make_step.new.slot c.loop-step._step c.in_ok-made.made c.loop-step.invariant.is c.in_ok-made.ensures c.in-Finished.is
 
 pub loop-step-preserved : goal.loop-step-preserved
 loop-step-preserved g c =
-    let goes = step_goes_on c.args.slot.now c.loop-step.slot c.make_step.new.slot c.loop-step._step c.in_ok-made.made c.requires.runs c.loop-step.invariant.is c.in_ok-made.ensures c.if-eq.ensures in
+    let goes = step_goes_on c.args.slot.now c.loop-step.slot c.make_step.new.slot c.loop-step._step c.in_ok-made.made c.requires.runs c.loop-step.invariant.is c.in_ok-made.ensures c.in_default.not-Finished in
     record { is = goes.0; few = goes.1 }
