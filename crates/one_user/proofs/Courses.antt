@@ -127,3 +127,15 @@ pub routing_done : (task : Task) (placed : IsPlaced task) (generation entries id
 routing_done task placed generation entries id mid new made is finishes =
     let done = subst (λ (s : SlotState). (kind : JobKind) → running s.state.name ≡ Some kind → Finishes kind s made new) is finishes RoutingJob refl in
     (done.after, done.count, done.few)
+
+-- of the parts of a loaded slot the same task is made
+pub loaded_own : (task : Task) (slot : SlotState) → slot ≡ slot_in slot.id (state_at task Loaded 0 0 0 1) → task_in slot.state task.seed task.effort ≡ task
+loaded_own task slot is = ap (λ (s : SlotState). task_in s.state task.seed task.effort) is
+
+-- a placed slot has its seed and its effort in it
+pub placed_own : (task : Task) (slot : SlotState) → IsAt task Placed task.seed task.effort 16387 slot → task_in slot.state slot.state.seed slot.state.effort ≡ task
+placed_own task slot at = ap (λ (s : SlotState). task_in s.state s.state.seed s.state.effort) at.is
+
+pub at_self : (task : Task) (slot : SlotState) → IsAt task Placed task.seed task.effort 16387 slot → IsAt (task_in slot.state slot.state.seed slot.state.effort) Placed slot.state.seed slot.state.effort 16387 slot
+at_self task slot at =
+    subst (λ (s : SlotState). IsAt (task_in s.state s.state.seed s.state.effort) Placed s.state.seed s.state.effort 16387 s) (sym at.is) (record { is = refl; few = at.few })
