@@ -2,6 +2,7 @@
 use Rattle.std.proofs.Common.{ℕ, ◌≡◌, ◌+◌, true, List, [], Result, Ok, Err, Option, Some, None, refl, sym, ap, subst, ◌∙◌}
 use Rattle.std.specs.Prelude.{IfOk, IsSome, is_some, option_and_then}
 use Rattle.job_state.specs.RoutedSet.{resources_of}
+use Rattle.device_report.specs.declared.tenancies.Share.{Share}
 use Rattle.tenant_slot.specs.RoutedSet.{routed_set}
 use Rattle.blif.specs.CircuitOf.{circuit_of}
 use Rattle.blif.specs.declared.circuit.Circuit.{Circuit}
@@ -131,3 +132,8 @@ same_ending task told ending other is so outcome =
     let both : Some other ≡ Some ending = sym so ∙ is in
     let same : other ≡ ending = cc in
     ap Unrouted same ∙ sym outcome
+
+-- a share by its parts
+pub share_of : (used other there at : ℕ) (share : Share) → share ≡ record { used = used; there = there } → used ≡ other → there ≡ at → share ≡ record { used = other; there = at }
+share_of used other there at share is same so =
+    is ∙ ap (λ n. let s : Share = record { used = n; there = there } in s) same ∙ ap (λ n. let s : Share = record { used = other; there = n } in s) so

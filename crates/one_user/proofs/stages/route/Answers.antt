@@ -1,4 +1,6 @@
 use Rattle.std.proofs.Common.{ℕ, ◌≡◌, ◌+◌, ◌<◌, Option, Some, None, ap, sym, subst, ◌∙◌, arith, refl}
+use Rattle.std.specs.Prelude.{length}
+use Rattle.cluster.specs.Clusters.{packed_of}
 use Rattle.job_state.specs.JobValue.{end_value}
 use Rattle.rr_graph.specs.Graph.{Basis}
 use Rattle.rr_graph.specs.Resources.{has}
@@ -15,7 +17,7 @@ use Rattle.one_user.specs.Outcomes.{Task, routing_of}
 use Rattle.one_user.specs.Service.{HasRouted}
 use Rattle.one_user.specs.Steps.{ending_in, task_in}
 use Rattle.one_user.proofs.Courses.{route_leads, routing_done}
-use Rattle.one_user.proofs.Routings.{after_end, ending_is, has_routed, none_failed, routed_files, routed_held, routed_loaded, same_ending, some_ending}
+use Rattle.one_user.proofs.Routings.{after_end, ending_is, has_routed, none_failed, routed_files, routed_held, routed_loaded, same_ending, share_of, some_ending}
 use Rattle.one_user.proofs.stages.route.Goals as goal
 
 pub files_of-requires-clause-room : goal.files_of-requires-clause-room
@@ -24,7 +26,7 @@ files_of-requires-clause-room g c =
     let task = task_in old.state old.state.seed old.state.effort in
     let placed = c.requires.placed in
     let new = c.make_steps.new.slot in
-    let went = route_leads task old c.requires.slot c.ask.new.slot c.in_ok-ask.field-0 c.in_ok-ask.ensures.reply c.in_ok-ask.ensures.slot in
+    let went = route_leads task old c.requires.slot c.ask.new.slot c.in_ok-refusal.field-0 c.in_ok-refusal.ensures.reply c.in_ok-refusal.ensures.slot in
     let done = routing_done task placed (old.state.generation + 1) (old.state.entries + 1) c.ask.new.slot.id c.ask.new.slot new c.in_ok-last.last went.1 c.in_ok-last.ensures in
     let failure = failure_of (end_value (routing_of task)) in
     let count = old.state.entries + 1 + c.in_ok-last.last.number in
@@ -36,7 +38,7 @@ files_of-requires-clause-loaded g c =
     let task = task_in old.state old.state.seed old.state.effort in
     let placed = c.requires.placed in
     let new = c.make_steps.new.slot in
-    let went = route_leads task old c.requires.slot c.ask.new.slot c.in_ok-ask.field-0 c.in_ok-ask.ensures.reply c.in_ok-ask.ensures.slot in
+    let went = route_leads task old c.requires.slot c.ask.new.slot c.in_ok-refusal.field-0 c.in_ok-refusal.ensures.reply c.in_ok-refusal.ensures.slot in
     let done = routing_done task placed (old.state.generation + 1) (old.state.entries + 1) c.ask.new.slot.id c.ask.new.slot new c.in_ok-last.last went.1 c.in_ok-last.ensures in
     let failure = failure_of (end_value (routing_of task)) in
     let count = old.state.entries + 1 + c.in_ok-last.last.number in
@@ -50,7 +52,7 @@ files_of-requires-clause-kept g c =
     let task = task_in old.state old.state.seed old.state.effort in
     let placed = c.requires.placed in
     let new = c.make_steps.new.slot in
-    let went = route_leads task old c.requires.slot c.ask.new.slot c.in_ok-ask.field-0 c.in_ok-ask.ensures.reply c.in_ok-ask.ensures.slot in
+    let went = route_leads task old c.requires.slot c.ask.new.slot c.in_ok-refusal.field-0 c.in_ok-refusal.ensures.reply c.in_ok-refusal.ensures.slot in
     let done = routing_done task placed (old.state.generation + 1) (old.state.entries + 1) c.ask.new.slot.id c.ask.new.slot new c.in_ok-last.last went.1 c.in_ok-last.ensures in
     let failure = failure_of (end_value (routing_of task)) in
     let count = old.state.entries + 1 + c.in_ok-last.last.number in
@@ -58,27 +60,27 @@ files_of-requires-clause-kept g c =
     let routed : HasRouted task new.state = subst (λ (s : SlotState). HasRouted task s.state) (sym done.0) (has_routed task placed (old.state.generation + 1) (old.state.entries + 1) count failure none) in
     routed.kept
 
-pub returns-in-Routed-clause-outcome : goal.returns-in-Routed-clause-outcome
-returns-in-Routed-clause-outcome g c =
+pub returns-in_ok-files_of-in-Routed-clause-outcome : goal.returns-in_ok-files_of-in-Routed-clause-outcome
+returns-in_ok-files_of-in-Routed-clause-outcome g c =
     let old = c.args.slot.now in
     let task = task_in old.state old.state.seed old.state.effort in
     let placed = c.requires.placed in
     let new = c.make_steps.new.slot in
-    let went = route_leads task old c.requires.slot c.ask.new.slot c.in_ok-ask.field-0 c.in_ok-ask.ensures.reply c.in_ok-ask.ensures.slot in
+    let went = route_leads task old c.requires.slot c.ask.new.slot c.in_ok-refusal.field-0 c.in_ok-refusal.ensures.reply c.in_ok-refusal.ensures.slot in
     let done = routing_done task placed (old.state.generation + 1) (old.state.entries + 1) c.ask.new.slot.id c.ask.new.slot new c.in_ok-last.last went.1 c.in_ok-last.ensures in
     let failure = failure_of (end_value (routing_of task)) in
     let count = old.state.entries + 1 + c.in_ok-last.last.number in
     let none : failure ≡ None = none_failed task placed (old.state.generation + 1) (old.state.entries + 1) count failure (sym (ap (λ (s : SlotState). s.state.name) done.0) ∙ (sym c.state.ensures ∙ c.in-Routed.is)) in
     let routed : HasRouted task new.state = subst (λ (s : SlotState). HasRouted task s.state) (sym done.0) (has_routed task placed (old.state.generation + 1) (old.state.entries + 1) count failure none) in
-    routed_files task placed new.state c.in_ok-files_of.field-0 routed none c.in_ok-files_of.ensures
+    routed_files task placed new.state c.in_ok-files_of-in-Routed.field-0 routed none c.in_ok-files_of-in-Routed.ensures
 
-pub returns-in-Routed-clause-figures : goal.returns-in-Routed-clause-figures
-returns-in-Routed-clause-figures g c =
+pub returns-in_ok-files_of-in-Routed-clause-figures : goal.returns-in_ok-files_of-in-Routed-clause-figures
+returns-in_ok-files_of-in-Routed-clause-figures g c =
     let old = c.args.slot.now in
     let task = task_in old.state old.state.seed old.state.effort in
     let placed = c.requires.placed in
     let new = c.make_steps.new.slot in
-    let went = route_leads task old c.requires.slot c.ask.new.slot c.in_ok-ask.field-0 c.in_ok-ask.ensures.reply c.in_ok-ask.ensures.slot in
+    let went = route_leads task old c.requires.slot c.ask.new.slot c.in_ok-refusal.field-0 c.in_ok-refusal.ensures.reply c.in_ok-refusal.ensures.slot in
     let done = routing_done task placed (old.state.generation + 1) (old.state.entries + 1) c.ask.new.slot.id c.ask.new.slot new c.in_ok-last.last went.1 c.in_ok-last.ensures in
     let failure = failure_of (end_value (routing_of task)) in
     let count = old.state.entries + 1 + c.in_ok-last.last.number in
@@ -90,10 +92,10 @@ returns-in-Routed-clause-figures g c =
     (
       counts.0, counts.1,
       record {
-        blocks = figures.blocks ∙ ap (λ n. let s : Share = record { used = n; there = product c.args.window.now.strip.width c.args.window.now.strip.rows 1 } in s) counts.2
-          ∙ ap (λ (b : Basis). let s : Share = record { used = _; there = product b.strip.width b.strip.rows 1 } in s) device;
-        pads = figures.pads ∙ ap (λ n. let s : Share = record { used = n; there = product c.args.window.now.strip.width 2 c.args.window.now.strip.io_rat } in s) counts.3
-          ∙ ap (λ (b : Basis). let s : Share = record { used = _; there = product b.strip.width 2 b.strip.io_rat } in s) device;
+        blocks = share_of c.args.packed.clusters (length (packed_of counts.0 task.arch).clusters) (product c.args.window.now.strip.width c.args.window.now.strip.rows 1) (product task.strip.width task.strip.rows 1)
+          c.figures_of-figures.result.blocks figures.blocks counts.2 (ap (λ (b : Basis). product b.strip.width b.strip.rows 1) device);
+        pads = share_of c.args.packed.pads (length counts.0.inputs + length counts.0.outputs) (product c.args.window.now.strip.width 2 c.args.window.now.strip.io_rat) (product task.strip.width 2 task.strip.io_rat)
+          c.figures_of-figures.result.pads figures.pads counts.3 (ap (λ (b : Basis). product b.strip.width 2 b.strip.io_rat) device);
         nets = figures.nets ∙ counts.4;
         held = c.routed.result.now;
         is_held = record { order = c.routed.ensures.order; exact = λ r. c.routed.ensures.exact r ∙ ap (λ held. has held r) (routed_held task new.state routed) };
@@ -110,7 +112,7 @@ ending_of-requires-clause-room g c =
     let task = task_in old.state old.state.seed old.state.effort in
     let placed = c.requires.placed in
     let new = c.make_steps.new.slot in
-    let went = route_leads task old c.requires.slot c.ask.new.slot c.in_ok-ask.field-0 c.in_ok-ask.ensures.reply c.in_ok-ask.ensures.slot in
+    let went = route_leads task old c.requires.slot c.ask.new.slot c.in_ok-refusal.field-0 c.in_ok-refusal.ensures.reply c.in_ok-refusal.ensures.slot in
     let done = routing_done task placed (old.state.generation + 1) (old.state.entries + 1) c.ask.new.slot.id c.ask.new.slot new c.in_ok-last.last went.1 c.in_ok-last.ensures in
     let failure = failure_of (end_value (routing_of task)) in
     let count = old.state.entries + 1 + c.in_ok-last.last.number in
@@ -122,7 +124,7 @@ ending_of-requires-clause-ending g c =
     let task = task_in old.state old.state.seed old.state.effort in
     let placed = c.requires.placed in
     let new = c.make_steps.new.slot in
-    let went = route_leads task old c.requires.slot c.ask.new.slot c.in_ok-ask.field-0 c.in_ok-ask.ensures.reply c.in_ok-ask.ensures.slot in
+    let went = route_leads task old c.requires.slot c.ask.new.slot c.in_ok-refusal.field-0 c.in_ok-refusal.ensures.reply c.in_ok-refusal.ensures.slot in
     let done = routing_done task placed (old.state.generation + 1) (old.state.entries + 1) c.ask.new.slot.id c.ask.new.slot new c.in_ok-last.last went.1 c.in_ok-last.ensures in
     let failure = failure_of (end_value (routing_of task)) in
     let count = old.state.entries + 1 + c.in_ok-last.last.number in
@@ -130,16 +132,16 @@ ending_of-requires-clause-ending g c =
     let told = ap (λ (s : SlotState). ending_in (answer_to s.state (Asked Status)).1) done.0 ∙ ended.1 in
     some_ending _ ended.0 told
 
-pub returns-in_default-clause-outcome : goal.returns-in_default-clause-outcome
-returns-in_default-clause-outcome g c =
+pub returns-in_ok-ending_of-in_default : goal.returns-in_ok-ending_of-in_default
+returns-in_ok-ending_of-in_default g c =
     let old = c.args.slot.now in
     let task = task_in old.state old.state.seed old.state.effort in
     let placed = c.requires.placed in
     let new = c.make_steps.new.slot in
-    let went = route_leads task old c.requires.slot c.ask.new.slot c.in_ok-ask.field-0 c.in_ok-ask.ensures.reply c.in_ok-ask.ensures.slot in
+    let went = route_leads task old c.requires.slot c.ask.new.slot c.in_ok-refusal.field-0 c.in_ok-refusal.ensures.reply c.in_ok-refusal.ensures.slot in
     let done = routing_done task placed (old.state.generation + 1) (old.state.entries + 1) c.ask.new.slot.id c.ask.new.slot new c.in_ok-last.last went.1 c.in_ok-last.ensures in
     let failure = failure_of (end_value (routing_of task)) in
     let count = old.state.entries + 1 + c.in_ok-last.last.number in
     let ended = ending_is task placed (old.state.generation + 1) (old.state.entries + 1) count failure refl (λ is. c.in_default.not-Routed (c.state.ensures ∙ (ap (λ (s : SlotState). s.state.name) done.0 ∙ is))) in
     let told = ap (λ (s : SlotState). ending_in (answer_to s.state (Asked Status)).1) done.0 ∙ ended.1 in
-    same_ending task (ending_in (answer_to new.state (Asked Status)).1) ended.0 c.in_ok-ending_of.field-0 told c.in_ok-ending_of.ensures ended.2
+    same_ending task (ending_in (answer_to new.state (Asked Status)).1) ended.0 c.in_ok-ending_of-in_default.field-0 told c.in_ok-ending_of-in_default.ensures ended.2

@@ -15,6 +15,6 @@ pack-requires-clause-loaded g c =
     let old = c.args.slot.now in
     let text = c.in_ok-netlist.netlist in
     let task : Task = record { arch = old.state.arch; strip = old.state.strip; text = text; seed = c.args.request.seed; effort = c.args.request.effort } in
-    let leads = upload_leads old text c.args.request.seed c.args.request.effort c.requires.slot c.ask.new.slot c.in_ok-ask.field-0 c.in_ok-ask.ensures.reply c.in_ok-ask.ensures.slot in
+    let leads = upload_leads old text c.args.request.seed c.args.request.effort c.requires.slot c.ask.new.slot c.in_ok-refusal.field-0 c.in_ok-refusal.ensures.reply c.in_ok-refusal.ensures.slot in
     let went = subst (Leads task IsLoaded (state_at task Loaded 0 0 0 1) c.ask.new.slot) c.in-None.is leads in
     subst IsLoaded (sym (loaded_own task c.ask.new.slot went.1)) went.0
