@@ -6,7 +6,7 @@ use Rattle.one_user.proofs.least.least_tracks.Goals as goal
 
 pub loop-tracks-preserved : goal.loop-tracks-preserved
 loop-tracks-preserved g c =
-    let run = c.in_ok-run.run in
+    let run = c.in_ok-run.run' in
     let was : WasUnrouted run.outcome = subst (λ (o : Outcome). WasUnrouted o) (sym c.in-Unrouted.is) tt in
     record {
       low = omega (arith, c.loop-tracks.invariant.low);

@@ -1,13 +1,13 @@
-use Rattle.std.proofs.Common.{ℕ, ◌≡◌, ◌+◌, ap, sym, subst, ◌∙◌, arith, IfOk, None}
+use Rattle.std.proofs.Common.{◌≡◌, ◌+◌, ap, sym, subst, ◌∙◌, arith, IfOk}
 use Rattle.std.specs.Prelude.{IfSome}
 use Rattle.rr_graph.specs.Graph.{Basis}
-use Rattle.tenant_slot.specs.declared.reply.StateName.TheVariants.{Packing, Packed, Placing, Placed}
+use Rattle.tenant_slot.specs.declared.reply.StateName.TheVariants.{Placing}
 use Rattle.one_user.specs.Figures.{HasFigures}
 use Rattle.one_user.specs.Outcomes.{Task, outcome_of}
-use Rattle.one_user.specs.Steps.{AreCounts, IsAt, IsPacked, IsPlaced, state_at, task_in}
+use Rattle.one_user.specs.Steps.{AreCounts, IsPlaced, state_at, task_in}
 use Rattle.one_user.specs.declared.outcome.Run.{Run}
 use Rattle.one_user.proofs.Asking.{Leads}
-use Rattle.one_user.proofs.Courses.{at_self, pack_leads, packing_done, place_leads, placed_own, placing_done, task_own}
+use Rattle.one_user.proofs.Courses.{at_self, place_leads, placed_own, placing_done}
 use Rattle.one_user.proofs.stages.place.Goals as goal
 
 pub route-requires-clause-slot : goal.route-requires-clause-slot

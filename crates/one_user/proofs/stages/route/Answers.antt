@@ -1,23 +1,21 @@
-use Rattle.std.proofs.Common.{ℕ, ◌≡◌, ◌+◌, ◌<◌, Option, Some, None, ap, sym, subst, ◌∙◌, arith, refl}
+use Rattle.std.proofs.Common.{◌≡◌, ◌+◌, None, ap, sym, subst, ◌∙◌, arith, refl}
 use Rattle.std.specs.Prelude.{length}
 use Rattle.cluster.specs.Clusters.{packed_of}
 use Rattle.job_state.specs.JobValue.{end_value}
 use Rattle.rr_graph.specs.Graph.{Basis}
 use Rattle.rr_graph.specs.Resources.{has}
-use Rattle.rr_graph.specs.declared.resource.Resource.{Resource}
 use Rattle.device_report.specs.declared.tenancies.Share.{Share}
 use Rattle.tenant_slot.specs.Results.{failure_of}
-use Rattle.tenant_slot.specs.SingleUser.{State, answer_to}
+use Rattle.tenant_slot.specs.SingleUser.{answer_to}
 use Rattle.tenant_slot.specs.Slot.{SlotState}
 use Rattle.tenant_slot.specs.declared.command.Command.TheVariants.{Status}
 use Rattle.tenant_slot.specs.declared.event.Event.TheVariants.{Command as Asked}
-use Rattle.tenant_slot.specs.declared.reply.StateName.TheVariants.{Routed}
 use Rattle.one_user.specs.Figures.{product, wires_there}
-use Rattle.one_user.specs.Outcomes.{Task, routing_of}
+use Rattle.one_user.specs.Outcomes.{routing_of}
 use Rattle.one_user.specs.Service.{HasRouted}
 use Rattle.one_user.specs.Steps.{ending_in, task_in}
 use Rattle.one_user.proofs.Courses.{route_leads, routing_done}
-use Rattle.one_user.proofs.Routings.{after_end, ending_is, has_routed, none_failed, routed_files, routed_held, routed_loaded, same_ending, share_of, some_ending}
+use Rattle.one_user.proofs.Routings.{ending_is, has_routed, none_failed, routed_files, routed_held, routed_loaded, same_ending, share_of, some_ending}
 use Rattle.one_user.proofs.stages.route.Goals as goal
 
 pub files_of-requires-clause-room : goal.files_of-requires-clause-room
@@ -88,14 +86,14 @@ returns-in_ok-files_of-in-Routed-clause-figures g c =
     let routed : HasRouted task new.state = subst (λ (s : SlotState). HasRouted task s.state) (sym done.0) (has_routed task placed (old.state.generation + 1) (old.state.entries + 1) count failure none) in
     let counts = c.requires.counts in
     let figures = c.figures_of-figures.ensures in
-    let device = c.requires.window in
-    (
-      counts.0, counts.1,
+    let device = c.requires.window in (
+      counts.0,
+      counts.1,
       record {
         blocks = share_of c.args.packed.clusters (length (packed_of counts.0 task.arch).clusters) (product c.args.window.now.strip.width c.args.window.now.strip.rows 1) (product task.strip.width task.strip.rows 1)
-          c.figures_of-figures.result.blocks figures.blocks counts.2 (ap (λ (b : Basis). product b.strip.width b.strip.rows 1) device);
+            c.figures_of-figures.result.blocks figures.blocks counts.2 (ap (λ (b : Basis). product b.strip.width b.strip.rows 1) device);
         pads = share_of c.args.packed.pads (length counts.0.inputs + length counts.0.outputs) (product c.args.window.now.strip.width 2 c.args.window.now.strip.io_rat) (product task.strip.width 2 task.strip.io_rat)
-          c.figures_of-figures.result.pads figures.pads counts.3 (ap (λ (b : Basis). product b.strip.width 2 b.strip.io_rat) device);
+            c.figures_of-figures.result.pads figures.pads counts.3 (ap (λ (b : Basis). product b.strip.width 2 b.strip.io_rat) device);
         nets = figures.nets ∙ counts.4;
         held = c.routed.result.now;
         is_held = record { order = c.routed.ensures.order; exact = λ r. c.routed.ensures.exact r ∙ ap (λ held. has held r) (routed_held task new.state routed) };
@@ -144,4 +142,4 @@ returns-in_ok-ending_of-in_default g c =
     let count = old.state.entries + 1 + c.in_ok-last.last.number in
     let ended = ending_is task placed (old.state.generation + 1) (old.state.entries + 1) count failure refl (λ is. c.in_default.not-Routed (c.state.ensures ∙ (ap (λ (s : SlotState). s.state.name) done.0 ∙ is))) in
     let told = ap (λ (s : SlotState). ending_in (answer_to s.state (Asked Status)).1) done.0 ∙ ended.1 in
-    same_ending task (ending_in (answer_to new.state (Asked Status)).1) ended.0 c.in_ok-ending_of-in_default.field-0 told c.in_ok-ending_of-in_default.ensures ended.2
+    record { outcome = same_ending task (ending_in (answer_to new.state (Asked Status)).1) ended.0 c.in_ok-ending_of-in_default.field-0 told c.in_ok-ending_of-in_default.ensures ended.2; figures = tt }

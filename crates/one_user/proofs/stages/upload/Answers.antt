@@ -1,11 +1,7 @@
-use Rattle.std.proofs.Common.{ℕ, List, ◌≡◌, ap, sym, subst, ◌∙◌, None}
-use Rattle.tenant_slot.specs.SingleUser.{answer_to}
-use Rattle.tenant_slot.specs.Slot.{after_event}
-use Rattle.tenant_slot.specs.declared.command.Command.TheVariants.{Upload}
-use Rattle.tenant_slot.specs.declared.event.Event.TheVariants.{Command as Asked}
+use Rattle.std.proofs.Common.{sym, subst}
 use Rattle.tenant_slot.specs.declared.reply.StateName.TheVariants.{Loaded}
 use Rattle.one_user.specs.Outcomes.{Task}
-use Rattle.one_user.specs.Steps.{IsLoaded, refusal_in, state_at, task_in}
+use Rattle.one_user.specs.Steps.{IsLoaded, state_at}
 use Rattle.one_user.proofs.Asking.{Leads}
 use Rattle.one_user.proofs.Courses.{loaded_own, upload_leads}
 use Rattle.one_user.proofs.stages.upload.Goals as goal

@@ -1,4 +1,4 @@
-use Rattle.std.proofs.Common.{◌≡◌, ◌+◌, ◌<◌, ◌≤◌, sym, ap, subst, ◌∙◌, arith}
+use Rattle.std.proofs.Common.{sym, ap, subst, ◌∙◌, arith}
 use Rattle.std.specs.Prelude.{IsSome}
 use Rattle.tenant_slot.specs.SingleUser.{running}
 use Rattle.tenant_slot.specs.Slot.{SlotState}
