@@ -2,7 +2,8 @@
 use Rattle.std.specs.Prelude.{ℕ, ◌+◌, ◌-◌, ◌^◌, min, List, [], ◌∷◌, ◌++◌, codes, decimal, Option, Some, None}
 use Rattle.std.specs.List.{concat}
 use Rattle.device_report.specs.declared.channels.ChannelUse.{ChannelUse}
-use Rattle.device_report.specs.Text.{channel_word}
+use Rattle.device_report.specs.declared.channels.Direction.{Direction}
+use Rattle.device_report.specs.declared.channels.Direction.TheVariants.{Across, Up}
 use Rattle.grid.specs.declared.Strip.{Strip}
 use Rattle.job_state.specs.JobValue.{pass_count}
 use Rattle.job_state.specs.declared.progress.Progress.{Progress}
@@ -60,6 +61,11 @@ step_line strip number (Routing overuse) = overuse_line number overuse.nodes ove
 step_line strip number Routed = iteration_line number (codes "no node overused")
 step_line strip number GaveUp = iteration_line number (codes "given up")
 step_line strip number NoPath = iteration_line number (codes "a net has no path")
+
+-- the word for a channel
+abbrev pub channel_word : Direction → List ℕ
+channel_word Across = codes "CHANX"
+channel_word Up = codes "CHANY"
 
 -- the line of the fullest channel, which has so many tracks
 abbrev pub channel_line : ℕ → ChannelUse → List ℕ

@@ -1,8 +1,7 @@
 //! The figures as a text.
 ghost use Rattle.std.specs.Prelude.{◌≡◌};
 ghost use Rattle.line_text.specs.Writing.{Writes};
-ghost use Rattle.device_report.specs.Text.{channel_word};
-ghost use Rattle.one_user.specs.Lines.{channel_line, counts_text, figures_text, fullest_line, none_line};
+ghost use Rattle.one_user.specs.Lines.{channel_line, channel_word, counts_text, figures_text, fullest_line, none_line};
 
 use crate::figures::Figures;
 use device_report::{ChannelUse, Direction};
