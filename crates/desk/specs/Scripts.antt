@@ -1,5 +1,5 @@
 -- What the tool that prints a tenancy's script comes to.
-use Rattle.std.specs.Prelude.{◌≡◌, ℕ, Bool, List, Option, Some, ⊥}
+use Rattle.std.specs.Prelude.{◌≡◌, ℕ, Bool, List, Option, Some}
 use Rattle.line_text.specs.Writing.{TakesAll, TakesPart}
 use Rattle.tenancy_script.specs.declared.script.TenancyScript.{TenancyScript}
 use Rattle.tenancy_script.specs.declared.script.Wishes.{Wishes}

@@ -35,10 +35,10 @@ Leads task Passes new slot None = Passes task × (slot ≡ slot_in slot.id new)
 
 module _ (task : Task) (id generation entries : ℕ) (room : entries < 65536) where
   -- the upload
-  load : Result Circuit BlifFault → Option State × Reply
+  abbrev pub load : Result Circuit BlifFault → Option State × Reply
   load said = with_circuit said (λ circuit. (Some (loaded (start task.arch task.strip) task.text), Accepted Loaded))
 
-  loads : (said : Result Circuit BlifFault) → circuit_of task.text task.arch.lut_size ≡ said → (slot : SlotState) (refusal : Option Refusal) →
+  pub loads : (said : Result Circuit BlifFault) → circuit_of task.text task.arch.lut_size ≡ said → (slot : SlotState) (refusal : Option Refusal) →
       refusal ≡ refusal_in (answer_to (start task.arch task.strip) (Asked (Upload task.text))).1 → slot ≡ after_event (slot_in id (start task.arch task.strip)) (Asked (Upload task.text)) →
       Leads task IsLoaded (state_at task Loaded 0 0 0 1) slot refusal
   loads (Ok circuit) said slot refusal is after_it =
@@ -53,10 +53,10 @@ module _ (task : Task) (id generation entries : ℕ) (room : entries < 65536) wh
       subst (Leads task IsLoaded (state_at task Loaded 0 0 0 1) slot) (sym some) (ap (by_netlist task) said)
 
   -- the packing
-  pack : Result Circuit BlifFault → Option State × Reply
+  abbrev pub pack : Result Circuit BlifFault → Option State × Reply
   pack said = with_circuit said (λ circuit. pack_unless (state_at task Loaded 0 0 generation entries) (unfit_of circuit task.arch))
 
-  packs : (circuit : Circuit) → circuit_of task.text task.arch.lut_size ≡ Ok circuit → (unfit : Option ℕ) → unfit_of circuit task.arch ≡ unfit → (slot : SlotState) (refusal : Option Refusal) →
+  pub packs : (circuit : Circuit) → circuit_of task.text task.arch.lut_size ≡ Ok circuit → (unfit : Option ℕ) → unfit_of circuit task.arch ≡ unfit → (slot : SlotState) (refusal : Option Refusal) →
       refusal ≡ refusal_in (answer_to (state_at task Loaded 0 0 generation entries) (Asked Pack)).1 → slot ≡ after_event (slot_in id (state_at task Loaded 0 0 generation entries)) (Asked Pack) →
       Leads task IsPacked (state_at task Packing 0 0 (generation + 1) (entries + 1)) slot refusal
   packs circuit said None unfit slot refusal is after_it =
@@ -73,10 +73,10 @@ module _ (task : Task) (id generation entries : ℕ) (room : entries < 65536) wh
       subst (Leads task IsPacked (state_at task Packing 0 0 (generation + 1) (entries + 1)) slot) (sym some) (ap (by_netlist task) said ∙ ap (by_packing task circuit) unfit)
 
   -- the placing, with an effort that isn't too great
-  place_it : Result Circuit BlifFault → Option State × Reply
+  abbrev pub place_it : Result Circuit BlifFault → Option State × Reply
   place_it said = with_circuit said (place (state_at task Packed 0 0 generation entries) task.seed task.effort)
 
-  places : (circuit : Circuit) → circuit_of task.text task.arch.lut_size ≡ Ok circuit → unfit_of circuit task.arch ≡ None → nat_lt 100 task.effort ≡ false →
+  pub places : (circuit : Circuit) → circuit_of task.text task.arch.lut_size ≡ Ok circuit → unfit_of circuit task.arch ≡ None → nat_lt 100 task.effort ≡ false →
       (misfit : Option Misfit) → misfit_of (fit_of task.strip (packed_of circuit task.arch)) ≡ misfit → (slot : SlotState) (refusal : Option Refusal) →
       refusal ≡ refusal_in (answer_to (state_at task Packed 0 0 generation entries) (Asked (Place task.seed task.effort))).1 →
       slot ≡ after_event (slot_in id (state_at task Packed 0 0 generation entries)) (Asked (Place task.seed task.effort)) →
@@ -101,7 +101,7 @@ module _ (task : Task) (id generation entries : ℕ) (room : entries < 65536) wh
       (ap (by_netlist task) said ∙ ap (by_packing task circuit) fits ∙ ap (by_fit task circuit) enough)
 
   -- the routing
-  routes : (slot : SlotState) (refusal : Option Refusal) → refusal ≡ refusal_in (answer_to (state_at task Placed task.seed task.effort generation entries) (Asked Route)).1 →
+  pub routes : (slot : SlotState) (refusal : Option Refusal) → refusal ≡ refusal_in (answer_to (state_at task Placed task.seed task.effort generation entries) (Asked Route)).1 →
       slot ≡ after_event (slot_in id (state_at task Placed task.seed task.effort generation entries)) (Asked Route) →
       (refusal ≡ None) × (slot ≡ slot_in slot.id (state_at task Routing task.seed task.effort (generation + 1) (entries + 1)))
   routes slot refusal is after_it =

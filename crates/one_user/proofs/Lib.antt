@@ -3,6 +3,6 @@ mod Asking
 pub mod Running
 mod Packings
 mod Routings
-mod Least
-mod Passes
-mod Examples
+mod Courses
+mod Upward
+mod Coolings

@@ -14,6 +14,7 @@ use Rattle.job_state.specs.declared.progress.Progress.TheVariants as told
 use Rattle.job_state.specs.declared.sources.JobKind.TheVariants.{Packing as PackingJob}
 use Rattle.job_state.specs.declared.work.Work.{Work}
 use Rattle.job_state.specs.declared.work.Work.TheVariants.{Packing, Packed, Placing, Placed, Routing, Unlisted, Routed, GaveUp, NoPath}
+use Rattle.job_state.proofs.NextStep.{as_value}
 use Rattle.job_state.proofs.Ended.{kind_made, packed_made}
 use Rattle.one_user.specs.Counts.{HasCounts, IsWhole}
 use Rattle.one_user.specs.Outcomes.{Task}
@@ -49,13 +50,14 @@ whole_told packed told.NoPath is = absurd is
 pub packing_told : (task : Task) (circuit : Circuit) (number : ℕ) (progress : Progress) → circuit_of task.text task.arch.lut_size ≡ Ok circuit →
     is_last (packing_sources task.arch task.strip task.text) number ≡ true → IsTold (packing_sources task.arch task.strip task.text) number progress →
     IsWhole progress × ((counts : PackedCounts) → HasCounts progress counts → AreCounts task counts)
+unfolding packed_of
 packing_told task circuit number progress said last is =
     let sources = packing_sources task.arch task.strip task.text in
     let kind : kind_of is.0 ≡ PackingJob = kind_made sources number is.0 is.1 in
     let whole : is_whole is.0 ≡ true = sym (ap is_whole_value is.1) ∙ last in
     let found = packed_work is.0 kind whole in
-    let value : job_value sources number ≡ Ok (Packed found.0) = is.1 ∙ ap (λ (w : Work). Ok {E = BlifFault} w) found.1 in
+    let value : job_value sources number ≡ Ok (Packed found.0) = is.1 ∙ ap as_value found.1 in
     let packed : found.0 ≡ packed_of circuit task.arch = subst (λ (r : Result Circuit BlifFault). IfOk r (λ circuit. found.0 ≡ packed_of circuit task.arch)) said (packed_made sources number found.0 refl value) in
     let tells = whole_told found.0 progress (subst (λ (w : Work). IsProgress w progress) found.1 is.2) in
     let told = subst (λ (p : PackedCircuit). (counts : PackedCounts) → HasCounts progress counts → CountsOf p counts) packed tells.1 in
-    (tells.0, λ counts has. (circuit, said, told counts has))
+    (tells.0, λ counts has. (let t = told counts has in (circuit, said, t.0, t.1, t.2)))

@@ -1,6 +1,9 @@
 -- How a routing ends, and what is told of it.
 use Rattle.std.proofs.Common.{ℕ, ◌≡◌, ◌+◌, true, List, [], Result, Ok, Err, Option, Some, None, refl, sym, ap, subst, ◌∙◌}
-use Rattle.std.specs.Prelude.{option_and_then}
+use Rattle.std.specs.Prelude.{IfOk, IsSome, is_some, option_and_then}
+use Rattle.job_state.specs.RoutedSet.{resources_of}
+use Rattle.device_report.specs.declared.tenancies.Share.{Share}
+use Rattle.tenant_slot.specs.RoutedSet.{routed_set}
 use Rattle.blif.specs.CircuitOf.{circuit_of}
 use Rattle.blif.specs.declared.circuit.Circuit.{Circuit}
 use Rattle.blif.specs.declared.fault.BlifFault.{BlifFault}
@@ -8,7 +11,7 @@ use Rattle.cluster.specs.Clusters.{packed_of, unfit_of}
 use Rattle.grid.specs.Fits.{fit_of}
 use Rattle.job_state.specs.JobValue.{end_value}
 use Rattle.tenant_slot.specs.Results.{ending_of, ending_told, failure_of, place_file_of, route_file_of}
-use Rattle.tenant_slot.specs.SingleUser.{State, answer_to, misfit_of, routed_unless, with_circuit}
+use Rattle.tenant_slot.specs.SingleUser.{State, answer_to, circuit_in, misfit_of, routed_unless, with_circuit}
 use Rattle.tenant_slot.specs.declared.command.Command.TheVariants.{Net, PlaceFile, RouteFile, Status}
 use Rattle.tenant_slot.specs.declared.event.Event.TheVariants.{Command as Asked}
 use Rattle.tenant_slot.specs.declared.failure.RoutingFailure.{RoutingFailure}
@@ -21,7 +24,7 @@ use Rattle.tenant_slot.specs.declared.reply.StateName.TheVariants.{Routing, Rout
 use Rattle.vpr_files.specs.NetFile.{net_text_of}
 use Rattle.one_user.specs.Outcomes.{Task, by_fit, by_netlist, by_packing, by_routing, files_of, outcome_of, placing_of, routing_of}
 use Rattle.one_user.specs.Service.{AreTold, HasRouted}
-use Rattle.one_user.specs.Steps.{IsPlaced, ending_in, slot_in, state_at, text_in}
+use Rattle.one_user.specs.Steps.{IsLoaded, IsPlaced, ending_in, slot_in, state_at, task_in, text_in}
 use Rattle.one_user.specs.declared.outcome.Files.{Files}
 use Rattle.one_user.specs.declared.outcome.Outcome.{Outcome}
 use Rattle.one_user.specs.declared.outcome.Outcome.TheVariants.{Routed, Unrouted, Refused}
@@ -97,3 +100,40 @@ module _ (task : Task) (placed : IsPlaced task) (generation entries count : ℕ)
       (ending : Ending) × (ending_in (answer_to (after_end failure) (Asked Status)).1 ≡ Some ending) × (outcome_of task ≡ Unrouted ending)
   ending_is None is not = absurd (not refl)
   ending_is (Some failure) is not = (ending_of (packed_of placed.circuit task.arch) failure, status_told failure, outcome_is task placed (Some failure) is)
+
+-- of the parts of a routed state the same task is made
+pub routed_own : (task : Task) (state : State) → HasRouted task state → task_in state state.seed state.effort ≡ task
+routed_own task state has = ap (λ (s : State). task_in s s.seed s.effort) (state_is task state has)
+
+pub routed_loaded : (task : Task) (placed : IsPlaced task) (state : State) → HasRouted task state → IsLoaded (task_in state state.seed state.effort)
+routed_loaded task placed state has = subst IsLoaded (sym (routed_own task state has)) (record { circuit = placed.circuit; said = placed.said })
+
+pub routed_said : (task : Task) (placed : IsPlaced task) (state : State) → HasRouted task state → circuit_in state ≡ Ok placed.circuit
+routed_said task placed state has = ap circuit_in (state_is task state has) ∙ placed.said
+
+pub routed_files : (task : Task) (placed : IsPlaced task) (state : State) (files : Files) → HasRouted task state → failure_of (end_value (routing_of task)) ≡ None →
+    IfOk (circuit_in state) (λ circuit. files ≡ files_of (task_in state state.seed state.effort) circuit) → Routed files ≡ outcome_of task
+routed_files task placed state files has none told =
+    let said = subst (λ (r : Result Circuit BlifFault). IfOk r (λ circuit. files ≡ files_of (task_in state state.seed state.effort) circuit)) (routed_said task placed state has) told in
+    let same = said ∙ ap (λ t. files_of t placed.circuit) (routed_own task state has) in
+    ap Routed same ∙ sym (outcome_is task placed None none)
+
+-- what it holds
+pub routed_held : (task : Task) (state : State) → HasRouted task state → routed_set state ≡ resources_of (routing_of task)
+unfolding routed_set
+routed_held task state has = ap routed_set (state_is task state has)
+
+-- a told ending is one
+pub some_ending : (told : Option Ending) (ending : Ending) → told ≡ Some ending → IsSome told
+some_ending told ending is = ap is_some is
+
+pub same_ending : (task : Task) (told : Option Ending) (ending other : Ending) → told ≡ Some ending → told ≡ Some other → outcome_of task ≡ Unrouted ending → Unrouted other ≡ outcome_of task
+same_ending task told ending other is so outcome =
+    let both : Some other ≡ Some ending = sym so ∙ is in
+    let same : other ≡ ending = cc in
+    ap Unrouted same ∙ sym outcome
+
+-- a share by its parts
+pub share_of : (used other there at : ℕ) (share : Share) → share ≡ record { used = used; there = there } → used ≡ other → there ≡ at → share ≡ record { used = other; there = at }
+share_of used other there at share is same so =
+    is ∙ ap (λ n. let s : Share = record { used = n; there = there } in s) same ∙ ap (λ n. let s : Share = record { used = other; there = n } in s) so

@@ -23,9 +23,17 @@ use Rattle.one_user.specs.declared.figures.Figures.{Figures}
 abbrev pub is_channel_wire : ResourceKind → Bool
 is_channel_wire kind = is_wire Across kind || is_wire Up kind
 
--- how many a device has
+-- how many of these are
+abbrev pub wires_in : List Resource → ℕ
+wires_in held = count_by (λ one. is_channel_wire one.kind) held
+
+-- so many columns of so many, of so many each
+unfoldable pub product : ℕ → ℕ → ℕ → ℕ
+product a b c = a * b * c
+
+-- how many wires a device has: above its rows, and right of its columns and left of the first
 abbrev pub wires_there : Basis → ℕ
-wires_there device = device.strip.width * (device.strip.rows + 1) * device.arch.tracks + (device.strip.width + 1) * device.strip.rows * device.arch.tracks
+wires_there device = product device.strip.width (device.strip.rows + 1) device.arch.tracks + product (device.strip.width + 1) device.strip.rows device.arch.tracks
 
 -- what the circuit holds of the device, in node order, each once
 pub record IsHeldList (task : Task) (held : List Resource) : Type 0 where
@@ -35,12 +43,12 @@ pub record IsHeldList (task : Task) (held : List Resource) : Type 0 where
 -- how many of the blocks, the pads and the wires it has are used, and how many there are: each is the count over the packed circuit, or
 -- over what the circuit holds. The wires above rows and right of columns are one as long as a block each
 pub record IsFigures (task : Task) (circuit : Circuit) (figures : Figures) : Type 0 where
-  pub blocks : figures.blocks ≡ record { used = length (packed_of circuit task.arch).clusters; there = task.strip.width * task.strip.rows }
-  pub pads : figures.pads ≡ record { used = length circuit.inputs + length circuit.outputs; there = task.strip.width * 2 * task.strip.io_rat }
+  pub blocks : figures.blocks ≡ record { used = length (packed_of circuit task.arch).clusters; there = product task.strip.width task.strip.rows 1 }
+  pub pads : figures.pads ≡ record { used = length circuit.inputs + length circuit.outputs; there = product task.strip.width 2 task.strip.io_rat }
   pub nets : figures.nets ≡ length (block_nets (packed_of circuit task.arch))
   pub held : List Resource
   pub is_held : IsHeldList task held
-  pub wires_used : figures.wires.used ≡ count_by (λ one. is_channel_wire one.kind) held
+  pub wires_used : figures.wires.used ≡ wires_in held
   pub wires_there : figures.wires.there ≡ wires_there (record { arch = task.arch; strip = task.strip })
   pub tracks : figures.tracks ≡ task.arch.tracks
   pub iterations : figures.iterations ≡ step_count (routing_of task)

@@ -2,7 +2,8 @@
 use Rattle.std.specs.Prelude.{ℕ, ◌+◌, ◌-◌, ◌^◌, min, List, [], ◌∷◌, ◌++◌, codes, decimal, Option, Some, None}
 use Rattle.std.specs.List.{concat}
 use Rattle.device_report.specs.declared.channels.ChannelUse.{ChannelUse}
-use Rattle.device_report.specs.Text.{channel_word}
+use Rattle.device_report.specs.declared.channels.Direction.{Direction}
+use Rattle.device_report.specs.declared.channels.Direction.TheVariants.{Across, Up}
 use Rattle.grid.specs.declared.Strip.{Strip}
 use Rattle.job_state.specs.JobValue.{pass_count}
 use Rattle.job_state.specs.declared.progress.Progress.{Progress}
@@ -31,10 +32,10 @@ abbrev pub packed_line : ℕ → ℕ → ℕ → List ℕ
 packed_line clusters pads nets =
     concat (codes "packed: " ∷ decimal clusters ∷ codes " clusters, " ∷ decimal pads ∷ codes " pads, " ∷ decimal nets ∷ codes " nets\n" ∷ [])
 
--- the line of a pass
-abbrev pub pass_line : Strip → ℕ → ℕ → List ℕ
-pass_line strip number cost = concat (
-    codes "pass " ∷ decimal number ∷ codes " of " ∷ decimal (pass_count strip) ∷ codes ": temperature " ∷ decimal (temperature_at strip (number - 1))
+-- the line of a pass, of so many, at a temperature
+abbrev pub pass_line : ℕ → ℕ → ℕ → ℕ → List ℕ
+pass_line number count temperature cost = concat (
+    codes "pass " ∷ decimal number ∷ codes " of " ∷ decimal count ∷ codes ": temperature " ∷ decimal temperature
     ∷ codes ", cost " ∷ decimal cost ∷ codes "\n" ∷ [])
 
 -- the line of an iteration that ends so
@@ -42,35 +43,51 @@ abbrev pub iteration_line : ℕ → List ℕ → List ℕ
 iteration_line number end = concat (codes "iteration " ∷ decimal number ∷ codes " of 30: " ∷ end ∷ codes "\n" ∷ [])
 
 -- the line of an iteration after which so many nodes are overused, and that one most
-abbrev pub overuse_line : ℕ → ℕ → Option Node → List ℕ
-overuse_line number nodes None = iteration_line number (codes "no node overused")
-overuse_line number nodes (Some most) = concat (
+abbrev pub most_line : ℕ → ℕ → Node → List ℕ
+most_line number nodes most = concat (
     codes "iteration " ∷ decimal number ∷ codes " of 30: " ∷ decimal nodes ∷ codes " nodes overused, most at " ∷ kind_word most.kind
     ∷ codes " (" ∷ decimal most.x ∷ codes "," ∷ decimal most.y ∷ codes ")\n" ∷ [])
+
+abbrev pub overuse_line : ℕ → ℕ → Option Node → List ℕ
+overuse_line number nodes None = iteration_line number (codes "no node overused")
+overuse_line number nodes (Some most) = most_line number nodes most
 
 -- the line of the step of that number, on a strip; a circuit has fewer tables and latches than a number can tell
 abbrev pub step_line : Strip → ℕ → Progress → List ℕ
 step_line strip number (Packing tables latches) = cluster_line number (min (tables + latches) (2 ^ 64 - 1))
 step_line strip number (Packed clusters pads nets) = packed_line clusters pads nets
-step_line strip number (Placing cost) = pass_line strip number cost
+step_line strip number (Placing cost) = pass_line number (pass_count strip) (temperature_at strip (number - 1)) cost
 step_line strip number (Routing overuse) = overuse_line number overuse.nodes overuse.most
 step_line strip number Routed = iteration_line number (codes "no node overused")
-step_line strip number GaveUp = iteration_line number (codes "nodes overused, given up")
+step_line strip number GaveUp = iteration_line number (codes "given up")
 step_line strip number NoPath = iteration_line number (codes "a net has no path")
 
+-- the word for a channel
+abbrev pub channel_word : Direction → List ℕ
+channel_word Across = codes "CHANX"
+channel_word Up = codes "CHANY"
+
 -- the line of the fullest channel, which has so many tracks
-abbrev pub fullest_line : ℕ → Option ChannelUse → List ℕ
-fullest_line tracks (Some channel) = concat (
+abbrev pub channel_line : ℕ → ChannelUse → List ℕ
+channel_line tracks channel = concat (
     codes "fullest channel " ∷ channel_word channel.direction ∷ codes " (" ∷ decimal channel.x ∷ codes "," ∷ decimal channel.y ∷ codes ") "
     ∷ decimal channel.wires ∷ codes "/" ∷ decimal tracks ∷ codes "\n" ∷ [])
-fullest_line tracks None = concat (codes "fullest channel none\n" ∷ [])
 
--- the lines of all figures
-abbrev pub figures_text : Figures → List ℕ
-figures_text figures =
-    concat (
+abbrev pub none_line : List ℕ
+none_line = concat (codes "fullest channel none\n" ∷ [])
+
+abbrev pub fullest_line : ℕ → Option ChannelUse → List ℕ
+fullest_line tracks (Some channel) = channel_line tracks channel
+fullest_line tracks None = none_line
+
+-- the lines of all other figures
+abbrev pub counts_text : Figures → List ℕ
+counts_text figures = concat (
     codes "logic blocks " ∷ decimal figures.blocks.used ∷ codes "/" ∷ decimal figures.blocks.there
     ∷ codes "\npads " ∷ decimal figures.pads.used ∷ codes "/" ∷ decimal figures.pads.there
     ∷ codes "\nnets " ∷ decimal figures.nets ∷ codes "\nwire length " ∷ decimal figures.wires.used ∷ codes "/" ∷ decimal figures.wires.there
     ∷ codes "\niterations " ∷ decimal figures.iterations ∷ codes "\n" ∷ [])
-    ++ fullest_line figures.tracks figures.fullest
+
+-- the lines of the figures
+abbrev pub figures_text : Figures → List ℕ
+figures_text figures = counts_text figures ++ fullest_line figures.tracks figures.fullest

@@ -129,4 +129,4 @@ pub record Finishes (kind : JobKind) (old : SlotState) (made : StepMade) (new : 
   pub told : IsTold (sources_of old.state kind) made.number made.progress
   pub last : is_last (sources_of old.state kind) made.number ≡ true
   pub count : made.number ≡ step_count (sources_of old.state kind)
-  pub new : new ≡ slot_in old.id (record (finished old.state kind) { entries = old.state.entries + made.number })
+  pub after : new ≡ slot_in old.id (record (finished old.state kind) { entries = old.state.entries + made.number })

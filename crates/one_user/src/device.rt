@@ -11,7 +11,7 @@ use crate::stages::upload;
 use arch_file::{Arch, SharedArch};
 use grid::Strip;
 use line_text::Sink;
-use std::alloc::{AllocError, AllocFailed, Global};
+use std::alloc::{AllocError, Global};
 use std::marker::Model;
 use strips::{DeviceGraph, Window};
 use tenant_slot::{SharedText, Slot};
@@ -59,16 +59,27 @@ impl OwnDevice {
             rows,
             io_rat: arch.io_rat,
         };
-        let graph = DeviceGraph::new(alloc, &arch, columns, rows);
-        let shared = SharedArch::new(alloc, arch);
-        joined(alloc, shared, strip, graph)
+        let graph = DeviceGraph::new(alloc, &arch, columns, rows)?;
+        match SharedArch::new(alloc, arch) {
+            Ok(arch) => Ok(OwnDevice {
+                alloc,
+                arch,
+                strip,
+                graph,
+            }),
+            Err(failed) => {
+                drop(failed);
+                drop(graph);
+                Err(AllocError)
+            }
+        }
     }
 
     /// Has a netlist packed, placed and routed, and tells a line a step. A line that can't be told is left out, and changes nothing.
     pub fn run<W: Sink>(&self, request: Request<'_>, teller: &mut W) -> Result<Run, AllocError>
         requires { request.effort ≤ 100 }
-        ensures outcome { IfOk result (λ run. run.outcome ≡ outcome_of (task_on self.now request.netlist.now request.seed request.effort)) }
-        ensures figures { IfOk result (λ run. IfSome run.figures (HasFigures (task_on self.now request.netlist.now request.seed request.effort))) }
+        ensures outcome { IfOk result (λ run. run.outcome ≡ outcome_of (task_on self.now request.entry.netlist.now request.entry.seed request.entry.effort)) }
+        ensures figures { IfOk result (λ run. IfSome run.figures (HasFigures (task_on self.now request.entry.netlist.now request.entry.seed request.entry.effort))) }
     {
         let Some(window) = Window::new(&self.graph, 0, self.strip) else {
             unreachable!()
@@ -78,27 +89,5 @@ impl OwnDevice {
         let run = upload(&mut slot, &window, request, teller);
         drop(slot);
         run
-    }
-}
-
-/// The device of these parts, where memory sufficed for both.
-fn joined(
-    alloc: Global,
-    arch: Result<SharedArch, AllocFailed<Arch>>,
-    strip: Strip,
-    graph: Result<DeviceGraph, AllocError>,
-) -> Result<OwnDevice, AllocError>
-    requires size { IsStripSize strip }
-    requires graph { IfOk arch (λ arch. IfOk graph (λ graph. graph ≡ record { arch = arch; strip = strip })) }
-    ensures { IfOk result (λ device. IfOk arch (λ arch. device ≡ record { arch = arch; strip = strip })) }
-{
-    match (arch, graph) {
-        (Ok(arch), Ok(graph)) => Ok(OwnDevice {
-            alloc,
-            arch,
-            strip,
-            graph,
-        }),
-        _ => Err(AllocError),
     }
 }

@@ -1,7 +1,7 @@
 //! What a routed circuit uses of its device.
-ghost use Rattle.std.specs.Prelude.{◌≡◌, ◌*◌, count_by};
+ghost use Rattle.std.specs.Prelude.{◌≡◌, ◌≤◌};
 ghost use Rattle.one_user.specs.Counts.{HasCounts, IsWhole};
-ghost use Rattle.one_user.specs.Figures.{is_channel_wire, wires_there};
+ghost use Rattle.one_user.specs.Figures.{is_channel_wire, product, wires_in, wires_there};
 
 use device_report::{ChannelUse, Direction, Share};
 use job_state::Progress;
@@ -60,36 +60,56 @@ pub(crate) fn figures_of(
     held: &[Resource],
     iterations: u32,
 ) -> Figures
-    ensures blocks { result.blocks ≡ record { used = packed.clusters; there = window.now.strip.width * window.now.strip.rows } }
-    ensures pads { result.pads ≡ record { used = packed.pads; there = window.now.strip.width * 2 * window.now.strip.io_rat } }
+    ensures blocks { result.blocks ≡ record { used = packed.clusters; there = product window.now.strip.width window.now.strip.rows 1 } }
+    ensures pads { result.pads ≡ record { used = packed.pads; there = product window.now.strip.width 2 window.now.strip.io_rat } }
     ensures nets { result.nets ≡ packed.nets }
-    ensures wires { result.wires ≡ record { used = count_by (λ one. is_channel_wire one.kind) held.now; there = wires_there window.now } }
+    ensures wires { result.wires ≡ record { used = wires_in held.now; there = wires_there window.now } }
     ensures tracks { result.tracks ≡ window.now.arch.tracks }
     ensures iterations { result.iterations ≡ iterations }
 {
     let _count = window.count();
     let strip = window.strip();
     let tracks = window.arch().tracks;
-    let across = strip.width * (strip.rows + 1) * tracks;
-    let up = (strip.width + 1) * strip.rows * tracks;
     Figures {
         blocks: Share {
             used: packed.clusters,
-            there: strip.width * strip.rows,
+            there: product(strip.width, strip.rows, 1),
         },
         pads: Share {
             used: packed.pads,
-            there: strip.width * 2 * strip.io_rat,
+            there: product(strip.width, 2, strip.io_rat),
         },
         nets: packed.nets,
         wires: Share {
-            used: held.iter().filter(|one| is_wire(one.kind)).count(),
-            there: across + up,
+            used: wires_in(held),
+            there: product(strip.width, strip.rows + 1, tracks)
+                + product(strip.width + 1, strip.rows, tracks),
         },
         fullest: fullest(held),
         tracks,
         iterations,
     }
+}
+
+/// The product of three.
+#[tactic(auto, unfolding(crate::specs::Figures::product))]
+fn product(a: u32, b: u32, c: u32) -> u32
+    requires a { a ≤ 257 }
+    requires b { b ≤ 65 }
+    requires c { c ≤ 64 }
+    ensures value { result ≡ product a b c }
+    ensures small { result ≤ 1069120 }
+{
+    let ab = a * b;
+    prove!(ab <= 16_705);
+    ab * c
+}
+
+/// How many of these are wires of channels.
+fn wires_in(held: &[Resource]) -> usize
+    ensures { result ≡ wires_in held.now }
+{
+    held.iter().filter(|one| is_wire(one.kind)).count()
 }
 
 /// Whether it is a wire of a channel.

@@ -46,8 +46,8 @@ pub fn least_tracks<W: Sink>(
     requires columns { IsWithin 1 plan.columns 256 }
     requires rows { IsWithin 1 plan.rows 64 }
     requires effort { request.effort ≤ 100 }
-    ensures least { IfOk result (IsLeast plan request) }
-    ensures fault { IfErr result (λ error. (tracks : ℕ) × Fails (fault_of (arch_of plan.text.now tracks)) error) }
+    ensures least { IfOk result (IsLeast plan.entry request.entry) }
+    ensures fault { IfErr result (λ error. (tracks : ℕ) × Fails (fault_of (arch_of plan.entry.text.now tracks)) error) }
 {
     for tracks in 1..MAX_TRACKS + 1 {
         let _told = tell_tracks(teller, tracks);
@@ -85,9 +85,9 @@ pub fn run_with<W: Sink>(
     requires rows { IsWithin 1 plan.rows 64 }
     requires tracks { IsWithin 1 tracks 64 }
     requires effort { request.effort ≤ 100 }
-    ensures outcome { IfOk result (λ run. ComesTo plan request tracks run.outcome) }
-    ensures figures { IfOk result (λ run. IfSome run.figures (HasFiguresWith plan request tracks)) }
-    ensures fault { IfErr result (Fails (fault_of (arch_of plan.text.now tracks))) }
+    ensures outcome { IfOk result (λ run. ComesTo plan.entry request.entry tracks run.outcome) }
+    ensures figures { IfOk result (λ run. IfSome run.figures (HasFiguresWith plan.entry request.entry tracks)) }
+    ensures fault { IfErr result (Fails (fault_of (arch_of plan.entry.text.now tracks))) }
 {
     let arch = read_arch(alloc, plan.text, tracks)?;
     let device = OwnDevice::new(alloc, arch, plan.columns, plan.rows)?;

@@ -31,13 +31,15 @@ pub(crate) fn upload<W: Sink>(
     requires slot { slot.old ≡ slot_in slot.old.id (start slot.old.state.arch slot.old.state.strip) }
     requires window { window.now ≡ device_of slot.old.state }
     requires effort { request.effort ≤ 100 }
-    ensures outcome { IfOk result (λ run. run.outcome ≡ outcome_of (task_on window.now request.netlist.now request.seed request.effort)) }
-    ensures figures { IfOk result (λ run. IfSome run.figures (HasFigures (task_on window.now request.netlist.now request.seed request.effort))) }
+    ensures outcome { IfOk result (λ run. run.outcome ≡ outcome_of (task_on window.now request.entry.netlist.now request.entry.seed request.entry.effort)) }
+    ensures figures { IfOk result (λ run. IfSome run.figures (HasFigures (task_on window.now request.entry.netlist.now request.entry.seed request.entry.effort))) }
 {
-    match ask(slot, Command::Upload(request.netlist.clone()?))? {
-        Some(refusal) => Ok(refused(refusal)),
-        None => pack(slot, window, request, teller),
+    let netlist = request.netlist.clone()?;
+    match ask(slot, Command::Upload(netlist))? {
+        Some(refusal) => return Ok(refused(refusal)),
+        None => {}
     }
+    pack(slot, window, request, teller)
 }
 
 /// Has the netlist packed, and then placed.
@@ -51,11 +53,12 @@ fn pack<W: Sink>(
     requires window { window.now ≡ device_of slot.old.state }
     requires effort { request.effort ≤ 100 }
     requires loaded { IsLoaded (task_in slot.old.state request.seed request.effort) }
-    ensures outcome { IfOk result (λ run. run.outcome ≡ outcome_of (task_in slot.old.state request.seed request.effort)) }
-    ensures figures { IfOk result (λ run. IfSome run.figures (HasFigures (task_in slot.old.state request.seed request.effort))) }
+    ensures outcome { IfOk result (λ run. run.outcome ≡ outcome_of (task_in slot.old.state request.entry.seed request.entry.effort)) }
+    ensures figures { IfOk result (λ run. IfSome run.figures (HasFigures (task_in slot.old.state request.entry.seed request.entry.effort))) }
 {
-    if let Some(refusal) = ask(slot, Command::Pack)? {
-        return Ok(refused(refusal));
+    match ask(slot, Command::Pack)? {
+        Some(refusal) => return Ok(refused(refusal)),
+        None => {}
     }
     let last = make_steps(slot, window, teller)?;
     place(slot, window, request, packed_counts(last.progress), teller)
@@ -74,15 +77,16 @@ fn place<W: Sink>(
     requires effort { request.effort ≤ 100 }
     requires packed { IsPacked (task_in slot.old.state request.seed request.effort) }
     requires counts { AreCounts (task_in slot.old.state request.seed request.effort) packed }
-    ensures outcome { IfOk result (λ run. run.outcome ≡ outcome_of (task_in slot.old.state request.seed request.effort)) }
-    ensures figures { IfOk result (λ run. IfSome run.figures (HasFigures (task_in slot.old.state request.seed request.effort))) }
+    ensures outcome { IfOk result (λ run. run.outcome ≡ outcome_of (task_in slot.old.state request.entry.seed request.entry.effort)) }
+    ensures figures { IfOk result (λ run. IfSome run.figures (HasFigures (task_in slot.old.state request.entry.seed request.entry.effort))) }
 {
     let command = Command::Place {
         seed: request.seed,
         effort: request.effort,
     };
-    if let Some(refusal) = ask(slot, command)? {
-        return Ok(refused(refusal));
+    match ask(slot, command)? {
+        Some(refusal) => return Ok(refused(refusal)),
+        None => {}
     }
     let _last = make_steps(slot, window, teller)?;
     route(slot, window, packed, teller)
@@ -102,21 +106,24 @@ fn route<W: Sink>(
     ensures outcome { IfOk result (λ run. run.outcome ≡ outcome_of (task_in slot.old.state slot.old.state.seed slot.old.state.effort)) }
     ensures figures { IfOk result (λ run. IfSome run.figures (HasFigures (task_in slot.old.state slot.old.state.seed slot.old.state.effort))) }
 {
-    if let Some(refusal) = ask(slot, Command::Route)? {
-        return Ok(refused(refusal));
+    match ask(slot, Command::Route)? {
+        Some(refusal) => return Ok(refused(refusal)),
+        None => {}
     }
     let last = make_steps(slot, window, teller)?;
-    if slot.state() == StateName::Routed {
-        let figures = figures_of(window, packed, slot.routed(), last.number);
-        return Ok(Run {
-            outcome: Outcome::Routed(files_of(slot)?),
-            figures: Some(figures),
-        });
+    match slot.state() {
+        StateName::Routed => {
+            let figures = figures_of(window, packed, slot.routed(), last.number);
+            Ok(Run {
+                outcome: Outcome::Routed(files_of(slot)?),
+                figures: Some(figures),
+            })
+        }
+        _ => Ok(Run {
+            outcome: Outcome::Unrouted(ending_of(slot)?),
+            figures: None,
+        }),
     }
-    Ok(Run {
-        outcome: Outcome::Unrouted(ending_of(slot)?),
-        figures: None,
-    })
 }
 
 /// A netlist that is refused.

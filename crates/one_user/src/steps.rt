@@ -39,8 +39,9 @@ pub(crate) fn make_steps<W: Sink>(
     for _step in 0..MAX_STEPS + 1 {
         let made = make_step(slot, window)?;
         let _told = tell_step(teller, window, made);
-        if made.reply == StepReply::Finished {
-            return Ok(made);
+        match made.reply {
+            StepReply::Finished => return Ok(made),
+            _ => {}
         }
     }
     unreachable!()

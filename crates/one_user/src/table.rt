@@ -1,6 +1,7 @@
 //! The figures as a text.
+ghost use Rattle.std.specs.Prelude.{◌≡◌};
 ghost use Rattle.line_text.specs.Writing.{Writes};
-ghost use Rattle.one_user.specs.Lines.{figures_text, fullest_line};
+ghost use Rattle.one_user.specs.Lines.{channel_line, channel_word, counts_text, figures_text, fullest_line, none_line};
 
 use crate::figures::Figures;
 use device_report::{ChannelUse, Direction};
@@ -10,6 +11,14 @@ use text_parts::{Part, write_parts};
 /// Writes a line for each figure. Where the sink fails, it has taken a beginning of them.
 pub fn write_figures<W: Sink>(sink: &mut W, figures: &Figures) -> Result<(), Failed>
     ensures { Writes W.contents W.has_failed sink.old sink.new (figures_text figures.now) result }
+{
+    write_counts(sink, figures)?;
+    write_fullest(sink, figures.fullest, figures.tracks)
+}
+
+/// Writes the lines of all but the fullest channel.
+fn write_counts<W: Sink>(sink: &mut W, figures: &Figures) -> Result<(), Failed>
+    ensures { Writes W.contents W.has_failed sink.old sink.new (counts_text figures.now) result }
 {
     write_parts(
         sink,
@@ -32,8 +41,7 @@ pub fn write_figures<W: Sink>(sink: &mut W, figures: &Figures) -> Result<(), Fai
             Part::Number(figures.iterations),
             Part::Text("\n"),
         ],
-    )?;
-    write_fullest(sink, figures.fullest, figures.tracks)
+    )
 }
 
 /// Writes the line of the fullest channel, which has so many tracks.
@@ -45,24 +53,38 @@ fn write_fullest<W: Sink>(
     ensures { Writes W.contents W.has_failed sink.old sink.new (fullest_line tracks fullest) result }
 {
     match fullest {
-        Some(channel) => write_parts(
-            sink,
-            &[
-                Part::Text("fullest channel "),
-                Part::Text(channel_word(channel.direction)),
-                Part::Text(" ("),
-                Part::Number(channel.x),
-                Part::Text(","),
-                Part::Number(channel.y),
-                Part::Text(") "),
-                Part::Long(channel.wires as u64),
-                Part::Text("/"),
-                Part::Number(tracks),
-                Part::Text("\n"),
-            ],
-        ),
-        None => write_parts(sink, &[Part::Text("fullest channel none\n")]),
+        Some(channel) => write_channel(sink, channel, tracks),
+        None => write_none(sink),
     }
+}
+
+/// Writes the line of that channel.
+fn write_channel<W: Sink>(sink: &mut W, channel: ChannelUse, tracks: u32) -> Result<(), Failed>
+    ensures { Writes W.contents W.has_failed sink.old sink.new (channel_line tracks channel) result }
+{
+    write_parts(
+        sink,
+        &[
+            Part::Text("fullest channel "),
+            Part::Text(channel_word(channel.direction)),
+            Part::Text(" ("),
+            Part::Number(channel.x),
+            Part::Text(","),
+            Part::Number(channel.y),
+            Part::Text(") "),
+            Part::Long(channel.wires as u64),
+            Part::Text("/"),
+            Part::Number(tracks),
+            Part::Text("\n"),
+        ],
+    )
+}
+
+/// Writes that there is none.
+fn write_none<W: Sink>(sink: &mut W) -> Result<(), Failed>
+    ensures { Writes W.contents W.has_failed sink.old sink.new none_line result }
+{
+    write_parts(sink, &[Part::Text("fullest channel none\n")])
 }
 
 /// The word for a channel.

@@ -1,7 +1,9 @@
 //! A line for each step.
-ghost use Rattle.std.specs.Prelude.{◌≡◌};
+ghost use Rattle.std.specs.Prelude.{◌≡◌, ◌-◌};
+ghost use Rattle.job_state.specs.JobValue.{pass_count};
 ghost use Rattle.line_text.specs.Writing.{Writes};
-ghost use Rattle.one_user.specs.Lines.{cluster_line, iteration_line, kind_word, overuse_line, packed_line, pass_line, step_line};
+ghost use Rattle.strip_place.specs.Anneal.{temperature_at};
+ghost use Rattle.one_user.specs.Lines.{cluster_line, iteration_line, kind_word, most_line, overuse_line, packed_line, pass_line, step_line};
 
 use crate::passes::{pass_count, temperature_after};
 use crate::steps::StepMade;
@@ -32,7 +34,7 @@ pub(crate) fn tell_step<W: Sink>(
         Progress::Placing { cost } => tell_pass(sink, window, made.number, cost),
         Progress::Routing(overuse) => tell_overuse(sink, made.number, overuse),
         Progress::Routed => tell_iteration(sink, made.number, "no node overused"),
-        Progress::GaveUp => tell_iteration(sink, made.number, "nodes overused, given up"),
+        Progress::GaveUp => tell_iteration(sink, made.number, "given up"),
         Progress::NoPath => tell_iteration(sink, made.number, "a net has no path"),
     }
 }
@@ -76,26 +78,41 @@ fn tell_packed<W: Sink>(
     )
 }
 
-/// Writes the line of a pass.
+/// Writes the line of a pass on that strip.
 fn tell_pass<W: Sink>(
     sink: &mut W,
     window: &Window<'_>,
     number: u32,
     cost: u64,
 ) -> Result<(), Failed>
-    ensures { Writes W.contents W.has_failed sink.old sink.new (pass_line window.now.strip number cost) result }
+    ensures { Writes W.contents W.has_failed sink.old sink.new (pass_line number (pass_count window.now.strip) (temperature_at window.now.strip (number - 1)) cost) result }
 {
     let _count = window.count();
     let strip = window.strip();
+    let passes = pass_count(strip);
+    let temperature = temperature_after(strip, number.saturating_sub(1));
+    tell_pass_of(sink, number, passes, temperature, cost)
+}
+
+/// Writes the line of a pass, of so many, at a temperature.
+fn tell_pass_of<W: Sink>(
+    sink: &mut W,
+    number: u32,
+    passes: u32,
+    temperature: u32,
+    cost: u64,
+) -> Result<(), Failed>
+    ensures { Writes W.contents W.has_failed sink.old sink.new (pass_line number passes temperature cost) result }
+{
     write_parts(
         sink,
         &[
             Part::Text("pass "),
             Part::Number(number),
             Part::Text(" of "),
-            Part::Number(pass_count(strip)),
+            Part::Number(passes),
             Part::Text(": temperature "),
-            Part::Number(temperature_after(strip, number.saturating_sub(1))),
+            Part::Number(temperature),
             Part::Text(", cost "),
             Part::Long(cost),
             Part::Text("\n"),
@@ -123,16 +140,23 @@ fn tell_iteration<W: Sink>(sink: &mut W, number: u32, end: &str) -> Result<(), F
 fn tell_overuse<W: Sink>(sink: &mut W, number: u32, overuse: Overuse) -> Result<(), Failed>
     ensures { Writes W.contents W.has_failed sink.old sink.new (overuse_line number overuse.nodes overuse.most) result }
 {
-    let Some(most) = overuse.most else {
-        return tell_iteration(sink, number, "no node overused");
-    };
+    match overuse.most {
+        Some(most) => tell_most(sink, number, overuse.nodes, most),
+        None => tell_iteration(sink, number, "no node overused"),
+    }
+}
+
+/// Writes the line of an iteration after which so many nodes are overused, and that one most.
+fn tell_most<W: Sink>(sink: &mut W, number: u32, nodes: usize, most: Node) -> Result<(), Failed>
+    ensures { Writes W.contents W.has_failed sink.old sink.new (most_line number nodes most) result }
+{
     write_parts(
         sink,
         &[
             Part::Text("iteration "),
             Part::Number(number),
             Part::Text(" of 30: "),
-            Part::Long(overuse.nodes as u64),
+            Part::Long(nodes as u64),
             Part::Text(" nodes overused, most at "),
             Part::Text(kind_word(most.kind)),
             Part::Text(" ("),

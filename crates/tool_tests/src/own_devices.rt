@@ -180,7 +180,7 @@ fn least_numbers_of_tracks(rt: HostRuntime) {
     drop(run);
     let is_told = steps
         .as_bytes()
-        .ends_with(b"iteration 30 of 30: nodes overused, given up\n");
+        .ends_with(b"iteration 30 of 30: given up\n");
     drop(steps);
     assert!(rt; is_unrouted && is_told);
     assert!(rt; least(alloc, AND) == Some(2) && least(alloc, UNDRIVEN) == Some(0));

@@ -4,6 +4,6 @@ use Rattle.one_user.proofs.passes.temperature_after.Given as goal
 
 abbrev pub invariant-loop-pass : goal.invariant-loop-pass
 invariant-loop-pass l = record {
-  is : l.temperature ≡ temperature_at l.strip l._pass-index;
+  is : l.temperature ≡ temperature_at l.fn.strip l._pass;
   low : l.temperature ≤ 320;
 }

@@ -5,6 +5,6 @@ use Rattle.one_user.proofs.steps.make_steps.Given as goal
 
 abbrev pub invariant-loop-step : goal.invariant-loop-step
 invariant-loop-step g l = record {
-  is : l.slot ≡ slot_in l.fn.slot.id (state_after l.fn.slot.state l._step-index);
-  few : l._step-index ≤ 8192;
+  is : l.slot ≡ slot_in l.fn.slot.id (state_after l.fn.slot.state l._step);
+  few : l._step ≤ 8192;
 }

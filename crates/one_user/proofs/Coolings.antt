@@ -1,5 +1,6 @@
 -- How many passes a placing makes.
-use Rattle.std.proofs.Common.{ℕ, ◌≡◌, ◌≢◌, ◌+◌, ◌*◌, ◌/◌, ◌<◌, ◌≤◌, zero, suc, true, false, arith, refl, sym, subst, ap, ◌∙◌}
+use Rattle.std.proofs.Common.{ℕ, ◌≡◌, ◌≢◌, ◌+◌, ◌*◌, ◌/◌, ◌<◌, ◌≤◌, zero, suc, true, false, arith, ◌⊎◌, inl, inr, refl, sym, subst, ap, ◌∙◌}
+use Rattle.std.proofs.Math.Nat.{eq-or-lt_of_le}
 use Rattle.std.specs.Prelude.{◌==◌}
 use Rattle.std.proofs.lemmas.Bool.Decides.{nat_tests}
 use Rattle.grid.specs.declared.Strip.{Strip}
@@ -25,3 +26,14 @@ passes_are strip passes few cold warm =
     let next : suc passes ≡ passes + 1 = omega arith in
     let at : is_past_last strip (suc passes) ≡ true = ap (λ t. t == 0) cold in
     sym (pass_count_is strip (passes + 1) (omega (arith, few)) (not_past strip passes warm) (subst (λ n. is_past_last strip n ≡ true) next at))
+
+-- one pass more that isn't at temperature 0
+pub still_warm : (strip : Strip) (passes : ℕ) → ((before : ℕ) → before < passes → 0 < temperature_at strip before) → 0 < temperature_at strip passes → (before : ℕ) → before < passes + 1 → 0 < temperature_at strip before
+still_warm strip passes warm here before l = by (eq-or-lt_of_le (next before l))
+  where
+    next : (before : ℕ) → before < passes + 1 → before ≤ passes
+    next before l = omega (arith, l)
+
+    by : (before ≡ passes) ⊎ (before < passes) → 0 < temperature_at strip before
+    by (inl e) = subst (λ n. 0 < temperature_at strip n) (sym e) here
+    by (inr less) = warm before less

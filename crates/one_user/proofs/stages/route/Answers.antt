@@ -1,0 +1,145 @@
+use Rattle.std.proofs.Common.{◌≡◌, ◌+◌, None, ap, sym, subst, ◌∙◌, arith, refl}
+use Rattle.std.specs.Prelude.{length}
+use Rattle.cluster.specs.Clusters.{packed_of}
+use Rattle.job_state.specs.JobValue.{end_value}
+use Rattle.rr_graph.specs.Graph.{Basis}
+use Rattle.rr_graph.specs.Resources.{has}
+use Rattle.device_report.specs.declared.tenancies.Share.{Share}
+use Rattle.tenant_slot.specs.Results.{failure_of}
+use Rattle.tenant_slot.specs.SingleUser.{answer_to}
+use Rattle.tenant_slot.specs.Slot.{SlotState}
+use Rattle.tenant_slot.specs.declared.command.Command.TheVariants.{Status}
+use Rattle.tenant_slot.specs.declared.event.Event.TheVariants.{Command as Asked}
+use Rattle.one_user.specs.Figures.{product, wires_there}
+use Rattle.one_user.specs.Outcomes.{routing_of}
+use Rattle.one_user.specs.Service.{HasRouted}
+use Rattle.one_user.specs.Steps.{ending_in, task_in}
+use Rattle.one_user.proofs.Courses.{route_leads, routing_done}
+use Rattle.one_user.proofs.Routings.{ending_is, has_routed, none_failed, routed_files, routed_held, routed_loaded, same_ending, share_of, some_ending}
+use Rattle.one_user.proofs.stages.route.Goals as goal
+
+pub files_of-requires-clause-room : goal.files_of-requires-clause-room
+files_of-requires-clause-room g c =
+    let old = c.args.slot.now in
+    let task = task_in old.state old.state.seed old.state.effort in
+    let placed = c.requires.placed in
+    let new = c.make_steps.new.slot in
+    let went = route_leads task old c.requires.slot c.ask.new.slot c.in_ok-refusal.field-0 c.in_ok-refusal.ensures.reply c.in_ok-refusal.ensures.slot in
+    let done = routing_done task placed (old.state.generation + 1) (old.state.entries + 1) c.ask.new.slot.id c.ask.new.slot new c.in_ok-last.last went.1 c.in_ok-last.ensures in
+    let failure = failure_of (end_value (routing_of task)) in
+    let count = old.state.entries + 1 + c.in_ok-last.last.number in
+    omega (arith, ap (λ (s : SlotState). s.state.entries) done.0, c.requires.slot.few, done.2)
+
+pub files_of-requires-clause-loaded : goal.files_of-requires-clause-loaded
+files_of-requires-clause-loaded g c =
+    let old = c.args.slot.now in
+    let task = task_in old.state old.state.seed old.state.effort in
+    let placed = c.requires.placed in
+    let new = c.make_steps.new.slot in
+    let went = route_leads task old c.requires.slot c.ask.new.slot c.in_ok-refusal.field-0 c.in_ok-refusal.ensures.reply c.in_ok-refusal.ensures.slot in
+    let done = routing_done task placed (old.state.generation + 1) (old.state.entries + 1) c.ask.new.slot.id c.ask.new.slot new c.in_ok-last.last went.1 c.in_ok-last.ensures in
+    let failure = failure_of (end_value (routing_of task)) in
+    let count = old.state.entries + 1 + c.in_ok-last.last.number in
+    let none : failure ≡ None = none_failed task placed (old.state.generation + 1) (old.state.entries + 1) count failure (sym (ap (λ (s : SlotState). s.state.name) done.0) ∙ (sym c.state.ensures ∙ c.in-Routed.is)) in
+    let routed : HasRouted task new.state = subst (λ (s : SlotState). HasRouted task s.state) (sym done.0) (has_routed task placed (old.state.generation + 1) (old.state.entries + 1) count failure none) in
+    routed_loaded task placed new.state routed
+
+pub files_of-requires-clause-kept : goal.files_of-requires-clause-kept
+files_of-requires-clause-kept g c =
+    let old = c.args.slot.now in
+    let task = task_in old.state old.state.seed old.state.effort in
+    let placed = c.requires.placed in
+    let new = c.make_steps.new.slot in
+    let went = route_leads task old c.requires.slot c.ask.new.slot c.in_ok-refusal.field-0 c.in_ok-refusal.ensures.reply c.in_ok-refusal.ensures.slot in
+    let done = routing_done task placed (old.state.generation + 1) (old.state.entries + 1) c.ask.new.slot.id c.ask.new.slot new c.in_ok-last.last went.1 c.in_ok-last.ensures in
+    let failure = failure_of (end_value (routing_of task)) in
+    let count = old.state.entries + 1 + c.in_ok-last.last.number in
+    let none : failure ≡ None = none_failed task placed (old.state.generation + 1) (old.state.entries + 1) count failure (sym (ap (λ (s : SlotState). s.state.name) done.0) ∙ (sym c.state.ensures ∙ c.in-Routed.is)) in
+    let routed : HasRouted task new.state = subst (λ (s : SlotState). HasRouted task s.state) (sym done.0) (has_routed task placed (old.state.generation + 1) (old.state.entries + 1) count failure none) in
+    routed.kept
+
+pub returns-in_ok-files_of-in-Routed-clause-outcome : goal.returns-in_ok-files_of-in-Routed-clause-outcome
+returns-in_ok-files_of-in-Routed-clause-outcome g c =
+    let old = c.args.slot.now in
+    let task = task_in old.state old.state.seed old.state.effort in
+    let placed = c.requires.placed in
+    let new = c.make_steps.new.slot in
+    let went = route_leads task old c.requires.slot c.ask.new.slot c.in_ok-refusal.field-0 c.in_ok-refusal.ensures.reply c.in_ok-refusal.ensures.slot in
+    let done = routing_done task placed (old.state.generation + 1) (old.state.entries + 1) c.ask.new.slot.id c.ask.new.slot new c.in_ok-last.last went.1 c.in_ok-last.ensures in
+    let failure = failure_of (end_value (routing_of task)) in
+    let count = old.state.entries + 1 + c.in_ok-last.last.number in
+    let none : failure ≡ None = none_failed task placed (old.state.generation + 1) (old.state.entries + 1) count failure (sym (ap (λ (s : SlotState). s.state.name) done.0) ∙ (sym c.state.ensures ∙ c.in-Routed.is)) in
+    let routed : HasRouted task new.state = subst (λ (s : SlotState). HasRouted task s.state) (sym done.0) (has_routed task placed (old.state.generation + 1) (old.state.entries + 1) count failure none) in
+    routed_files task placed new.state c.in_ok-files_of-in-Routed.field-0 routed none c.in_ok-files_of-in-Routed.ensures
+
+pub returns-in_ok-files_of-in-Routed-clause-figures : goal.returns-in_ok-files_of-in-Routed-clause-figures
+returns-in_ok-files_of-in-Routed-clause-figures g c =
+    let old = c.args.slot.now in
+    let task = task_in old.state old.state.seed old.state.effort in
+    let placed = c.requires.placed in
+    let new = c.make_steps.new.slot in
+    let went = route_leads task old c.requires.slot c.ask.new.slot c.in_ok-refusal.field-0 c.in_ok-refusal.ensures.reply c.in_ok-refusal.ensures.slot in
+    let done = routing_done task placed (old.state.generation + 1) (old.state.entries + 1) c.ask.new.slot.id c.ask.new.slot new c.in_ok-last.last went.1 c.in_ok-last.ensures in
+    let failure = failure_of (end_value (routing_of task)) in
+    let count = old.state.entries + 1 + c.in_ok-last.last.number in
+    let none : failure ≡ None = none_failed task placed (old.state.generation + 1) (old.state.entries + 1) count failure (sym (ap (λ (s : SlotState). s.state.name) done.0) ∙ (sym c.state.ensures ∙ c.in-Routed.is)) in
+    let routed : HasRouted task new.state = subst (λ (s : SlotState). HasRouted task s.state) (sym done.0) (has_routed task placed (old.state.generation + 1) (old.state.entries + 1) count failure none) in
+    let counts = c.requires.counts in
+    let figures = c.figures_of-figures.ensures in
+    let device = c.requires.window in (
+      counts.0,
+      counts.1,
+      record {
+        blocks = share_of c.args.packed.clusters (length (packed_of counts.0 task.arch).clusters) (product c.args.window.now.strip.width c.args.window.now.strip.rows 1) (product task.strip.width task.strip.rows 1)
+            c.figures_of-figures.result.blocks figures.blocks counts.2 (ap (λ (b : Basis). product b.strip.width b.strip.rows 1) device);
+        pads = share_of c.args.packed.pads (length counts.0.inputs + length counts.0.outputs) (product c.args.window.now.strip.width 2 c.args.window.now.strip.io_rat) (product task.strip.width 2 task.strip.io_rat)
+            c.figures_of-figures.result.pads figures.pads counts.3 (ap (λ (b : Basis). product b.strip.width 2 b.strip.io_rat) device);
+        nets = figures.nets ∙ counts.4;
+        held = c.routed.result.now;
+        is_held = record { order = c.routed.ensures.order; exact = λ r. c.routed.ensures.exact r ∙ ap (λ held. has held r) (routed_held task new.state routed) };
+        wires_used = ap (λ (s : Share). s.used) figures.wires;
+        wires_there = ap (λ (s : Share). s.there) figures.wires ∙ ap wires_there device;
+        tracks = figures.tracks ∙ ap (λ (b : Basis). b.arch.tracks) device;
+        iterations = figures.iterations ∙ done.1;
+      },
+    )
+
+pub ending_of-requires-clause-room : goal.ending_of-requires-clause-room
+ending_of-requires-clause-room g c =
+    let old = c.args.slot.now in
+    let task = task_in old.state old.state.seed old.state.effort in
+    let placed = c.requires.placed in
+    let new = c.make_steps.new.slot in
+    let went = route_leads task old c.requires.slot c.ask.new.slot c.in_ok-refusal.field-0 c.in_ok-refusal.ensures.reply c.in_ok-refusal.ensures.slot in
+    let done = routing_done task placed (old.state.generation + 1) (old.state.entries + 1) c.ask.new.slot.id c.ask.new.slot new c.in_ok-last.last went.1 c.in_ok-last.ensures in
+    let failure = failure_of (end_value (routing_of task)) in
+    let count = old.state.entries + 1 + c.in_ok-last.last.number in
+    omega (arith, ap (λ (s : SlotState). s.state.entries) done.0, c.requires.slot.few, done.2)
+
+pub ending_of-requires-clause-ending : goal.ending_of-requires-clause-ending
+ending_of-requires-clause-ending g c =
+    let old = c.args.slot.now in
+    let task = task_in old.state old.state.seed old.state.effort in
+    let placed = c.requires.placed in
+    let new = c.make_steps.new.slot in
+    let went = route_leads task old c.requires.slot c.ask.new.slot c.in_ok-refusal.field-0 c.in_ok-refusal.ensures.reply c.in_ok-refusal.ensures.slot in
+    let done = routing_done task placed (old.state.generation + 1) (old.state.entries + 1) c.ask.new.slot.id c.ask.new.slot new c.in_ok-last.last went.1 c.in_ok-last.ensures in
+    let failure = failure_of (end_value (routing_of task)) in
+    let count = old.state.entries + 1 + c.in_ok-last.last.number in
+    let ended = ending_is task placed (old.state.generation + 1) (old.state.entries + 1) count failure refl (λ is. c.in_default.not-Routed (c.state.ensures ∙ (ap (λ (s : SlotState). s.state.name) done.0 ∙ is))) in
+    let told = ap (λ (s : SlotState). ending_in (answer_to s.state (Asked Status)).1) done.0 ∙ ended.1 in
+    some_ending _ ended.0 told
+
+pub returns-in_ok-ending_of-in_default : goal.returns-in_ok-ending_of-in_default
+returns-in_ok-ending_of-in_default g c =
+    let old = c.args.slot.now in
+    let task = task_in old.state old.state.seed old.state.effort in
+    let placed = c.requires.placed in
+    let new = c.make_steps.new.slot in
+    let went = route_leads task old c.requires.slot c.ask.new.slot c.in_ok-refusal.field-0 c.in_ok-refusal.ensures.reply c.in_ok-refusal.ensures.slot in
+    let done = routing_done task placed (old.state.generation + 1) (old.state.entries + 1) c.ask.new.slot.id c.ask.new.slot new c.in_ok-last.last went.1 c.in_ok-last.ensures in
+    let failure = failure_of (end_value (routing_of task)) in
+    let count = old.state.entries + 1 + c.in_ok-last.last.number in
+    let ended = ending_is task placed (old.state.generation + 1) (old.state.entries + 1) count failure refl (λ is. c.in_default.not-Routed (c.state.ensures ∙ (ap (λ (s : SlotState). s.state.name) done.0 ∙ is))) in
+    let told = ap (λ (s : SlotState). ending_in (answer_to s.state (Asked Status)).1) done.0 ∙ ended.1 in
+    record { outcome = same_ending task (ending_in (answer_to new.state (Asked Status)).1) ended.0 c.in_ok-ending_of-in_default.field-0 told c.in_ok-ending_of-in_default.ensures ended.2; figures = tt }

@@ -1,0 +1,8 @@
+use Rattle.std.proofs.Common.{sym, subst}
+use Rattle.line_text.specs.Writing.{Writes}
+use Rattle.one_user.specs.Lines.{fullest_line}
+use Rattle.one_user.proofs.table.write_fullest.Goals as goal
+
+pub returns-in-Some : goal.returns-in-Some
+returns-in-Some g c =
+    subst (λ f. Writes g.W.Sink.contents g.W.Sink.has_failed c.args.sink.now c.write_channel.new.sink (fullest_line c.args.tracks f) c.write_channel.result) (sym c.in-Some.is) c.write_channel.ensures
