@@ -23,4 +23,3 @@ pub use heat::write_number;
 pub use names::write_escaped;
 pub use picture::{View, draw};
 pub use picture_lines::DrawError;
-pub use plan::Plan;

@@ -16,19 +16,19 @@ const NUMBER_TRACKS: u32 = 9;
 
 /// Where things stand. Heights count upwards.
 #[derive(Clone, Copy)]
-pub struct Plan {
-    pub lattice: Lattice,
-    pub size: StripSize,
+pub(crate) struct Plan {
+    pub(crate) lattice: Lattice,
+    pub(crate) size: StripSize,
     /// How far the pads of an end of a column stand apart.
-    pub pad: u32,
+    pub(crate) pad: u32,
     /// How many letters stand side by side in a block.
-    pub letters: u32,
+    pub(crate) letters: u32,
     /// How large the letters of blocks are, in tenths.
-    pub name_font: u32,
+    pub(crate) name_font: u32,
     /// How large the letters of pads are, in tenths.
-    pub pad_font: u32,
+    pub(crate) pad_font: u32,
     /// How large other letters are.
-    pub font: u32,
+    pub(crate) font: u32,
     ghost pad_small: { (1 ≤ pad) × (pad ≤ 65) },
     ghost letters_small: { (3 ≤ letters) × (letters ≤ 10) },
     ghost name_small: { (1 ≤ name_font) × (name_font ≤ 400) },
