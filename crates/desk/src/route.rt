@@ -1,5 +1,5 @@
 //! The tool that routes one netlist on a device of its own.
-ghost use Rattle.std.specs.Prelude.{◌≤◌, IfOk, IfSome};
+ghost use Rattle.std.specs.Prelude.{◌≤◌};
 
 use crate::outcome::Outcome;
 use crate::paths::{FileRole, make_folder, read_file, write_file};
@@ -86,6 +86,13 @@ Example: fpgad_desk route --arch my.arch --tracks 8 --columns 10 --rows 10 --eff
     ],
 };
 
+/// A number of tracks, 1 to 64.
+#[derive(Clone, Copy)]
+struct Tracks {
+    number: u32,
+    ghost lawful: { (1 ≤ number) × (number ≤ 64) },
+}
+
 /// What is routed, and where.
 #[derive(Clone, Copy)]
 pub(crate) struct Wishes<'a> {
@@ -93,14 +100,13 @@ pub(crate) struct Wishes<'a> {
     netlist: &'a str,
     folder: &'a str,
     /// None: the least number with which the netlist is routed.
-    tracks: Option<u32>,
+    tracks: Option<Tracks>,
     columns: u32,
     rows: u32,
     seed: u64,
     effort: u32,
     /// Whether a line a step is told in any case.
     is_told: bool,
-    ghost tracks_lawful: { IfSome tracks (λ w. (1 ≤ w) × (w ≤ 64)) },
     ghost columns_lawful: { (1 ≤ columns) × (columns ≤ 256) },
     ghost rows_lawful: { (1 ≤ rows) × (rows ≤ 64) },
     ghost effort_lawful: { effort ≤ 100 },
@@ -128,16 +134,14 @@ pub(crate) fn wishes_of<'a>(given: &Given<'a>) -> Result<Wishes<'a>, &'static st
 }
 
 /// The number of tracks, or none where the least is wanted.
-fn tracks_of(given: &Given<'_>) -> Result<Option<u32>, &'static str>
-    ensures { IfOk result (λ tracks. IfSome tracks (λ w. (1 ≤ w) × (w ≤ 64))) }
-{
+fn tracks_of(given: &Given<'_>) -> Result<Option<Tracks>, &'static str> {
     match (given.text("tracks"), given.is_given("least-tracks")) {
         (Some(_), false) => {
-            let tracks = given.number("tracks")?;
-            if tracks < 1 || tracks > 64 {
+            let number = given.number("tracks")?;
+            if number < 1 || number > 64 {
                 return Err(NO_DEVICE);
             }
-            Ok(Some(tracks))
+            Ok(Some(Tracks { number }))
         }
         (None, true) => Ok(None),
         _ => Err(NO_TRACKS),
@@ -192,8 +196,9 @@ fn searched<E: Sink>(
         effort: wishes.effort,
     };
     match wishes.tracks {
-        Some(tracks) => {
-            let run = run_with(alloc, plan, tracks, request, teller)?;
+        Some(Tracks { number, .. }) => {
+            let run = run_with(alloc, plan, number, request, teller)?;
+            let tracks = number;
             Ok(Least::Routed { tracks, run })
         }
         None => least_tracks(alloc, plan, request, teller),
