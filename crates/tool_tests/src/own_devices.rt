@@ -1,4 +1,6 @@
 //! What one user is told of a netlist on a device of its own.
+ghost use Rattle.std.specs.Prelude.{◌≤◌};
+
 use fixtures::{AND, ARCHITECTURE, ROUTED_AND, THREE_INPUT_TABLES};
 use line_text::{MemorySink, Text};
 use one_user::{
@@ -38,25 +40,23 @@ fn run(
     tracks: u32,
     netlist: &str,
     teller: &mut MemorySink,
-) -> Option<Run> {
+) -> Option<Run>
+    requires { (1 ≤ tracks) × (tracks ≤ 64) }
+{
     let shared = shared(alloc, netlist)?;
+    let plan = DevicePlan {
+        text: arch.as_bytes(),
+        columns: 1,
+        rows: 1,
+    };
     let request = Request {
         netlist: &shared,
         seed: 5,
         effort: 0,
     };
-    let run = run_with(alloc, plan_of(arch), tracks, request, teller);
+    let run = run_with(alloc, plan, tracks, request, teller);
     drop(shared);
     run.ok()
-}
-
-/// That device.
-fn plan_of(arch: &str) -> DevicePlan<'_> {
-    DevicePlan {
-        text: arch.as_bytes(),
-        columns: 1,
-        rows: 1,
-    }
 }
 
 /// Whether these are the files of the circuit of one table.
@@ -146,12 +146,17 @@ fn netlists_that_are_refused(rt: HostRuntime) {
 fn least(alloc: Global, netlist: &str) -> Option<u32> {
     let shared = shared(alloc, netlist)?;
     let mut steps = MemorySink::new(alloc);
+    let plan = DevicePlan {
+        text: ARCHITECTURE.as_bytes(),
+        columns: 1,
+        rows: 1,
+    };
     let request = Request {
         netlist: &shared,
         seed: 5,
         effort: 0,
     };
-    let least = least_tracks(alloc, plan_of(ARCHITECTURE), request, &mut steps);
+    let least = least_tracks(alloc, plan, request, &mut steps);
     drop(shared);
     drop(steps);
     let tracks = match &least {
