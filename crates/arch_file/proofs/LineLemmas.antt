@@ -1,5 +1,5 @@
 -- The faults of one line, and the lists with one more line.
-use Rattle.std.proofs.Common.{◌≡◌, ◌∙◌, ℕ, ◌+◌, ◌<◌, ◌≤◌, List, [], ◌∷◌, ◌++◌, Bool, true, false, cond, ◌||◌, ◌==◌, Option, Some, None, is_some, refl, ap, sym, arith, count_by, nat_lt, length, get_or, codes, eqb}
+use Rattle.std.proofs.Common.{◌≡◌, ◌∙◌, ℕ, ◌+◌, ◌<◌, ◌≤◌, List, [], ◌∷◌, ◌++◌, Bool, true, false, cond, ◌||◌, ◌==◌, Option, Some, None, is_some, refl, ap, sym, arith, count_by, nat_lt, length, drop, get_or, codes, eqb}
 use Rattle.std.specs.Option.{option_or, option_to_list}
 use Rattle.std.specs.Str.{bytes_eq}
 use Rattle.std.specs.List.{cons_option}
@@ -15,7 +15,7 @@ use Rattle.arch_file.specs.declared.fault.ArchFaultKind.{ArchFaultKind}
 use Rattle.arch_file.specs.declared.fault.ArchFaultKind.TheVariants.{NotProfile, Repeated}
 use Rattle.arch_file.specs.declared.fault.Keyword.{Keyword}
 use Rattle.arch_file.specs.declared.fault.Keyword.TheVariants.{IoRat, ChanWidthIo, ChanWidthX, ChanWidthY, Inpin, Outpin, SubblocksPerClb, SubblockLutSize, FcType, FcOutput, FcInput, FcPad, SwitchBlockType, Segment}
-use Rattle.arch_file.specs.ArchFaults.{begins_with, behind, keyword_faults, pin_behind, pin_of_words, pins_of, words_at}
+use Rattle.arch_file.specs.ArchFaults.{begins_with, keyword_faults, pin_behind, pin_of_words, pins_of, words_at}
 use Rattle.arch_file.specs.Draft.{AddsPin, Follows}
 use Rattle.arch_file.specs.FaultLists.{only_if}
 use Rattle.arch_file.specs.Readings.{least_kind}
@@ -147,9 +147,9 @@ Follows-add old mid found seen pin follows adds sides clock room =
 -- the lists with one more line
 pub words_at-push : (keyword : Keyword) (before : List JoinedLine) (line : JoinedLine) → words_at keyword (before ++ line ∷ []) ≡ option_or (words_at keyword before) (words_at keyword (line ∷ []))
 words_at-push keyword [] line = refl
-words_at-push keyword (first ∷ before) line = or_choice (begins_with keyword first.words) (Some (behind first.words)) (words_at keyword before) (words_at keyword (line ∷ [])) (words_at keyword (before ++ line ∷ [])) (words_at-push keyword before line)
+words_at-push keyword (first ∷ before) line = or_choice (begins_with keyword first.words) (Some (drop 1 first.words)) (words_at keyword before) (words_at keyword (line ∷ [])) (words_at keyword (before ++ line ∷ [])) (words_at-push keyword before line)
   where
-    or_choice : (b : Bool) (x : Option (List (List ℕ))) (rest last all : Option (List (List ℕ))) → all ≡ option_or rest last → cond b (Some (behind first.words)) all ≡ option_or (cond b (Some (behind first.words)) rest) last
+    or_choice : (b : Bool) (x : Option (List (List ℕ))) (rest last all : Option (List (List ℕ))) → all ≡ option_or rest last → cond b (Some (drop 1 first.words)) all ≡ option_or (cond b (Some (drop 1 first.words)) rest) last
     or_choice true x rest last all is = refl
     or_choice false x rest last all is = is
 

@@ -1,6 +1,6 @@
 -- What reading one line adds to the draft.
-use Rattle.std.proofs.Common.{◌≡◌, ◌∙◌, ℕ, ◌<◌, ◌≤◌, List, [], ◌∷◌, ◌++◌, true, false, cond, not, Option, Some, None, Result, Ok, Err, refl, ap, sym, arith, get_or, set}
-use Rattle.std.specs.Option.{option_or, option_to_list}
+use Rattle.std.proofs.Common.{◌≡◌, ◌∙◌, ℕ, ◌<◌, ◌≤◌, List, [], ◌∷◌, ◌++◌, Bool, true, false, cond, not, Option, Some, None, Result, Ok, Err, refl, ap, sym, arith, get_or, set}
+use Rattle.std.specs.Option.{option_map_or, option_or, option_to_list}
 use Rattle.std.proofs.lemmas.List.{append-nil}
 use Rattle.line_text.specs.Lines.{JoinedLine, with_first}
 use Rattle.arch_file.specs.declared.arch.Pin.{Pin}
@@ -11,7 +11,7 @@ use Rattle.arch_file.specs.declared.fault.ArchFaultKind.{ArchFaultKind}
 use Rattle.arch_file.specs.declared.fault.ArchFaultKind.TheVariants.{Unknown}
 use Rattle.arch_file.specs.declared.fault.Keyword.{Keyword}
 use Rattle.arch_file.specs.declared.fault.Keyword.TheVariants.{Segment}
-use Rattle.arch_file.specs.ArchFaults.{first_word_faults, is_keyword, pin_behind, pin_of_words, pins_of, words_at}
+use Rattle.arch_file.specs.ArchFaults.{first_word_faults, pin_behind, pin_of_words, pins_of, words_at}
 use Rattle.arch_file.specs.Draft.{AddsPin, Follows, FollowsLines, Reads, ReadsKeyword, Sets, found_with}
 use Rattle.arch_file.specs.FaultLists.{only_if}
 use Rattle.arch_file.specs.Readings.{least_kind}
@@ -73,6 +73,10 @@ lines_same draft before line nothing pin follows =
     (pins_of before) (pins_of before ++ option_to_list (pin_of_words line.words))
     (λ other. or_none (words_at other before) ∙ ap (option_or (words_at other before)) (sym (nothing other)))
     (sym (append-nil (pins_of before)) ∙ ap (λ p. pins_of before ++ option_to_list p) (sym pin)) follows)
+
+-- it is that keyword
+abbrev is_keyword : Keyword → Option Keyword → Bool
+is_keyword keyword found = option_map_or (same_keyword keyword) found false
 
 pub reads_empty : (before : List JoinedLine) (line : JoinedLine) (draft : Draft) → line.words ≡ [] → FollowsLines draft before → Reads before line (Ok tt) draft
 reads_empty before line draft is follows =

@@ -4,16 +4,17 @@ use Rattle.std.proofs.Math.Seq.{drop-cons}
 use Rattle.std.proofs.lemmas.Bool.Decides.{nat_tests}
 use Rattle.std.proofs.lemmas.List.{take_more, drop_all, take_all}
 use Rattle.std.proofs.lemmas.Option.{get_or_from_slice_get, slice_get_within}
-use Rattle.line_text.specs.LeastFault.{Found, least_by, least_fault, precedes, turn_of}
+use Rattle.std.specs.Option.{option_map_or}
+use Rattle.line_text.specs.LeastFault.{Found, least_by, least_fault, precedes}
 use Rattle.line_text.specs.LineOrder.{RisesFrom}
-use Rattle.line_text.proofs.InOrder.{Each, Each-append, Each-weaker, Precedes, by_number-same, least_before, least_map, precedes-end, precedes-line}
+use Rattle.line_text.proofs.InOrder.{Each, Each-append, Each-weaker, Precedes, by_number-same, least_before, least_map, precedes-end, precedes-line, turn_of}
 use Rattle.line_text.proofs.RisingLines.{rises_lower}
 use Rattle.line_text.specs.declared.lines.TheConstants.{MAX_TEXT}
 use Rattle.line_text.specs.Lines.{JoinedLine, lines_of}
 use Rattle.arch_file.specs.declared.draft.Draft.{Draft}
 use Rattle.line_text.specs.declared.text_error.TextError.{TextError}
 use Rattle.line_text.specs.declared.text_error.TextError.TheVariants.{NoMemory, Fault}
-use Rattle.arch_file.specs.Arch.{arch_of, arch_unless}
+use Rattle.arch_file.specs.Arch.{arch_from, arch_of}
 use Rattle.arch_file.specs.Draft.{Reads, ReadsAll, error_at}
 use Rattle.arch_file.specs.declared.fault.ArchFault.{ArchFault}
 use Rattle.arch_file.specs.declared.fault.ArchFaultKind.{ArchFaultKind}
@@ -116,4 +117,4 @@ pub arch_of-end : (text : List ℕ) (tracks : ℕ) (lines : List JoinedLine) (ki
 unfolding arch_of
 arch_of-end text tracks lines kind short is ends least =
     let fits : nat_lt MAX_TEXT (length text) ≡ false = grind (arith, nat_tests) in
-    rw (fits, is) (ap (λ o. arch_unless o lines tracks) (ap least_fault ends ∙ least_end lines kind least))
+    rw (fits, is) (ap (λ o. option_map_or Err o (Ok (arch_from lines tracks))) (ap least_fault ends ∙ least_end lines kind least))

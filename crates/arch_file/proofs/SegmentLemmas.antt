@@ -1,11 +1,14 @@
 -- How the pairs of a segment line are walked.
 use Rattle.std.proofs.Common.{◌≡◌, ◌∙◌, ℕ, ◌+◌, ◌<◌, ◌≤◌, List, [], ◌∷◌, Bool, true, false, cond, length, drop, get_or, refl, ap, sym, arith, add-one, ◌%◌, ◌||◌, not, eq-eqb, Some}
 use Rattle.std.specs.Borrow.{Bor}
+use Rattle.std.specs.Option.{option_eq}
+use Rattle.std.specs.Prelude.{nat_eq}
 use Rattle.std.specs.Str.{bytes_eq}
 use Rattle.std.proofs.Math.Seq.{drop-cons}
 use Rattle.std.proofs.lemmas.List.{drop-map, length-drop}
 use Rattle.line_text.specs.Decimal.{millionths_of}
-use Rattle.arch_file.specs.Segment.{are_ones, is_number_one, is_one, segment_faults, values_under}
+use Rattle.arch_file.specs.Segment.{are_ones, is_one, segment_faults, values_under}
+use Rattle.arch_file.specs.Values.{one}
 use Rattle.arch_file.specs.FaultLists.{only_if}
 use Rattle.arch_file.specs.Readings.{least_kind}
 use Rattle.arch_file.specs.declared.fault.ArchFaultKind.TheVariants.{BadNumber, NotProfile}
@@ -47,12 +50,12 @@ pub values_under-end : (key : List ℕ) (words : List (List ℕ)) (i : ℕ) → 
 values_under-end key words i ended = values_under-short key (drop i words) (omega (arith, length-drop i words))
 
 -- a 1 was found
-pub is_one-found : (value : List ℕ) (values : List (List ℕ)) → is_number_one (millionths_of value) ≡ true → is_one (value ∷ values) ≡ is_none_left values
+pub is_one-found : (value : List ℕ) (values : List (List ℕ)) → option_eq nat_eq (millionths_of value) (Some one) ≡ true → is_one (value ∷ values) ≡ is_none_left values
 is_one-found value [] found = found
 is_one-found value (second ∷ values) found = refl
 
 -- a value isn't 1
-pub is_one-other : (value : List ℕ) (values : List (List ℕ)) → is_number_one (millionths_of value) ≡ false → is_one (value ∷ values) ≡ false
+pub is_one-other : (value : List ℕ) (values : List (List ℕ)) → option_eq nat_eq (millionths_of value) (Some one) ≡ false → is_one (value ∷ values) ≡ false
 is_one-other value [] found = found
 is_one-other value (second ∷ values) found = refl
 

@@ -1,5 +1,6 @@
 -- What an architecture text says: the architecture, or the least fault.
-use Rattle.std.specs.Prelude.{ℕ, ◌≡◌, ◌≤◌, List, [], true, All, Result, Ok, Err, Option, Some, None, length, nat_lt, if◌then◌else◌}
+use Rattle.std.specs.Prelude.{ℕ, ◌≡◌, ◌≤◌, List, [], true, All, Result, Ok, Err, length, nat_lt, if◌then◌else◌}
+use Rattle.std.specs.Option.{option_map_or}
 use Rattle.line_text.specs.LeastFault.{least_fault}
 use Rattle.line_text.specs.Lines.{JoinedLine, lines_of}
 use Rattle.line_text.specs.declared.fault.LineFault.{LineFault}
@@ -44,15 +45,10 @@ arch_from lines tracks = record {
   fc_pad = reach (is_fractional lines) (decimal_at FcPad lines) tracks;
 }
 
--- the architecture of the lines, unless there is a fault
-abbrev pub arch_unless : Option ArchFault → List JoinedLine → ℕ → Result Arch ArchFault
-arch_unless None lines tracks = Ok (arch_from lines tracks)
-arch_unless (Some fault) lines tracks = Err fault
-
 -- the architecture of the lines, or the least of all their faults
 abbrev pub arch_of_lines : Result (List JoinedLine) LineFault → ℕ → Result Arch ArchFault
 arch_of_lines (Err fault) tracks = Err (fault_of_lines fault)
-arch_of_lines (Ok lines) tracks = arch_unless (least_fault (faults_behind [] lines)) lines tracks
+arch_of_lines (Ok lines) tracks = option_map_or Err (least_fault (faults_behind [] lines)) (Ok (arch_from lines tracks))
 
 -- the architecture of a text for that many tracks, or its least fault
 unfoldable pub arch_of : List ℕ → ℕ → Result Arch ArchFault

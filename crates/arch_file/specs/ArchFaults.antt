@@ -1,6 +1,7 @@
 -- All faults of the lines of an architecture text.
-use Rattle.std.specs.Prelude.{ℕ, ◌==◌, nat_lt, Bool, true, false, ◌&&◌, not, List, [], ◌∷◌, ◌++◌, map, filter, Option, Some, None, is_some, if◌then◌else◌}
+use Rattle.std.specs.Prelude.{ℕ, ◌==◌, nat_lt, Bool, true, false, ◌&&◌, not, List, [], ◌∷◌, ◌++◌, map, filter, drop, Option, Some, None, is_some, if◌then◌else◌}
 use Rattle.std.specs.List.{filter_map}
+use Rattle.std.specs.Option.{option_map_or}
 use Rattle.line_text.specs.LeastFault.{Found}
 use Rattle.line_text.specs.Lines.{JoinedLine}
 use Rattle.arch_file.specs.declared.arch.Pin.{Pin}
@@ -17,26 +18,16 @@ use Rattle.arch_file.specs.Segment.{segment_faults}
 use Rattle.arch_file.specs.Values.{decimal_from, is_fractional_from, value_faults, whole_from}
 use Rattle.arch_file.specs.Words.{is_pin_keyword, is_unread, keyword_of, required, same_keyword}
 
--- it is that keyword
-abbrev pub is_keyword : Keyword → Option Keyword → Bool
-is_keyword keyword None = false
-is_keyword keyword (Some other) = same_keyword keyword other
-
 -- the line begins with the keyword
 abbrev pub begins_with : Keyword → List (List ℕ) → Bool
 begins_with keyword [] = false
-begins_with keyword (word ∷ words) = is_keyword keyword (keyword_of word)
-
--- all words but the first
-abbrev pub behind : List (List ℕ) → List (List ℕ)
-behind [] = []
-behind (word ∷ words) = words
+begins_with keyword (word ∷ words) = option_map_or (same_keyword keyword) (keyword_of word) false
 
 -- the words behind the keyword, of the first line that begins with it
 abbrev pub words_at : Keyword → List JoinedLine → Option (List (List ℕ))
 words_at keyword [] = None
 words_at keyword (line ∷ lines) =
-    if begins_with keyword line.words then Some (behind line.words) else words_at keyword lines
+    if begins_with keyword line.words then Some (drop 1 line.words) else words_at keyword lines
 
 -- some line begins with the keyword
 abbrev pub stands : Keyword → List JoinedLine → Bool

@@ -1,6 +1,7 @@
 -- A line of a pin: its class, and the sides on which it can be reached.
 use Rattle.std.specs.Prelude.{ℕ, nat_le, nat_lt, Bool, true, false, ◌&&◌, ◌||◌, not, List, [], ◌∷◌, ◌++◌, codes, Option, Some, None, option_map, if◌then◌else◌}
 use Rattle.std.specs.List.{list_any, list_all}
+use Rattle.std.specs.Option.{option_map_or}
 use Rattle.std.specs.Str.{bytes_eq}
 use Rattle.arch_file.specs.declared.arch.Pin.{Pin}
 use Rattle.arch_file.specs.declared.arch.PinClass.{PinClass}
@@ -59,17 +60,12 @@ class_fits Inpin (Some Clock) global = global
 class_fits Outpin (Some Output) global = not global
 class_fits keyword class global = false
 
--- the class passes a test
-abbrev pub is_class : (PinClass → Bool) → Option PinClass → Bool
-is_class test None = false
-is_class test (Some class) = test class
-
 -- what is wrong with a pin of that class with these words behind it, where those pins stand before
 abbrev pub class_faults : List Pin → Keyword → Option PinClass → List (List ℕ) → List ArchFaultKind
 class_faults pins keyword class words =
-    only_if (not (class_fits keyword class (is_global words)) || (is_class is_clock_class class && nat_lt 0 (clock_count pins))) BadClass
+    only_if (not (class_fits keyword class (is_global words)) || (option_map_or is_clock_class class false && nat_lt 0 (clock_count pins))) BadClass
     ++ (only_if (not (are_sides words)) BadSide
-    ++ only_if (is_class is_input_class class && nat_le 128 (input_count pins)) OverLimit)
+    ++ only_if (option_map_or is_input_class class false && nat_le 128 (input_count pins)) OverLimit)
 
 -- the same of all words behind `class:`
 abbrev pub pin_faults : List Pin → Keyword → List (List ℕ) → List ArchFaultKind
@@ -84,6 +80,5 @@ pin_line_faults pins keyword (word ∷ words) =
 
 -- the pin of the words behind the keyword
 unfoldable pub pin_in : List (List ℕ) → Option Pin
-pin_in [] = None
-pin_in (word ∷ []) = None
 pin_in (word ∷ class ∷ words) = option_map (λ c. record { class = c; sides = sides_of words }) (class_of class)
+pin_in words = None

@@ -8,20 +8,17 @@ use Rattle.arch_file.specs.declared.arch.Sides.{Sides}
 -- an input of a table
 abbrev pub is_input_class : PinClass → Bool
 is_input_class Input = true
-is_input_class Output = false
-is_input_class Clock = false
+is_input_class class = false
 
 -- an output of a logic element
 abbrev pub is_output_class : PinClass → Bool
-is_output_class Input = false
 is_output_class Output = true
-is_output_class Clock = false
+is_output_class class = false
 
 -- a clock
 abbrev pub is_clock_class : PinClass → Bool
-is_clock_class Input = false
-is_clock_class Output = false
 is_clock_class Clock = true
+is_clock_class class = false
 
 -- how many pins of a class there are
 abbrev pub input_count : List Pin → ℕ

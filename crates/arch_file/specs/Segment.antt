@@ -1,5 +1,6 @@
 -- The segment line: pairs of a key and a value.
-use Rattle.std.specs.Prelude.{ℕ, ◌==◌, ◌%◌, Bool, false, ◌&&◌, ◌||◌, not, List, [], ◌∷◌, ◌++◌, length, codes, Option, Some, None, if◌then◌else◌}
+use Rattle.std.specs.Prelude.{ℕ, ◌==◌, ◌%◌, Bool, false, ◌&&◌, ◌||◌, nat_eq, not, List, [], ◌∷◌, ◌++◌, length, codes, Some, if◌then◌else◌}
+use Rattle.std.specs.Option.{option_eq}
 use Rattle.std.specs.Str.{bytes_eq}
 use Rattle.line_text.specs.Decimal.{millionths_of}
 use Rattle.arch_file.specs.declared.fault.ArchFaultKind.{ArchFaultKind}
@@ -10,21 +11,14 @@ use Rattle.arch_file.specs.FaultLists.{only_if}
 
 -- the values that stand behind a key
 abbrev pub values_under : List ℕ → List (List ℕ) → List (List ℕ)
-values_under key [] = []
-values_under key (word ∷ []) = []
 values_under key (word ∷ value ∷ words) =
     if bytes_eq word key then value ∷ values_under key words else values_under key words
+values_under key words = []
 
--- a word that is the decimal 1
-abbrev pub is_number_one : Option ℕ → Bool
-is_number_one None = false
-is_number_one (Some value) = value == one
-
--- there is one value, and it is 1
+-- there is one value, and it is the decimal 1
 abbrev pub is_one : List (List ℕ) → Bool
-is_one [] = false
-is_one (value ∷ []) = is_number_one (millionths_of value)
-is_one (value ∷ second ∷ rest) = false
+is_one (value ∷ []) = option_eq nat_eq (millionths_of value) (Some one)
+is_one values = false
 
 -- the four keys that must be 1
 abbrev pub are_ones : List (List ℕ) → Bool

@@ -1,11 +1,12 @@
 -- The values behind the keywords, and what can be wrong with them.
 use Rattle.std.specs.Prelude.{ℕ, ◌==◌, ◌*◌, ◌/◌, min, max, nat_lt, Bool, false, ◌||◌, List, [], ◌∷◌, codes, Option, Some, None, option_and_then, unwrap_or, if◌then◌else◌}
+use Rattle.std.specs.Option.{option_map_or}
 use Rattle.std.specs.Str.{bytes_eq}
 use Rattle.line_text.specs.Decimal.{whole_of, millionths_of}
 use Rattle.arch_file.specs.declared.fault.ArchFaultKind.{ArchFaultKind}
 use Rattle.arch_file.specs.declared.fault.ArchFaultKind.TheVariants.{BadNumber, NotProfile, OverLimit}
 use Rattle.arch_file.specs.declared.fault.Keyword.{Keyword}
-use Rattle.arch_file.specs.declared.fault.Keyword.TheVariants.{IoRat, ChanWidthIo, ChanWidthX, ChanWidthY, Inpin, Outpin, SubblocksPerClb, SubblockLutSize, FcType, FcOutput, FcInput, FcPad, SwitchBlockType, Segment}
+use Rattle.arch_file.specs.declared.fault.Keyword.TheVariants.{IoRat, ChanWidthIo, ChanWidthX, ChanWidthY, SubblocksPerClb, SubblockLutSize, FcType, FcOutput, FcInput, FcPad, SwitchBlockType}
 use Rattle.arch_file.specs.Words.{lone}
 
 -- the words as one whole number
@@ -51,11 +52,6 @@ word_faults keyword passes (Some word) = if passes word then [] else NotProfile 
 abbrev pub is_fractional_word : List ℕ → Bool
 is_fractional_word word = bytes_eq word (codes "fractional")
 
--- the same of a word that may be missing
-abbrev pub is_fractional_choice : Option (List ℕ) → Bool
-is_fractional_choice None = false
-is_fractional_choice (Some word) = is_fractional_word word
-
 -- a way in which numbers of tracks are meant
 abbrev pub is_fc_type : List ℕ → Bool
 is_fc_type word = bytes_eq word (codes "absolute") || is_fractional_word word
@@ -74,7 +70,7 @@ decimal_from words = unwrap_or (option_and_then decimal_in words) 0
 
 -- the same of the way in which numbers of tracks are meant
 abbrev pub is_fractional_from : Option (List (List ℕ)) → Bool
-is_fractional_from words = is_fractional_choice (option_and_then lone words)
+is_fractional_from words = option_map_or is_fractional_word (option_and_then lone words) false
 
 -- what is wrong with the words behind a keyword that has a value
 unfoldable pub value_faults : Keyword → List (List ℕ) → List ArchFaultKind
@@ -82,8 +78,6 @@ value_faults IoRat words = whole_faults 8 (whole_in words)
 value_faults ChanWidthIo words = one_faults ChanWidthIo (decimal_in words)
 value_faults ChanWidthX words = width_faults ChanWidthX words
 value_faults ChanWidthY words = width_faults ChanWidthY words
-value_faults Inpin words = []
-value_faults Outpin words = []
 value_faults SubblocksPerClb words = whole_faults 16 (whole_in words)
 value_faults SubblockLutSize words = whole_faults 8 (whole_in words)
 value_faults FcType words = word_faults FcType is_fc_type (lone words)
@@ -91,7 +85,7 @@ value_faults FcOutput words = decimal_faults (decimal_in words)
 value_faults FcInput words = decimal_faults (decimal_in words)
 value_faults FcPad words = decimal_faults (decimal_in words)
 value_faults SwitchBlockType words = word_faults SwitchBlockType is_subset (lone words)
-value_faults Segment words = []
+value_faults keyword words = []
 
 -- how many tracks a pin reaches: that many, or that part of all, rounded down, at least 1 and at most all
 abbrev pub reach : Bool → ℕ → ℕ → ℕ

@@ -49,6 +49,5 @@ is_unread word =
 
 -- the word that stands alone
 abbrev pub lone : List (List ℕ) → Option (List ℕ)
-lone [] = None
 lone (word ∷ []) = Some word
-lone (word ∷ second ∷ rest) = None
+lone words = None

@@ -139,7 +139,9 @@ impl Draft {
 
     /// The keyword stands now.
     fn mark(&mut self, keyword: Keyword)
-        ensures { self.new ≡ record self.old { stands = slice_set self.old.stands (rank_of keyword) true } }
+        ensures { self.new ≡ record self.old {
+          stands = slice_set self.old.stands (rank_of keyword) true;
+        } }
     {
         self.stands[keyword.rank()] = true;
     }
@@ -238,7 +240,8 @@ impl Draft {
     /// The first keyword that must stand and doesn't.
     fn first_missing(&self) -> Option<Keyword>
         ensures { result
-            ≡ find (λ keyword. not (slice_index_or self.now.stands (rank_of keyword) false)) required }
+            ≡ find (λ keyword. not (slice_index_or self.now.stands (rank_of keyword) false))
+            required }
     {
         REQUIRED.iter().copied().find(|keyword| !self.has(*keyword))
     }
@@ -256,7 +259,8 @@ impl Draft {
     /// Whether there is an input, as many outputs as logic elements, and a clock.
     fn has_its_pins(&self) -> bool
         ensures { result ≡ (nat_lt 0 self.now.inputs
-            && ((output_count self.now.pins.items == self.now.cluster_size) && self.now.has_clock)) }
+            && ((output_count self.now.pins.items == self.now.cluster_size)
+            && self.now.has_clock)) }
     {
         0 < self.inputs && self.outputs() == self.cluster_size as usize && self.has_clock
     }

@@ -41,7 +41,8 @@ impl SideWords {
 
     /// One more word.
     fn with(self, word: &[u8]) -> Self
-        ensures { (before : List (List ℕ)) → Shows self before → Shows result (before ++ word.now ∷ []) }
+        ensures { (before : List (List ℕ)) → Shows self before →
+            Shows result (before ++ word.now ∷ []) }
     {
         let mut more = self;
         if is_word(word, "top") {
@@ -129,7 +130,8 @@ fn pin_of(
     inputs: u32,
     has_clock: bool,
 ) -> Result<Pin, ArchFaultKind>
-    ensures faults { (pins : List Pin) → inputs ≡ input_count pins → has_clock ≡ nat_lt 0 (clock_count pins)
+    ensures faults { (pins : List Pin) → inputs ≡ input_count pins →
+        has_clock ≡ nat_lt 0 (clock_count pins)
         → FindsLeast (class_faults pins keyword (class_of class.now) sides.now.words) result }
     ensures class { IfOk result (λ pin. class_of class.now ≡ Some pin.class) }
     ensures sides { IfOk result (λ pin. pin.sides ≡ sides_of sides.now.words) }
@@ -167,7 +169,8 @@ pub(crate) fn pin_in(
     inputs: u32,
     has_clock: bool,
 ) -> Result<Pin, ArchFaultKind>
-    ensures faults { (pins : List Pin) → inputs ≡ input_count pins → has_clock ≡ nat_lt 0 (clock_count pins)
+    ensures faults { (pins : List Pin) → inputs ≡ input_count pins →
+        has_clock ≡ nat_lt 0 (clock_count pins)
         → FindsLeast (pin_line_faults pins keyword line.now.words) result }
     ensures value { IfOk result (λ pin. pin_in line.now.words ≡ Some pin) }
     ensures reached { IfOk result (λ pin. has_side pin.sides ≡ true) }

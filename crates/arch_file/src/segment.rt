@@ -1,8 +1,10 @@
 //! The segment line: pairs of a key and a value.
-ghost use Rattle.std.specs.Prelude.{◌≡◌};
+ghost use Rattle.std.specs.Prelude.{◌≡◌, nat_eq, Some};
+ghost use Rattle.std.specs.Option.{option_eq};
 ghost use Rattle.line_text.specs.Decimal.{millionths_of};
+ghost use Rattle.arch_file.specs.Values.{one};
 ghost use Rattle.arch_file.specs.Readings.{FindsLeast};
-ghost use Rattle.arch_file.specs.Segment.{are_ones, is_number_one, is_one, segment_faults, values_under};
+ghost use Rattle.arch_file.specs.Segment.{are_ones, is_one, segment_faults, values_under};
 
 use crate::fault::{ArchFaultKind, Keyword};
 use crate::values::ONE;
@@ -10,7 +12,7 @@ use line_text::{Line, is_word, millionths};
 
 /// Whether the word is the decimal 1.
 fn is_number_one(word: &[u8]) -> bool
-    ensures { result ≡ is_number_one (millionths_of word.now) }
+    ensures { result ≡ option_eq nat_eq (millionths_of word.now) (Some one) }
 {
     match millionths(word) {
         None => false,

@@ -1,7 +1,8 @@
 //! The values behind the keywords.
-ghost use Rattle.std.specs.Prelude.{◌≡◌, ◌<◌, ◌≤◌, IfOk, Some};
+ghost use Rattle.std.specs.Prelude.{◌≡◌, ◌<◌, ◌≤◌, IfOk, Some, false};
+ghost use Rattle.std.specs.Option.{option_map_or};
 ghost use Rattle.arch_file.specs.Readings.{Finds};
-ghost use Rattle.arch_file.specs.Values.{decimal_faults, decimal_in, is_fc_type, is_fractional_choice, is_subset, one_faults, reach, whole_faults, whole_in, width_faults, word_faults};
+ghost use Rattle.arch_file.specs.Values.{decimal_faults, decimal_in, is_fc_type, is_fractional_word, is_subset, one_faults, reach, whole_faults, whole_in, width_faults, word_faults};
 ghost use Rattle.arch_file.specs.FcTypes.{is_fractional_type};
 ghost use Rattle.arch_file.specs.Words.{lone};
 
@@ -102,7 +103,8 @@ pub(crate) fn check_width(keyword: Keyword, line: &Line<'_, '_>) -> Result<(), A
 /// How the numbers of tracks are meant.
 pub(crate) fn fc_type(line: &Line<'_, '_>) -> Result<FcType, ArchFaultKind>
     ensures faults { Finds (word_faults Keyword.FcType is_fc_type (lone line.now.words)) result }
-    ensures value { IfOk result (λ meant. is_fractional_type meant ≡ is_fractional_choice (lone line.now.words)) }
+    ensures value { IfOk result (λ meant.
+        is_fractional_type meant ≡ option_map_or is_fractional_word (lone line.now.words) false) }
 {
     match lone(line) {
         None => Err(ArchFaultKind::BadNumber),

@@ -2,7 +2,7 @@
 use Rattle.std.proofs.Common.{◌≡◌, ℕ, zero, suc, ◌+◌, ◌-◌, ◌<◌, ◌≤◌, Bool, true, false, not, List, [], ◌∷◌, Some, None, All, IfSome, filter, length, get_or, refl, ap, subst, ◌∙◌, arith, slice_get, slice_index_or}
 use Rattle.std.specs.Prelude.{replicate}
 use Rattle.std.specs.List.{range_with_len}
-use Rattle.std.proofs.lemmas.List.{get_or-replicate, length-replicate}
+use Rattle.std.proofs.lemmas.List.{append-nil, get_or-replicate, length-replicate}
 use Rattle.std.proofs.lemmas.List.FromFn.{length-range_with_len, get_or-range_with_len}
 use Rattle.std.proofs.lemmas.List.Elements.{All-filter, All-from_get_or}
 use Rattle.std.proofs.lemmas.Option.{get_or_from_slice_get}
@@ -48,7 +48,7 @@ stays arch elements free seed n zero later is none = let e : later ≡ n = omega
 stays arch elements free seed n (suc more) later is none =
     let e : later ≡ suc (more + n) = omega (arith, is) in
     let before = stays arch elements free seed n more (more + n) refl none in
-    ap (grown arch elements free seed) e ∙ rw before (rw none refl)
+    ap (grown arch elements free seed) e ∙ rw before (rw none (append-nil (grown arch elements free seed n)))
 
 pub grown_full : (arch : Arch) (elements : List LogicElement) (free seed : List ℕ) (n later : ℕ) → n ≤ later → next_member arch elements free (grown arch elements free seed n) ≡ None → grown arch elements free seed later ≡ grown arch elements free seed n
 grown_full arch elements free seed n later h none = stays arch elements free seed n (later - n) later (omega (arith, h)) none

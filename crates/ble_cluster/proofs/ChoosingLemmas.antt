@@ -1,6 +1,7 @@
 -- The choice of the next member.
-use Rattle.std.proofs.Common.{◌≡◌, ◌≢◌, ℕ, suc, zero, ◌+◌, ◌<◌, ◌≤◌, ◌⊎◌, inl, inr, Bool, true, false, not, ◌||◌, ◌&&◌, eqb, List, [], ◌∷◌, Option, Some, None, filter, length, take, get_or, if◌then◌else◌, sym, refl, ap, ◌∙◌, arith}
+use Rattle.std.proofs.Common.{◌≡◌, ◌≢◌, ℕ, suc, zero, ◌+◌, ◌<◌, ◌≤◌, ◌⊎◌, inl, inr, Bool, true, false, not, ◌||◌, ◌&&◌, eqb, List, [], ◌∷◌, Option, Some, None, filter, length, take, get_or, if◌then◌else◌, sym, refl, ap, subst, ◌∙◌, arith}
 use Rattle.std.specs.List.{range_with_len}
+use Rattle.std.specs.Option.{ForSome}
 use Rattle.std.proofs.lemmas.List.{take_all, take_more}
 use Rattle.std.proofs.lemmas.Bool.{cases_lt}
 use Rattle.std.proofs.lemmas.Bool.Decides.{nat_tests, eqb_tells}
@@ -25,6 +26,11 @@ module _ (arch : Arch) (elements : List LogicElement) (taken : List Bool) (membe
 
   abbrev candidate : ℕ → Bool
   candidate number = is_candidate arch elements taken members number
+
+  -- the best is one of the BLEs
+  pub best_small : (Among : ℕ → Type 0) (best : Option ℕ) → IsBestOf Among best → ForSome best (λ other. other < length elements)
+  best_small Among None i = λ other is. absurd cc
+  best_small Among (Some best) i = λ other is. let same : best ≡ other = cc in subst (λ number. number < length elements) same i.small
 
   -- of none there is no best
   pub none_first : (numbers : List ℕ) → IsBestOf (IsAmongFirst numbers 0) None

@@ -7,10 +7,11 @@ use Rattle.std.proofs.lemmas.List.Elements.{All-nil, All-cons, All-tail, All-app
 use Rattle.std.proofs.lemmas.List.FromFn.{get_or-map-range_with_len, length-range_with_len}
 use Rattle.rows.specs.declared.by_key.Keyed.{Keyed}
 use Rattle.rows.specs.ByKey.{items_by_key, items_with}
-use Rattle.ble_cluster.specs.Nets.{IsOnce, distinct, has, with_net, with_nets}
+use Rattle.ble_cluster.specs.Nets.{IsOnce, distinct, has, with_nets}
+use Rattle.ble_cluster.specs.NetSets.{with_net}
 use Rattle.ble_cluster.specs.Bles.{LogicElement, element_at}
 use Rattle.ble_cluster.specs.Clusters.{nets_of}
-use Rattle.ble_cluster.specs.BleIndex.{AreElements, AreHaving, pairs_from, row_at}
+use Rattle.ble_cluster.specs.BleIndex.{AreElements, AreHaving, AreLawful, pairs_from, row_at}
 use Rattle.rows.specs.ByKey.{pairs_with}
 use Rattle.ble_cluster.specs.FreeBles.{IsElement}
 use Rattle.ble_cluster.proofs.Outside.{distinct-more, once-distinct}
@@ -118,10 +119,11 @@ having_are elements net = rw (items_are net 0 elements) (record {
 })
 
 -- the rows made of all pairs hold the elements
-pub elements_are : (elements : List LogicElement) (nets : ℕ) → nets ≤ 8192 → All (IsElement nets) elements → AreElements elements (items_by_key (pairs_from 0 elements) nets)
-elements_are elements nets few lawful = record {
-  few = rw count few;
-  lawful = rw count lawful;
+pub elements_are : (elements : List LogicElement) (nets : ℕ) → AreLawful (record { elements = elements; nets = nets }) → AreElements elements (items_by_key (pairs_from 0 elements) nets)
+elements_are elements nets lawful = record {
+  few = rw count lawful.few;
+  count = lawful.count;
+  lawful = rw count lawful.lawful;
   having = λ net small. rw (row net (omega (arith, small, count))) (having_are elements net);
 }
   where

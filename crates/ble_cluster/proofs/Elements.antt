@@ -11,8 +11,10 @@ use Rattle.blif.specs.declared.circuit.Circuit.{Circuit}
 use Rattle.blif.specs.declared.latches.Latch.{Latch}
 use Rattle.blif.specs.LookupTables.{LookupTable}
 use Rattle.blif.specs.LawfulCircuits.{IsCircuit, IsLatchWithin, IsTableWithin}
-use Rattle.ble_cluster.specs.Nets.{has, distinct, with_net, with_nets}
-use Rattle.ble_cluster.specs.Bles.{LogicElement, bles_of, element_of_latch, element_of_table, in_line_order, is_above, is_read_once, latch_behind, stands_alone}
+use Rattle.ble_cluster.specs.Nets.{has, distinct, with_nets}
+use Rattle.ble_cluster.specs.NetSets.{with_net}
+use Rattle.ble_cluster.specs.Bles.{LogicElement, bles_of, element_of_latch, element_of_table, in_line_order, is_read_once, latch_behind, stands_alone}
+use Rattle.ble_cluster.specs.LineOrder.{is_above}
 use Rattle.ble_cluster.specs.Clusters.{clocks_of, fits_in_cluster, outside_inputs}
 use Rattle.ble_cluster.specs.FreeBles.{IsElement}
 use Rattle.ble_cluster.specs.Nets.{IsOnce}

@@ -1,9 +1,10 @@
 -- A cluster that its last member makes full.
 use Rattle.std.proofs.Common.{◌≡◌, ℕ, suc, ◌+◌, ◌<◌, ◌≤◌, Bool, true, false, if◌then◌else◌, List, [], ◌∷◌, ◌++◌, All, None, Some, length, refl, sym, ap, ◌∙◌, arith, length-append}
+use Rattle.std.specs.Option.{option_to_list}
 use Rattle.std.proofs.lemmas.List.Elements.{All-nil, All-cons, All-append}
 use Rattle.arch_file.specs.declared.arch.Arch.{Arch}
 use Rattle.ble_cluster.specs.Bles.{LogicElement}
-use Rattle.ble_cluster.specs.Clusters.{cluster_of, first_most, grown, input_count_at, next_member, with_member}
+use Rattle.ble_cluster.specs.Clusters.{cluster_of, first_most, grown, input_count_at, next_member}
 use Rattle.ble_cluster.specs.FreeBles.{free_in}
 use Rattle.ble_cluster.proofs.Choosing.{grown_full}
 use Rattle.ble_cluster.proofs.ChoosingLemmas.{next_none}
@@ -22,7 +23,7 @@ module _ (arch : Arch) (elements : List LogicElement) (taken : List Bool) (marks
   pub filled : (seed members : List ℕ) (number added : ℕ) → members ≡ grown arch elements (free_in taken) seed added → Some number ≡ next_member arch elements (free_in taken) members → length members + 1 ≡ arch.cluster_size → added < arch.cluster_size → members ++ number ∷ [] ≡ grown arch elements (free_in taken) seed arch.cluster_size
   filled seed members number added is next last within =
       let free = free_in taken in
-      let one : grown arch elements free seed (suc added) ≡ members ++ number ∷ [] = ap (λ (ms : List ℕ). with_member ms (next_member arch elements free ms)) (sym is) ∙ ap (with_member members) (sym next) in
+      let one : grown arch elements free seed (suc added) ≡ members ++ number ∷ [] = ap (λ (ms : List ℕ). ms ++ option_to_list (next_member arch elements free ms)) (sym is) ∙ ap (λ more. members ++ option_to_list more) (sym next) in
       let full : arch.cluster_size ≤ length (grown arch elements free seed (suc added)) = (let count = ap (λ (ms : List ℕ). length ms) one in omega (arith, count, last, length-append members (number ∷ []))) in
       sym (grown_full arch elements free seed (suc added) arch.cluster_size (omega (arith, within)) (none_joins (grown arch elements free seed (suc added)) full) ∙ one)
 

@@ -2,7 +2,8 @@
 use Rattle.std.proofs.Common.{◌≡◌, ℕ, Bool, true, false, List, [], ◌∷◌, ◌++◌, refl, sym, ap, ◌∙◌, ◌+◌, ◌-◌, ◌<◌, ◌≤◌, length, take, drop, get_or, arith, length-append, append_assoc}
 use Rattle.std.proofs.lemmas.List.{drop_at, take_all, take_more}
 use Rattle.std.specs.Prelude.{if◌then◌else◌}
-use Rattle.ble_cluster.specs.Nets.{has, with_net, with_nets, distinct}
+use Rattle.ble_cluster.specs.Nets.{has, with_nets, distinct}
+use Rattle.ble_cluster.specs.NetSets.{with_net}
 
 -- one more of the others
 pub with_nets-push : (nets others : List ℕ) (net : ℕ) → with_nets nets (others ++ net ∷ []) ≡ with_net (with_nets nets others) net

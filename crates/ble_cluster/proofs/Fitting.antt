@@ -4,12 +4,13 @@ use Rattle.std.proofs.lemmas.Bool.Decides.{nat_tests}
 use Rattle.ble_cluster.specs.Nets.{has}
 use Rattle.ble_cluster.specs.Bles.{LogicElement}
 use Rattle.std.specs.List.{find, range_with_len}
+use Rattle.std.specs.Option.{option_to_list}
 use Rattle.std.proofs.lemmas.List.{length-map}
 use Rattle.std.proofs.lemmas.List.Elements.{All-nil, All-cons}
 use Rattle.std.proofs.lemmas.List.FromFn.{length-range_with_len, get_or-range_with_len}
 use Rattle.arch_file.specs.declared.arch.Arch.{Arch}
 use Rattle.ble_cluster.specs.Bles.{element_at}
-use Rattle.ble_cluster.specs.Clusters.{cluster_of, elements_at, first_most, fits_in_cluster, grown, input_count_at, may_join, unfit_among, with_member}
+use Rattle.ble_cluster.specs.Clusters.{cluster_of, elements_at, first_most, fits_in_cluster, grown, input_count_at, may_join, unfit_among}
 
 -- a full cluster takes no more
 pub may_join_full : (arch : Arch) (elements : List LogicElement) (members : List ℕ) (number : ℕ) → arch.cluster_size ≤ length members → false ≡ may_join arch elements members number
@@ -61,4 +62,4 @@ no_cluster arch elements = nothing_grows arch elements arch.cluster_size
 pub cluster_is : (arch : Arch) (elements : List LogicElement) (free members cleared : List ℕ) (seed : ℕ) → Some seed ≡ first_most (input_count_at elements) free → cleared ≡ [] → members ≡ cleared ++ seed ∷ [] → grown arch elements free members arch.cluster_size ≡ cluster_of arch elements free
 unfolding cluster_of
 cluster_is arch elements free members cleared seed first nothing is =
-    ap (λ ms. grown arch elements free ms arch.cluster_size) (is ∙ ap (λ ms. ms ++ seed ∷ []) nothing ∙ ap (with_member []) first)
+    ap (λ ms. grown arch elements free ms arch.cluster_size) (is ∙ ap (λ ms. ms ++ seed ∷ []) nothing ∙ ap option_to_list first)

@@ -7,7 +7,8 @@ use Rattle.std.proofs.lemmas.Grind.{get_or-set_at}
 use Rattle.std.proofs.lemmas.List.{get_or_past}
 use Rattle.ble_cluster.specs.declared.first_free.FirstFree.{FirstFree}
 use Rattle.ble_cluster.specs.Choosing.{taken_at}
-use Rattle.ble_cluster.specs.FirstFree.{AreAbove, IsFirstFree, IsFirstWithin, IsKept, IsLowest, key_at}
+use Rattle.ble_cluster.specs.Bles.{LogicElement}
+use Rattle.ble_cluster.specs.FirstFree.{AreAbove, AreByOutside, IsFirstFree, IsFirstWithin, IsKept, IsLowest, key_at}
 
 -- one number more that is taken or above the bound
 pub above_more : (taken : List Bool) (keys : List ℕ) (bound number : ℕ) → AreAbove taken keys bound number → false ≡ (not (taken_at taken number) && nat_le (key_at keys number) bound) → AreAbove taken keys bound (number + 1)
@@ -59,6 +60,10 @@ none_free taken keys count bounds from = λ number small. by number small (taken
     by : (number : ℕ) → number < length keys → (mark : Bool) → taken_at taken number ≡ mark → mark ≡ true
     by number small true e = refl
     by number small false e = let key : key_at keys number < count = bounds number 0 small in absurd (omega (arith, key, from number small e))
+
+-- the BLEs are found as before once a search has gone on
+pub found_on : (bles : List LogicElement) (taken : List Bool) (old new : FirstFree) → AreByOutside bles taken old → new.keys.items ≡ old.keys.items → IsFirstFree taken new → AreByOutside bles taken new
+found_on bles taken old new found keys free = record { few = found.few; taken = found.taken; counts = rw keys found.counts; free = free }
 
 -- what was passed over stays so where more is taken
 pub kept_free : (old new : List Bool) (index : FirstFree) → IsKept old new → IsFirstFree old index → IsFirstFree new index

@@ -15,14 +15,14 @@ use Rattle.std.proofs.lemmas.Grind.{flat_map-append}
 use Rattle.arch_file.specs.declared.arch.Arch.{Arch}
 use Rattle.arch_file.specs.Arch.{input_count}
 use Rattle.ble_cluster.specs.declared.growing_cluster.GrowingCluster.{GrowingCluster}
-use Rattle.ble_cluster.specs.Nets.{IsOnce, distinct, has, with_net, with_nets}
+use Rattle.ble_cluster.specs.Nets.{IsOnce, distinct, has, with_nets}
 use Rattle.ble_cluster.specs.Bles.{LogicElement, element_at}
-use Rattle.ble_cluster.specs.Clusters.{clocks_of, elements_at, fits_in_cluster, inputs_of, nets_of, outputs_of, outside_inputs}
+use Rattle.ble_cluster.specs.Clusters.{clocks_of, elements_at, fits_in_cluster, nets_of, outputs_of, outside_inputs}
 use Rattle.std.proofs.lemmas.List.Elements.{All-append, All-cons, All-from_get_or, All-nil}
-use Rattle.ble_cluster.specs.NetSets.{NetsAmong}
-use Rattle.ble_cluster.specs.OutsideInputs.{gained, loses}
-use Rattle.ble_cluster.specs.SharedNets.{ShareNothing}
-use Rattle.ble_cluster.specs.GrowingCluster.{AreShared, EntersUnless, HaveRoom, IsEntering, IsGrowingCluster, IsTold, MayFit, agree, later_clock, is_new_input, new_inputs_of}
+use Rattle.ble_cluster.specs.NetSets.{NetsAmong, with_net}
+use Rattle.ble_cluster.specs.OutsideInputs.{gained, loses, inputs_of}
+use Rattle.ble_cluster.specs.SharedNets.{HaveRoom, ShareNothing}
+use Rattle.ble_cluster.specs.GrowingCluster.{AreShared, EntersUnless, IsEntering, IsGrowingCluster, IsTold, MayFit, agree, later_clock, is_new_input, new_inputs_of}
 use Rattle.ble_cluster.specs.BleIndex.{AreLawful, BlesOver}
 use Rattle.ble_cluster.specs.FreeBles.{IsElement}
 use Rattle.ble_cluster.proofs.ElementLemmas.{inputs_once, nets_within}

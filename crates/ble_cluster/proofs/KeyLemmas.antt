@@ -35,7 +35,7 @@ lacks_within elements keys most count sum = All-from_get_or (λ key. key ≤ mos
 pub counts_within : (elements : List LogicElement) (keys : List ℕ) (most : ℕ) → HaveAtMost elements most → length keys ≡ length elements → ((number : ℕ) → number < length elements → key_at keys number ≡ length (own_outside (element_at elements number))) → All (λ key. key ≤ most) keys
 counts_within elements keys most few count counted = All-from_get_or (λ key. key ≤ most) keys 0 (λ number small.
     let inside : number < length elements = omega (arith, small, count) in
-    omega (arith, counted number inside, outside_few (element_at elements number), few number inside))
+    omega (arith, counted number inside, outside_few (element_at elements number), few.each number inside))
 
 pub are_lacks : (elements : List LogicElement) (keys : List ℕ) (most : ℕ) → length keys ≡ length elements → ((number : ℕ) → number < length elements → key_at keys number + input_count_at elements number ≡ most) → AreLacks elements keys
 are_lacks elements keys most count sum = record { most = most; count = count; sum = sum }

@@ -7,7 +7,8 @@ use Rattle.std.proofs.lemmas.Option.{get_or_from_slice_get}
 use Rattle.blif.specs.declared.circuit.Circuit.{Circuit}
 use Rattle.blif.specs.declared.latches.Latch.{Latch}
 use Rattle.blif.specs.LookupTables.{LookupTable}
-use Rattle.ble_cluster.specs.Bles.{LogicElement, element_of_latch, element_of_table, in_line_order, is_above, latch_behind}
+use Rattle.ble_cluster.specs.Bles.{LogicElement, element_of_latch, element_of_table, in_line_order, latch_behind}
+use Rattle.ble_cluster.specs.LineOrder.{is_above}
 
 -- the list from the element at that place on
 pub drop_place : {X : Type 0} (xs : List X) (i : ℕ) (x : X) → i < length xs → slice_get xs i ≡ Some x → drop i xs ≡ x ∷ drop (i + 1) xs

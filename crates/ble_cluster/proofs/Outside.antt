@@ -8,10 +8,11 @@ use Rattle.std.proofs.lemmas.Bool.{eqb-true}
 use Rattle.std.proofs.lemmas.Bool.Decides.{nat_tests}
 use Rattle.std.proofs.lemmas.List.Elements.{filter-append}
 use Rattle.std.proofs.lemmas.List.Folds.{list_any-append}
-use Rattle.ble_cluster.specs.Nets.{IsOnce, distinct, has, with_net, with_nets}
+use Rattle.ble_cluster.specs.Nets.{IsOnce, distinct, has, with_nets}
+use Rattle.ble_cluster.specs.NetSets.{with_net}
 use Rattle.ble_cluster.specs.Bles.{LogicElement}
-use Rattle.ble_cluster.specs.OutsideInputs.{gained, loses}
-use Rattle.ble_cluster.specs.Clusters.{inputs_of, nets_of, outputs_of, outside_inputs}
+use Rattle.ble_cluster.specs.OutsideInputs.{gained, loses, inputs_of}
+use Rattle.ble_cluster.specs.Clusters.{nets_of, outputs_of, outside_inputs}
 
 pub has-append : (xs ys : List ℕ) (net : ℕ) → has (xs ++ ys) net ≡ (has xs net || has ys net)
 has-append xs ys net = list_any-append (λ other. other == net) xs ys

@@ -8,11 +8,11 @@ use Rattle.ble_cluster.specs.declared.growing_cluster.GrowingCluster.{GrowingClu
 use Rattle.ble_cluster.specs.Nets.{IsOnce, has}
 use Rattle.ble_cluster.specs.Bles.{LogicElement, element_at}
 use Rattle.ble_cluster.specs.Choosing.{IsBest, SharesNet, is_candidate, taken_at}
-use Rattle.ble_cluster.specs.Clusters.{elements_at, fits_in_cluster, inputs_of, may_join, nets_of, outputs_of, outside_inputs}
+use Rattle.ble_cluster.specs.Clusters.{elements_at, fits_in_cluster, may_join, nets_of, outputs_of, outside_inputs}
 use Rattle.ble_cluster.specs.SharedNets.{gain_at}
 use Rattle.ble_cluster.specs.BleIndex.{AreLawful, BlesOver}
 use Rattle.ble_cluster.specs.FirstFree.{AreAbove, AreOutsideCounts, own_outside}
-use Rattle.ble_cluster.specs.OutsideInputs.{gained, loses}
+use Rattle.ble_cluster.specs.OutsideInputs.{gained, loses, inputs_of}
 use Rattle.ble_cluster.specs.FreeBles.{IsElement}
 use Rattle.ble_cluster.specs.GrowingCluster.{IsGrowingCluster}
 use Rattle.ble_cluster.proofs.ElementLemmas.{inputs_once}

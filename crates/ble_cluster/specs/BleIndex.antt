@@ -12,9 +12,10 @@ pub record BlesOver : Type 0 where
   pub elements : List LogicElement
   pub nets : ℕ
 
--- the BLEs are lawful, and over few nets
+-- the BLEs are few and lawful, and over few nets
 pub record AreLawful (over : BlesOver) : Type 0 where
   pub few : over.nets ≤ 8192
+  pub count : length over.elements ≤ 8192
   pub lawful : All (IsElement over.nets) over.elements
 
 -- the BLEs that have the net, each once
@@ -30,6 +31,7 @@ row_at rows net = slice_index_or rows net []
 -- the BLEs are lawful, and the rows hold for each net those that have it
 pub record AreElements (elements : List LogicElement) (rows : List (List ℕ)) : Type 0 where
   pub few : length rows ≤ 8192
+  pub count : length elements ≤ 8192
   pub lawful : All (IsElement (length rows)) elements
   pub having : (net : ℕ) → net < length rows → AreHaving elements net (row_at rows net)
 

@@ -38,17 +38,13 @@ element_of_latch latch = record { inputs = latch.input ∷ []; output = latch.ou
 abbrev pub stands_alone : Circuit → Latch → Bool
 stands_alone circuit latch = not (is_read_once circuit latch.input && list_any (λ table. table.output == latch.input) circuit.tables)
 
--- the latch stands above the line
-abbrev pub is_above : ℕ → Latch → Bool
-is_above line latch = nat_lt latch.line line
-
 -- tables with the latches behind them, and latches alone, each table below the latches of earlier lines
 abbrev pub in_line_order : Circuit → List LookupTable → List Latch → List LogicElement
 in_line_order circuit [] latches = map element_of_latch latches
 in_line_order circuit (table ∷ tables) latches =
-    map element_of_latch (take_while (is_above table.line) latches)
+    map element_of_latch (take_while (λ latch. nat_lt latch.line table.line) latches)
     ++ element_of_table table (latch_behind circuit table.output)
-    ∷ in_line_order circuit tables (drop (prefix_len (is_above table.line) latches) latches)
+    ∷ in_line_order circuit tables (drop (prefix_len (λ latch. nat_lt latch.line table.line) latches) latches)
 
 -- the BLEs of a circuit, numbered from 0 in the order of their lines
 unfoldable pub bles_of : Circuit → List LogicElement

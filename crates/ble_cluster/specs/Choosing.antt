@@ -1,5 +1,6 @@
 -- Private: what is added to a cluster next.
 use Rattle.std.specs.Prelude.{ℕ, ◌≡◌, ◌<◌, ◌≤◌, ◌⊎◌, Bool, true, false, not, ◌&&◌, ◌||◌, ◌==◌, nat_lt, List, Option, None, Some, length, slice_index_or}
+use Rattle.std.specs.Option.{ForSome}
 use Rattle.arch_file.specs.declared.arch.Arch.{Arch}
 use Rattle.ble_cluster.specs.Bles.{LogicElement}
 use Rattle.ble_cluster.specs.Clusters.{may_join}
@@ -21,6 +22,11 @@ LeadsOver score number other = (score other < score number) ⊎ ((score other �
 abbrev pub beats : List ℕ → ℕ → Option ℕ → Bool
 beats gains number None = true
 beats gains number (Some best) = nat_lt (gain_at gains best) (gain_at gains number) || (gain_at gains number == gain_at gains best && nat_lt number best)
+
+-- the number of a BLE, and that of the best so far, if there is one
+pub record AreNumbers (count number : ℕ) (best : Option ℕ) : Type 0 where
+  pub small : number < count
+  pub best_small : ForSome best (λ other. other < count)
 
 -- a candidate that leads over all others among these
 pub record IsLeader (arch : Arch) (elements : List LogicElement) (taken : List Bool) (members gains : List ℕ) (Among : ℕ → Type 0) (best : ℕ) : Type 0 where

@@ -8,10 +8,7 @@ use Rattle.blif.specs.declared.circuit.Circuit.{Circuit}
 use Rattle.ble_cluster.specs.Nets.{has, distinct}
 use Rattle.ble_cluster.specs.Bles.{LogicElement, bles_of, element_at}
 
--- what BLEs read, drive and are clocked by
-abbrev pub inputs_of : List LogicElement → List ℕ
-inputs_of elements = flat_map (λ element. element.inputs) elements
-
+-- what BLEs drive and are clocked by
 abbrev pub outputs_of : List LogicElement → List ℕ
 outputs_of elements = map (λ element. element.output) elements
 
@@ -20,7 +17,7 @@ clocks_of elements = distinct (flat_map (λ element. option_to_list element.cloc
 
 -- the inputs that none of them drives, each once, at its first sight
 abbrev pub outside_inputs : List LogicElement → List ℕ
-outside_inputs elements = filter (λ net. not (has (outputs_of elements) net)) (distinct (inputs_of elements))
+outside_inputs elements = filter (λ net. not (has (outputs_of elements) net)) (distinct (flat_map (λ element. element.inputs) elements))
 
 -- the BLEs fit into one cluster: there are no more of them than places, of their outside inputs than pins, and of their clocks than one
 abbrev pub fits_in_cluster : Arch → List LogicElement → Bool
@@ -70,19 +67,14 @@ may_join arch elements members number = not (has members number) && fits_in_clus
 abbrev pub next_member : Arch → List LogicElement → List ℕ → List ℕ → Option ℕ
 next_member arch elements free members = first_most (shared_nets elements members) (filter (may_join arch elements members) free)
 
--- the members, and one more where there is one to add
-abbrev pub with_member : List ℕ → Option ℕ → List ℕ
-with_member members None = members
-with_member members (Some number) = members ++ number ∷ []
-
--- the members after so many additions
+-- the members after so many additions, of which each adds one where there is one to add
 abbrev pub grown : Arch → List LogicElement → List ℕ → List ℕ → ℕ → List ℕ
 grown arch elements free seed zero = seed
-grown arch elements free seed (suc additions) = with_member (grown arch elements free seed additions) (next_member arch elements free (grown arch elements free seed additions))
+grown arch elements free seed (suc additions) = grown arch elements free seed additions ++ option_to_list (next_member arch elements free (grown arch elements free seed additions))
 
 -- the seed: the free BLE with most inputs, the least number deciding
 abbrev pub seed_of : List LogicElement → List ℕ → List ℕ
-seed_of elements free = with_member [] (first_most (input_count_at elements) free)
+seed_of elements free = option_to_list (first_most (input_count_at elements) free)
 
 -- the cluster made of free BLEs
 unfoldable pub cluster_of : Arch → List LogicElement → List ℕ → List ℕ

@@ -13,6 +13,11 @@ key_at keys number = slice_index_or keys number 0
 abbrev pub AreAbove : List Bool → List ℕ → ℕ → ℕ → Type 0
 AreAbove taken keys bound end = (number : ℕ) → number < end → taken_at taken number ≡ false → bound < key_at keys number
 
+-- the numbers have marks, and those below the end were passed over
+pub record ArePassed (taken : List Bool) (keys : List ℕ) (bound end : ℕ) : Type 0 where
+  pub marks : length taken ≡ length keys
+  pub before : AreAbove taken keys bound end
+
 -- the least free number whose key is within the bound
 pub record IsLeastWithin (taken : List Bool) (keys : List ℕ) (bound number : ℕ) : Type 0 where
   pub small : number < length keys
@@ -43,9 +48,15 @@ pub record IsFirstFree (taken : List Bool) (index : FirstFree) : Type 0 where
   pub bounds : All (λ key. key < length index.firsts.items) index.keys.items
   pub passed : (bound : ℕ) → bound < length index.firsts.items → AreAbove taken index.keys.items bound (slice_index_or index.firsts.items bound 0)
 
--- no BLE has more inputs
-abbrev pub HaveAtMost : List LogicElement → ℕ → Type 0
-HaveAtMost elements most = (number : ℕ) → number < length elements → input_count_at elements number ≤ most
+-- no key is greater, and the greatest is small
+pub record AreKeysUpTo (keys : List ℕ) (most : ℕ) : Type 0 where
+  pub each : All (λ key. key ≤ most) keys
+  pub few : most ≤ 8192
+
+-- no BLE has more inputs, and they are few
+pub record HaveAtMost (elements : List LogicElement) (most : ℕ) : Type 0 where
+  pub each : (number : ℕ) → number < length elements → input_count_at elements number ≤ most
+  pub few : most ≤ 8192
 
 -- each key is what the BLE's inputs lack of the most
 pub record AreLacks (elements : List LogicElement) (keys : List ℕ) : Type 0 where
@@ -61,6 +72,24 @@ own_outside element = filter (λ net. not (net == element.output)) element.input
 pub record AreOutsideCounts (elements : List LogicElement) (keys : List ℕ) : Type 0 where
   pub count : length keys ≡ length elements
   pub counted : (number : ℕ) → number < length elements → key_at keys number ≡ length (own_outside (element_at elements number))
+
+-- what is free among few BLEs is found by how many nets they read from outside
+pub record AreByOutside (bles : List LogicElement) (marks : List Bool) (index : FirstFree) : Type 0 where
+  pub few : length bles ≤ 8192
+  pub taken : length marks ≡ length bles
+  pub counts : AreOutsideCounts bles index.keys.items
+  pub free : IsFirstFree marks index
+
+-- whichever of so many numbers are taken, none that is free was passed over
+abbrev pub IsFirstOf : ℕ → FirstFree → Type 0
+IsFirstOf count index = (taken : List Bool) → length taken ≡ count → IsFirstFree taken index
+
+-- whatever is taken, the BLEs are found by how many inputs they lack of the most, and by how many nets they read from outside
+pub record AreFound (bles : List LogicElement) (lacking reading : FirstFree) : Type 0 where
+  pub lacks : AreLacks bles lacking.keys.items
+  pub outside : AreOutsideCounts bles reading.keys.items
+  pub by_lack : IsFirstOf (length bles) lacking
+  pub by_outside : IsFirstOf (length bles) reading
 
 -- what is taken stays so
 pub record IsKept (old new : List Bool) : Type 0 where

@@ -1,14 +1,27 @@
 -- BLEs that are free, and the members of a cluster of these.
-use Rattle.std.specs.Prelude.{ℕ, ◌≡◌, ◌<◌, Bool, true, not, List, All, filter, length, slice_index_or}
+use Rattle.std.specs.Prelude.{ℕ, ◌≡◌, ◌<◌, ◌≤◌, Bool, true, not, List, All, None, filter, length, slice_index_or}
 use Rattle.std.specs.List.{range_with_len}
+use Rattle.arch_file.specs.declared.arch.Arch.{Arch}
+use Rattle.arch_file.specs.Arch.{IsArch}
 use Rattle.ble_cluster.specs.Nets.{distinct}
 use Rattle.ble_cluster.specs.Bles.{LogicElement}
+use Rattle.ble_cluster.specs.Clusters.{unfit_among}
 
 -- the nets of the BLE are below the count, and each of its inputs stands once
 pub record IsElement (count : ℕ) (element : LogicElement) : Type 0 where
   pub inputs : All (λ net. net < count) element.inputs
   pub output : element.output < count
   pub once : distinct element.inputs ≡ element.inputs
+
+-- few BLEs, whose nets are below the count
+pub record AreBles (count : ℕ) (bles : List LogicElement) : Type 0 where
+  pub few : length bles ≤ 8192
+  pub elements : All (IsElement count) bles
+
+-- each BLE fits alone into a cluster of a lawful architecture
+pub record AllFit (arch : Arch) (elements : List LogicElement) : Type 0 where
+  pub lawful : IsArch arch
+  pub alone : unfit_among arch elements ≡ None
 
 -- the numbers that are not marked as taken
 abbrev pub free_in : List Bool → List ℕ

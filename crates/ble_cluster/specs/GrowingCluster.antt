@@ -1,5 +1,5 @@
 -- Private: a cluster under way.
-use Rattle.std.specs.Prelude.{ℕ, ◌≡◌, ◌<◌, ◌≤◌, Bool, true, false, not, ◌||◌, ◌^◌, ◌-◌, ◌&&◌, ◌==◌, List, ◌++◌, All, filter, length, Option, Some, None}
+use Rattle.std.specs.Prelude.{ℕ, ◌≡◌, ◌<◌, ◌≤◌, Bool, true, false, not, ◌||◌, ◌&&◌, ◌==◌, List, [], ◌∷◌, ◌++◌, All, filter, length, Option, Some, None}
 use Rattle.std.specs.List.{flat_map}
 use Rattle.std.specs.Option.{option_to_list}
 use Rattle.arch_file.specs.declared.arch.Arch.{Arch}
@@ -8,7 +8,8 @@ use Rattle.ble_cluster.specs.declared.first_free.FirstFree.{FirstFree}
 use Rattle.ble_cluster.specs.declared.growing_cluster.GrowingCluster.{GrowingCluster}
 use Rattle.ble_cluster.specs.Nets.{distinct, has}
 use Rattle.ble_cluster.specs.Bles.{LogicElement, element_at}
-use Rattle.ble_cluster.specs.Clusters.{clocks_of, elements_at, first_most, fits_in_cluster, input_count_at, inputs_of, nets_of, outputs_of, outside_inputs}
+use Rattle.ble_cluster.specs.Clusters.{clocks_of, elements_at, first_most, fits_in_cluster, input_count_at, nets_of, outputs_of, outside_inputs}
+use Rattle.ble_cluster.specs.OutsideInputs.{inputs_of}
 use Rattle.ble_cluster.specs.SharedNets.{AreRaised, gain_at}
 use Rattle.ble_cluster.specs.BleIndex.{AreHaving, BlesOver}
 use Rattle.ble_cluster.specs.FirstFree.{AreLacks, AreOutsideCounts, IsFirstFree}
@@ -50,10 +51,6 @@ agree None other = true
 agree (Some clock) None = true
 agree (Some clock) (Some other) = clock == other
 
--- each count may rise
-abbrev pub HaveRoom : List ℕ → Type 0
-HaveRoom gains = All (λ gain. gain < 2 ^ 32 - 1) gains
-
 -- each BLE that has the net shares one net more
 pub record IsEntering (elements : List LogicElement) (net : ℕ) (old new : List ℕ) : Type 0 where
   pub row : List ℕ
@@ -72,11 +69,34 @@ IsEntered over old net gains = EntersUnless (has old.reads.nets net || has old.d
 abbrev pub IsTold : List LogicElement → GrowingCluster → Type 0
 IsTold elements growth = AreShared elements (growth.reads.nets ++ growth.drives.nets) growth.gains
 
+-- the BLE of that number is one of those of the cluster under way
+pub record IsBeside (over : BlesOver) (cluster : GrowingCluster) (one : ℕ) : Type 0 where
+  pub growth : IsGrowingCluster over.elements over.nets cluster
+  pub number : one < length over.elements
+
+-- the net may enter the cluster, whose counts are those of its nets
+pub record MayEnter (over : BlesOver) (cluster : GrowingCluster) (net : ℕ) : Type 0 where
+  pub within : net < over.nets
+  pub room : IsRoomFor over cluster
+  pub told : IsTold over.elements cluster
+
+-- the same of each of the nets
+pub record MayAllEnter (over : BlesOver) (cluster : GrowingCluster) (nets : List ℕ) : Type 0 where
+  pub within : All (λ net. net < over.nets) nets
+  pub room : IsRoomFor over cluster
+  pub told : IsTold over.elements cluster
+
 -- some architecture has place for the BLEs in a cluster
 pub record MayFit (elements : List LogicElement) : Type 0 where
   pub arch : Arch
   pub lawful : IsArch arch
   pub fits : fits_in_cluster arch elements ≡ true
+
+-- the BLE of that number may be added to the cluster under way
+pub record MayAdd (over : BlesOver) (cluster : GrowingCluster) (one : ℕ) : Type 0 where
+  pub growth : IsGrowingCluster over.elements over.nets cluster
+  pub number : one < length over.elements
+  pub fits : MayFit (elements_at over.elements (cluster.members.items ++ one ∷ []))
 
 -- the clock once that of one more member is known
 abbrev pub later_clock : Option ℕ → Option ℕ → Option ℕ

@@ -2,6 +2,7 @@ pub mod Nets
 pub mod Bles
 pub mod Clusters
 pub mod FlatBles
+pub mod LineOrder
 pub mod Reads
 pub mod CircuitReaders
 pub mod NetSets
@@ -12,3 +13,4 @@ pub mod BleIndex
 pub mod GrowingCluster
 pub mod Choosing
 pub mod FirstFree
+pub mod Taking

@@ -1,6 +1,10 @@
 -- Sets of nets.
-use Rattle.std.specs.Prelude.{ℕ, ◌≡◌, ◌<◌, Bool, false, List, All, length, slice_index_or}
+use Rattle.std.specs.Prelude.{ℕ, ◌≡◌, ◌<◌, Bool, false, List, [], ◌∷◌, ◌++◌, All, length, slice_index_or, if◌then◌else◌}
 use Rattle.ble_cluster.specs.Nets.{has}
+
+-- the nets, and last the net where it is new
+abbrev pub with_net : List ℕ → ℕ → List ℕ
+with_net nets net = if has nets net then nets else nets ++ net ∷ []
 
 -- nets, each once, among so many
 pub record NetsAmong : Type 0 where

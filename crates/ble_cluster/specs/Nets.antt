@@ -6,14 +6,10 @@ use Rattle.std.specs.List.{list_any}
 abbrev pub has : List ℕ → ℕ → Bool
 has nets net = list_any (λ other. other == net) nets
 
--- the nets, and last the net where it is new
-abbrev pub with_net : List ℕ → ℕ → List ℕ
-with_net nets net = if has nets net then nets else nets ++ net ∷ []
-
 -- the nets, and then each of the others at its first sight
 abbrev pub with_nets : List ℕ → List ℕ → List ℕ
 with_nets nets [] = nets
-with_nets nets (net ∷ others) = with_nets (with_net nets net) others
+with_nets nets (net ∷ others) = with_nets (if has nets net then nets else nets ++ net ∷ []) others
 
 -- each of the nets once, at its first sight
 abbrev pub distinct : List ℕ → List ℕ

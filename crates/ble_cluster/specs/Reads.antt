@@ -1,7 +1,9 @@
 -- Private: what a table of nets says of a circuit.
 use Rattle.std.specs.Prelude.{ℕ, ◌≡◌, ◌<◌, Bool, List, ◌++◌, min, count_by, find, length, slice_index, slice_get, Option, Some, ◌==◌}
 use Rattle.std.specs.List.{list_any}
+use Rattle.blif.specs.declared.circuit.Circuit.{Circuit}
 use Rattle.blif.specs.declared.latches.Latch.{Latch}
+use Rattle.blif.specs.LawfulCircuits.{IsCircuit}
 use Rattle.blif.specs.LookupTables.{LookupTable}
 
 -- how often each net is read: by number of times, as far as they can be counted
@@ -15,6 +17,11 @@ AreLatches latches behind = (net : ℕ) → net < length behind → slice_get be
 -- whether a table drives the net
 abbrev pub AreDriven : List LookupTable → List Bool → Type 0
 AreDriven tables driven = (net : ℕ) → net < length driven → slice_get driven net ≡ Some (list_any (λ table. table.output == net) tables)
+
+-- there is a count for each net of the lawful circuit
+pub record HasCounts (circuit : Circuit) (counts : List ℕ) : Type 0 where
+  pub lawful : IsCircuit circuit
+  pub long : length counts ≡ length circuit.nets
 
 -- the new counts count these reads on from the old ones
 abbrev pub CountsOn : List ℕ → List ℕ → List ℕ → Type 0

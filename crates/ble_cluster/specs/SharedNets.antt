@@ -1,6 +1,6 @@
 -- Private: how many nets each BLE shares with the cluster under way.
-use Rattle.std.specs.Prelude.{ℕ, ◌≡◌, ◌+◌, ◌<◌, List, All, nat_lt, length, slice_index_or, if◌then◌else◌}
-use Rattle.ble_cluster.specs.Nets.{has}
+use Rattle.std.specs.Prelude.{ℕ, ◌≡◌, ◌+◌, ◌-◌, ◌^◌, ◌<◌, List, All, nat_lt, length, slice_index_or, if◌then◌else◌}
+use Rattle.ble_cluster.specs.Nets.{IsOnce, has}
 
 -- what the BLE of that number shares
 abbrev pub gain_at : List ℕ → ℕ → ℕ
@@ -13,6 +13,21 @@ ShareNothing gains = (number : ℕ) → number < length gains → gain_at gains 
 -- one more for each of these BLEs, no two of which are the same
 abbrev pub is_raised : List ℕ → ℕ → ℕ
 is_raised numbers number = if has numbers number then 1 else 0
+
+-- each count may rise
+abbrev pub HaveRoom : List ℕ → Type 0
+HaveRoom gains = All (λ gain. gain < 2 ^ 32 - 1) gains
+
+-- the counts of these BLEs, no two of which are the same, may rise by one
+pub record MayRise (gains numbers : List ℕ) : Type 0 where
+  pub within : All (λ number. number < length gains) numbers
+  pub once : IsOnce numbers
+  pub room : HaveRoom gains
+
+-- the count of the BLE may rise by one
+pub record MayRiseAt (gains : List ℕ) (number : ℕ) : Type 0 where
+  pub within : number < length gains
+  pub room : gain_at gains number < 2 ^ 32 - 1
 
 -- the touched BLEs are those that share a net
 pub record AreTouched (gains touched : List ℕ) : Type 0 where

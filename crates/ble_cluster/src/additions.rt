@@ -1,9 +1,9 @@
 //! How a cluster grows from its seed.
-ghost use Rattle.std.specs.Prelude.{◌≡◌, ◌<◌, ◌≤◌, All, length, IfOk, None};
+ghost use Rattle.std.specs.Prelude.{◌≡◌, ◌<◌, All, length, IfOk};
 ghost use Rattle.arch_file.specs.Arch.{IsArch};
-ghost use Rattle.ble_cluster.specs.Clusters.{cluster_of, first_most, grown, input_count_at, unfit_among};
-ghost use Rattle.ble_cluster.specs.FirstFree.{AreOutsideCounts, IsFirstFree};
-ghost use Rattle.ble_cluster.specs.FreeBles.{free_in};
+ghost use Rattle.ble_cluster.specs.Clusters.{cluster_of, first_most, grown, input_count_at};
+ghost use Rattle.ble_cluster.specs.FirstFree.{AreByOutside, IsFirstFree};
+ghost use Rattle.ble_cluster.specs.FreeBles.{AllFit, free_in};
 ghost use Rattle.ble_cluster.specs.GrowingCluster.{IsGrowingCluster, IsRoomFor};
 
 use crate::ble_index::BleIndex;
@@ -25,12 +25,12 @@ impl GrowingCluster {
     ) -> Result<(), AllocError>
         requires arch { IsArch arch.now }
         requires growth { IsGrowingCluster elements.now.elements elements.now.nets self.old }
-        requires taken { length is_taken.now ≡ length elements.now.elements }
-        requires few { length elements.now.elements ≤ 8192 }
-        requires counts { AreOutsideCounts elements.now.elements by_outside.old.keys.items }
-        requires free { IsFirstFree is_taken.now by_outside.old }
-        ensures members { IfOk result (λ _. self.new.members.items ≡ grown arch.now elements.now.elements (free_in is_taken.now) self.old.members.items arch.now.cluster_size) }
-        ensures within { All (λ number. number < length elements.now.elements) self.new.members.items }
+        requires by_outside { AreByOutside elements.now.elements is_taken.now by_outside.old }
+        ensures members { IfOk result (λ _. self.new.members.items
+            ≡ grown arch.now elements.now.elements (free_in is_taken.now) self.old.members.items
+            arch.now.cluster_size) }
+        ensures within { All (λ number. number < length elements.now.elements)
+            self.new.members.items }
         ensures room { IsRoomFor elements.now self.new }
         ensures keys { by_outside.new.keys.items ≡ by_outside.old.keys.items }
         ensures free { IsFirstFree is_taken.now by_outside.new }
@@ -64,16 +64,15 @@ impl GrowingCluster {
         by_outside: &mut FirstFree,
         seed: Option<usize>,
     ) -> Result<(), AllocError>
-        requires arch { IsArch arch.now }
+        requires fit { AllFit arch.now elements.now.elements }
         requires room { IsRoomFor elements.now self.old }
-        requires taken { length is_taken.now ≡ length elements.now.elements }
-        requires few { length elements.now.elements ≤ 8192 }
-        requires fit { unfit_among arch.now elements.now.elements ≡ None }
-        requires counts { AreOutsideCounts elements.now.elements by_outside.old.keys.items }
-        requires free { IsFirstFree is_taken.now by_outside.old }
-        requires seed { seed ≡ first_most (input_count_at elements.now.elements) (free_in is_taken.now) }
-        ensures members { IfOk result (λ _. self.new.members.items ≡ cluster_of arch.now elements.now.elements (free_in is_taken.now)) }
-        ensures within { All (λ number. number < length elements.now.elements) self.new.members.items }
+        requires by_outside { AreByOutside elements.now.elements is_taken.now by_outside.old }
+        requires seed { seed ≡ first_most (input_count_at elements.now.elements)
+            (free_in is_taken.now) }
+        ensures members { IfOk result (λ _. self.new.members.items
+            ≡ cluster_of arch.now elements.now.elements (free_in is_taken.now)) }
+        ensures within { All (λ number. number < length elements.now.elements)
+            self.new.members.items }
         ensures room { IsRoomFor elements.now self.new }
         ensures keys { by_outside.new.keys.items ≡ by_outside.old.keys.items }
         ensures free { IsFirstFree is_taken.now by_outside.new }

@@ -1,5 +1,5 @@
 //! The BLEs of a circuit, by number and by net.
-ghost use Rattle.std.specs.Prelude.{◌≡◌, ◌<◌, ◌≤◌, ◌++◌, [], ◌∷◌, ℕ, All, length, IfOk, slice_get, Some};
+ghost use Rattle.std.specs.Prelude.{◌≡◌, ◌<◌, ◌≤◌, ◌++◌, [], ◌∷◌, ℕ, length, IfOk, slice_get, Some};
 ghost use Rattle.ble_cluster.specs.Nets.{IsOnce, distinct};
 ghost use Rattle.ble_cluster.specs.BleIndex.{AreHaving, AreLawful, pairs_from};
 ghost use Rattle.rows.specs.ByKey.{pairs_with};
@@ -32,9 +32,7 @@ impl Model for BleIndex {
 impl BleIndex {
     /// These BLEs, over so many nets.
     pub(crate) fn new(alloc: Global, bles: Bles, nets: usize) -> Result<Self, AllocError>
-        requires few { nets ≤ 8192 }
-        requires few_elements { length bles ≤ 8192 }
-        requires lawful { All (IsElement nets) bles }
+        requires { AreLawful (record { elements = bles; nets = nets }) }
         ensures { IfOk result (λ elements. elements ≡ record { elements = bles; nets = nets }) }
     {
         let pairs = nets_with_elements(alloc, &bles)?;
@@ -57,13 +55,26 @@ impl BleIndex {
         self.bles.len()
     }
 
+    /// How many nets they are over.
+    pub(crate) fn nets(&self) -> usize
+        ensures { result ≡ self.now.nets }
+    {
+        self.by_net.len()
+    }
+
     /// The BLE of that number.
     pub(crate) fn ble(&self, number: usize) -> Ble<'_>
         requires { number < length self.now.elements }
-        ensures found { slice_get self.now.elements number ≡ Some (record { inputs = result.inputs.now; output = result.output; clock = result.clock }) }
+        ensures found { slice_get self.now.elements number
+            ≡ Some (record {
+              inputs = result.inputs.now;
+              output = result.output;
+              clock = result.clock;
+            }) }
         ensures few { self.now.nets ≤ 8192 }
         ensures all { AreLawful self.now }
-        ensures lawful { IsElement self.now.nets (record { inputs = result.inputs.now; output = result.output; clock = result.clock }) }
+        ensures lawful { IsElement self.now.nets
+            (record { inputs = result.inputs.now; output = result.output; clock = result.clock }) }
     {
         self.bles.ble(number)
     }
@@ -71,7 +82,8 @@ impl BleIndex {
     /// The BLEs that have the net.
     pub(crate) fn having(&self, net: u32) -> &[u32]
         requires { net < self.now.nets }
-        ensures { AreHaving self.now.elements net result.now }
+        ensures having { AreHaving self.now.elements net result.now }
+        ensures all { AreLawful self.now }
     {
         self.by_net.row(net as usize)
     }
@@ -87,8 +99,7 @@ impl BleIndex {
 
 /// Each BLE's number with each of its nets.
 fn nets_with_elements(alloc: Global, bles: &Bles) -> Result<Vec<Keyed>, AllocError>
-    requires lawful { (nets : ℕ) × All (IsElement nets) bles.now }
-    requires few { length bles.now ≤ 8192 }
+    requires { (nets : ℕ) × AreLawful (record { elements = bles.now; nets = nets }) }
     ensures { IfOk result (λ pairs. pairs.items ≡ pairs_from 0 bles.now) }
 {
     let mut pairs = Vec::new(alloc);
@@ -107,7 +118,8 @@ fn push_nets(
     output: u32,
 ) -> Result<(), AllocError>
     requires { IsOnce inputs.now }
-    ensures { IfOk result (λ _. pairs.new.items ≡ pairs.old.items ++ pairs_with number (distinct (inputs.now ++ output ∷ []))) }
+    ensures { IfOk result (λ _. pairs.new.items
+        ≡ pairs.old.items ++ pairs_with number (distinct (inputs.now ++ output ∷ []))) }
 {
     let mut reads_own = false;
     for net in inputs {

@@ -3,7 +3,8 @@ ghost use Rattle.std.specs.Prelude.{◌≡◌, ◌<◌, ◌≤◌, ◌++◌, [],
 ghost use Rattle.std.specs.List.{take_while};
 ghost use Rattle.blif.specs.LawfulCircuits.{IsCircuit};
 ghost use Rattle.ble_cluster.specs.Nets.{distinct};
-ghost use Rattle.ble_cluster.specs.Bles.{bles_of, element_of_latch, element_of_table, in_line_order, is_above};
+ghost use Rattle.ble_cluster.specs.Bles.{bles_of, element_of_latch, element_of_table, in_line_order};
+ghost use Rattle.ble_cluster.specs.LineOrder.{is_above};
 
 use crate::readers::Readers;
 use blif::{Circuit, Latch, Table};
@@ -90,7 +91,12 @@ impl Bles {
     /// The BLE of that number.
     pub fn ble(&self, number: usize) -> Ble<'_>
         requires { number < length self.now }
-        ensures { slice_get self.now number ≡ Some (record { inputs = result.inputs.now; output = result.output; clock = result.clock }) }
+        ensures { slice_get self.now number
+            ≡ Some (record {
+              inputs = result.inputs.now;
+              output = result.output;
+              clock = result.clock;
+            }) }
     {
         let ble = self.bles[number];
         Ble {
@@ -102,7 +108,9 @@ impl Bles {
 
     /// Adds a BLE that reads these nets, of which each counts once.
     fn push(&mut self, nets: &[u32], output: u32, clock: Option<u32>) -> Result<(), AllocError>
-        ensures { IfOk result (λ _. self.new ≡ self.old ++ record { inputs = distinct nets.now; output = output; clock = clock } ∷ []) }
+        ensures { IfOk result (λ _. self.new
+            ≡ self.old ++ record { inputs = distinct nets.now; output = output; clock = clock }
+            ∷ []) }
     {
         let start = self.inputs.len();
         push_distinct(&mut self.inputs, nets)?;
@@ -115,17 +123,15 @@ impl Bles {
         Ok(())
     }
 
-    /// Adds the BLEs of the circuit to none, in the order of their lines.
+    /// Adds the BLEs of the circuit, in the order of their lines.
     fn push_all(
         &mut self,
         alloc: Global,
         circuit: &Circuit,
         readers: &Readers,
     ) -> Result<(), AllocError>
-        requires circuit { IsCircuit circuit.now }
-        requires readers { AreReaders circuit.now readers.now }
-        requires none { self.old ≡ [] }
-        ensures { IfOk result (λ _. self.new ≡ bles_of circuit.now) }
+        requires { AreReaders circuit.now readers.now }
+        ensures { IfOk result (λ _. self.new ≡ self.old ++ bles_of circuit.now) }
     {
         let latches = readers.lone_latches(alloc, circuit)?;
         let pushed = self.push_in_order(circuit, readers, latches.as_slice());
@@ -140,9 +146,9 @@ impl Bles {
         readers: &Readers,
         latches: &[Latch],
     ) -> Result<(), AllocError>
-        requires circuit { IsCircuit circuit.now }
-        requires readers { AreReaders circuit.now readers.now }
-        ensures { IfOk result (λ _. self.new ≡ self.old ++ in_line_order circuit.now circuit.now.tables latches.now) }
+        requires { AreReaders circuit.now readers.now }
+        ensures { IfOk result (λ _. self.new
+            ≡ self.old ++ in_line_order circuit.now circuit.now.tables latches.now) }
     {
         let mut rest = latches;
         for place in 0..circuit.tables.len() {
@@ -157,7 +163,13 @@ impl Bles {
 
     /// Adds a table with the latch behind it, if there is one.
     fn push_table(&mut self, table: Table<'_>, behind: Option<Latch>) -> Result<(), AllocError>
-        ensures { IfOk result (λ _. self.new ≡ self.old ++ element_of_table (record { line = table.entry.line; inputs = table.entry.inputs.now; output = table.entry.output }) behind ∷ []) }
+        ensures { IfOk result (λ _. self.new
+            ≡ self.old ++ element_of_table
+            (record {
+              line = table.entry.line;
+              inputs = table.entry.inputs.now;
+              output = table.entry.output;
+            }) behind ∷ []) }
     {
         match behind {
             None => self.push(table.inputs, table.output, None),

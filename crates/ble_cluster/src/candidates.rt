@@ -1,10 +1,9 @@
 //! Which BLE a cluster under way takes next.
-ghost use Rattle.std.specs.Prelude.{◌≡◌, ◌<◌, ◌≤◌, ℕ, false, length, ◌&&◌, IfSome, IsTrue, None};
-ghost use Rattle.std.specs.Option.{ForSome};
+ghost use Rattle.std.specs.Prelude.{◌≡◌, ◌<◌, ◌++◌, [], ◌∷◌, length, ◌&&◌, IfSome, IsTrue, None};
 ghost use Rattle.arch_file.specs.Arch.{input_count};
-ghost use Rattle.ble_cluster.specs.Clusters.{may_join, next_member};
-ghost use Rattle.ble_cluster.specs.Choosing.{IsBest, IsFirst, SharesNet, beats, is_candidate};
-ghost use Rattle.ble_cluster.specs.FirstFree.{AreOutsideCounts, IsFirstFree};
+ghost use Rattle.ble_cluster.specs.Clusters.{elements_at, fits_in_cluster, may_join, next_member};
+ghost use Rattle.ble_cluster.specs.Choosing.{AreNumbers, beats};
+ghost use Rattle.ble_cluster.specs.FirstFree.{AreByOutside, IsFirstFree};
 ghost use Rattle.ble_cluster.specs.FreeBles.{free_in};
 ghost use Rattle.ble_cluster.specs.GrowingCluster.{IsGrowingCluster};
 
@@ -29,22 +28,38 @@ pub(crate) struct Candidates<'a> {
 }
 
 impl Candidates<'_> {
+    ghost use Rattle.ble_cluster.specs.Taking.{AreLeft, IsBestSharing, IsFirstTaken, may_take};
+
     /// Whether the BLE is free, and fits with the members.
     fn is_candidate(&self, number: u32) -> bool
-        requires number { number < length self.now.elements.now.elements }
-        ensures { result ≡ is_candidate self.now.arch.now self.now.elements.now.elements self.now.is_taken.now self.now.growth.now.members.items number }
+        requires { number < length self.now.elements.now.elements }
+        ensures { result ≡ may_take self.now number }
     {
         !self.is_taken[number as usize]
             && !self.growth.members.contains(&number)
-            && self
-                .growth
-                .fits_with(self.arch, self.pins, self.elements, number)
+            && self.fits(number)
+    }
+
+    /// Whether the members and the BLE fit into a cluster.
+    fn fits(&self, number: u32) -> bool
+        requires { number < length self.now.elements.now.elements }
+        ensures { result ≡ fits_in_cluster self.now.arch.now
+            (elements_at self.now.elements.now.elements
+            (self.now.growth.now.members.items ++ number ∷ [])) }
+    {
+        if self.growth.members.len() >= self.arch.cluster_size as usize {
+            return false;
+        }
+        let ble = self.elements.ble(number as usize);
+        if !self.growth.agrees_on_clock(ble.clock) {
+            return false;
+        }
+        self.growth.outside_with(self.elements, number) <= self.pins
     }
 
     /// Whether the BLE shares more nets with the members than the best so far, or as many and is lesser.
     fn beats(&self, number: u32, best: Option<u32>) -> bool
-        requires number { number < length self.now.growth.now.gains }
-        requires best { ForSome best (λ other. other < length self.now.growth.now.gains) }
+        requires { AreNumbers (length self.now.growth.now.gains) number best }
         ensures { result ≡ beats self.now.growth.now.gains number best }
     {
         match best {
@@ -59,16 +74,16 @@ impl Candidates<'_> {
 
     /// Whether the BLE is to be taken rather than the best so far.
     fn prefers(&self, number: u32, best: Option<u32>) -> bool
-        requires number { number < length self.now.elements.now.elements }
-        requires best { ForSome best (λ other. other < length self.now.elements.now.elements) }
-        ensures { result ≡ (beats self.now.growth.now.gains number best && is_candidate self.now.arch.now self.now.elements.now.elements self.now.is_taken.now self.now.growth.now.members.items number) }
+        requires { AreNumbers (length self.now.elements.now.elements) number best }
+        ensures { result ≡ (beats self.now.growth.now.gains number best
+            && may_take self.now number) }
     {
         self.beats(number, best) && self.is_candidate(number)
     }
 
     /// Of the BLEs that share a net with the members, the one to take next, if one is free and fits.
     fn best_touched(&self) -> Option<u32>
-        ensures { IsBest self.now.arch.now self.now.elements.now.elements self.now.is_taken.now self.now.growth.now.members.items self.now.growth.now.gains (SharesNet self.now.elements.now.elements self.now.growth.now.gains) result }
+        ensures { IsBestSharing self.now result }
     {
         let mut best = None;
         for number in self.growth.gains.touched() {
@@ -81,9 +96,8 @@ impl Candidates<'_> {
 
     /// The least BLE from the start on that is free and fits.
     fn fitting_from(&self, numbers: Range<u32>) -> Option<u32>
-        requires end { numbers.end ≡ length self.now.elements.now.elements }
-        requires before { (other : ℕ) → other < numbers.start → is_candidate self.now.arch.now self.now.elements.now.elements self.now.is_taken.now self.now.growth.now.members.items other ≡ false }
-        ensures { IsFirst self.now.arch.now self.now.elements.now.elements self.now.is_taken.now self.now.growth.now.members.items result }
+        requires { AreLeft self.now numbers.start numbers.end }
+        ensures { IsFirstTaken self.now result }
     {
         for number in numbers.start..numbers.end {
             if self.is_candidate(number) {
@@ -96,11 +110,10 @@ impl Candidates<'_> {
     /// The least BLE that is free and fits, where none fits that shares a net with the members. What shares none
     /// brings all its outside inputs, so the search begins at the first that has few enough of them.
     fn first_fitting(&self, by_outside: &mut FirstFree) -> Option<u32>
-        requires few { length self.now.elements.now.elements ≤ 8192 }
-        requires counts { AreOutsideCounts self.now.elements.now.elements by_outside.old.keys.items }
-        requires free { IsFirstFree self.now.is_taken.now by_outside.old }
-        requires alone { IsBest self.now.arch.now self.now.elements.now.elements self.now.is_taken.now self.now.growth.now.members.items self.now.growth.now.gains (SharesNet self.now.elements.now.elements self.now.growth.now.gains) None }
-        ensures first { IsFirst self.now.arch.now self.now.elements.now.elements self.now.is_taken.now self.now.growth.now.members.items result }
+        requires by_outside { AreByOutside self.now.elements.now.elements self.now.is_taken.now
+            by_outside.old }
+        requires alone { IsBestSharing self.now None }
+        ensures first { IsFirstTaken self.now result }
         ensures keys { by_outside.new.keys.items ≡ by_outside.old.keys.items }
         ensures free { IsFirstFree self.now.is_taken.now by_outside.new }
     {
@@ -115,11 +128,13 @@ impl Candidates<'_> {
     /// The BLE to take next: of those that are free and fit the one that shares most nets with the members, the
     /// least number deciding.
     pub(crate) fn next_member(&self, by_outside: &mut FirstFree) -> Option<u32>
-        requires few { length self.now.elements.now.elements ≤ 8192 }
-        requires counts { AreOutsideCounts self.now.elements.now.elements by_outside.old.keys.items }
-        requires free { IsFirstFree self.now.is_taken.now by_outside.old }
-        ensures next { result ≡ next_member self.now.arch.now self.now.elements.now.elements (free_in self.now.is_taken.now) self.now.growth.now.members.items }
-        ensures joins { IfSome result (λ number. (number < length self.now.elements.now.elements) × IsTrue (may_join self.now.arch.now self.now.elements.now.elements self.now.growth.now.members.items number)) }
+        requires { AreByOutside self.now.elements.now.elements self.now.is_taken.now
+            by_outside.old }
+        ensures next { result ≡ next_member self.now.arch.now self.now.elements.now.elements
+            (free_in self.now.is_taken.now) self.now.growth.now.members.items }
+        ensures joins { IfSome result (λ number. (number < length self.now.elements.now.elements)
+            × IsTrue (may_join self.now.arch.now self.now.elements.now.elements
+            self.now.growth.now.members.items number)) }
         ensures keys { by_outside.new.keys.items ≡ by_outside.old.keys.items }
         ensures free { IsFirstFree self.now.is_taken.now by_outside.new }
     {

@@ -1,7 +1,7 @@
 //! The least free number within a bound.
-ghost use Rattle.std.specs.Prelude.{◌≡◌, ◌<◌, ◌≤◌, ◌&&◌, List, Bool, All, length, nat_le, not, IfOk};
+ghost use Rattle.std.specs.Prelude.{◌≡◌, ◌<◌, ◌&&◌, length, min, nat_le, not, IfOk};
 ghost use Rattle.ble_cluster.specs.Choosing.{taken_at};
-ghost use Rattle.ble_cluster.specs.FirstFree.{AreAbove, IsFirstFree, IsFirstWithin, IsLowest, key_at};
+ghost use Rattle.ble_cluster.specs.FirstFree.{AreKeysUpTo, ArePassed, IsFirstFree, IsFirstOf, IsFirstWithin, IsLowest, key_at};
 
 use std::alloc::{AllocError, Global};
 
@@ -17,10 +17,9 @@ pub(crate) struct FirstFree {
 impl FirstFree {
     /// Numbers with these keys, of which none is greater than that.
     pub(crate) fn new(alloc: Global, keys: Vec<usize>, most: usize) -> Result<Self, AllocError>
-        requires keys { All (λ key. key ≤ most) keys.items }
-        requires few { most ≤ 8192 }
+        requires { AreKeysUpTo keys.items most }
         ensures keys { IfOk result (λ index. index.keys.items ≡ keys.items) }
-        ensures lawful { IfOk result (λ index. (taken : List Bool) → length taken ≡ length keys.items → IsFirstFree taken index) }
+        ensures lawful { IfOk result (IsFirstOf (length keys.items)) }
     {
         let firsts = Vec::from_elem(alloc, 0, most + 1)?;
         Ok(FirstFree { keys, firsts })
@@ -28,17 +27,16 @@ impl FirstFree {
 
     /// Whether the number is free, and its key within the bound.
     fn is_within(&self, taken: &[bool], bound: usize, number: usize) -> bool
-        requires marks { length taken.now ≡ length self.now.keys.items }
-        requires number { number < length self.now.keys.items }
-        ensures { result ≡ (not (taken_at taken.now number) && nat_le (key_at self.now.keys.items number) bound) }
+        requires { number < min (length taken.now) (length self.now.keys.items) }
+        ensures { result ≡ (not (taken_at taken.now number)
+            && nat_le (key_at self.now.keys.items number) bound) }
     {
         !taken[number] && self.keys[number] <= bound
     }
 
     /// The least free number from the start on whose key is within the bound.
     fn first_from(&self, taken: &[bool], bound: usize, start: usize) -> Option<usize>
-        requires marks { length taken.now ≡ length self.now.keys.items }
-        requires before { AreAbove taken.now self.now.keys.items bound start }
+        requires { ArePassed taken.now self.now.keys.items bound start }
         ensures { IsFirstWithin taken.now self.now.keys.items bound result }
     {
         for number in start..self.keys.len() {

@@ -1,8 +1,8 @@
 //! Which BLEs fit into a cluster alone.
-ghost use Rattle.std.specs.Prelude.{◌≡◌, ◌≤◌, All, length};
+ghost use Rattle.std.specs.Prelude.{◌≡◌};
 ghost use Rattle.arch_file.specs.Arch.{IsArch};
 ghost use Rattle.ble_cluster.specs.Clusters.{unfit_among};
-ghost use Rattle.ble_cluster.specs.FreeBles.{IsElement};
+ghost use Rattle.ble_cluster.specs.FreeBles.{AreBles};
 
 use crate::bles::Bles;
 use crate::keys::outside_inputs;
@@ -11,8 +11,7 @@ use arch_file::Arch;
 
 /// The least BLE that doesn't fit into a cluster alone. Their nets are below the count.
 pub fn unfit(bles: &Bles, count: usize, arch: &Arch) -> Option<u32>
-    requires elements { All (IsElement count) bles.now }
-    requires few { length bles.now ≤ 8192 }
+    requires bles { AreBles count bles.now }
     requires arch { IsArch arch.now }
     ensures { result ≡ unfit_among arch.now bles.now }
 {

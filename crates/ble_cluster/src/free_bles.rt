@@ -1,11 +1,11 @@
 //! One cluster of free BLEs after another.
-ghost use Rattle.std.specs.Prelude.{◌≡◌, ◌<◌, ◌≤◌, List, Bool, [], All, length, filter, not, None, IfOk, IsTrue, ◌↔◌, false, replicate};
+ghost use Rattle.std.specs.Prelude.{◌≡◌, ◌<◌, [], All, length, filter, not, IfOk, IsTrue, ◌↔◌, false, replicate};
 ghost use Rattle.std.specs.List.{range_with_len};
-ghost use Rattle.arch_file.specs.Arch.{IsArch};
 ghost use Rattle.ble_cluster.specs.Nets.{has};
-ghost use Rattle.ble_cluster.specs.Clusters.{cluster_of, unfit_among};
-ghost use Rattle.ble_cluster.specs.FirstFree.{AreLacks, AreOutsideCounts, HaveAtMost, IsFirstFree, IsKept};
-ghost use Rattle.ble_cluster.specs.FreeBles.{IsElement, free_in};
+ghost use Rattle.ble_cluster.specs.Clusters.{cluster_of};
+ghost use Rattle.ble_cluster.specs.FirstFree.{AreFound, AreLacks, AreOutsideCounts, HaveAtMost, IsFirstOf, IsKept};
+ghost use Rattle.ble_cluster.specs.BleIndex.{AreLawful};
+ghost use Rattle.ble_cluster.specs.FreeBles.{AllFit, free_in};
 
 use crate::ble_index::BleIndex;
 use crate::bles::Bles;
@@ -38,21 +38,25 @@ impl Model for FreeBles {
 
     ghost view = { λ g. record { elements = g.elements.elements; free = free_in g.taken.items; members = g.growth.members.items } };
 
-    ghost invariant = { λ g. AreFreeBles g.elements g.taken.items g.growth × IsSeeded g.elements.elements g.taken.items g.by_lack g.by_outside g.seed };
+    ghost invariant = { λ g. AreFreeBles g.elements g.taken.items g.growth
+        × IsSeeded g.elements.elements g.taken.items g.by_lack g.by_outside g.seed };
 }
 
 impl FreeBles {
     /// These BLEs, all free, whose nets are below the count.
     pub fn new(alloc: Global, bles: Bles, count: usize) -> Result<Self, AllocError>
-        requires elements { All (IsElement count) bles }
-        requires few { length bles ≤ 8192 }
-        requires few_nets { count ≤ 8192 }
-        ensures { IfOk result (λ grower. grower ≡ record { elements = bles; free = range_with_len 0 (length bles); members = [] }) }
+        requires { AreLawful (record { elements = bles; nets = count }) }
+        ensures { IfOk result (λ grower.
+            grower ≡ record {
+              elements = bles;
+              free = range_with_len 0 (length bles);
+              members = [];
+            }) }
     {
         let elements = BleIndex::new(alloc, bles, count)?;
         match by_keys(alloc, elements.bles(), count) {
             Ok((by_lack, by_outside)) => {
-                FreeBles::all_free(alloc, elements, by_lack, by_outside, count)
+                FreeBles::all_free(alloc, elements, by_lack, by_outside)
             }
             Err(error) => {
                 drop(elements);
@@ -61,23 +65,22 @@ impl FreeBles {
         }
     }
 
-    /// BLEs over so many nets, all free, with where those begin.
+    /// BLEs, all free, with where those begin.
     fn all_free(
         alloc: Global,
         elements: BleIndex,
         mut by_lack: FirstFree,
         by_outside: FirstFree,
-        count: usize,
     ) -> Result<Self, AllocError>
-        requires nets { elements.nets ≡ count }
-        requires few { length elements.elements ≤ 8192 }
-        requires lacks { AreLacks elements.elements by_lack.keys.items }
-        requires outside { AreOutsideCounts elements.elements by_outside.keys.items }
-        requires by_lack { (taken : List Bool) → length taken ≡ length elements.elements → IsFirstFree taken by_lack }
-        requires by_outside { (taken : List Bool) → length taken ≡ length elements.elements → IsFirstFree taken by_outside }
-        ensures { IfOk result (λ grower. grower ≡ record { elements = elements.elements; free = range_with_len 0 (length elements.elements); members = [] }) }
+        requires { AreFound elements.elements by_lack by_outside }
+        ensures { IfOk result (λ grower.
+            grower ≡ record {
+              elements = elements.elements;
+              free = range_with_len 0 (length elements.elements);
+              members = [];
+            }) }
     {
-        match room_for(alloc, elements.len(), count) {
+        match room_for(alloc, elements.len(), elements.nets()) {
             Ok((taken, growth)) => {
                 let seed = by_lack.lowest(taken.as_slice());
                 Ok(FreeBles {
@@ -129,9 +132,9 @@ impl FreeBles {
 
     /// Chooses the members of a cluster among the free BLEs.
     pub fn choose(&mut self, arch: &Arch) -> Result<(), AllocError>
-        requires arch { IsArch arch.now }
-        requires fit { unfit_among arch.now self.old.elements ≡ None }
-        ensures members { IfOk result (λ _. self.new.members ≡ cluster_of arch.now self.old.elements self.old.free) }
+        requires { AllFit arch.now self.old.elements }
+        ensures members { IfOk result (λ _. self.new.members
+            ≡ cluster_of arch.now self.old.elements self.old.free) }
         ensures elements { self.new.elements ≡ self.old.elements }
         ensures free { self.new.free ≡ self.old.free }
     {
@@ -147,7 +150,8 @@ impl FreeBles {
     /// The members are no longer free.
     pub fn take(&mut self)
         ensures elements { self.new.elements ≡ self.old.elements }
-        ensures free { self.new.free ≡ filter (λ number. not (has self.old.members number)) self.old.free }
+        ensures free { self.new.free ≡ filter (λ number. not (has self.old.members number))
+            self.old.free }
     {
         mark_taken(self.taken.as_mut_slice(), self.growth.members.as_slice());
         self.seed = self.by_lack.lowest(self.taken.as_slice());
@@ -157,12 +161,11 @@ impl FreeBles {
 /// The BLEs by how many inputs they lack of the most, and by how many nets they read from outside. Their nets are below
 /// the count.
 fn by_keys(alloc: Global, bles: &Bles, count: usize) -> Result<(FirstFree, FirstFree), AllocError>
-    requires elements { All (IsElement count) bles.now }
-    requires few_nets { count ≤ 8192 }
+    requires { AreLawful (record { elements = bles.now; nets = count }) }
     ensures lacks { IfOk result (λ made. AreLacks bles.now made.0.keys.items) }
     ensures outside { IfOk result (λ made. AreOutsideCounts bles.now made.1.keys.items) }
-    ensures by_lack { IfOk result (λ made. (taken : List Bool) → length taken ≡ length bles.now → IsFirstFree taken made.0) }
-    ensures by_outside { IfOk result (λ made. (taken : List Bool) → length taken ≡ length bles.now → IsFirstFree taken made.1) }
+    ensures by_lack { IfOk result (λ made. IsFirstOf (length bles.now) made.0) }
+    ensures by_outside { IfOk result (λ made. IsFirstOf (length bles.now) made.1) }
 {
     let most = most_inputs(bles, count);
     let by_lack = FirstFree::new(alloc, lacks(alloc, bles, most)?, most)?;
@@ -177,10 +180,9 @@ fn by_keys(alloc: Global, bles: &Bles, count: usize) -> Result<(FirstFree, First
 
 /// The BLEs by how many nets they read from outside, where none has more inputs than the most.
 fn by_outside(alloc: Global, bles: &Bles, most: usize) -> Result<FirstFree, AllocError>
-    requires most { HaveAtMost bles.now most }
-    requires few { most ≤ 8192 }
+    requires { HaveAtMost bles.now most }
     ensures outside { IfOk result (λ index. AreOutsideCounts bles.now index.keys.items) }
-    ensures lawful { IfOk result (λ index. (taken : List Bool) → length taken ≡ length bles.now → IsFirstFree taken index) }
+    ensures lawful { IfOk result (IsFirstOf (length bles.now)) }
 {
     let keys = outside_counts(alloc, bles, most)?;
     FirstFree::new(alloc, keys, most)
@@ -194,7 +196,8 @@ fn room_for(
 ) -> Result<(Vec<bool>, GrowingCluster), AllocError>
     ensures marks { IfOk result (λ room. room.0.items ≡ replicate elements false) }
     ensures members { IfOk result (λ room. room.1.members.items ≡ []) }
-    ensures room { IfOk result (λ room. (room.1.reads.count ≡ nets) × (room.1.drives.count ≡ nets) × (length room.1.gains ≡ elements)) }
+    ensures room { IfOk result (λ room. (room.1.reads.count ≡ nets) × (room.1.drives.count ≡ nets)
+        × (length room.1.gains ≡ elements)) }
 {
     let taken = vec![in alloc; false; elements]?;
     match GrowingCluster::new(alloc, elements, nets) {
@@ -209,7 +212,8 @@ fn room_for(
 /// Marks the members as taken.
 fn mark_taken(taken: &mut [bool], members: &[u32])
     requires { All (λ number. number < length taken.old) members.now }
-    ensures free { free_in taken.new ≡ filter (λ number. not (has members.now number)) (free_in taken.old) }
+    ensures free { free_in taken.new ≡ filter (λ number. not (has members.now number))
+        (free_in taken.old) }
     ensures kept { IsKept taken.old taken.new }
 {
     for number in members {

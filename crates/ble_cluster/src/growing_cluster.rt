@@ -1,15 +1,13 @@
 //! A cluster under way.
-ghost use Rattle.std.specs.Prelude.{◌≡◌, ◌<◌, ◌+◌, ◌++◌, [], ◌∷◌, All, length, IfOk, OnErr, not, ◌&&◌, ◌||◌, is_ok, if◌then◌else◌};
-ghost use Rattle.arch_file.specs.Arch.{input_count};
-ghost use Rattle.ble_cluster.specs.Nets.{has, with_net, with_nets};
-ghost use Rattle.ble_cluster.specs.Clusters.{elements_at, fits_in_cluster, outside_inputs};
-ghost use Rattle.ble_cluster.specs.BleIndex.{AreLawful};
-ghost use Rattle.ble_cluster.specs.GrowingCluster.{agree, HaveRoom, IsEntered, IsGrowingCluster, IsRoomFor, IsTold, MayFit, is_new_input, new_inputs_of};
+ghost use Rattle.std.specs.Prelude.{◌≡◌, ◌<◌, ◌+◌, ◌++◌, [], ◌∷◌, All, length, min, IfOk, OnErr, not, ◌&&◌, ◌||◌, is_ok, if◌then◌else◌};
+ghost use Rattle.ble_cluster.specs.Nets.{has, with_nets};
+ghost use Rattle.ble_cluster.specs.NetSets.{with_net};
+ghost use Rattle.ble_cluster.specs.Clusters.{elements_at, outside_inputs};
+ghost use Rattle.ble_cluster.specs.GrowingCluster.{agree, IsBeside, IsEntered, IsGrowingCluster, IsRoomFor, IsTold, MayAdd, MayAllEnter, MayEnter, is_new_input, new_inputs_of};
 
 use crate::ble_index::BleIndex;
 use crate::net_set::NetSet;
 use crate::shared_nets::SharedNets;
-use arch_file::Arch;
 use std::alloc::{AllocError, Global};
 
 /// A cluster under way: its members, and what follows from them.
@@ -31,7 +29,8 @@ impl GrowingCluster {
     /// A cluster without members, for so many BLEs and nets.
     pub(crate) fn new(alloc: Global, elements: usize, nets: usize) -> Result<Self, AllocError>
         ensures members { IfOk result (λ growth. growth.members.items ≡ []) }
-        ensures room { IfOk result (λ growth. (growth.reads.count ≡ nets) × (growth.drives.count ≡ nets) × (length growth.gains ≡ elements)) }
+        ensures room { IfOk result (λ growth. (growth.reads.count ≡ nets)
+            × (growth.drives.count ≡ nets) × (length growth.gains ≡ elements)) }
     {
         Ok(GrowingCluster {
             members: Vec::new(alloc),
@@ -60,8 +59,7 @@ impl GrowingCluster {
 
     /// Whether a BLE that drives `output` has this net as an input from outside that the members don't have yet.
     fn gains_input(&self, net: u32, output: u32) -> bool
-        requires reads { net < self.now.reads.count }
-        requires drives { net < self.now.drives.count }
+        requires { net < min self.now.reads.count self.now.drives.count }
         ensures { result ≡ is_new_input self.now.reads.nets self.now.drives.nets output net }
     {
         !self.reads.has(net) && !self.drives.has(net) && net != output
@@ -69,8 +67,7 @@ impl GrowingCluster {
 
     /// Whether the net is an input from outside.
     fn is_outside(&self, net: u32) -> bool
-        requires reads { net < self.now.reads.count }
-        requires drives { net < self.now.drives.count }
+        requires { net < min self.now.reads.count self.now.drives.count }
         ensures { result ≡ (has self.now.reads.nets net && not (has self.now.drives.nets net)) }
     {
         self.reads.has(net) && !self.drives.has(net)
@@ -78,9 +75,9 @@ impl GrowingCluster {
 
     /// How many of the BLE's inputs come from outside and are new to the members.
     fn new_inputs(&self, inputs: &[u32], output: u32) -> usize
-        requires reads { All (λ net. net < self.now.reads.count) inputs.now }
-        requires drives { self.now.drives.count ≡ self.now.reads.count }
-        ensures { result ≡ length (new_inputs_of self.now.reads.nets self.now.drives.nets output inputs.now) }
+        requires { All (λ net. net < min self.now.reads.count self.now.drives.count) inputs.now }
+        ensures { result ≡ length (new_inputs_of self.now.reads.nets self.now.drives.nets output
+            inputs.now) }
     {
         let mut count = 0;
         for net in inputs {
@@ -92,10 +89,10 @@ impl GrowingCluster {
     }
 
     /// How many inputs from outside the members and this BLE have together.
-    fn outside_with(&self, elements: &BleIndex, number: u32) -> usize
-        requires growth { IsGrowingCluster elements.now.elements elements.now.nets self.now }
-        requires number { number < length elements.now.elements }
-        ensures { result ≡ length (outside_inputs (elements_at elements.now.elements (self.now.members.items ++ number ∷ []))) }
+    pub(crate) fn outside_with(&self, elements: &BleIndex, number: u32) -> usize
+        requires { IsBeside elements.now self.now number }
+        ensures { result ≡ length (outside_inputs
+            (elements_at elements.now.elements (self.now.members.items ++ number ∷ []))) }
     {
         let ble = elements.ble(number as usize);
         let outside = self.outside + self.new_inputs(ble.inputs, ble.output);
@@ -107,7 +104,7 @@ impl GrowingCluster {
     }
 
     /// Whether the BLE has no clock, or that of the members, or they have none.
-    fn agrees_on_clock(&self, clock: Option<u32>) -> bool
+    pub(crate) fn agrees_on_clock(&self, clock: Option<u32>) -> bool
         ensures { result ≡ agree self.now.clock clock }
     {
         match (self.clock, clock) {
@@ -116,33 +113,9 @@ impl GrowingCluster {
         }
     }
 
-    /// Whether the members and this BLE fit into a cluster.
-    pub(crate) fn fits_with(
-        &self,
-        arch: &Arch,
-        pins: usize,
-        elements: &BleIndex,
-        number: u32,
-    ) -> bool
-        requires pins { pins ≡ input_count arch.now.pins }
-        requires growth { IsGrowingCluster elements.now.elements elements.now.nets self.now }
-        requires number { number < length elements.now.elements }
-        ensures { result ≡ fits_in_cluster arch.now (elements_at elements.now.elements (self.now.members.items ++ number ∷ [])) }
-    {
-        if self.members.len() >= arch.cluster_size as usize {
-            return false;
-        }
-        let ble = elements.ble(number as usize);
-        if !self.agrees_on_clock(ble.clock) {
-            return false;
-        }
-        self.outside_with(elements, number) <= pins
-    }
-
     /// Whether a member has the net.
     fn has(&self, net: u32) -> bool
-        requires reads { net < self.now.reads.count }
-        requires drives { net < self.now.drives.count }
+        requires { net < min self.now.reads.count self.now.drives.count }
         ensures { result ≡ (has self.now.reads.nets net || has self.now.drives.nets net) }
     {
         self.reads.has(net) || self.drives.has(net)
@@ -150,9 +123,7 @@ impl GrowingCluster {
 
     /// Counts, for each BLE that has the net, one net more that it shares, unless a member has the net already.
     fn enter(&mut self, elements: &BleIndex, net: u32) -> Result<(), AllocError>
-        requires within { net < elements.now.nets }
-        requires room { IsRoomFor elements.now self.old }
-        requires few { HaveRoom self.old.gains }
+        requires { MayEnter elements.now self.old net }
         ensures same { self.new ≡ record self.old { gains = self.new.gains } }
         ensures count { length self.new.gains ≡ length self.old.gains }
         ensures entered { IfOk result (λ _. IsEntered elements.now self.old net self.new.gains) }
@@ -165,14 +136,15 @@ impl GrowingCluster {
 
     /// A member to come reads the net.
     fn read(&mut self, elements: &BleIndex, net: u32) -> Result<(), AllocError>
-        requires within { net < elements.now.nets }
-        requires lawful { AreLawful elements.now }
-        requires room { IsRoomFor elements.now self.old }
-        requires told { IsTold elements.now.elements self.old }
-        ensures same { self.new ≡ record self.old { gains = self.new.gains; reads = self.new.reads } }
+        requires { MayEnter elements.now self.old net }
+        ensures same { self.new ≡ record self.old {
+          gains = self.new.gains;
+          reads = self.new.reads;
+        } }
         ensures room { IsRoomFor elements.now self.new }
         ensures told { IfOk result (λ _. IsTold elements.now.elements self.new) }
-        ensures read { IfOk result (λ _. self.new.reads ≡ record { count = self.old.reads.count; nets = with_net self.old.reads.nets net }) }
+        ensures read { IfOk result (λ _. self.new.reads
+            ≡ record { count = self.old.reads.count; nets = with_net self.old.reads.nets net }) }
     {
         self.enter(elements, net)?;
         self.reads.insert(net)?;
@@ -181,14 +153,18 @@ impl GrowingCluster {
 
     /// A member to come reads these nets.
     fn read_all(&mut self, elements: &BleIndex, nets: &[u32]) -> Result<(), AllocError>
-        requires within { All (λ net. net < elements.now.nets) nets.now }
-        requires lawful { AreLawful elements.now }
-        requires room { IsRoomFor elements.now self.old }
-        requires told { IsTold elements.now.elements self.old }
-        ensures same { self.new ≡ record self.old { gains = self.new.gains; reads = self.new.reads } }
+        requires { MayAllEnter elements.now self.old nets.now }
+        ensures same { self.new ≡ record self.old {
+          gains = self.new.gains;
+          reads = self.new.reads;
+        } }
         ensures room { IsRoomFor elements.now self.new }
         ensures told { IfOk result (λ _. IsTold elements.now.elements self.new) }
-        ensures read { IfOk result (λ _. self.new.reads ≡ record { count = self.old.reads.count; nets = with_nets self.old.reads.nets nets.now }) }
+        ensures read { IfOk result (λ _. self.new.reads
+            ≡ record {
+              count = self.old.reads.count;
+              nets = with_nets self.old.reads.nets nets.now;
+            }) }
     {
         for net in nets {
             self.read(elements, *net)?;
@@ -198,14 +174,15 @@ impl GrowingCluster {
 
     /// A member to come drives the net.
     fn drive(&mut self, elements: &BleIndex, net: u32) -> Result<(), AllocError>
-        requires within { net < elements.now.nets }
-        requires lawful { AreLawful elements.now }
-        requires room { IsRoomFor elements.now self.old }
-        requires told { IsTold elements.now.elements self.old }
-        ensures same { self.new ≡ record self.old { gains = self.new.gains; drives = self.new.drives } }
+        requires { MayEnter elements.now self.old net }
+        ensures same { self.new ≡ record self.old {
+          gains = self.new.gains;
+          drives = self.new.drives;
+        } }
         ensures room { IsRoomFor elements.now self.new }
         ensures told { IfOk result (λ _. IsTold elements.now.elements self.new) }
-        ensures driven { IfOk result (λ _. self.new.drives ≡ record { count = self.old.drives.count; nets = with_net self.old.drives.nets net }) }
+        ensures driven { IfOk result (λ _. self.new.drives
+            ≡ record { count = self.old.drives.count; nets = with_net self.old.drives.nets net }) }
     {
         self.enter(elements, net)?;
         self.drives.insert(net)?;
@@ -215,13 +192,13 @@ impl GrowingCluster {
     /// Adds a member that fits with the others. Where memory lacks, the cluster under way is spoilt, and has to be
     /// cleared.
     pub(crate) fn add(&mut self, elements: &BleIndex, number: u32) -> Result<(), AllocError>
-        requires number { number < length elements.now.elements }
-        requires growth { IsGrowingCluster elements.now.elements elements.now.nets self.old }
-        requires fits { MayFit (elements_at elements.now.elements (self.old.members.items ++ number ∷ [])) }
+        requires { MayAdd elements.now self.old number }
         ensures room { IsRoomFor elements.now self.new }
         ensures still { OnErr result (self.new.members.items ≡ self.old.members.items) }
-        ensures members { IfOk result (λ _. self.new.members.items ≡ self.old.members.items ++ number ∷ []) }
-        ensures growth { IfOk result (λ _. IsGrowingCluster elements.now.elements elements.now.nets self.new) }
+        ensures members { IfOk result (λ _. self.new.members.items
+            ≡ self.old.members.items ++ number ∷ []) }
+        ensures growth { IfOk result (λ _. IsGrowingCluster elements.now.elements elements.now.nets
+            self.new) }
     {
         let ble = elements.ble(number as usize);
         let outside = self.outside_with(elements, number);
@@ -236,8 +213,11 @@ impl GrowingCluster {
     /// Adds the last member of a cluster. What others share with it isn't asked any more, so it isn't told.
     pub(crate) fn fill(&mut self, number: u32) -> Result<(), AllocError>
         ensures same { self.new ≡ record self.old { members = self.new.members } }
-        ensures added { IfOk result (λ _. self.new.members.items ≡ self.old.members.items ++ number ∷ []) }
-        ensures members { self.new.members.items ≡ (if is_ok result then self.old.members.items ++ number ∷ [] else self.old.members.items) }
+        ensures added { IfOk result (λ _. self.new.members.items
+            ≡ self.old.members.items ++ number ∷ []) }
+        ensures members { self.new.members.items
+            ≡ (if is_ok result then self.old.members.items ++ number ∷ []
+            else self.old.members.items) }
     {
         self.members.push(number)?;
         Ok(())

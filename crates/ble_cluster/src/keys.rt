@@ -1,17 +1,15 @@
 //! The keys by which free BLEs are found: the seed has most inputs, and what joins a cluster reads few nets from outside.
-ghost use Rattle.std.specs.Prelude.{◌≡◌, ◌≤◌, ◌==◌, All, filter, length, not, IfOk};
-ghost use Rattle.ble_cluster.specs.FreeBles.{IsElement};
-ghost use Rattle.ble_cluster.specs.FirstFree.{AreLacks, AreOutsideCounts, HaveAtMost};
+ghost use Rattle.std.specs.Prelude.{◌≡◌, ◌==◌, filter, length, not, IfOk};
+ghost use Rattle.ble_cluster.specs.BleIndex.{AreLawful};
+ghost use Rattle.ble_cluster.specs.FirstFree.{AreKeysUpTo, AreLacks, AreOutsideCounts, HaveAtMost};
 
 use crate::bles::{Ble, Bles};
 use std::alloc::{AllocError, Global};
 
 /// The most inputs that a BLE has. Their nets are below the count.
 pub(crate) fn most_inputs(bles: &Bles, count: usize) -> usize
-    requires elements { All (IsElement count) bles.now }
-    requires few_nets { count ≤ 8192 }
-    ensures most { HaveAtMost bles.now result }
-    ensures few { result ≤ 8192 }
+    requires { AreLawful (record { elements = bles.now; nets = count }) }
+    ensures { HaveAtMost bles.now result }
 {
     let mut most = 0;
     for number in 0..bles.len() {
@@ -27,7 +25,7 @@ pub(crate) fn most_inputs(bles: &Bles, count: usize) -> usize
 pub(crate) fn lacks(alloc: Global, bles: &Bles, most: usize) -> Result<Vec<usize>, AllocError>
     requires { HaveAtMost bles.now most }
     ensures lacks { IfOk result (λ keys. AreLacks bles.now keys.items) }
-    ensures within { IfOk result (λ keys. All (λ key. key ≤ most) keys.items) }
+    ensures within { IfOk result (λ keys. AreKeysUpTo keys.items most) }
 {
     let mut keys = Vec::new(alloc);
     for number in 0..bles.len() {
@@ -51,7 +49,7 @@ pub(crate) fn outside_counts(
 ) -> Result<Vec<usize>, AllocError>
     requires { HaveAtMost bles.now most }
     ensures counts { IfOk result (λ keys. AreOutsideCounts bles.now keys.items) }
-    ensures within { IfOk result (λ keys. All (λ key. key ≤ most) keys.items) }
+    ensures within { IfOk result (λ keys. AreKeysUpTo keys.items most) }
 {
     let mut keys = Vec::new(alloc);
     for number in 0..bles.len() {

@@ -1,7 +1,7 @@
 //! Sets of nets.
 ghost use Rattle.std.specs.Prelude.{◌≡◌, ◌<◌, [], All, IfOk, filter, not};
-ghost use Rattle.ble_cluster.specs.Nets.{has, with_net, with_nets};
-ghost use Rattle.ble_cluster.specs.NetSets.{AreMarked};
+ghost use Rattle.ble_cluster.specs.Nets.{has, with_nets};
+ghost use Rattle.ble_cluster.specs.NetSets.{AreMarked, with_net};
 
 use std::alloc::{AllocError, Global};
 use std::marker::Model;
@@ -56,7 +56,8 @@ impl NetSet {
     pub fn insert(&mut self, net: u32) -> Result<(), AllocError>
         requires { net < self.old.count }
         ensures count { self.new.count ≡ self.old.count }
-        ensures inserted { IfOk result (λ _. self.new ≡ record { count = self.old.count; nets = with_net self.old.nets net }) }
+        ensures inserted { IfOk result (λ _. self.new
+            ≡ record { count = self.old.count; nets = with_net self.old.nets net }) }
     {
         if !self.marks[net as usize] {
             self.nets.push(net)?;
@@ -68,7 +69,8 @@ impl NetSet {
     /// Adds each of the nets that isn't there yet.
     pub fn insert_all(&mut self, nets: &[u32]) -> Result<(), AllocError>
         requires { All (λ net. net < self.old.count) nets.now }
-        ensures { IfOk result (λ _. self.new ≡ record { count = self.old.count; nets = with_nets self.old.nets nets.now }) }
+        ensures { IfOk result (λ _. self.new
+            ≡ record { count = self.old.count; nets = with_nets self.old.nets nets.now }) }
     {
         for net in nets {
             self.insert(*net)?;
@@ -80,7 +82,12 @@ impl NetSet {
     pub fn insert_others(&mut self, nets: &[u32], known: &NetSet) -> Result<(), AllocError>
         requires within { All (λ net. net < self.old.count) nets.now }
         requires same_count { known.now.count ≡ self.old.count }
-        ensures { IfOk result (λ _. self.new ≡ record { count = self.old.count; nets = with_nets self.old.nets (filter (λ net. not (has known.now.nets net)) nets.now) }) }
+        ensures { IfOk result (λ _. self.new
+            ≡ record {
+              count = self.old.count;
+              nets = with_nets self.old.nets
+                  (filter (λ net. not (has known.now.nets net)) nets.now);
+            }) }
     {
         for net in nets {
             if !known.has(*net) {

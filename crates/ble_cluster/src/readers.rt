@@ -4,7 +4,7 @@ ghost use Rattle.std.specs.List.{flat_map};
 ghost use Rattle.std.specs.Option.{option_to_list};
 ghost use Rattle.blif.specs.LawfulCircuits.{IsCircuit, IsLatchWithin, IsTableWithin};
 ghost use Rattle.ble_cluster.specs.Bles.{latch_behind, reads_of, stands_alone};
-ghost use Rattle.ble_cluster.specs.Reads.{AreCounts, AreDriven, AreLatches, CountsOn};
+ghost use Rattle.ble_cluster.specs.Reads.{AreCounts, AreDriven, AreLatches, CountsOn, HasCounts};
 
 use blif::{Circuit, Latch, Tables};
 use std::alloc::{AllocError, Global};
@@ -19,7 +19,7 @@ pub(crate) struct Readers {
 }
 
 impl Readers {
-    ghost use Rattle.ble_cluster.specs.CircuitReaders.{AreReaders};
+    ghost use Rattle.ble_cluster.specs.CircuitReaders.{AreReaders, HasReaders};
 
     /// What reads the nets of the circuit.
     pub(crate) fn new(alloc: Global, circuit: &Circuit) -> Result<Self, AllocError>
@@ -35,8 +35,7 @@ impl Readers {
 
     /// The latch that alone reads the net.
     pub(crate) fn latch_behind(&self, circuit: &Circuit, net: u32) -> Option<Latch>
-        requires readers { AreReaders circuit.now self.now }
-        requires within { net < length circuit.now.nets }
+        requires { HasReaders circuit.now self.now net }
         ensures { result ≡ latch_behind circuit.now net }
     {
         if self.counts[net as usize] == 1 {
@@ -52,9 +51,9 @@ impl Readers {
         alloc: Global,
         circuit: &Circuit,
     ) -> Result<Vec<Latch>, AllocError>
-        requires readers { AreReaders circuit.now self.now }
-        requires circuit { IsCircuit circuit.now }
-        ensures { IfOk result (λ latches. latches.items ≡ filter (stands_alone circuit.now) circuit.now.latches) }
+        requires { AreReaders circuit.now self.now }
+        ensures { IfOk result (λ latches.
+            latches.items ≡ filter (stands_alone circuit.now) circuit.now.latches) }
     {
         let mut latches = Vec::new(alloc);
         for latch in circuit.latches.as_slice() {
@@ -67,8 +66,7 @@ impl Readers {
 
     /// Whether no table is one with the latch.
     fn stands_alone(&self, circuit: &Circuit, latch: &Latch) -> bool
-        requires readers { AreReaders circuit.now self.now }
-        requires within { latch.now.input < length circuit.now.nets }
+        requires { HasReaders circuit.now self.now latch.now.input }
         ensures { result ≡ stands_alone circuit.now latch.now }
     {
         let net = latch.input as usize;
@@ -89,8 +87,7 @@ fn count_reads(alloc: Global, circuit: &Circuit) -> Result<Vec<u8>, AllocError>
 
 /// Counts all that is read.
 fn count_circuit(counts: &mut [u8], circuit: &Circuit)
-    requires circuit { IsCircuit circuit.now }
-    requires length { length counts.old ≡ length circuit.now.nets }
+    requires { HasCounts circuit.now counts.old }
     ensures { CountsOn counts.old (reads_of circuit.now) counts.new }
 {
     count_tables(counts, &circuit.tables);
@@ -122,7 +119,8 @@ fn count_latches(counts: &mut [u8], latches: &[Latch])
 /// Counts what controls latches.
 fn count_controls(counts: &mut [u8], latches: &[Latch])
     requires { All (IsLatchWithin (length counts.old)) latches.now }
-    ensures { CountsOn counts.old (flat_map (λ latch. option_to_list latch.control) latches.now) counts.new }
+    ensures { CountsOn counts.old (flat_map (λ latch. option_to_list latch.control) latches.now)
+        counts.new }
 {
     for latch in latches {
         if let Some(control) = latch.control {

@@ -1,7 +1,6 @@
 //! What BLEs share with the cluster under way.
-ghost use Rattle.std.specs.Prelude.{◌≡◌, ◌<◌, ◌+◌, ◌-◌, ◌^◌, All, length, IfErr, IfOk, slice_set};
-ghost use Rattle.ble_cluster.specs.Nets.{IsOnce};
-ghost use Rattle.ble_cluster.specs.SharedNets.{AreRaised, AreTouched, ShareNothing, gain_at};
+ghost use Rattle.std.specs.Prelude.{◌≡◌, ◌<◌, ◌+◌, length, IfErr, IfOk, slice_set};
+ghost use Rattle.ble_cluster.specs.SharedNets.{AreRaised, AreTouched, MayRise, MayRiseAt, ShareNothing, gain_at};
 
 use std::alloc::{AllocError, Global};
 use std::marker::Model;
@@ -53,9 +52,7 @@ impl SharedNets {
 
     /// One net more for each of these BLEs, no two of which are the same. Where memory lacks, some have it.
     pub(crate) fn raise(&mut self, numbers: &[u32]) -> Result<(), AllocError>
-        requires within { All (λ number. number < length self.old) numbers.now }
-        requires once { IsOnce numbers.now }
-        requires room { All (λ gain. gain < 2 ^ 32 - 1) self.old }
+        requires { MayRise self.old numbers.now }
         ensures count { length self.new ≡ length self.old }
         ensures raised { IfOk result (λ _. AreRaised self.old self.new numbers.now) }
     {
@@ -67,9 +64,9 @@ impl SharedNets {
 
     /// One net more for the BLE.
     fn raise_one(&mut self, number: u32) -> Result<(), AllocError>
-        requires within { number < length self.old }
-        requires room { gain_at self.old number < 2 ^ 32 - 1 }
-        ensures ok { IfOk result (λ _. self.new ≡ slice_set self.old number (gain_at self.old number + 1)) }
+        requires { MayRiseAt self.old number }
+        ensures ok { IfOk result (λ _. self.new
+            ≡ slice_set self.old number (gain_at self.old number + 1)) }
         ensures err { IfErr result (λ _. self.new ≡ self.old) }
     {
         if self.gains[number as usize] == 0 {

@@ -2,6 +2,8 @@
 use Rattle.std.proofs.Common.{◌≡◌, ℕ, ◌<◌, ◌≤◌, if◌then◌else◌, List, [], None, Result, Ok, Err, MatchResult, IfOk, length, sym, ap, ◌∙◌}
 use Rattle.std.proofs.lemmas.Bool.Decides.{Decides-ltb}
 use Rattle.std.proofs.lemmas.Bool.{le-ltb}
+use Rattle.std.specs.Option.{option_map_or}
+use Rattle.std.specs.Result.{result_flatten, result_map_both}
 use Rattle.line_text.specs.Lines.{JoinedLine, lines_of}
 use Rattle.line_text.specs.TextErrors.{Fails, Gives, IsToldAs}
 use Rattle.line_text.specs.declared.text_error.TextError.{TextError}
@@ -15,7 +17,7 @@ use Rattle.line_text.specs.LineOrder.{RisesFrom}
 use Rattle.blif.specs.FirstFaults.{first_fault}
 use Rattle.blif.specs.Sights.{Sights, sights_of}
 use Rattle.blif.specs.Circuits.{circuit_from}
-use Rattle.blif.specs.CircuitOf.{IsLawfulFor, circuit_of, circuit_of_lines, circuit_of_read, declared_in, final_faults, line_faults, unless_fault}
+use Rattle.blif.specs.CircuitOf.{IsLawfulFor, circuit_of, circuit_of_lines, declared_in, final_faults, line_faults}
 use Rattle.blif.specs.declared.circuit.TheConstants.{MAX_NETS}
 use Rattle.line_text.specs.declared.lines.TheConstants.{MAX_TEXT}
 use Rattle.blif.proofs.Places.{first_append, first_append_none}
@@ -33,7 +35,7 @@ pub gives_line_fault : (lut_size : ℕ) (lines : List JoinedLine) (declared : Li
 unfolding circuit_of_lines
 gives_line_fault lut_size lines declared NoMemory rises is fails = tt
 gives_line_fault lut_size lines declared (Fault fault) rises is fails =
-    ap (λ found. unless_fault found (circuit_from (declared_in lines) lines))
+    ap (λ found. option_map_or Err found (Ok (circuit_from (declared_in lines) lines)))
     (least_is_first lut_size lines rises
     ∙ first_append (line_faults lut_size (declared_in lines) [] lines) (final_faults (declared_in lines) lines) fault
     (ap (λ d. first_fault (line_faults lut_size d [] lines)) (sym is) ∙ fails))
@@ -43,12 +45,12 @@ pub gives_built : (lut_size : ℕ) (lines : List JoinedLine) (declared : List (L
 unfolding circuit_of_lines
 gives_built lut_size lines declared (Err NoMemory) rises is none built = tt
 gives_built lut_size lines declared (Err (Fault fault)) rises is none built =
-    ap (λ found. unless_fault found (circuit_from (declared_in lines) lines))
+    ap (λ found. option_map_or Err found (Ok (circuit_from (declared_in lines) lines)))
     (least_is_first lut_size lines rises
     ∙ first_append_none (line_faults lut_size (declared_in lines) [] lines) (final_faults (declared_in lines) lines) (ap (λ d. first_fault (line_faults lut_size d [] lines)) (sym is) ∙ none)
     ∙ ap (λ d. first_fault (final_faults d lines)) (sym is) ∙ built)
 gives_built lut_size lines declared (Ok circuit) rises is none built =
-    ap (λ found. unless_fault found (circuit_from (declared_in lines) lines))
+    ap (λ found. option_map_or Err found (Ok (circuit_from (declared_in lines) lines)))
     (least_is_first lut_size lines rises
     ∙ first_append_none (line_faults lut_size (declared_in lines) [] lines) (final_faults (declared_in lines) lines) (ap (λ d. first_fault (line_faults lut_size d [] lines)) (sym is) ∙ none)
     ∙ ap (λ d. first_fault (final_faults d lines)) (sym is) ∙ built.0)
@@ -61,6 +63,10 @@ lawful_built lut_size lines declared (Ok circuit) rises few none built = (
   rw built.1 (is_circuit lut_size declared lines rises few (nil_from_first _ none) (nil_from_first _ built.0)),
   rw built.1 (is_narrow lut_size declared lines (nil_from_first _ none)),
 )
+
+-- what a text says that has these lines
+abbrev pub circuit_of_read : ℕ → Result (List JoinedLine) LineFault → Result Circuit BlifFault
+circuit_of_read lut_size read = result_flatten (result_map_both (circuit_of_lines lut_size) fault_of_lines read)
 
 -- a text above the limit
 pub circuit_of-long : (text : List ℕ) (lut_size : ℕ) → MAX_TEXT < length text → circuit_of text lut_size ≡ Err (record { line = 0; kind = OverLimit })

@@ -1,12 +1,12 @@
 -- The parts of a circuit that one more line brings, and what the line reads that is not driven.
-use Rattle.std.proofs.Common.{◌≡◌, ℕ, ◌+◌, ◌<◌, ◌≤◌, true, false, not, if◌then◌else◌, arith, List, [], ◌∷◌, ◌++◌, Option, None, Some, Result, Ok, Err, MatchResult, length, take, drop, slice_get, map, refl, sym, ap, ◌∙◌, subst}
-use Rattle.std.specs.List.{flat_map}
+use Rattle.std.proofs.Common.{◌≡◌, ℕ, ◌+◌, ◌<◌, ◌≤◌, true, false, not, cond, suc, arith, List, [], ◌∷◌, ◌++◌, Option, None, Some, Result, Ok, Err, MatchResult, length, take, drop, slice_get, map, refl, sym, ap, ◌∙◌, subst}
+use Rattle.std.specs.List.{flat_map, position_or_len}
 use Rattle.std.proofs.lemmas.List.{map-append, drop_all}
 use Rattle.line_text.specs.Lines.{JoinedLine}
 use Rattle.line_text.specs.LeastFault.{Found}
 use Rattle.line_text.specs.TextErrors.{Fails}
 use Rattle.line_text.specs.declared.text_error.TextError.{TextError}
-use Rattle.blif.specs.LineByLine.{parts_after}
+use Rattle.blif.specs.LineByLine.{Parts, circuit_with, lines_to_end, parts_after, parts_of}
 use Rattle.blif.specs.declared.circuit.Circuit.{Circuit}
 use Rattle.blif.specs.declared.fault.BlifFault.{BlifFault}
 use Rattle.blif.specs.declared.fault.BlifFaultKind.TheVariants.{Undriven}
@@ -15,8 +15,8 @@ use Rattle.blif.specs.LineNets.{reads_in, inputs_in, outputs_in}
 use Rattle.blif.specs.Sights.{Sights, sights_of, kind_of, is_end, inputs_of}
 use Rattle.blif.specs.BlifFaults.{at_words, driven}
 use Rattle.blif.specs.FirstFaults.{first_fault}
-use Rattle.blif.specs.Circuits.{Parts, circuit_from, circuit_with, parts_of, tables_in, latches_in}
-use Rattle.blif.specs.CircuitOf.{final_faults, lines_to_end, undriven_faults}
+use Rattle.blif.specs.Circuits.{circuit_from, tables_in, latches_in}
+use Rattle.blif.specs.CircuitOf.{final_faults, undriven_faults}
 use Rattle.blif.specs.Repeats.{undriven}
 use Rattle.blif.proofs.Places.{flat_map_push, first_found, first_none, take_place, drop_place}
 use Rattle.blif.proofs.PlacedNames.{first_placed}
@@ -92,7 +92,7 @@ module _ (checked : Sights) (lines : List JoinedLine) (nets clocks drivers : Lis
       ∙ (λ i. flat_map (undriven_faults (sym same_clocks i ++ sym same_drivers i)) lines)
 
   pub circuit_is : (parts : Parts) → parts ≡ parts_of nets lines → circuit_with nets clocks lines parts ≡ circuit_from checked.declared lines
-  unfolding circuit_from
+  unfolding circuit_from parts_of
   circuit_is parts built =
       ap (circuit_with nets clocks lines) built
       ∙ (λ i. circuit_with (same_nets i) (same_clocks i) lines (parts_of (same_nets i) lines))
@@ -107,6 +107,19 @@ module _ (checked : Sights) (lines : List JoinedLine) (nets clocks drivers : Lis
 pub fails_as : (error : TextError BlifFault) (fault : BlifFault) (found : Option BlifFault) → Fails (Some fault) error → found ≡ Some fault → Fails found error
 fails_as error fault found fails is = subst (λ (first : Option BlifFault). Fails first error) (sym is) fails
 
+-- the lines before the end, one line further
+module _ (line : JoinedLine) (lines : List JoinedLine) where
+  abbrev more : ℕ
+  more = position_or_len (λ l. is_end (kind_of l)) lines
+
+  goes_on : is_end (kind_of line) ≡ false → lines_to_end (line ∷ lines) ≡ line ∷ lines_to_end lines
+  goes_on goes =
+      let next : 1 + more ≡ suc more = omega arith in
+      ap (λ b. take (cond (not b) (1 + more) 0) (line ∷ lines)) goes ∙ ap (λ n. take n (line ∷ lines)) next
+
+  stops : is_end (kind_of line) ≡ true → lines_to_end (line ∷ lines) ≡ []
+  stops ends = ap (λ b. take (cond (not b) (1 + more) 0) (line ∷ lines)) ends
+
 -- the inputs that lines declare, one line further
 module _ (lines : List JoinedLine) (place : ℕ) (line : JoinedLine) (within : place < length lines) (at : slice_get lines place ≡ Some line) where
   pub declared_at : is_end (kind_of line) ≡ false → (old new all : List (List ℕ)) → new ≡ with_names old (inputs_of line) → with_names old (flat_map inputs_of (lines_to_end (drop place lines))) ≡ all → with_names new (flat_map inputs_of (lines_to_end (drop (place + 1) lines))) ≡ all
@@ -114,12 +127,12 @@ module _ (lines : List JoinedLine) (place : ℕ) (line : JoinedLine) (within : p
       let rest : List JoinedLine = lines_to_end (drop (place + 1) lines) in
       ap (λ names. with_names names (flat_map inputs_of rest)) after
       ∙ sym (with_names-append old (inputs_of line) (flat_map inputs_of rest))
-      ∙ ap (λ ls. with_names old (flat_map inputs_of ls)) (sym (ap lines_to_end (drop_place lines place line within at) ∙ ap (λ b. if b then [] else line ∷ rest) goes))
+      ∙ ap (λ ls. with_names old (flat_map inputs_of ls)) (sym (ap lines_to_end (drop_place lines place line within at) ∙ goes_on line (drop (place + 1) lines) goes))
       ∙ left
 
   pub declared_at_end : is_end (kind_of line) ≡ true → (old all : List (List ℕ)) → with_names old (flat_map inputs_of (lines_to_end (drop place lines))) ≡ all → old ≡ all
   declared_at_end ends old all left =
-      ap (λ ls. with_names old (flat_map inputs_of ls)) (sym (ap lines_to_end (drop_place lines place line within at) ∙ ap (λ b. if b then [] else line ∷ lines_to_end (drop (place + 1) lines)) ends))
+      ap (λ ls. with_names old (flat_map inputs_of ls)) (sym (ap lines_to_end (drop_place lines place line within at) ∙ stops line (drop (place + 1) lines) ends))
       ∙ left
 
 pub declared_past : (lines : List JoinedLine) (place : ℕ) → length lines ≤ place → (old all : List (List ℕ)) → with_names old (flat_map inputs_of (lines_to_end (drop place lines))) ≡ all → old ≡ all

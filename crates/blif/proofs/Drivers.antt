@@ -7,7 +7,7 @@ use Rattle.std.proofs.lemmas.List.{append-nil}
 use Rattle.std.proofs.lemmas.List.Elements.{All-nil, All-cons, All-map}
 use Rattle.std.proofs.lemmas.List.Sums.{AllPass-from_list_all}
 use Rattle.line_text.specs.Lines.{JoinedLine}
-use Rattle.blif.specs.LineByLine.{sights_after}
+use Rattle.blif.specs.LineByLine.{drives_of, sights_after}
 use Rattle.blif.specs.declared.keyword.Keyword.{Keyword}
 use Rattle.blif.specs.declared.keyword.Keyword.TheVariants.{Inputs, Outputs, Clock, Names, Latch}
 use Rattle.blif.specs.declared.latches.Latch.{Latch as StoredLatch}
@@ -15,10 +15,10 @@ use Rattle.blif.specs.LookupTables.{LookupTable}
 use Rattle.blif.specs.Names.{has_name, number_of}
 use Rattle.blif.specs.Keywords.{args_of, last_of}
 use Rattle.blif.specs.LatchLines.{is_latch, control_of}
-use Rattle.blif.specs.LineNets.{drives_in, front_of, inputs_in, names_in, output_of, outputs_in, reads_in, latch_nets, latch_output, latch_reads}
-use Rattle.blif.specs.Sights.{Sights, kind_of, drives_of, inputs_of, sights_of}
+use Rattle.blif.specs.LineNets.{drives_in, front_of, inputs_in, names_in, output_of, outputs_in, reads_in, latch_nets, latch_output}
+use Rattle.blif.specs.Sights.{Sights, kind_of, inputs_of, sights_of}
 use Rattle.blif.specs.BlifFaults.{kind_faults}
-use Rattle.blif.specs.Circuits.{circuit_from, latch_with, latches_in, parts_of, table_with, tables_in}
+use Rattle.blif.specs.Circuits.{circuit_from, latch_with, latches_in, table_with, tables_in}
 use Rattle.blif.specs.LawfulCircuits.{IsLatchDriven, drivers_of, has_net}
 use Rattle.blif.proofs.Named.{and_left, and_right}
 use Rattle.blif.proofs.Counts.{count_by-append, count_of, counted_if_there, counted_more, names_counted, none_of_filtered, numbers_counted, once_in_set, once_more, there_if_counted, times}
@@ -55,7 +55,7 @@ module _ (nets : List (List ℕ)) where
   output_named [] h = All-nil _
   output_named (name ∷ names) h = All-cons (λ n. has_name nets n ≡ true) (last_of (name ∷ names)) [] (last_passes (has_name nets) name names h) (All-nil _)
 
-  latch_output_named : (args : List (List ℕ)) → list_all (has_name nets) (latch_nets args) ≡ true → AllPass (has_name nets) (latch_output args)
+  latch_output_named : (args : List (List ℕ)) → list_all (has_name nets) (latch_nets 2 args) ≡ true → AllPass (has_name nets) (latch_output args)
   latch_output_named [] h = All-nil _
   latch_output_named (input ∷ []) h = All-nil _
   latch_output_named (input ∷ output ∷ rest) h = by (is_latch (input ∷ output ∷ rest)) h
@@ -107,7 +107,7 @@ module _ (nets : List (List ℕ)) where
 
 -- the drivers of a circuit are its clocks and what its lines drive
 pub drivers_counted : (declared : List (List ℕ)) (lines : List JoinedLine) (n : ℕ) → count_of n (drivers_of (circuit_from declared lines)) ≡ count_of n (map (number_of (sights_of declared lines).nets) (sights_of declared lines).clocks) + count_of n (map (number_of (sights_of declared lines).nets) (sights_of declared lines).drivers)
-unfolding circuit_from parts_of sights_of
+unfolding circuit_from sights_of
 drivers_counted declared lines n =
     let nets : List (List ℕ) = (sights_of declared lines).nets in
     let inputs : List ℕ = map (number_of nets) (flat_map inputs_of lines) in
@@ -155,7 +155,7 @@ module _ (nets : List (List ℕ)) (drivers : List ℕ) (test : List ℕ → Bool
   control_driven None h = λ net is. absurd cc
   control_driven (Some name) h = λ net is. let same : net ≡ number_of nets name = cc in rw same (among name (and_left _ _ h))
 
-  latch_driven : (line : ℕ) (args : List (List ℕ)) → list_all test (latch_reads args) ≡ true → All (IsLatchDriven drivers) (latch_with nets line args)
+  latch_driven : (line : ℕ) (args : List (List ℕ)) → list_all test (latch_nets 1 args) ≡ true → All (IsLatchDriven drivers) (latch_with nets line args)
   latch_driven line [] h = All-nil _
   latch_driven line (input ∷ []) h = All-nil _
   latch_driven line (input ∷ output ∷ rest) h = by (is_latch (input ∷ output ∷ rest)) (control_of (input ∷ output ∷ rest)) h

@@ -2,10 +2,10 @@
 use Rattle.std.proofs.Common.{◌≡◌, ◌∙◌, ℕ, ◌+◌, ◌<◌, ◌≤◌, Bool, true, false, not, ◌||◌, if◌then◌else◌, nat_lt, nat_le, length, List, [], ◌∷◌, ◌++◌, Option, Some, None, option_map, refl, sym, ap, arith}
 use Rattle.std.proofs.lemmas.Bool.Decides.{nat_tests}
 use Rattle.std.specs.List.{flat_map}
-use Rattle.line_text.specs.LeastFault.{Found, by_number, least_fault, turn_of}
+use Rattle.line_text.specs.LeastFault.{Found, by_number, least_fault}
 use Rattle.line_text.specs.LineOrder.{RisesFrom}
 use Rattle.line_text.specs.Lines.{JoinedLine}
-use Rattle.line_text.proofs.InOrder.{Each, Each-append, Each-weaker, InOrder, InOrder-append, InOrder-map, Precedes, by_number-less, by_number-same, first_of, least_in_order, precedes-end, precedes-line}
+use Rattle.line_text.proofs.InOrder.{Each, Each-append, Each-weaker, InOrder, InOrder-append, InOrder-map, Precedes, by_number-less, by_number-same, first_of, least_in_order, precedes-end, precedes-line, turn_of}
 use Rattle.blif.specs.declared.circuit.TheConstants.{MAX_NETS}
 use Rattle.blif.specs.declared.cover.Cover.{Cover}
 use Rattle.blif.specs.declared.fault.BlifFault.{BlifFault}
@@ -13,7 +13,7 @@ use Rattle.blif.specs.declared.fault.BlifFaultKind.{BlifFaultKind}
 use Rattle.blif.specs.declared.fault.BlifFaultKind.TheVariants.{Unknown, BadCover, MixedCover, TooWide, TwoDrivers, Undriven, RepeatedOutput, BadLatch, NoModel, OverLimit}
 use Rattle.blif.specs.declared.keyword.Keyword.{Keyword}
 use Rattle.blif.specs.declared.keyword.Keyword.TheVariants.{Model, Inputs, Outputs, Clock, Names, Latch, Other, Row}
-use Rattle.blif.specs.BlifFaults.{WordFault, at_words, driven, driver_faults, fault_where, faults_in, is_model, kind_faults, latch_faults, of_line, row_faults, table_faults}
+use Rattle.blif.specs.BlifFaults.{WordFault, at_words, driven, driver_faults, fault_where, faults_in, is_model, kind_faults, of_line, row_faults, table_faults}
 use Rattle.blif.specs.CircuitOf.{all_faults, at_line, declared_in, final_faults, line_faults, undriven_faults}
 use Rattle.blif.specs.Covers.{is_row, is_mixed}
 use Rattle.blif.specs.Faults.{number_of}
@@ -84,7 +84,7 @@ row_order (Some cover) words =
     (where_order (not (is_row cover.inputs words)) BadCover) (where_order (is_mixed cover.output words) MixedCover)
     (each_where (Below 3) (not (is_row cover.inputs words)) BadCover (omega arith)) (each_where (From 3) (is_mixed cover.output words) MixedCover (omega arith))
 
-latch_order : (taken args : List (List ℕ)) → InOrder Tells (latch_faults taken args)
+latch_order : (taken args : List (List ℕ)) → InOrder Tells (if is_latch args then driver_faults taken (latch_output args) else of_line BadLatch)
 latch_order taken args = by (is_latch args)
   where
     by : (b : Bool) → InOrder Tells (if b then driver_faults taken (latch_output args) else of_line BadLatch)
@@ -115,7 +115,7 @@ row_below (Some cover) words =
     Each-append (Below 9) (fault_where (not (is_row cover.inputs words)) BadCover) (fault_where (is_mixed cover.output words) MixedCover)
     (each_where (Below 9) (not (is_row cover.inputs words)) BadCover (omega arith)) (each_where (Below 9) (is_mixed cover.output words) MixedCover (omega arith))
 
-latch_below : (taken args : List (List ℕ)) → Each (Below 9) (latch_faults taken args)
+latch_below : (taken args : List (List ℕ)) → Each (Below 9) (if is_latch args then driver_faults taken (latch_output args) else of_line BadLatch)
 latch_below taken args = by (is_latch args)
   where
     by : (b : Bool) → Each (Below 9) (if b then driver_faults taken (latch_output args) else of_line BadLatch)

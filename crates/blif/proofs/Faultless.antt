@@ -13,7 +13,7 @@ use Rattle.blif.specs.LineNets.{latch_output, names_in, output_of, reads_in}
 use Rattle.blif.specs.LatchLines.{is_latch}
 use Rattle.blif.specs.Sights.{Sights, sights_of, kind_of}
 use Rattle.blif.specs.declared.circuit.TheConstants.{MAX_NETS}
-use Rattle.blif.specs.BlifFaults.{driven, driver_faults, fault_where, faults_in, is_model, kind_faults, latch_faults, of_line, table_faults}
+use Rattle.blif.specs.BlifFaults.{driven, driver_faults, fault_where, faults_in, is_model, kind_faults, of_line, table_faults}
 use Rattle.line_text.specs.LeastFault.{Found}
 use Rattle.blif.specs.declared.fault.BlifFault.{BlifFault}
 use Rattle.blif.specs.FirstFaults.{first_fault}
@@ -69,7 +69,7 @@ table_output_free lut_size taken [] h = absurd cc
 table_output_free lut_size taken (name ∷ names) h = no_repeats taken (output_of (name ∷ names)) (nil_from_map _ (repeats_from 0 taken (output_of (name ∷ names))) (nil_right _ _ h))
 
 -- a latch does
-pub latch_output_free : (taken args : List (List ℕ)) → latch_faults taken args ≡ [] → repeats taken (latch_output args) ≡ []
+pub latch_output_free : (taken args : List (List ℕ)) → (if is_latch args then driver_faults taken (latch_output args) else of_line BadLatch) ≡ [] → repeats taken (latch_output args) ≡ []
 latch_output_free taken args h = by (is_latch args) h
   where
     by : (b : Bool) → (if b then driver_faults taken (latch_output args) else of_line BadLatch) ≡ [] → repeats taken (latch_output args) ≡ []

@@ -5,7 +5,7 @@ use Rattle.std.specs.List.{list_all}
 use Rattle.std.specs.Option.{option_to_list}
 use Rattle.blif.specs.Names.{first, texts, has_name, number_of}
 use Rattle.blif.specs.LatchLines.{is_latch, control_of}
-use Rattle.blif.specs.LineNets.{latch_nets, latch_reads}
+use Rattle.blif.specs.LineNets.{latch_nets}
 use Rattle.blif.specs.Repeats.{undriven}
 use Rattle.line_text.proofs.NameLemmas.{number_of-within}
 use Rattle.blif.proofs.Named.{and_left, and_right, name_at}
@@ -27,7 +27,7 @@ pub record AreLatchNumbers (nets : List (List ℕ)) (input : List ℕ) (control 
   pub control_is : (name : List ℕ) → control ≡ Some name → IsNumbered nets (get_or numbers 2 0) name
 
 module _ (nets : List (List ℕ)) (numbers : List ℕ) where
-  pub latch_numbers : (args : List (List ℕ)) → is_latch args ≡ true → list_all (has_name nets) (latch_nets args) ≡ true → numbers ≡ map (number_of nets) (latch_nets args) → AreLatchNumbers nets (get_or args 0 []) (control_of args) numbers
+  pub latch_numbers : (args : List (List ℕ)) → is_latch args ≡ true → list_all (has_name nets) (latch_nets 2 args) ≡ true → numbers ≡ map (number_of nets) (latch_nets 2 args) → AreLatchNumbers nets (get_or args 0 []) (control_of args) numbers
   latch_numbers [] form named are = absurd cc
   latch_numbers (input ∷ []) form named are = absurd cc
   latch_numbers (input ∷ output ∷ rest) form named are = by (is_latch (input ∷ output ∷ rest)) (control_of (input ∷ output ∷ rest)) form named are
@@ -53,19 +53,19 @@ latch_input (slice ∷ slices) d args are form = ap (λ words. get_or words 0 []
 
 -- the first net that a latch reads and that is not driven
 module _ (drivers : List (List ℕ)) where
-  reads_are : (args : List (List ℕ)) → is_latch args ≡ true → latch_reads args ≡ get_or args 0 [] ∷ option_to_list (control_of args)
+  reads_are : (args : List (List ℕ)) → is_latch args ≡ true → latch_nets 1 args ≡ get_or args 0 [] ∷ option_to_list (control_of args)
   reads_are [] form = absurd cc
   reads_are (input ∷ []) form = absurd cc
   reads_are (input ∷ output ∷ rest) form = ap (λ b. if b then input ∷ option_to_list (control_of (input ∷ output ∷ rest)) else []) form
 
-  pub input_undriven : (args : List (List ℕ)) → is_latch args ≡ true → has_name drivers (get_or args 0 []) ≡ false → Some (get_or args 0 []) ≡ first (undriven drivers (latch_reads args))
+  pub input_undriven : (args : List (List ℕ)) → is_latch args ≡ true → has_name drivers (get_or args 0 []) ≡ false → Some (get_or args 0 []) ≡ first (undriven drivers (latch_nets 1 args))
   input_undriven args form h =
       let input = get_or args 0 [] in
       let control = option_to_list (control_of args) in
       sym (ap (λ b. first (if not b then input ∷ undriven drivers control else undriven drivers control)) h)
       ∙ ap (λ names. first (undriven drivers names)) (sym (reads_are args form))
 
-  control_left : (args : List (List ℕ)) → is_latch args ≡ true → has_name drivers (get_or args 0 []) ≡ true → first (undriven drivers (option_to_list (control_of args))) ≡ first (undriven drivers (latch_reads args))
+  control_left : (args : List (List ℕ)) → is_latch args ≡ true → has_name drivers (get_or args 0 []) ≡ true → first (undriven drivers (option_to_list (control_of args))) ≡ first (undriven drivers (latch_nets 1 args))
   control_left args form h =
       let input = get_or args 0 [] in
       let control = option_to_list (control_of args) in
@@ -76,14 +76,14 @@ module _ (drivers : List (List ℕ)) where
   of_one name true h = ap (λ b. first (if not b then name ∷ [] else [])) h
   of_one name false h = ap (λ b. first (if not b then name ∷ [] else [])) h
 
-  pub control_undriven : (args : List (List ℕ)) (net : List ℕ) → is_latch args ≡ true → has_name drivers (get_or args 0 []) ≡ true → control_of args ≡ Some net → has_name drivers net ≡ false → Some net ≡ first (undriven drivers (latch_reads args))
+  pub control_undriven : (args : List (List ℕ)) (net : List ℕ) → is_latch args ≡ true → has_name drivers (get_or args 0 []) ≡ true → control_of args ≡ Some net → has_name drivers net ≡ false → Some net ≡ first (undriven drivers (latch_nets 1 args))
   control_undriven args net form input is h =
       sym (ap (λ c. first (undriven drivers (option_to_list c))) is ∙ of_one net false h) ∙ control_left args form input
 
-  pub latch_driven : (args : List (List ℕ)) (net : List ℕ) → is_latch args ≡ true → has_name drivers (get_or args 0 []) ≡ true → control_of args ≡ Some net → has_name drivers net ≡ true → None ≡ first (undriven drivers (latch_reads args))
+  pub latch_driven : (args : List (List ℕ)) (net : List ℕ) → is_latch args ≡ true → has_name drivers (get_or args 0 []) ≡ true → control_of args ≡ Some net → has_name drivers net ≡ true → None ≡ first (undriven drivers (latch_nets 1 args))
   latch_driven args net form input is h =
       sym (ap (λ c. first (undriven drivers (option_to_list c))) is ∙ of_one net true h) ∙ control_left args form input
 
-  pub free_latch_driven : (args : List (List ℕ)) → is_latch args ≡ true → has_name drivers (get_or args 0 []) ≡ true → control_of args ≡ None → None ≡ first (undriven drivers (latch_reads args))
+  pub free_latch_driven : (args : List (List ℕ)) → is_latch args ≡ true → has_name drivers (get_or args 0 []) ≡ true → control_of args ≡ None → None ≡ first (undriven drivers (latch_nets 1 args))
   free_latch_driven args form input is =
       sym (ap (λ c. first (undriven drivers (option_to_list c))) is) ∙ control_left args form input

@@ -7,12 +7,13 @@ use Rattle.line_text.specs.Lines.{JoinedLine}
 use Rattle.blif.specs.declared.circuit.Circuit.{Circuit}
 use Rattle.blif.specs.declared.latches.Latch.{Latch as StoredLatch}
 use Rattle.blif.specs.LookupTables.{LookupTable}
+use Rattle.blif.specs.LineByLine.{clocks_of, drives_of, undeclared}
 use Rattle.blif.specs.Names.{has_name, number_of, with_names}
 use Rattle.blif.specs.LineNets.{reads_in}
 use Rattle.line_text.specs.LineOrder.{RisesFrom}
-use Rattle.blif.specs.Sights.{Sights, kind_of, names_of, inputs_of, clocks_of, drives_of, outputs_of, sights_of, undeclared}
+use Rattle.blif.specs.Sights.{Sights, kind_of, names_of, inputs_of, outputs_of, sights_of}
 use Rattle.blif.specs.declared.circuit.TheConstants.{MAX_NETS}
-use Rattle.blif.specs.Circuits.{circuit_from, latches_in, parts_of, tables_in}
+use Rattle.blif.specs.Circuits.{circuit_from, latches_in, tables_in}
 use Rattle.blif.specs.CircuitOf.{final_faults, line_faults}
 use Rattle.blif.specs.LawfulCircuits.{IsCircuit, IsLatchDriven, IsLatchWithin, IsNarrow, IsTableWithin, drivers_of, has_net}
 use Rattle.blif.proofs.Named.{all_named}
@@ -25,7 +26,7 @@ use Rattle.blif.proofs.LineParts.{all_narrow, apart, latches_at, one_part, risin
 
 -- the circuit of lines that name few nets is lawful
 pub is_circuit : (lut_size : ℕ) (declared : List (List ℕ)) (lines : List JoinedLine) → RisesFrom 1 lines → length (sights_of declared lines).nets ≤ MAX_NETS → line_faults lut_size declared [] lines ≡ [] → final_faults declared lines ≡ [] → IsCircuit (circuit_from declared lines)
-unfolding circuit_from parts_of sights_of
+unfolding circuit_from sights_of
 is_circuit lut_size declared lines rises few line_faultless faultless =
     let sights : Sights = sights_of declared lines in
     let nets : List (List ℕ) = with_names [] (flat_map names_of lines) in
@@ -75,5 +76,5 @@ is_circuit lut_size declared lines rises few line_faultless faultless =
 
 -- and its tables are narrow
 pub is_narrow : (lut_size : ℕ) (declared : List (List ℕ)) (lines : List JoinedLine) → line_faults lut_size declared [] lines ≡ [] → IsNarrow lut_size (circuit_from declared lines)
-unfolding circuit_from parts_of
+unfolding circuit_from
 is_narrow lut_size declared lines faultless = all_narrow (sights_of declared lines).nets lut_size declared lines faultless

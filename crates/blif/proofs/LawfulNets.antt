@@ -76,7 +76,7 @@ module _ (nets : List (List ℕ)) where
   control_within None h = λ net is. absurd cc
   control_within (Some name) h = λ net is. let same : net ≡ number_of nets name = cc in rw same (number_of-within nets name (and_left _ _ h))
 
-  latch_within : (number : ℕ) (args : List (List ℕ)) → list_all is_net (latch_nets args) ≡ true → All (IsLatchWithin (length nets)) (latch_with nets number args)
+  latch_within : (number : ℕ) (args : List (List ℕ)) → list_all is_net (latch_nets 2 args) ≡ true → All (IsLatchWithin (length nets)) (latch_with nets number args)
   latch_within number [] h = All-nil _
   latch_within number (input ∷ []) h = All-nil _
   latch_within number (input ∷ output ∷ rest) h = by (is_latch (input ∷ output ∷ rest)) (control_of (input ∷ output ∷ rest)) h

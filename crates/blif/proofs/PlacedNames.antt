@@ -4,7 +4,7 @@ use Rattle.std.specs.List.{enumerate_from}
 use Rattle.line_text.proofs.InOrder.{Each, InOrder}
 use Rattle.blif.specs.declared.fault.BlifFaultKind.{BlifFaultKind}
 use Rattle.blif.specs.declared.fault.BlifFaultKind.TheVariants.{TwoDrivers, RepeatedOutput}
-use Rattle.blif.specs.BlifFaults.{at_words, clock_faults, driver_faults}
+use Rattle.blif.specs.BlifFaults.{at_words, driver_faults}
 use Rattle.blif.specs.FirstFaults.{first_kind}
 use Rattle.blif.specs.Names.{first, has_name, placed, repeats_from}
 use Rattle.blif.specs.Repeats.{repeats}
@@ -47,7 +47,7 @@ first_driver taken names = first_repeat TwoDrivers taken names
 pub first_output : (taken names : List (List ℕ)) → first (map RepeatedOutput (repeats taken names)) ≡ first_kind (at_words RepeatedOutput (repeats_from 0 taken names))
 first_output taken names = first_repeat RepeatedOutput taken names
 
-pub first_clock : (declared drivers names : List (List ℕ)) → first (map TwoDrivers (filter (λ name. not (has_name declared name) && has_name drivers name) names)) ≡ first_kind (clock_faults declared drivers names)
+pub first_clock : (declared drivers names : List (List ℕ)) → first (map TwoDrivers (filter (λ name. not (has_name declared name) && has_name drivers name) names)) ≡ first_kind (at_words TwoDrivers (placed (λ name. not (has_name declared name) && has_name drivers name) names))
 first_clock declared drivers names = first_placed TwoDrivers (λ name. not (has_name declared name) && has_name drivers name) names
 
 -- where no placed name is, no name is

@@ -1,15 +1,18 @@
 -- What one more line brings, and its faults.
-use Rattle.std.proofs.Common.{◌≡◌, ℕ, ◌+◌, ◌<◌, Bool, true, false, ◌||◌, List, [], ◌∷◌, ◌++◌, None, Some, length, take, drop, slice_get, refl, sym, ap, ◌∙◌}
+use Rattle.std.proofs.Common.{◌≡◌, ℕ, ◌+◌, ◌<◌, Bool, true, false, ◌||◌, List, [], ◌∷◌, ◌++◌, Option, None, Some, length, take, drop, slice_get, refl, sym, ap, ◌∙◌}
 use Rattle.std.specs.List.{flat_map, list_any}
-use Rattle.std.proofs.lemmas.List.{reverse-append}
 use Rattle.std.proofs.lemmas.List.Elements.{filter-append}
 use Rattle.std.proofs.lemmas.List.Folds.{list_any-append}
+use Rattle.std.proofs.lemmas.List.Sums.{fold-append}
 use Rattle.line_text.specs.Lines.{JoinedLine}
-use Rattle.blif.specs.LineByLine.{sights_after}
+use Rattle.line_text.specs.Words.{is_filled}
+use Rattle.blif.specs.LineByLine.{clocks_of, drives_of, sights_after, undeclared}
 use Rattle.blif.specs.Numbering.{numbered}
+use Rattle.blif.specs.Covers.{cover_after}
+use Rattle.blif.specs.declared.cover.Cover.{Cover}
 use Rattle.blif.specs.declared.fault.BlifFaultKind.{BlifFaultKind}
 use Rattle.blif.specs.Names.{with_name, with_names}
-use Rattle.blif.specs.Sights.{Sights, sights_of, kind_of, is_end, names_of, drives_of, clocks_of, outputs_of, undeclared, has_lines, cover_below}
+use Rattle.blif.specs.Sights.{Sights, sights_of, kind_of, is_end, names_of, outputs_of}
 use Rattle.blif.specs.BlifFaults.{faults_in}
 use Rattle.blif.specs.FirstFaults.{first_fault, first_kind}
 use Rattle.blif.specs.CircuitOf.{line_faults}
@@ -20,9 +23,9 @@ pub with_names-append : (names xs ys : List (List ℕ)) → with_names names (xs
 with_names-append names [] ys = refl
 with_names-append names (x ∷ xs) ys = with_names-append (with_name names x) xs ys
 
-has_lines_push : (lines : List JoinedLine) (line : JoinedLine) → has_lines (lines ++ line ∷ []) ≡ true
-has_lines_push [] line = refl
-has_lines_push (first ∷ lines) line = refl
+is_filled_push : (lines : List JoinedLine) (line : JoinedLine) → is_filled (lines ++ line ∷ []) ≡ true
+is_filled_push [] line = refl
+is_filled_push (first ∷ lines) line = refl
 
 or_false : (b c : Bool) → (b || (c || false)) ≡ (b || c)
 or_false true c = refl
@@ -34,13 +37,14 @@ pub sights_push : (declared : List (List ℕ)) (lines : List JoinedLine) (line :
 unfolding sights_of
 sights_push declared lines line =
     let ends : JoinedLine → Bool = λ l. is_end (kind_of l) in
-    let begun = has_lines_push lines line in
+    let begun = is_filled_push lines line in
     let ended : list_any ends (lines ++ line ∷ []) ≡ (list_any ends lines || is_end (kind_of line)) = list_any-append ends lines (line ∷ []) ∙ or_false (list_any ends lines) (is_end (kind_of line)) in
     let nets : with_names [] (flat_map names_of (lines ++ line ∷ [])) ≡ with_names (with_names [] (flat_map names_of lines)) (names_of line) = ap (with_names []) (flat_map_push names_of lines line) ∙ with_names-append [] (flat_map names_of lines) (names_of line) in
     let drivers = flat_map_push drives_of lines line in
     let clocks : with_names [] (undeclared declared (flat_map clocks_of (lines ++ line ∷ []))) ≡ with_names (with_names [] (undeclared declared (flat_map clocks_of lines))) (undeclared declared (clocks_of line)) = ap (λ names. with_names [] (undeclared declared names)) (flat_map_push clocks_of lines line) ∙ ap (with_names []) (filter-append _ (flat_map clocks_of lines) (clocks_of line)) ∙ with_names-append [] (undeclared declared (flat_map clocks_of lines)) (undeclared declared (clocks_of line)) in
     let outputs = flat_map_push outputs_of lines line in
-    let cover = ap cover_below (reverse-append lines (line ∷ [])) in
+    let below : Option Cover → JoinedLine → Option Cover = λ cover l. cover_after (kind_of l) l.words cover in
+    let cover = fold-append below None lines (line ∷ []) in
     λ i. record { declared = declared; begun = begun i; ended = ended i; nets = nets i; drivers = drivers i; clocks = clocks i; outputs = outputs i; cover = cover i }
 
 -- the fault of a line with one

@@ -24,8 +24,7 @@ of_line kind = record { word = 0; kind = kind } ∷ []
 
 -- the same where the test holds
 abbrev pub fault_where : Bool → BlifFaultKind → List WordFault
-fault_where true kind = of_line kind
-fault_where false kind = []
+fault_where test kind = if test then of_line kind else []
 
 -- a fault for each of these names at its place
 abbrev pub at_words : (List ℕ → BlifFaultKind) → List (ℕ × List ℕ) → List WordFault
@@ -39,32 +38,25 @@ driven above = above.clocks ++ above.drivers
 abbrev pub driver_faults : List (List ℕ) → List (List ℕ) → List WordFault
 driver_faults driven_above names = at_words TwoDrivers (repeats_from 0 driven_above names)
 
--- a clock that is not a declared input is driven by its lines of clocks, so nothing else drives it
-abbrev pub clock_faults : List (List ℕ) → List (List ℕ) → List (List ℕ) → List WordFault
-clock_faults declared drivers names = at_words TwoDrivers (placed (λ name. not (has_name declared name) && has_name drivers name) names)
-
 -- the faults of a table: its inputs are at most lut_size
 abbrev pub table_faults : ℕ → List (List ℕ) → List (List ℕ) → List WordFault
 table_faults lut_size driven_above [] = of_line BadCover
 table_faults lut_size driven_above (name ∷ names) = fault_where (nat_lt lut_size (length names)) TooWide ++ driver_faults driven_above (output_of (name ∷ names))
-
--- the faults of a latch
-abbrev pub latch_faults : List (List ℕ) → List (List ℕ) → List WordFault
-latch_faults driven_above args = if is_latch args then driver_faults driven_above (latch_output args) else of_line BadLatch
 
 -- the faults of a row below this cover
 abbrev pub row_faults : Option Cover → List (List ℕ) → List WordFault
 row_faults None words = of_line Unknown
 row_faults (Some cover) words = fault_where (not (is_row cover.inputs words)) BadCover ++ fault_where (is_mixed cover.output words) MixedCover
 
--- the faults that a line of this kind has by itself or with the lines above it
+-- the faults that a line of this kind has by itself or with the lines above it; a clock that is not a declared input is driven by
+-- its lines of clocks, so nothing else drives it
 abbrev pub kind_faults : ℕ → Sights → Keyword → List (List ℕ) → List WordFault
 kind_faults lut_size above Model words = fault_where above.begun Unknown
 kind_faults lut_size above Inputs words = driver_faults (driven above) (args_of words)
 kind_faults lut_size above Outputs words = at_words RepeatedOutput (repeats_from 0 above.outputs (args_of words))
-kind_faults lut_size above Clock words = clock_faults above.declared above.drivers (args_of words)
+kind_faults lut_size above Clock words = at_words TwoDrivers (placed (λ name. not (has_name above.declared name) && has_name above.drivers name) (args_of words))
 kind_faults lut_size above Names words = table_faults lut_size (driven above) (args_of words)
-kind_faults lut_size above Latch words = latch_faults (driven above) (args_of words)
+kind_faults lut_size above Latch words = if is_latch (args_of words) then driver_faults (driven above) (latch_output (args_of words)) else of_line BadLatch
 kind_faults lut_size above Other words = of_line Unknown
 kind_faults lut_size above Row words = row_faults above.cover words
 kind_faults lut_size above keyword words = []

@@ -1,9 +1,10 @@
 -- What a netlist text says: its circuit, or its least fault.
-use Rattle.std.specs.Prelude.{ℕ, Bool, true, false, not, List, [], ◌∷◌, ◌++◌, Option, None, Some, Result, Ok, Err, map, length, nat_lt, if◌then◌else◌}
-use Rattle.std.specs.List.{flat_map}
+use Rattle.std.specs.Prelude.{ℕ, Bool, true, false, not, List, [], ◌∷◌, ◌++◌, Result, Ok, Err, map, length, nat_lt, if◌then◌else◌}
+use Rattle.std.specs.List.{before_first, flat_map}
+use Rattle.std.specs.Option.{option_map_or}
+use Rattle.std.specs.Result.{result_flatten, result_map_both}
 use Rattle.line_text.specs.Lines.{JoinedLine, lines_of}
 use Rattle.line_text.specs.LeastFault.{Found, least_fault}
-use Rattle.line_text.specs.declared.fault.LineFault.{LineFault}
 use Rattle.line_text.specs.declared.lines.TheConstants.{MAX_TEXT}
 use Rattle.blif.specs.declared.circuit.Circuit.{Circuit}
 use Rattle.blif.specs.declared.fault.BlifFault.{BlifFault}
@@ -16,14 +17,9 @@ use Rattle.blif.specs.BlifFaults.{WordFault, at_words, driven, faults_in, of_lin
 use Rattle.blif.specs.Circuits.{circuit_from}
 use Rattle.blif.specs.LawfulCircuits.{IsCircuit, IsNarrow}
 
--- the lines before the end
-abbrev pub lines_to_end : List JoinedLine → List JoinedLine
-lines_to_end [] = []
-lines_to_end (line ∷ lines) = if is_end (kind_of line) then [] else line ∷ lines_to_end lines
-
--- the inputs that lines of inputs declare, each once
+-- the inputs that lines of inputs declare before the end, each once
 unfoldable pub declared_in : List JoinedLine → List (List ℕ)
-declared_in lines = with_names [] (flat_map inputs_of (lines_to_end lines))
+declared_in lines = with_names [] (flat_map inputs_of (before_first (λ line. is_end (kind_of line)) lines))
 
 -- these faults of the line of that number, found at it or only at the end
 abbrev pub at_line : Bool → ℕ → List WordFault → List (Found BlifFault)
@@ -49,24 +45,15 @@ final_faults declared (line ∷ lines) = flat_map (undriven_faults (driven (sigh
 abbrev pub all_faults : ℕ → List JoinedLine → List (Found BlifFault)
 all_faults lut_size lines = line_faults lut_size (declared_in lines) [] lines ++ final_faults (declared_in lines) lines
 
--- the least fault, or this circuit where there is none
-abbrev pub unless_fault : Option BlifFault → Circuit → Result Circuit BlifFault
-unless_fault None circuit = Ok circuit
-unless_fault (Some fault) circuit = Err fault
-
--- what the lines say
+-- what the lines say: their least fault, or their circuit where there is none
 unfoldable pub circuit_of_lines : ℕ → List JoinedLine → Result Circuit BlifFault
-circuit_of_lines lut_size lines = unless_fault (least_fault (all_faults lut_size lines)) (circuit_from (declared_in lines) lines)
+circuit_of_lines lut_size lines = option_map_or Err (least_fault (all_faults lut_size lines)) (Ok (circuit_from (declared_in lines) lines))
 
--- what a text says that has these lines
-abbrev pub circuit_of_read : ℕ → Result (List JoinedLine) LineFault → Result Circuit BlifFault
-circuit_of_read lut_size (Ok lines) = circuit_of_lines lut_size lines
-circuit_of_read lut_size (Err fault) = Err (fault_of_lines fault)
-
--- the circuit, or the least fault: first the text's size, then its lines
+-- the circuit, or the least fault: first the text's size, then a fault of its lines, then what the lines say
 unfoldable pub circuit_of : List ℕ → ℕ → Result Circuit BlifFault
 circuit_of text lut_size =
-    if nat_lt MAX_TEXT (length text) then Err (record { line = 0; kind = OverLimit }) else circuit_of_read lut_size (lines_of text)
+    if nat_lt MAX_TEXT (length text) then Err (record { line = 0; kind = OverLimit })
+    else result_flatten (result_map_both (circuit_of_lines lut_size) fault_of_lines (lines_of text))
 
 -- a circuit that is lawful, and whose tables have at most so many inputs
 abbrev pub IsLawfulFor : ℕ → Circuit → Type 0

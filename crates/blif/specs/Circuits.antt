@@ -10,9 +10,9 @@ use Rattle.blif.specs.declared.latches.Latch.{Latch as StoredLatch}
 use Rattle.blif.specs.Names.{number_of}
 use Rattle.blif.specs.Keywords.{args_of, last_of}
 use Rattle.blif.specs.LatchLines.{is_latch, control_of}
-use Rattle.blif.specs.LineNets.{front_of, inputs_in, outputs_in}
+use Rattle.blif.specs.LineNets.{front_of}
 use Rattle.blif.specs.LookupTables.{LookupTable}
-use Rattle.blif.specs.Sights.{sights_of, kind_of}
+use Rattle.blif.specs.Sights.{inputs_of, kind_of, outputs_of, sights_of}
 
 -- the table with these names on the line with this number
 abbrev pub table_with : List (List ℕ) → ℕ → List (List ℕ) → List LookupTable
@@ -34,45 +34,19 @@ abbrev pub latches_in : List (List ℕ) → ℕ → Keyword → List (List ℕ) 
 latches_in nets number Latch words = latch_with nets number (args_of words)
 latches_in nets number keyword words = []
 
--- the parts of a circuit that lines bring
-pub record Parts : Type 0 where
-  pub inputs : List ℕ
-  pub outputs : List ℕ
-  pub tables : List LookupTable
-  pub latches : List StoredLatch
-
--- the parts that these lines bring
-unfoldable pub parts_of : List (List ℕ) → List JoinedLine → Parts
-parts_of nets lines = record {
-  inputs = map (number_of nets) (flat_map (λ line. inputs_in (kind_of line) line.words) lines);
-  outputs = map (number_of nets) (flat_map (λ line. outputs_in (kind_of line) line.words) lines);
-  tables = flat_map (λ line. tables_in nets line.number (kind_of line) line.words) lines;
-  latches = flat_map (λ line. latches_in nets line.number (kind_of line) line.words) lines;
-}
-
--- the model's name, which a line of the model may leave out
-abbrev pub named_model : List (List ℕ) → List ℕ
-named_model [] = codes "top"
-named_model (name ∷ words) = name
-
--- the name of the model that the first line begins
+-- the name of the model that the first line begins, which may leave it out
 abbrev pub model_of : List JoinedLine → List ℕ
 model_of [] = codes "top"
-model_of (line ∷ lines) = named_model (args_of line.words)
+model_of (line ∷ lines) = slice_index_or (args_of line.words) 0 (codes "top")
 
--- the circuit of these nets and parts, whose clocks come after the inputs that lines of inputs name
-abbrev pub circuit_with : List (List ℕ) → List (List ℕ) → List JoinedLine → Parts → Circuit
-circuit_with nets clocks lines parts = record {
-  model = model_of lines;
-  nets = nets;
-  inputs = parts.inputs ++ map (number_of nets) clocks;
-  outputs = parts.outputs;
-  tables = parts.tables;
-  latches = parts.latches;
-}
-
--- the circuit of these lines
+-- the circuit of these lines, whose clocks come after the inputs that lines of inputs name
 unfoldable pub circuit_from : List (List ℕ) → List JoinedLine → Circuit
 circuit_from declared lines =
-    let sights = sights_of declared lines in
-    circuit_with sights.nets sights.clocks lines (parts_of sights.nets lines)
+    let sights = sights_of declared lines in record {
+      model = model_of lines;
+      nets = sights.nets;
+      inputs = map (number_of sights.nets) (flat_map inputs_of lines) ++ map (number_of sights.nets) sights.clocks;
+      outputs = map (number_of sights.nets) (flat_map outputs_of lines);
+      tables = flat_map (λ line. tables_in sights.nets line.number (kind_of line) line.words) lines;
+      latches = flat_map (λ line. latches_in sights.nets line.number (kind_of line) line.words) lines;
+    }

@@ -14,37 +14,28 @@ is_literal byte = (byte == 48) || ((byte == 49) || (byte == 45))
 
 -- a row's output
 abbrev pub is_output : List ℕ → Bool
-is_output [] = false
 is_output (byte ∷ []) = (byte == 48) || (byte == 49)
-is_output (byte ∷ next ∷ bytes) = false
+is_output word = false
 
 -- a row of a table with so many inputs
 abbrev pub is_row : ℕ → List (List ℕ) → Bool
-is_row inputs [] = false
 is_row inputs (output ∷ []) = nat_eq inputs 0 && is_output output
 is_row inputs (pattern ∷ output ∷ []) = not (nat_eq inputs 0) && (nat_eq (length pattern) inputs && (list_all is_literal pattern && is_output output))
-is_row inputs (pattern ∷ output ∷ next ∷ words) = false
+is_row inputs words = false
 
 -- whether the row's output is 1
 abbrev pub gives_one : List (List ℕ) → Bool
 gives_one words = bytes_eq (last_of words) (codes "1")
 
--- whether the row's output is another than the one given
-abbrev pub differs_from : Bool → List (List ℕ) → Bool
-differs_from true words = not (gives_one words)
-differs_from false words = gives_one words
-
 -- whether the row's output is another than that of the cover's first row
 abbrev pub is_mixed : Option Bool → List (List ℕ) → Bool
 is_mixed None words = false
-is_mixed (Some one) words = differs_from one words
+is_mixed (Some true) words = not (gives_one words)
+is_mixed (Some false) words = gives_one words
 
--- the cover with a row
-abbrev pub with_row : List (List ℕ) → Cover → Cover
-with_row words cover = record { inputs = cover.inputs; output = option_or cover.output (Some (gives_one words)) }
-
--- the cover that a line of this kind begins or goes on with, where the one given stands above the line
+-- the cover that a line of this kind begins or goes on with, where the one given stands above the line: its first row tells the
+-- output
 abbrev pub cover_after : Keyword → List (List ℕ) → Option Cover → Option Cover
 cover_after Names words above = Some (record { inputs = length (args_of words) - 1; output = None })
-cover_after Row words above = option_map (with_row words) above
+cover_after Row words above = option_map (λ cover. record { inputs = cover.inputs; output = option_or cover.output (Some (gives_one words)) }) above
 cover_after keyword words above = None

@@ -1,25 +1,16 @@
 -- What a line is, by its first word.
-use Rattle.std.specs.Prelude.{ℕ, Bool, false, List, [], ◌∷◌, ◌==◌, codes, drop, if◌then◌else◌}
+use Rattle.std.specs.Prelude.{ℕ, Bool, List, [], ◌∷◌, ◌==◌, codes, drop, slice_index, if◌then◌else◌}
 use Rattle.std.specs.List.{list_any}
 use Rattle.std.specs.Str.{bytes_eq}
 use Rattle.blif.specs.declared.keyword.Keyword.{Keyword}
 use Rattle.blif.specs.declared.keyword.Keyword.TheVariants.{Model, Inputs, Outputs, Clock, Names, Latch, End, Skipped, Other, Row}
 
--- whether a point stands in front of the word
-abbrev pub is_pointed : List ℕ → Bool
-is_pointed [] = false
-is_pointed (byte ∷ bytes) = byte == 46
-
--- what begins a line of delays, areas or loads
-abbrev pub skipped_words : List (List ℕ)
-skipped_words =
+-- whether the word begins a line of delays, areas or loads
+abbrev pub is_skipped : List ℕ → Bool
+is_skipped word = list_any (bytes_eq word) (
     codes ".area" ∷ codes ".delay" ∷ codes ".wire_load_slope" ∷ codes ".wire" ∷ codes ".input_arrival" ∷ codes ".default_input_arrival"
     ∷ codes ".output_required" ∷ codes ".default_output_required" ∷ codes ".input_drive" ∷ codes ".default_input_drive" ∷ codes ".output_load"
-    ∷ codes ".default_output_load" ∷ codes ".max_input_load" ∷ codes ".default_max_input_load" ∷ codes ".cycle" ∷ codes ".clock_event" ∷ []
-
--- whether the word is one of them
-abbrev pub is_skipped : List ℕ → Bool
-is_skipped word = list_any (bytes_eq word) skipped_words
+    ∷ codes ".default_output_load" ∷ codes ".max_input_load" ∷ codes ".default_max_input_load" ∷ codes ".cycle" ∷ codes ".clock_event" ∷ [])
 
 -- what a word with a point begins
 abbrev pub command_of : List ℕ → Keyword
@@ -34,10 +25,10 @@ command_of word =
     if is_skipped word then Skipped else
     Other
 
--- what the line with these words is
+-- what the line with these words is: a command where a point stands in front, else a row
 abbrev pub keyword_of : List (List ℕ) → Keyword
 keyword_of [] = Row
-keyword_of (word ∷ words) = if is_pointed word then command_of word else Row
+keyword_of (word ∷ words) = if slice_index word 0 == 46 then command_of word else Row
 
 -- the words after the first
 abbrev pub args_of : List (List ℕ) → List (List ℕ)

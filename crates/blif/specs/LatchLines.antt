@@ -8,24 +8,18 @@ is_type word = bytes_eq word (codes "fe") || (bytes_eq word (codes "re") || (byt
 
 -- 0, 1, of no matter, unknown
 abbrev pub is_init : List ℕ → Bool
-is_init [] = false
 is_init (byte ∷ []) = (byte == 48) || ((byte == 49) || ((byte == 50) || (byte == 51)))
-is_init (byte ∷ next ∷ bytes) = false
+is_init word = false
 
 -- two to five words of the right form
 abbrev pub is_latch : List (List ℕ) → Bool
-is_latch [] = false
-is_latch (input ∷ []) = false
 is_latch (input ∷ output ∷ []) = true
 is_latch (input ∷ output ∷ init ∷ []) = is_init init
 is_latch (input ∷ output ∷ type ∷ control ∷ []) = is_type type
 is_latch (input ∷ output ∷ type ∷ control ∷ init ∷ []) = is_type type && is_init init
-is_latch (input ∷ output ∷ type ∷ control ∷ init ∷ more ∷ words) = false
+is_latch args = false
 
 -- the net that controls the latch, unless it is NIL
 abbrev pub control_of : List (List ℕ) → Option (List ℕ)
-control_of [] = None
-control_of (input ∷ []) = None
-control_of (input ∷ output ∷ []) = None
-control_of (input ∷ output ∷ init ∷ []) = None
 control_of (input ∷ output ∷ type ∷ control ∷ words) = if bytes_eq control (codes "NIL") then None else Some control
+control_of args = None

@@ -6,9 +6,9 @@ use Rattle.blif.specs.declared.keyword.Keyword.TheVariants.{Inputs, Outputs, Clo
 use Rattle.blif.specs.Keywords.{args_of, last_of}
 use Rattle.blif.specs.LatchLines.{is_latch, control_of}
 
--- the nets of a latch: its input, its output and its control
-abbrev pub latch_nets : List (List ℕ) → List (List ℕ)
-latch_nets args = if is_latch args then take 2 args ++ option_to_list (control_of args) else []
+-- of the nets of a latch, its input and its output, the first so many, and its control
+abbrev pub latch_nets : ℕ → List (List ℕ) → List (List ℕ)
+latch_nets count args = if is_latch args then take count args ++ option_to_list (control_of args) else []
 
 -- the nets that a line of this kind names
 abbrev pub names_in : Keyword → List (List ℕ) → List (List ℕ)
@@ -16,7 +16,7 @@ names_in Inputs words = args_of words
 names_in Outputs words = args_of words
 names_in Clock words = args_of words
 names_in Names words = args_of words
-names_in Latch words = latch_nets (args_of words)
+names_in Latch words = latch_nets 2 (args_of words)
 names_in keyword words = []
 
 -- the last word, of a list that has one
@@ -54,13 +54,9 @@ outputs_in keyword words = []
 abbrev pub front_of : List (List ℕ) → List (List ℕ)
 front_of words = take (length words - 1) words
 
--- the nets that a latch reads: its input and its control
-abbrev pub latch_reads : List (List ℕ) → List (List ℕ)
-latch_reads args = if is_latch args then take 1 args ++ option_to_list (control_of args) else []
-
 -- the nets that a line of this kind reads
 abbrev pub reads_in : Keyword → List (List ℕ) → List (List ℕ)
 reads_in Outputs words = args_of words
 reads_in Names words = front_of (args_of words)
-reads_in Latch words = latch_reads (args_of words)
+reads_in Latch words = latch_nets 1 (args_of words)
 reads_in keyword words = []

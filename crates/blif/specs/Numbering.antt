@@ -1,6 +1,12 @@
 -- Private: the numbers that names get, one after another.
-use Rattle.std.specs.Prelude.{ℕ, List, [], ◌∷◌}
-use Rattle.blif.specs.Names.{number_of, with_name}
+use Rattle.std.specs.Prelude.{ℕ, ◌≡◌, List, [], ◌∷◌, IsTrue, map}
+use Rattle.std.specs.List.{list_all}
+use Rattle.blif.specs.Names.{has_name, number_of, with_name}
+
+-- the names are nets, and these are their numbers
+pub record AreNumbered (nets names : List (List ℕ)) (given : List ℕ) : Type 0 where
+  pub named : IsTrue (list_all (has_name nets) names)
+  pub numbers : given ≡ map (number_of nets) names
 
 -- the number of each of the others, where they are added one after another
 abbrev pub numbered : List (List ℕ) → List (List ℕ) → List ℕ

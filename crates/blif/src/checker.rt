@@ -1,14 +1,14 @@
 //! The faults of the lines, one line after another.
-ghost use Rattle.std.specs.Prelude.{◌≡◌, ◌≤◌, ◌||◌, ◌++◌, [], length, None, true, false, IfOk, IfNone, IsTrue};
-ghost use Rattle.blif.specs.LineByLine.{sights_after};
+ghost use Rattle.std.specs.Prelude.{◌≡◌, ◌≤◌, ◌||◌, ◌&&◌, ◌++◌, [], not, if◌then◌else◌, length, None, true, false, IfOk, IfNone, IsTrue};
+ghost use Rattle.blif.specs.LineByLine.{sights_after, undeclared};
 ghost use Rattle.blif.specs.Numbering.{numbered};
-ghost use Rattle.blif.specs.Names.{repeats_from, texts, with_names};
+ghost use Rattle.blif.specs.Names.{has_name, placed, repeats_from, texts, with_names};
 ghost use Rattle.blif.specs.FirstFaults.{first_kind};
 ghost use Rattle.blif.specs.LatchLines.{is_latch};
 ghost use Rattle.blif.specs.LineNets.{latch_nets, latch_output, names_in, output_of};
-ghost use Rattle.blif.specs.Sights.{kind_of, names_of, sights_of, undeclared};
-ghost use Rattle.blif.specs.BlifFaults.{at_words, clock_faults, driver_faults, faults_in, kind_faults, row_faults, table_faults, latch_faults};
-ghost use Rattle.blif.specs.declared.fault.BlifFaultKind.TheVariants.{RepeatedOutput};
+ghost use Rattle.blif.specs.Sights.{kind_of, names_of, sights_of};
+ghost use Rattle.blif.specs.BlifFaults.{at_words, driver_faults, faults_in, kind_faults, of_line, row_faults, table_faults};
+ghost use Rattle.blif.specs.declared.fault.BlifFaultKind.TheVariants.{BadLatch, RepeatedOutput, TwoDrivers};
 
 use crate::circuit::MAX_NETS;
 use crate::cover::{Cover, cover_after, is_mixed, is_row};
@@ -64,7 +64,12 @@ impl<'t> Checker<'t> {
     /// The nets of the lines that have come, and which of them are driven.
     pub fn into_driven(self, alloc: Global) -> Result<Driven<'t>, AllocError>
         requires { length self.nets ≤ MAX_NETS }
-        ensures { IfOk result (λ driven. driven ≡ record { nets = self.entry.nets; clocks = self.entry.clocks; drivers = self.entry.drivers }) }
+        ensures { IfOk result (λ driven.
+            driven ≡ record {
+              nets = self.entry.nets;
+              clocks = self.entry.clocks;
+              drivers = self.entry.drivers;
+            }) }
     {
         Driven::new(alloc, self.nets, self.clocks, self.drivers)
     }
@@ -78,10 +83,14 @@ impl<'t> Checker<'t> {
         lut_size: u32,
         numbers: &mut Nets,
     ) -> Result<Option<BlifFaultKind>, AllocError>
-        ensures least { IfOk result (λ fault. fault ≡ first_kind (faults_in lut_size self.old (kind_of line.now) line.now.words)) }
-        ensures sights { IfOk result (λ fault. IfNone fault (self.new ≡ sights_after (kind_of line.now) line.now.words self.old)) }
+        ensures least { IfOk result (λ fault.
+            fault ≡ first_kind (faults_in lut_size self.old (kind_of line.now) line.now.words)) }
+        ensures sights { IfOk result (λ fault.
+            IfNone fault (self.new ≡ sights_after (kind_of line.now) line.now.words self.old)) }
         ensures few { IfOk result (λ fault. IfNone fault (length self.new.nets ≤ MAX_NETS)) }
-        ensures numbers { IfOk result (λ fault. IfNone fault (numbers.new ≡ numbers.old ++ numbered self.old.nets (names_of line.now))) }
+        ensures numbers { IfOk result (λ fault.
+            IfNone fault (numbers.new
+            ≡ numbers.old ++ numbered self.old.nets (names_of line.now))) }
     {
         if self.ended {
             return Ok(Some(BlifFaultKind::Unknown));
@@ -110,11 +119,18 @@ impl<'t> Checker<'t> {
         numbers: &mut Nets,
     ) -> Result<Option<BlifFaultKind>, AllocError>
         requires { self.old.ended ≡ false }
-        ensures least { IfOk result (λ fault. fault ≡ first_kind (kind_faults lut_size self.old keyword line.now.words)) }
-        ensures sights { IfOk result (λ fault. IfNone fault (record self.new { begun = true } ≡ sights_after keyword line.now.words self.old)) }
+        ensures least { IfOk result (λ fault.
+            fault ≡ first_kind (kind_faults lut_size self.old keyword line.now.words)) }
+        ensures sights { IfOk result (λ fault.
+            IfNone fault (record self.new { begun = true }
+            ≡ sights_after keyword line.now.words self.old)) }
         ensures begun { IfOk result (λ fault. self.new.begun ≡ self.old.begun) }
-        ensures nets { IfOk result (λ fault. IfNone fault (self.new.nets ≡ with_names self.old.nets (names_in keyword line.now.words))) }
-        ensures numbers { IfOk result (λ fault. IfNone fault (numbers.new ≡ numbers.old ++ numbered self.old.nets (names_in keyword line.now.words))) }
+        ensures nets { IfOk result (λ fault.
+            IfNone fault (self.new.nets
+            ≡ with_names self.old.nets (names_in keyword line.now.words))) }
+        ensures numbers { IfOk result (λ fault.
+            IfNone fault (numbers.new
+            ≡ numbers.old ++ numbered self.old.nets (names_in keyword line.now.words))) }
     {
         let rest = line.behind_first();
         let args = rest.words();
@@ -164,8 +180,10 @@ fn drive<'t>(
     drivers: &mut NameSet<'t>,
     names: &[&'t [u8]],
 ) -> Result<Option<BlifFaultKind>, AllocError>
-    ensures least { IfOk result (λ fault. fault ≡ first_kind (driver_faults (clocks.now ++ drivers.old) (texts names.now))) }
-    ensures drivers { IfOk result (λ fault. IfNone fault (drivers.new ≡ drivers.old ++ texts names.now)) }
+    ensures least { IfOk result (λ fault.
+        fault ≡ first_kind (driver_faults (clocks.now ++ drivers.old) (texts names.now))) }
+    ensures drivers { IfOk result (λ fault.
+        IfNone fault (drivers.new ≡ drivers.old ++ texts names.now)) }
 {
     for name in names {
         if clocks.contains(name) || !drivers.add(name)? {
@@ -181,8 +199,11 @@ fn show<'t>(
     outputs: &mut NameSet<'t>,
     names: &[&'t [u8]],
 ) -> Result<Option<BlifFaultKind>, AllocError>
-    ensures least { IfOk result (λ fault. fault ≡ first_kind (at_words RepeatedOutput (repeats_from 0 outputs.old (texts names.now)))) }
-    ensures outputs { IfOk result (λ fault. IfNone fault (outputs.new ≡ outputs.old ++ texts names.now)) }
+    ensures least { IfOk result (λ fault.
+        fault ≡ first_kind (at_words RepeatedOutput
+        (repeats_from 0 outputs.old (texts names.now)))) }
+    ensures outputs { IfOk result (λ fault.
+        IfNone fault (outputs.new ≡ outputs.old ++ texts names.now)) }
 {
     match add_different(outputs, names)? {
         Some(name) => Ok(Some(BlifFaultKind::RepeatedOutput(Text::from_slice(alloc, name)?))),
@@ -198,8 +219,13 @@ fn clock<'t>(
     clocks: &mut NameSet<'t>,
     names: &[&'t [u8]],
 ) -> Result<Option<BlifFaultKind>, AllocError>
-    ensures least { IfOk result (λ fault. fault ≡ first_kind (clock_faults declared.now drivers.now (texts names.now))) }
-    ensures clocks { IfOk result (λ fault. IfNone fault (clocks.new ≡ with_names clocks.old (undeclared declared.now (texts names.now)))) }
+    ensures least { IfOk result (λ fault.
+        fault ≡ first_kind (at_words TwoDrivers
+        (placed (λ name. not (has_name declared.now name) && has_name drivers.now name)
+        (texts names.now)))) }
+    ensures clocks { IfOk result (λ fault.
+        IfNone fault (clocks.new
+        ≡ with_names clocks.old (undeclared declared.now (texts names.now)))) }
 {
     for name in names {
         if !declared.contains(name) {
@@ -220,8 +246,10 @@ fn table<'t>(
     drivers: &mut NameSet<'t>,
     args: &Line<'_, 't>,
 ) -> Result<Option<BlifFaultKind>, AllocError>
-    ensures least { IfOk result (λ fault. fault ≡ first_kind (table_faults lut_size (clocks.now ++ drivers.old) args.now.words)) }
-    ensures drivers { IfOk result (λ fault. IfNone fault (drivers.new ≡ drivers.old ++ output_of args.now.words)) }
+    ensures least { IfOk result (λ fault.
+        fault ≡ first_kind (table_faults lut_size (clocks.now ++ drivers.old) args.now.words)) }
+    ensures drivers { IfOk result (λ fault.
+        IfNone fault (drivers.new ≡ drivers.old ++ output_of args.now.words)) }
 {
     let names = args.words();
     if names.is_empty() {
@@ -242,10 +270,16 @@ fn latch<'t>(
     drivers: &mut NameSet<'t>,
     args: &Line<'_, 't>,
 ) -> Result<Option<BlifFaultKind>, AllocError>
-    ensures least { IfOk result (λ fault. fault ≡ first_kind (latch_faults (clocks.now ++ drivers.old) args.now.words)) }
-    ensures nets { IfOk result (λ fault. nets.new ≡ with_names nets.old (latch_nets args.now.words)) }
-    ensures numbers { IfOk result (λ fault. numbers.new ≡ numbers.old ++ numbered nets.old (latch_nets args.now.words)) }
-    ensures drivers { IfOk result (λ fault. IfNone fault (drivers.new ≡ drivers.old ++ latch_output args.now.words)) }
+    ensures least { IfOk result (λ fault.
+        fault ≡ first_kind (if is_latch args.now.words
+        then driver_faults (clocks.now ++ drivers.old) (latch_output args.now.words)
+        else of_line BadLatch)) }
+    ensures nets { IfOk result (λ fault.
+        nets.new ≡ with_names nets.old (latch_nets 2 args.now.words)) }
+    ensures numbers { IfOk result (λ fault.
+        numbers.new ≡ numbers.old ++ numbered nets.old (latch_nets 2 args.now.words)) }
+    ensures drivers { IfOk result (λ fault.
+        IfNone fault (drivers.new ≡ drivers.old ++ latch_output args.now.words)) }
 {
     if !is_latch(args) {
         return Ok(Some(BlifFaultKind::BadLatch));
@@ -261,8 +295,9 @@ fn name_latch<'t>(
     args: &Line<'_, 't>,
 ) -> Result<(), AllocError>
     requires { IsTrue (is_latch args.now.words) }
-    ensures nets { IfOk result (λ _. nets.new ≡ with_names nets.old (latch_nets args.now.words)) }
-    ensures numbers { IfOk result (λ _. numbers.new ≡ numbers.old ++ numbered nets.old (latch_nets args.now.words)) }
+    ensures nets { IfOk result (λ _. nets.new ≡ with_names nets.old (latch_nets 2 args.now.words)) }
+    ensures numbers { IfOk result (λ _. numbers.new
+        ≡ numbers.old ++ numbered nets.old (latch_nets 2 args.now.words)) }
 {
     number_all(nets, &args.words()[..2], numbers)?;
     match control_of(args) {

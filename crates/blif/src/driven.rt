@@ -1,7 +1,7 @@
 //! Which nets of a text are driven.
-ghost use Rattle.std.specs.Prelude.{◌≡◌, ◌≤◌, ◌<◌, ◌++◌, [], map, length, IfOk, IsTrue, option_map, slice_index_or};
-ghost use Rattle.std.specs.List.{list_all};
+ghost use Rattle.std.specs.Prelude.{◌≡◌, ◌≤◌, ◌<◌, ◌++◌, [], map, length, IfOk, option_map, slice_index_or};
 ghost use Rattle.blif.specs.Names.{first, has_name, number_of, texts};
+ghost use Rattle.blif.specs.Numbering.{AreNumbered};
 ghost use Rattle.blif.specs.Repeats.{undriven};
 
 use crate::circuit::MAX_NETS;
@@ -38,7 +38,8 @@ impl<'t> Driven<'t> {
         drivers: NameSet<'t>,
     ) -> Result<Self, AllocError>
         requires { length nets ≤ MAX_NETS }
-        ensures { IfOk result (λ driven. driven ≡ record { nets = nets.entry; clocks = clocks.entry; drivers = drivers.entry }) }
+        ensures { IfOk result (λ driven.
+            driven ≡ record { nets = nets.entry; clocks = clocks.entry; drivers = drivers.entry }) }
     {
         match marks(alloc, &nets, &clocks, &drivers) {
             Ok(is_driven) => Ok(Driven {
@@ -80,16 +81,17 @@ impl<'t> Driven<'t> {
     /// Whether the net of a number is driven.
     pub fn is_driven(&self, net: u32) -> bool
         requires { net < length self.now.nets }
-        ensures { result ≡ has_name (self.now.clocks ++ self.now.drivers) (slice_index_or self.now.nets net []) }
+        ensures { result ≡ has_name (self.now.clocks ++ self.now.drivers)
+            (slice_index_or self.now.nets net []) }
     {
         self.is_driven[net as usize]
     }
 
     /// The first of the names that is no driven net's, where these are the numbers of their nets.
     pub fn first_undriven(&self, names: &[&'t [u8]], nets: &[u32]) -> Option<&'t [u8]>
-        requires named { IsTrue (list_all (has_name self.now.nets) (texts names.now)) }
-        requires numbers { nets.now ≡ map (number_of self.now.nets) (texts names.now) }
-        ensures { option_map (λ n. n.now) result ≡ first (undriven (self.now.clocks ++ self.now.drivers) (texts names.now)) }
+        requires { AreNumbered self.now.nets (texts names.now) nets.now }
+        ensures { option_map (λ n. n.now) result
+            ≡ first (undriven (self.now.clocks ++ self.now.drivers) (texts names.now)) }
     {
         for place in 0..names.len() {
             if !self.is_driven(nets[place]) {
@@ -107,7 +109,8 @@ fn marks<'t>(
     clocks: &NameSet<'t>,
     drivers: &NameSet<'t>,
 ) -> Result<Vec<bool>, AllocError>
-    ensures { IfOk result (λ marks. marks.items ≡ map (has_name (clocks.now ++ drivers.now)) nets.now) }
+    ensures { IfOk result (λ marks.
+        marks.items ≡ map (has_name (clocks.now ++ drivers.now)) nets.now) }
 {
     let mut marks = Vec::with_capacity(alloc, nets.len())?;
     for number in 0..nets.len() {

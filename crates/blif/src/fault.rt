@@ -164,7 +164,8 @@ impl fmt::Display for BlifFault {
 
 /// Writes a blank, and each byte of the net as the character of its number.
 fn write_net<W: fmt::Write>(net: &[u8], f: &mut fmt::Formatter<W>) -> fmt::Result
-    ensures { WritesOnOk W.write_str_gives f.old result (codes " " ++ encode_utf8_all net.now) f.new }
+    ensures { WritesOnOk W.write_str_gives f.old result (codes " " ++ encode_utf8_all net.now)
+        f.new }
 {
     f.write_char(' ')?;
     for byte in net {

@@ -15,7 +15,8 @@ fn number_new<'t>(
     numbers: &mut Nets,
 ) -> Result<(), AllocError>
     ensures nets { IfOk result (λ _. nets.new ≡ with_name nets.old name.now) }
-    ensures numbers { IfOk result (λ _. numbers.new ≡ numbers.old ++ number_of nets.old name.now ∷ []) }
+    ensures numbers { IfOk result (λ _. numbers.new
+        ≡ numbers.old ++ number_of nets.old name.now ∷ []) }
 {
     let place = nets.add_numbered(name)?;
     let Ok(number) = u32::try_from(place) else {
@@ -32,7 +33,8 @@ pub fn number_all<'t>(
     numbers: &mut Nets,
 ) -> Result<(), AllocError>
     ensures nets { IfOk result (λ _. nets.new ≡ with_names nets.old (texts names.now)) }
-    ensures numbers { IfOk result (λ _. numbers.new ≡ numbers.old ++ numbered nets.old (texts names.now)) }
+    ensures numbers { IfOk result (λ _. numbers.new
+        ≡ numbers.old ++ numbered nets.old (texts names.now)) }
 {
     for name in names {
         number_new(nets, name, numbers)?;
@@ -45,7 +47,8 @@ pub fn add_different<'t>(
     set: &mut NameSet<'t>,
     names: &[&'t [u8]],
 ) -> Result<Option<&'t [u8]>, AllocError>
-    ensures repeated { IfOk result (λ r. option_map (λ name. name.now) r ≡ first (repeats set.old (texts names.now))) }
+    ensures repeated { IfOk result (λ r. option_map (λ name. name.now) r
+        ≡ first (repeats set.old (texts names.now))) }
     ensures names { IfOk result (λ r. IfNone r (set.new ≡ set.old ++ texts names.now)) }
 {
     for name in names {

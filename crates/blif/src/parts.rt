@@ -1,11 +1,11 @@
 //! The parts of a circuit, line after line, with nets by number.
-ghost use Rattle.std.specs.Prelude.{◌≡◌, List, ℕ, ◌++◌, [], map, option_map, IfOk, IfNone, IsTrue};
-ghost use Rattle.std.specs.List.{list_all};
-ghost use Rattle.blif.specs.LineByLine.{parts_after};
-ghost use Rattle.blif.specs.Names.{first, has_name, number_of};
+ghost use Rattle.std.specs.Prelude.{◌≡◌, List, ℕ, ◌++◌, [], map, option_map, IfOk, IfNone};
+ghost use Rattle.blif.specs.LineByLine.{parts_after, parts_of};
+ghost use Rattle.blif.specs.Names.{first, number_of};
 ghost use Rattle.blif.specs.LatchLines.{is_latch};
-ghost use Rattle.blif.specs.LineNets.{front_of, latch_nets, latch_reads, names_in, reads_in};
-ghost use Rattle.blif.specs.Circuits.{latch_with, parts_of, table_with};
+ghost use Rattle.blif.specs.LineNets.{front_of, latch_nets, names_in, reads_in};
+ghost use Rattle.blif.specs.Circuits.{latch_with, table_with};
+ghost use Rattle.blif.specs.Numbering.{AreNumbered};
 ghost use Rattle.blif.specs.Repeats.{undriven};
 
 use crate::circuit::Circuit;
@@ -30,7 +30,7 @@ pub struct CircuitParts {
 }
 
 impl Model for CircuitParts {
-    ghost use Rattle.blif.specs.Circuits.{Parts};
+    ghost use Rattle.blif.specs.LineByLine.{Parts};
 
     ghost Value = { Parts };
 
@@ -39,7 +39,7 @@ impl Model for CircuitParts {
 
 impl CircuitParts {
     /// No parts.
-    #[tactic(auto, unfolding(crate::specs::Circuits::parts_of))]
+    #[tactic(auto, unfolding(crate::specs::LineByLine::parts_of))]
     pub fn new(alloc: Global) -> Self
         ensures { (nets : List (List ℕ)) → result ≡ parts_of nets [] }
     {
@@ -53,7 +53,14 @@ impl CircuitParts {
 
     /// The circuit of these parts, the model and the nets.
     pub fn into_circuit(self, model: Text, nets: NetNames) -> Circuit
-        ensures { result ≡ record { model = model; nets = nets; inputs = self.inputs; outputs = self.outputs; tables = self.tables; latches = self.latches } }
+        ensures { result ≡ record {
+          model = model;
+          nets = nets;
+          inputs = self.inputs;
+          outputs = self.outputs;
+          tables = self.tables;
+          latches = self.latches;
+        } }
     {
         Circuit {
             model,
@@ -67,7 +74,10 @@ impl CircuitParts {
 
     /// Adds the clocks as inputs.
     pub fn add_clocks(&mut self, driven: &Driven<'_>) -> Result<(), AllocError>
-        ensures { IfOk result (λ _. self.new ≡ record self.old { inputs = self.old.inputs ++ map (number_of driven.now.nets) driven.now.clocks }) }
+        ensures { IfOk result (λ _. self.new
+            ≡ record self.old {
+              inputs = self.old.inputs ++ map (number_of driven.now.nets) driven.now.clocks;
+            }) }
     {
         number_names(driven.clocks(), driven, &mut self.inputs)
     }
@@ -81,10 +91,14 @@ impl CircuitParts {
         keyword: Keyword,
         nets: &[u32],
     ) -> Result<Option<&'t [u8]>, AllocError>
-        requires named { IsTrue (list_all (has_name driven.now.nets) (names_in keyword line.now.words)) }
-        requires numbers { nets.now ≡ map (number_of driven.now.nets) (names_in keyword line.now.words) }
-        ensures least { IfOk result (λ net. option_map (λ n. n.now) net ≡ first (undriven (driven.now.clocks ++ driven.now.drivers) (reads_in keyword line.now.words))) }
-        ensures parts { IfOk result (λ net. IfNone net (self.new ≡ parts_after driven.now.nets line.now.number keyword line.now.words self.old)) }
+        requires { AreNumbered driven.now.nets (names_in keyword line.now.words) nets.now }
+        ensures least { IfOk result (λ net.
+            option_map (λ n. n.now) net
+            ≡ first (undriven (driven.now.clocks ++ driven.now.drivers)
+            (reads_in keyword line.now.words))) }
+        ensures parts { IfOk result (λ net.
+            IfNone net (self.new ≡ parts_after driven.now.nets line.now.number keyword
+            line.now.words self.old)) }
     {
         let args = line.behind_first();
         match keyword {
@@ -113,10 +127,12 @@ fn add_table<'t>(
     args: &Line<'_, 't>,
     nets: &[u32],
 ) -> Result<Option<&'t [u8]>, AllocError>
-    requires named { IsTrue (list_all (has_name driven.now.nets) args.now.words) }
-    requires numbers { nets.now ≡ map (number_of driven.now.nets) args.now.words }
-    ensures least { IfOk result (λ net. option_map (λ n. n.now) net ≡ first (undriven (driven.now.clocks ++ driven.now.drivers) (front_of args.now.words))) }
-    ensures tables { IfOk result (λ net. IfNone net (tables.new ≡ tables.old ++ table_with driven.now.nets args.now.number args.now.words)) }
+    requires { AreNumbered driven.now.nets args.now.words nets.now }
+    ensures least { IfOk result (λ net. option_map (λ n. n.now) net
+        ≡ first (undriven (driven.now.clocks ++ driven.now.drivers) (front_of args.now.words))) }
+    ensures tables { IfOk result (λ net.
+        IfNone net (tables.new ≡ tables.old
+        ++ table_with driven.now.nets args.now.number args.now.words)) }
 {
     if nets.is_empty() {
         return Ok(None);
@@ -142,10 +158,13 @@ fn add_latch<'t>(
     args: &Line<'_, 't>,
     nets: &[u32],
 ) -> Result<Option<&'t [u8]>, AllocError>
-    requires named { IsTrue (list_all (has_name driven.now.nets) (latch_nets args.now.words)) }
-    requires numbers { nets.now ≡ map (number_of driven.now.nets) (latch_nets args.now.words) }
-    ensures least { IfOk result (λ net. option_map (λ n. n.now) net ≡ first (undriven (driven.now.clocks ++ driven.now.drivers) (latch_reads args.now.words))) }
-    ensures latches { IfOk result (λ net. IfNone net (latches.new ≡ latches.old ++ latch_with driven.now.nets args.now.number args.now.words)) }
+    requires { AreNumbered driven.now.nets (latch_nets 2 args.now.words) nets.now }
+    ensures least { IfOk result (λ net. option_map (λ n. n.now) net
+        ≡ first (undriven (driven.now.clocks ++ driven.now.drivers)
+        (latch_nets 1 args.now.words))) }
+    ensures latches { IfOk result (λ net.
+        IfNone net (latches.new
+        ≡ latches.old ++ latch_with driven.now.nets args.now.number args.now.words)) }
 {
     if !is_latch(args) {
         return Ok(None);
@@ -177,7 +196,8 @@ fn number_names(
     driven: &Driven<'_>,
     numbers: &mut Nets,
 ) -> Result<(), AllocError>
-    ensures { IfOk result (λ _. numbers.new ≡ numbers.old ++ map (number_of driven.now.nets) names.now) }
+    ensures { IfOk result (λ _. numbers.new
+        ≡ numbers.old ++ map (number_of driven.now.nets) names.now) }
 {
     for place in 0..names.len() {
         numbers.push(driven.number(names.name(place)))?;

@@ -11,7 +11,8 @@ ghost use Rattle.blif.specs.Keywords.{keyword_of};
 ghost use Rattle.blif.specs.LineNets.{names_in};
 ghost use Rattle.line_text.specs.LineOrder.{RisesFrom};
 ghost use Rattle.blif.specs.Sights.{names_of, sights_of};
-ghost use Rattle.blif.specs.Circuits.{circuit_from, circuit_with, model_of, parts_of};
+ghost use Rattle.blif.specs.Circuits.{circuit_from, model_of};
+ghost use Rattle.blif.specs.LineByLine.{AreNetsOf, circuit_with, parts_of};
 ghost use Rattle.blif.specs.CircuitOf.{IsLawfulFor, circuit_of, circuit_of_lines, declared_in, final_faults, line_faults, undriven_faults};
 
 use crate::checker::Checker;
@@ -96,7 +97,9 @@ fn check_lines<'t>(
 ) -> Result<Checker<'t>, BlifError>
     requires { numbers.old ≡ [] }
     ensures { MatchResult result
-        (λ checker. (first_fault (line_faults lut_size declared.entry [] lines.now) ≡ None) × (checker ≡ sights_of declared.entry lines.now) × (length checker.nets ≤ MAX_NETS) × (numbers.new ≡ numbered [] (flat_map names_of lines.now)))
+        (λ checker. (first_fault (line_faults lut_size declared.entry [] lines.now) ≡ None)
+        × (checker ≡ sights_of declared.entry lines.now) × (length checker.nets ≤ MAX_NETS)
+        × (numbers.new ≡ numbered [] (flat_map names_of lines.now)))
         (Fails (first_fault (line_faults lut_size declared.entry [] lines.now))) }
 {
     let mut checker = Checker::new(alloc, declared);
@@ -120,7 +123,10 @@ fn check_each<'t>(
     requires begun { checker.old ≡ sights_of checker.old.declared [] }
     requires numbers { numbers.old ≡ [] }
     ensures { MatchResult result
-        (λ _. (first_fault (line_faults lut_size checker.old.declared [] lines.now) ≡ None) × (checker.new ≡ sights_of checker.old.declared lines.now) × (length checker.new.nets ≤ MAX_NETS) × (numbers.new ≡ numbered [] (flat_map names_of lines.now)))
+        (λ _. (first_fault (line_faults lut_size checker.old.declared [] lines.now) ≡ None)
+        × (checker.new ≡ sights_of checker.old.declared lines.now)
+        × (length checker.new.nets ≤ MAX_NETS)
+        × (numbers.new ≡ numbered [] (flat_map names_of lines.now)))
         (Fails (first_fault (line_faults lut_size checker.old.declared [] lines.now))) }
 {
     for place in 0..lines.len() {
@@ -151,7 +157,8 @@ fn build<'t>(
     requires few { length checker.nets ≤ MAX_NETS }
     requires numbers { numbers.now ≡ map (number_of checker.nets) (flat_map names_of lines.now) }
     ensures { MatchResult result
-        (λ circuit. (first_fault (final_faults checker.entry.declared lines.now) ≡ None) × (circuit ≡ circuit_from checker.entry.declared lines.now))
+        (λ circuit. (first_fault (final_faults checker.entry.declared lines.now) ≡ None)
+        × (circuit ≡ circuit_from checker.entry.declared lines.now))
         (Fails (first_fault (final_faults checker.entry.declared lines.now))) }
 {
     if lines.len() == 0 {
@@ -171,11 +178,14 @@ fn build_driven<'t>(
     driven: Driven<'t>,
     numbers: &[u32],
 ) -> Result<Circuit, BlifError>
-    requires nets { driven.nets ≡ with_names [] (flat_map names_of lines.now) }
-    requires numbers { numbers.now ≡ map (number_of driven.nets) (flat_map names_of lines.now) }
+    requires { AreNetsOf lines.now driven.nets numbers.now }
     ensures { MatchResult result
-        (λ circuit. (first_fault (flat_map (undriven_faults (driven.entry.clocks ++ driven.entry.drivers)) lines.now) ≡ None) × (circuit ≡ circuit_with driven.entry.nets driven.entry.clocks lines.now (parts_of driven.entry.nets lines.now)))
-        (Fails (first_fault (flat_map (undriven_faults (driven.entry.clocks ++ driven.entry.drivers)) lines.now))) }
+        (λ circuit. (first_fault
+        (flat_map (undriven_faults (driven.entry.clocks ++ driven.entry.drivers)) lines.now) ≡ None)
+        × (circuit ≡ circuit_with driven.entry.nets driven.entry.clocks lines.now
+        (parts_of driven.entry.nets lines.now)))
+        (Fails (first_fault (flat_map
+        (undriven_faults (driven.entry.clocks ++ driven.entry.drivers)) lines.now))) }
 {
     let built = build_over(alloc, lines, &driven, numbers);
     drop(driven);
@@ -189,11 +199,14 @@ fn build_over<'t>(
     driven: &Driven<'t>,
     numbers: &[u32],
 ) -> Result<Circuit, BlifError>
-    requires nets { driven.now.nets ≡ with_names [] (flat_map names_of lines.now) }
-    requires numbers { numbers.now ≡ map (number_of driven.now.nets) (flat_map names_of lines.now) }
+    requires { AreNetsOf lines.now driven.now.nets numbers.now }
     ensures { MatchResult result
-        (λ circuit. (first_fault (flat_map (undriven_faults (driven.now.clocks ++ driven.now.drivers)) lines.now) ≡ None) × (circuit ≡ circuit_with driven.now.nets driven.now.clocks lines.now (parts_of driven.now.nets lines.now)))
-        (Fails (first_fault (flat_map (undriven_faults (driven.now.clocks ++ driven.now.drivers)) lines.now))) }
+        (λ circuit. (first_fault
+        (flat_map (undriven_faults (driven.now.clocks ++ driven.now.drivers)) lines.now) ≡ None)
+        × (circuit ≡ circuit_with driven.now.nets driven.now.clocks lines.now
+        (parts_of driven.now.nets lines.now)))
+        (Fails (first_fault (flat_map (undriven_faults (driven.now.clocks ++ driven.now.drivers))
+        lines.now))) }
 {
     let parts = parts_of(alloc, lines, driven, numbers)?;
     Ok(assemble(alloc, lines, driven, parts)?)
@@ -206,7 +219,8 @@ fn assemble<'t>(
     driven: &Driven<'t>,
     mut parts: CircuitParts,
 ) -> Result<Circuit, AllocError>
-    ensures { IfOk result (λ circuit. circuit ≡ circuit_with driven.now.nets driven.now.clocks lines.now parts) }
+    ensures { IfOk result (λ circuit.
+        circuit ≡ circuit_with driven.now.nets driven.now.clocks lines.now parts) }
 {
     match name_parts(alloc, lines, driven, &mut parts) {
         Ok((model, nets)) => Ok(parts.into_circuit(model, nets)),
@@ -224,8 +238,12 @@ fn name_parts<'t>(
     driven: &Driven<'t>,
     parts: &mut CircuitParts,
 ) -> Result<(Text, NetNames), AllocError>
-    ensures names { IfOk result (λ names. (names.0 ≡ model_of lines.now) × (names.1 ≡ driven.now.nets)) }
-    ensures parts { IfOk result (λ _. parts.new ≡ record parts.old { inputs = parts.old.inputs ++ map (number_of driven.now.nets) driven.now.clocks }) }
+    ensures names { IfOk result (λ names. (names.0 ≡ model_of lines.now)
+        × (names.1 ≡ driven.now.nets)) }
+    ensures parts { IfOk result (λ _. parts.new
+        ≡ record parts.old {
+          inputs = parts.old.inputs ++ map (number_of driven.now.nets) driven.now.clocks;
+        }) }
 {
     parts.add_clocks(driven)?;
     let model = model_of(alloc, lines)?;
@@ -245,11 +263,12 @@ fn parts_of<'t>(
     driven: &Driven<'t>,
     numbers: &[u32],
 ) -> Result<CircuitParts, BlifError>
-    requires nets { driven.now.nets ≡ with_names [] (flat_map names_of lines.now) }
-    requires numbers { numbers.now ≡ map (number_of driven.now.nets) (flat_map names_of lines.now) }
+    requires { AreNetsOf lines.now driven.now.nets numbers.now }
     ensures { MatchResult result
-        (λ parts. (first_fault (flat_map (undriven_faults (driven.now.clocks ++ driven.now.drivers)) lines.now) ≡ None) × (parts ≡ parts_of driven.now.nets lines.now))
-        (Fails (first_fault (flat_map (undriven_faults (driven.now.clocks ++ driven.now.drivers)) lines.now))) }
+        (λ parts. (first_fault (flat_map (undriven_faults (driven.now.clocks ++ driven.now.drivers))
+        lines.now) ≡ None) × (parts ≡ parts_of driven.now.nets lines.now))
+        (Fails (first_fault (flat_map (undriven_faults (driven.now.clocks ++ driven.now.drivers))
+        lines.now))) }
 {
     let mut parts = CircuitParts::new(alloc);
     match add_lines(alloc, &mut parts, lines, driven, numbers) {
@@ -270,11 +289,12 @@ fn add_lines<'t>(
     numbers: &[u32],
 ) -> Result<(), BlifError>
     requires empty { parts.old ≡ parts_of driven.now.nets [] }
-    requires nets { driven.now.nets ≡ with_names [] (flat_map names_of lines.now) }
-    requires numbers { numbers.now ≡ map (number_of driven.now.nets) (flat_map names_of lines.now) }
+    requires all { AreNetsOf lines.now driven.now.nets numbers.now }
     ensures { MatchResult result
-        (λ _. (first_fault (flat_map (undriven_faults (driven.now.clocks ++ driven.now.drivers)) lines.now) ≡ None) × (parts.new ≡ parts_of driven.now.nets lines.now))
-        (Fails (first_fault (flat_map (undriven_faults (driven.now.clocks ++ driven.now.drivers)) lines.now))) }
+        (λ _. (first_fault (flat_map (undriven_faults (driven.now.clocks ++ driven.now.drivers))
+        lines.now) ≡ None) × (parts.new ≡ parts_of driven.now.nets lines.now))
+        (Fails (first_fault (flat_map (undriven_faults (driven.now.clocks ++ driven.now.drivers))
+        lines.now))) }
 {
     let mut rest = numbers;
     for place in 0..lines.len() {

@@ -60,7 +60,12 @@ impl Tables {
     /// The table at that place, from 0.
     pub fn table(&self, place: usize) -> Table<'_>
         requires { place < length self.now }
-        ensures { slice_get self.now place ≡ Some (record { line = result.line; inputs = result.inputs.now; output = result.output }) }
+        ensures { slice_get self.now place
+            ≡ Some (record {
+              line = result.line;
+              inputs = result.inputs.now;
+              output = result.output;
+            }) }
     {
         let table = self.tables[place];
         Table {
@@ -72,7 +77,12 @@ impl Tables {
 
     /// Adds a table at the end.
     pub(crate) fn push(&mut self, table: Table<'_>) -> Result<(), AllocError>
-        ensures { IfOk result (λ _. self.new ≡ self.old ++ record { line = table.entry.line; inputs = table.entry.inputs.now; output = table.entry.output } ∷ []) }
+        ensures { IfOk result (λ _. self.new
+            ≡ self.old ++ record {
+              line = table.entry.line;
+              inputs = table.entry.inputs.now;
+              output = table.entry.output;
+            } ∷ []) }
     {
         let start = self.inputs.len();
         self.inputs.extend_from_slice(table.inputs)?;

@@ -1,5 +1,5 @@
 -- The blocks of a packed circuit, kind by kind, and the nets between them.
-use Rattle.std.proofs.Common.{◌≡◌, refl, sym, ap, subst, ◌∙◌, ℕ, suc, zero, ◌+◌, ◌<◌, Bool, true, false, not, ◌||◌, ◌&&◌, cond, eqb, List, [], ◌∷◌, ◌++◌, All, None, length, get_or, map, filter, slice_index, arith, length-append}
+use Rattle.std.proofs.Common.{◌≡◌, refl, sym, ap, subst, ◌∙◌, ℕ, suc, zero, ◌+◌, ◌<◌, Bool, true, false, not, nat_lt, ◌||◌, ◌&&◌, cond, eqb, List, [], ◌∷◌, ◌++◌, All, None, length, get_or, map, filter, slice_index, arith, length-append}
 use Rattle.std.specs.List.{flat_map, range_with_len, enumerate_from}
 use Rattle.std.proofs.lemmas.List.{append_assoc, length-map, get_or-map}
 use Rattle.std.proofs.lemmas.List.Concat.{flat_map-append}
@@ -13,7 +13,7 @@ use Rattle.ble_cluster.specs.NetSets.{NetsAmong}
 use Rattle.ble_cluster.specs.Bles.{LogicElement, bles_of, element_at}
 use Rattle.ble_cluster.specs.Clusters.{elements_at, outputs_of, outside_inputs, clocks_of}
 use Rattle.cluster.specs.Clusters.{PackedCircuit}
-use Rattle.cluster.specs.Blocks.{BlockNet, blocks_of, block_net, block_nets, is_empty, is_global, leaves_block, nets_from, readers_of, reads_net}
+use Rattle.cluster.specs.Blocks.{BlockNet, blocks_of, block_net, block_nets, is_global, leaves_block, nets_from, readers_of, reads_net}
 use Rattle.cluster.specs.ClusterPins.{IsElementWithin, clusters_with, members_of, nets_read, pads_with, readers_by_net}
 use Rattle.cluster.specs.NetUses.{cluster_nets, controls_of, driven_nets, input_nets, leaves_by, net_by, others}
 use Rattle.cluster.specs.LawfulPackings.{IsPacked}
@@ -154,8 +154,8 @@ net_by_uses packed uses driver net are within =
 -- whether a net leaves its block by the uses
 pub leaves_by_uses : (packed : PackedCircuit) (uses : NetUses) (driver net : ℕ) → AreUsesOf packed uses → net < length packed.circuit.nets → leaves_by uses driver net ≡ leaves_block packed driver net
 leaves_by_uses packed uses driver net are within =
-    ap (λ (readers : List ℕ). has uses.globals.nets net || not (is_empty readers)) (readers_by packed uses driver net are within)
-    ∙ ap (λ (global : Bool). global || not (is_empty (readers_of packed driver net))) (global_by packed uses net are)
+    ap (λ (readers : List ℕ). has uses.globals.nets net || nat_lt 0 (length readers)) (readers_by packed uses driver net are within)
+    ∙ ap (λ (global : Bool). global || nat_lt 0 (length (readers_of packed driver net))) (global_by packed uses net are)
 
 -- what the block drives by the uses
 driven_by : (packed : PackedCircuit) (uses : NetUses) (driver : ℕ) (outputs : List ℕ) → AreUsesOf packed uses → All (λ net. net < length packed.circuit.nets) outputs → map (block_net packed driver) (filter (leaves_block packed driver) outputs) ≡ map (net_by uses driver) (filter (leaves_by uses driver) outputs)

@@ -11,8 +11,10 @@ use Rattle.blif.specs.declared.latches.Latch.{Latch}
 use Rattle.blif.specs.LookupTables.{LookupTable}
 use Rattle.blif.specs.LawfulCircuits.{IsCircuit, IsLatchWithin, IsTableWithin, drivers_of}
 use Rattle.arch_file.specs.declared.arch.Arch.{Arch}
-use Rattle.ble_cluster.specs.Nets.{has, with_net, with_nets}
-use Rattle.ble_cluster.specs.Bles.{LogicElement, bles_of, element_of_latch, element_of_table, in_line_order, is_above, latch_behind, stands_alone, is_read_once}
+use Rattle.ble_cluster.specs.Nets.{has, with_nets}
+use Rattle.ble_cluster.specs.NetSets.{with_net}
+use Rattle.ble_cluster.specs.Bles.{LogicElement, bles_of, element_of_latch, element_of_table, in_line_order, latch_behind, stands_alone, is_read_once}
+use Rattle.ble_cluster.specs.LineOrder.{is_above}
 use Rattle.ble_cluster.specs.Clusters.{clusters_after, cluster_of, free_of, with_cluster}
 use Rattle.cluster.specs.Clusters.{PackedCircuit, packed_of}
 use Rattle.cluster.specs.ClusterPins.{IsElementWithin}
@@ -48,6 +50,14 @@ few_blocks packed lawful =
     let clusters_are : length packed.clusters ≡ length (clusters_after packed.arch (bles_of circuit) (length (bles_of circuit))) = ap (λ (p : PackedCircuit). length p.clusters) lawful.exact in
     let clusters = few_clusters packed.arch (bles_of circuit) (length (bles_of circuit)) in
     omega (arith, drivers, outputs, inputs, clusters_are, clusters, c.few, lawful.few_elements)
+
+-- and its pads alone
+pub few_pads : (circuit : Circuit) → IsCircuit circuit → length circuit.inputs + length circuit.outputs < 2 ^ 32
+few_pads circuit c =
+    let drivers = few_distinct (drivers_of circuit) (length circuit.nets) c.driven_once (within circuit c) in
+    let outputs = few_distinct circuit.outputs (length circuit.nets) c.shown_once c.outputs in
+    let inputs = length-append circuit.inputs (map (λ (table : LookupTable). table.output) circuit.tables ++ map (λ (latch : Latch). latch.output) circuit.latches) in
+    omega (arith, drivers, outputs, inputs, c.few)
 
 -- what holds of all holds of each once
 All-with_net : (P : ℕ → Type 0) (nets : List ℕ) (net : ℕ) → All P nets → P net → All P (with_net nets net)

@@ -16,7 +16,8 @@ use Rattle.cluster.specs.declared.block.BlockKind.{BlockKind}
 use Rattle.cluster.specs.declared.block.BlockKind.TheVariants as kind
 use Rattle.ble_cluster.specs.Bles.{LogicElement, bles_of, element_at}
 use Rattle.cluster.specs.Clusters.{PackedCircuit}
-use Rattle.cluster.specs.Blocks.{blocks_of, elements_in, net_name, seed_name}
+use Rattle.cluster.specs.Blocks.{block_name, blocks_of, net_name}
+use Rattle.cluster.specs.ClusterPins.{seed_name}
 use Rattle.cluster.specs.Keys.{BlockKey, key_of, keys_of}
 use Rattle.cluster.specs.LawfulPackings.{IsPacked}
 use Rattle.cluster.proofs.FewBlocks.{elements_within}
@@ -31,7 +32,7 @@ seed_at clusters cluster = get_or (get_or clusters cluster []) 0 0
 abbrev pub seed_net : PackedCircuit → ℕ → ℕ
 seed_net packed cluster = (element_at (bles_of packed.circuit) (seed_at packed.clusters cluster)).output
 
-pub seed_named : (packed : PackedCircuit) (cluster : ℕ) → 0 < length (get_or packed.clusters cluster []) → seed_name packed.circuit (elements_in packed cluster) ≡ net_name packed.circuit (seed_net packed cluster)
+pub seed_named : (packed : PackedCircuit) (cluster : ℕ) → 0 < length (get_or packed.clusters cluster []) → block_name packed (Cluster cluster) ≡ net_name packed.circuit (seed_net packed cluster)
 seed_named packed cluster some = by (get_or packed.clusters cluster []) refl some
   where
     by : (members : List ℕ) → get_or packed.clusters cluster [] ≡ members → 0 < length members → seed_name packed.circuit (map (element_at (bles_of packed.circuit)) (get_or packed.clusters cluster [])) ≡ net_name packed.circuit (element_at (bles_of packed.circuit) (get_or (get_or packed.clusters cluster []) 0 0)).output

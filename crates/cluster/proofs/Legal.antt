@@ -1,12 +1,13 @@
 -- Each cluster fits, and no element stands in it twice.
 use Rattle.std.proofs.Common.{◌≡◌, ℕ, suc, zero, ◌<◌, Bool, true, false, List, [], ◌∷◌, ◌++◌, All, Option, None, Some, filter, length, refl, subst, arith}
-use Rattle.std.specs.Option.{ForSome}
+use Rattle.std.specs.Option.{ForSome, option_to_list}
+use Rattle.std.proofs.lemmas.List.{append-nil}
 use Rattle.std.proofs.lemmas.List.Elements.{All-nil, All-cons, All-head, All-tail, All-append, All-filter, filter_passes}
 use Rattle.std.proofs.lemmas.Bool.Decides.{nat_tests}
 use Rattle.arch_file.specs.declared.arch.Arch.{Arch}
 use Rattle.ble_cluster.specs.Nets.{IsOnce, has}
 use Rattle.ble_cluster.specs.Bles.{LogicElement}
-use Rattle.ble_cluster.specs.Clusters.{cluster_of, elements_at, first_most, fits_in_cluster, grown, input_count_at, leading, may_join, next_member, seed_of, shared_nets, unfit_among, with_member}
+use Rattle.ble_cluster.specs.Clusters.{cluster_of, elements_at, first_most, fits_in_cluster, grown, input_count_at, leading, may_join, next_member, seed_of, shared_nets, unfit_among}
 use Rattle.ble_cluster.proofs.Fitting.{fits_alone}
 use Rattle.ble_cluster.proofs.Leading.{leading_lawful}
 use Rattle.ble_cluster.proofs.Outside.{once-push}
@@ -34,8 +35,8 @@ joins arch elements members number may = by (has members number) refl (fits_in_c
     by false e false f = absurd (grind (arith, may, e, f))
 
 module _ (arch : Arch) (elements : List LogicElement) (P : ℕ → Type 0) (free : List ℕ) (all : All P free) where
-  added : (members : List ℕ) → IsLegal arch elements P members → (found : Option ℕ) → next_member arch elements free members ≡ found → IsLegal arch elements P (with_member members found)
-  added members legal None is = legal
+  added : (members : List ℕ) → IsLegal arch elements P members → (found : Option ℕ) → next_member arch elements free members ≡ found → IsLegal arch elements P (members ++ option_to_list found)
+  added members legal None is = rw (append-nil members) legal
   added members legal (Some number) is =
       let can = filter (may_join arch elements members) free in
       let score = shared_nets elements members in
@@ -58,7 +59,7 @@ module _ (arch : Arch) (elements : List LogicElement) (P : ℕ → Type 0) (free
   unfolding cluster_of
   cluster_legal fit within = legal_grown (seed_of elements free) arch.cluster_size (by (first_most (input_count_at elements) free) refl)
     where
-      by : (found : Option ℕ) → first_most (input_count_at elements) free ≡ found → IsLegal arch elements P (with_member [] found)
+      by : (found : Option ℕ) → first_most (input_count_at elements) free ≡ found → IsLegal arch elements P (option_to_list found)
       by None is = record { once = tt; all = All-nil P; fits = grind (arith, nat_tests) }
       by (Some number) is = record {
         once = (refl, tt);

@@ -1,6 +1,7 @@
 -- What every packing keeps: clusters have members, and these are elements, of which there are few.
 use Rattle.std.proofs.Common.{◌≡◌, ℕ, suc, zero, ◌+◌, ◌<◌, ◌≤◌, List, [], ◌∷◌, ◌++◌, All, filter, length, map, drop, sym, refl, ◌∙◌, arith, None, length-append, ap}
-use Rattle.std.proofs.lemmas.List.{length-map, take-append-drop}
+use Rattle.std.specs.Option.{option_to_list}
+use Rattle.std.proofs.lemmas.List.{append-nil, length-map, take-append-drop}
 use Rattle.std.specs.List.{range_with_len, take_while, prefix_len}
 use Rattle.std.proofs.lemmas.Bool.Decides.{Decides-eqb}
 use Rattle.std.proofs.lemmas.List.Sums.{length-filter, count_by-le-length}
@@ -13,14 +14,15 @@ use Rattle.blif.specs.declared.circuit.Circuit.{Circuit}
 use Rattle.blif.specs.declared.latches.Latch.{Latch}
 use Rattle.blif.specs.LookupTables.{LookupTable}
 use Rattle.blif.specs.LawfulCircuits.{IsCircuit, drivers_of}
-use Rattle.ble_cluster.specs.Bles.{LogicElement, bles_of, element_of_latch, element_of_table, in_line_order, is_above, latch_behind, stands_alone}
-use Rattle.ble_cluster.specs.Clusters.{cluster_of, clusters_after, first_most, free_of, grown, input_count_at, may_join, seed_of, shared_nets, unfit_of, with_cluster, with_member}
+use Rattle.ble_cluster.specs.Bles.{LogicElement, bles_of, element_of_latch, element_of_table, in_line_order, latch_behind, stands_alone}
+use Rattle.ble_cluster.specs.LineOrder.{is_above}
+use Rattle.ble_cluster.specs.Clusters.{cluster_of, clusters_after, first_most, free_of, grown, input_count_at, may_join, seed_of, shared_nets, unfit_of, with_cluster}
 use Rattle.cluster.specs.Clusters.{packed_of}
 use Rattle.cluster.specs.Packing.{IsPacked}
 use Rattle.ble_cluster.proofs.Leading.{found, leading_lawful}
 
-with_lawful : (P : ℕ → Type 0) (score : ℕ → ℕ) (members numbers : List ℕ) → All P members → All P numbers → All P (with_member members (first_most score numbers))
-with_lawful P score members [] h k = h
+with_lawful : (P : ℕ → Type 0) (score : ℕ → ℕ) (members numbers : List ℕ) → All P members → All P numbers → All P (members ++ option_to_list (first_most score numbers))
+with_lawful P score members [] h k = rw (append-nil members) h
 with_lawful P score members (number ∷ numbers) h k = All-append P members _ h (All-cons P _ [] (leading_lawful P score number numbers (k 0 number (omega arith)) (All-tail P number numbers k)) (All-nil P))
 
 module _ (arch : Arch) (elements : List LogicElement) where

@@ -1,5 +1,5 @@
 -- Who uses which nets.
-use Rattle.std.proofs.Common.{◌≡◌, ◌<◌, ℕ, ◌+◌, Bool, true, false, not, ◌||◌, cond, Option, List, [], ◌∷◌, ◌++◌, length, take, get_or, filter, sym, ap, refl, ◌∙◌}
+use Rattle.std.proofs.Common.{◌≡◌, ◌<◌, ℕ, ◌+◌, Bool, true, false, nat_lt, ◌||◌, cond, Option, List, [], ◌∷◌, ◌++◌, length, take, get_or, filter, sym, ap, refl, ◌∙◌, arith, lt-ltb}
 use Rattle.std.specs.List.{list_any}
 use Rattle.std.specs.Option.{option_to_list}
 use Rattle.std.proofs.lemmas.List.{append-nil, take_more}
@@ -7,17 +7,16 @@ use Rattle.std.proofs.lemmas.List.Concat.{flat_map-append}
 use Rattle.blif.specs.declared.latches.Latch.{Latch}
 use Rattle.ble_cluster.specs.Nets.{with_nets, distinct}
 use Rattle.ble_cluster.specs.NetSets.{NetsAmong}
-use Rattle.cluster.specs.Blocks.{is_empty}
 use Rattle.cluster.specs.NetUses.{controls_of}
 use Rattle.ble_cluster.proofs.Outside.{with_nets-append}
 
 -- what passes somewhere leaves something
-pub some_left : (p : ℕ → Bool) (xs : List ℕ) → list_any p xs ≡ not (is_empty (filter p xs))
+pub some_left : (p : ℕ → Bool) (xs : List ℕ) → list_any p xs ≡ nat_lt 0 (length (filter p xs))
 some_left p [] = refl
 some_left p (x ∷ xs) = by (p x) (some_left p xs)
   where
-    by : (b : Bool) → list_any p xs ≡ not (is_empty (filter p xs)) → (b || list_any p xs) ≡ not (is_empty (cond b (x ∷ filter p xs) (filter p xs)))
-    by true rest = refl
+    by : (b : Bool) → list_any p xs ≡ nat_lt 0 (length (filter p xs)) → (b || list_any p xs) ≡ nat_lt 0 (length (cond b (x ∷ filter p xs) (filter p xs)))
+    by true rest = sym (lt-ltb 0 (length (x ∷ filter p xs)) (omega arith))
     by false rest = rest
 
 -- the second of two tests

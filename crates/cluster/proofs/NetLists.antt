@@ -8,10 +8,11 @@ use Rattle.std.proofs.lemmas.List.Concat.{flat_map-append}
 use Rattle.std.proofs.lemmas.List.Elements.{filter-append, filter_agree}
 use Rattle.std.proofs.lemmas.Option.{get_or_from_slice_get}
 use Rattle.std.proofs.lemmas.Bool.{eq-eqb, eqb-true, ne_eqb, false≢true}
-use Rattle.ble_cluster.specs.Nets.{has, with_net, with_nets, distinct}
-use Rattle.ble_cluster.specs.NetSets.{NetsAmong}
+use Rattle.ble_cluster.specs.Nets.{has, with_nets, distinct}
+use Rattle.ble_cluster.specs.NetSets.{NetsAmong, with_net}
 use Rattle.ble_cluster.specs.Bles.{LogicElement, element_at}
-use Rattle.ble_cluster.specs.Clusters.{elements_at, inputs_of, outputs_of, outside_inputs}
+use Rattle.ble_cluster.specs.Clusters.{elements_at, outputs_of, outside_inputs}
+use Rattle.ble_cluster.specs.OutsideInputs.{inputs_of}
 use Rattle.cluster.specs.ClusterPins.{all_clocks_of}
 use Rattle.ble_cluster.proofs.Outside.{has-with_net, has-with_nets, with_nets-append}
 

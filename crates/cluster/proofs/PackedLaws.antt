@@ -1,13 +1,12 @@
 -- What a packed circuit tells of its blocks and pins.
-use Rattle.std.proofs.Common.{◌≡◌, refl, sym, ap, ◌∙◌, ℕ, ◌+◌, ◌-◌, ◌<◌, ◌≤◌, Bool, true, false, Option, Some, None, List, [], ◌++◌, if◌then◌else◌, length, get_or, map, slice_get, slice_index, arith, length-append}
+use Rattle.std.proofs.Common.{◌≡◌, refl, sym, ap, ◌∙◌, ℕ, ◌+◌, ◌-◌, ◌<◌, ◌≤◌, Bool, true, false, Option, Some, None, List, [], ◌++◌, if◌then◌else◌, length, get_or, map, option_and_then, slice_get, slice_index, arith, length-append}
 use Rattle.std.specs.List.{range_with_len, enumerate_from}
-use Rattle.std.specs.Option.{option_flatten}
 use Rattle.std.proofs.lemmas.List.{length-map, get_or-map, get_or_append_left, get_or-append_right}
 use Rattle.std.proofs.lemmas.List.FromFn.{length-enumerate_from, get_or-enumerate_from, length-range_with_len, get_or-range_with_len}
 use Rattle.std.proofs.lemmas.Option.{slice_get-get_or, get_or_from_slice_get}
 use Rattle.arch_file.specs.declared.arch.Pin.{Pin}
 use Rattle.arch_file.specs.declared.arch.PinClass.{PinClass}
-use Rattle.arch_file.specs.declared.arch.PinClass.TheVariants.{Input, Clock}
+use Rattle.arch_file.specs.declared.arch.PinClass.TheVariants.{Input, Output, Clock}
 use Rattle.cluster.specs.declared.packed_tables.PackedTables.{PackedTables}
 use Rattle.cluster.specs.declared.block.Block.{Block}
 use Rattle.cluster.specs.declared.block.Block.TheVariants.{InputPad, OutputPad, Cluster}
@@ -15,8 +14,8 @@ use Rattle.ble_cluster.specs.Bles.{LogicElement, bles_of, element_at}
 use Rattle.ble_cluster.specs.Clusters.{elements_at, outputs_of, outside_inputs, clocks_of}
 use Rattle.cluster.specs.Clusters.{PackedCircuit}
 use Rattle.cluster.specs.PackedTables.{AreTablesOf}
-use Rattle.cluster.specs.Blocks.{blocks_of, carried, cluster_block, if_leaving, leaves_block, nets_of_cluster, pins_of, rank_of}
-use Rattle.cluster.specs.ClusterPins.{pin_ranks}
+use Rattle.cluster.specs.Blocks.{blocks_of, carried, leaves_block, pins_of}
+use Rattle.cluster.specs.ClusterPins.{cluster_block, if_leaving, pin_ranks, rank_of}
 
 -- how many blocks there are
 pub length-blocks_of : (packed : PackedCircuit) → length (blocks_of packed) ≡ length packed.circuit.inputs + length packed.circuit.outputs + length packed.clusters
@@ -62,16 +61,16 @@ cluster_at packed number within past_inputs past_outputs =
     ∙ ap Cluster (get_or-range_with_len 0 (length packed.clusters) (number - pads) 0 here ∙ omega arith))
 
 -- what a pin carries
-pub pin_at : (packed : PackedCircuit) (cluster pin rank : ℕ) (class : PinClass) (ranks : List ℕ) (d : Pin) (net : Option ℕ) → pin < length packed.arch.pins → (get_or packed.arch.pins pin d).class ≡ class → ranks ≡ pin_ranks packed.arch.pins → rank ≡ get_or ranks pin rank → net ≡ carried (nets_of_cluster packed cluster) class rank → slice_get (pins_of packed cluster) pin ≡ Some net
+pub pin_at : (packed : PackedCircuit) (cluster pin rank : ℕ) (class : PinClass) (ranks : List ℕ) (d : Pin) (net : Option ℕ) → pin < length packed.arch.pins → (get_or packed.arch.pins pin d).class ≡ class → ranks ≡ pin_ranks packed.arch.pins → rank ≡ get_or ranks pin rank → net ≡ carried packed cluster class rank → slice_get (pins_of packed cluster) pin ≡ Some net
 pin_at packed cluster pin rank class ranks d net h is ranks_are read net_is =
     let pins = packed.arch.pins in
     let first : ℕ × Pin = (0, d) in
-    let f : ℕ × Pin → Option ℕ = λ pin. carried (nets_of_cluster packed cluster) pin.1.class (rank_of pins pin.0 pin.1.class) in
+    let f : ℕ × Pin → Option ℕ = λ pin. carried packed cluster pin.1.class (rank_of pins pin.0 pin.1.class) in
     let g : ℕ × Pin → ℕ = λ pin. rank_of pins pin.0 pin.1.class in
     let numbered : pin < length (enumerate_from 0 pins) = omega (arith, length-enumerate_from 0 pins) in
     let here : get_or (enumerate_from 0 pins) pin first ≡ (pin, get_or pins pin d) = get_or-enumerate_from 0 pins pin first h ∙ ap (λ (n : ℕ). let p : ℕ × Pin = (n, get_or pins pin d) in p) (omega arith) in
     let rank_is : rank ≡ rank_of pins pin class = read ∙ ap (λ (ranks : List ℕ). get_or ranks pin rank) ranks_are ∙ get_or-map g (enumerate_from 0 pins) pin first rank numbered ∙ ap g here ∙ ap (rank_of pins pin) is in
-    let carries : f (pin, get_or pins pin d) ≡ net = ap (λ (class : PinClass). carried (nets_of_cluster packed cluster) class (rank_of pins pin class)) is ∙ ap (carried (nets_of_cluster packed cluster) class) (sym rank_is) ∙ sym net_is in
+    let carries : f (pin, get_or pins pin d) ≡ net = ap (λ (class : PinClass). carried packed cluster class (rank_of pins pin class)) is ∙ ap (carried packed cluster class) (sym rank_is) ∙ sym net_is in
     slice_get-get_or (pins_of packed cluster) pin None (omega (arith, length-map (enumerate_from 0 pins) f, length-enumerate_from 0 pins))
     ∙ ap (λ (net : Option ℕ). Some net) (get_or-map f (enumerate_from 0 pins) pin first None numbered ∙ ap f here ∙ carries)
 
@@ -85,7 +84,7 @@ row_at f clusters rows cluster row h are found =
     sym (get_or_from_slice_get rows cluster row [] found) ∙ ap (λ (rows : List (List ℕ)). get_or rows cluster []) are ∙ get_or-map f clusters cluster [] [] h
 
 -- what an output pin carries
-output_at : (packed : PackedCircuit) (cluster place : ℕ) → place < length (get_or packed.clusters cluster []) → option_flatten (slice_get (nets_of_cluster packed cluster).outputs place) ≡ if_leaving packed (cluster_block packed cluster) (element_at (bles_of packed.circuit) (get_or (get_or packed.clusters cluster []) place 0)).output
+output_at : (packed : PackedCircuit) (cluster place : ℕ) → place < length (get_or packed.clusters cluster []) → carried packed cluster Output place ≡ if_leaving packed (cluster_block packed cluster) (element_at (bles_of packed.circuit) (get_or (get_or packed.clusters cluster []) place 0)).output
 output_at packed cluster place h =
     let members = get_or packed.clusters cluster [] in
     let elements = elements_at (bles_of packed.circuit) members in
@@ -93,8 +92,7 @@ output_at packed cluster place h =
     let f = if_leaving packed (cluster_block packed cluster) in
     let among : place < length elements = omega (arith, length-map members (element_at (bles_of packed.circuit))) in
     let outputs : place < length (outputs_of elements) = omega (arith, length-map elements (λ (element : LogicElement). element.output)) in
-    ap option_flatten (slice_get-get_or (map f (outputs_of elements)) place None (omega (arith, length-map (outputs_of elements) f)))
-    ∙ get_or-map f (outputs_of elements) place 0 None outputs
+    ap (option_and_then f) (slice_get-get_or (outputs_of elements) place 0 outputs)
     ∙ ap f (get_or-map (λ (element : LogicElement). element.output) elements place none 0 among ∙ ap (λ (element : LogicElement). element.output) (get_or-map (element_at (bles_of packed.circuit)) members place 0 none h))
 
 if_leaves : (packed : PackedCircuit) (block net : ℕ) → leaves_block packed block net ≡ true → if_leaving packed block net ≡ Some net
@@ -112,7 +110,7 @@ if_stays packed block net is = by (leaves_block packed block net) is
     by false e = refl
 
 -- the output of the element at a place
-pub output_of_member : (packed : PackedCircuit) (elements : List LogicElement) (cluster place : ℕ) (members : List ℕ) (element : LogicElement) → elements ≡ bles_of packed.circuit → slice_get packed.clusters cluster ≡ Some members → place < length members → slice_get elements (get_or members place 0) ≡ Some element → option_flatten (slice_get (nets_of_cluster packed cluster).outputs place) ≡ if_leaving packed (cluster_block packed cluster) element.output
+pub output_of_member : (packed : PackedCircuit) (elements : List LogicElement) (cluster place : ℕ) (members : List ℕ) (element : LogicElement) → elements ≡ bles_of packed.circuit → slice_get packed.clusters cluster ≡ Some members → place < length members → slice_get elements (get_or members place 0) ≡ Some element → carried packed cluster Output place ≡ if_leaving packed (cluster_block packed cluster) element.output
 output_of_member packed elements cluster place members element elements_are found h read =
     let none : LogicElement = record { inputs = []; output = 0; clock = None } in
     let at : get_or packed.clusters cluster [] ≡ members = get_or_from_slice_get packed.clusters cluster members [] found in
@@ -122,19 +120,19 @@ output_of_member packed elements cluster place members element elements_are foun
     ∙ ap (λ (members : List ℕ). if_leaving packed (cluster_block packed cluster) (element_at (bles_of packed.circuit) (get_or members place 0)).output) at
     ∙ ap (λ (element : LogicElement). if_leaving packed (cluster_block packed cluster) element.output) is
 
-pub output_leaves : (packed : PackedCircuit) (elements : List LogicElement) (cluster place : ℕ) (members : List ℕ) (element : LogicElement) → elements ≡ bles_of packed.circuit → slice_get packed.clusters cluster ≡ Some members → place < length members → slice_get elements (get_or members place 0) ≡ Some element → leaves_block packed (cluster_block packed cluster) element.output ≡ true → Some element.output ≡ option_flatten (slice_get (nets_of_cluster packed cluster).outputs place)
+pub output_leaves : (packed : PackedCircuit) (elements : List LogicElement) (cluster place : ℕ) (members : List ℕ) (element : LogicElement) → elements ≡ bles_of packed.circuit → slice_get packed.clusters cluster ≡ Some members → place < length members → slice_get elements (get_or members place 0) ≡ Some element → leaves_block packed (cluster_block packed cluster) element.output ≡ true → Some element.output ≡ carried packed cluster Output place
 output_leaves packed elements cluster place members element elements_are found h read leaves =
     sym (output_of_member packed elements cluster place members element elements_are found h read ∙ if_leaves packed (cluster_block packed cluster) element.output leaves)
 
-pub output_stays : (packed : PackedCircuit) (elements : List LogicElement) (cluster place : ℕ) (members : List ℕ) (element : LogicElement) → elements ≡ bles_of packed.circuit → slice_get packed.clusters cluster ≡ Some members → place < length members → slice_get elements (get_or members place 0) ≡ Some element → leaves_block packed (cluster_block packed cluster) element.output ≡ false → None ≡ option_flatten (slice_get (nets_of_cluster packed cluster).outputs place)
+pub output_stays : (packed : PackedCircuit) (elements : List LogicElement) (cluster place : ℕ) (members : List ℕ) (element : LogicElement) → elements ≡ bles_of packed.circuit → slice_get packed.clusters cluster ≡ Some members → place < length members → slice_get elements (get_or members place 0) ≡ Some element → leaves_block packed (cluster_block packed cluster) element.output ≡ false → None ≡ carried packed cluster Output place
 output_stays packed elements cluster place members element elements_are found h read stays =
     sym (output_of_member packed elements cluster place members element elements_are found h read ∙ if_stays packed (cluster_block packed cluster) element.output stays)
 
 -- what an input pin and the clock pin carry
-pub input_entry : (packed : PackedCircuit) (tables : PackedTables) (cluster rank : ℕ) (row : List ℕ) → cluster < length packed.clusters → AreTablesOf packed tables → slice_get tables.inputs cluster ≡ Some row → slice_get row rank ≡ carried (nets_of_cluster packed cluster) Input rank
+pub input_entry : (packed : PackedCircuit) (tables : PackedTables) (cluster rank : ℕ) (row : List ℕ) → cluster < length packed.clusters → AreTablesOf packed tables → slice_get tables.inputs cluster ≡ Some row → slice_get row rank ≡ carried packed cluster Input rank
 input_entry packed tables cluster rank row h kept found =
     ap (λ (row : List ℕ). slice_get row rank) (row_at (λ members. outside_inputs (elements_at (bles_of packed.circuit) members)) packed.clusters tables.inputs cluster row h kept.inputs found)
 
-pub clock_entry : (packed : PackedCircuit) (tables : PackedTables) (cluster rank : ℕ) (row : List ℕ) → cluster < length packed.clusters → AreTablesOf packed tables → slice_get tables.clocks cluster ≡ Some row → slice_get row rank ≡ carried (nets_of_cluster packed cluster) Clock rank
+pub clock_entry : (packed : PackedCircuit) (tables : PackedTables) (cluster rank : ℕ) (row : List ℕ) → cluster < length packed.clusters → AreTablesOf packed tables → slice_get tables.clocks cluster ≡ Some row → slice_get row rank ≡ carried packed cluster Clock rank
 clock_entry packed tables cluster rank row h kept found =
     ap (λ (row : List ℕ). slice_get row rank) (row_at (λ members. clocks_of (elements_at (bles_of packed.circuit) members)) packed.clusters tables.clocks cluster row h kept.clocks found)

@@ -7,8 +7,8 @@ use Rattle.std.proofs.lemmas.List.Sums.{count_by_more_yes, count_by_more_no}
 use Rattle.arch_file.specs.declared.arch.Pin.{Pin}
 use Rattle.arch_file.specs.declared.arch.PinClass.{PinClass}
 use Rattle.arch_file.specs.declared.arch.PinClass.TheVariants.{Input, Output, Clock}
-use Rattle.cluster.specs.Blocks.{is_same_class, rank_of}
-use Rattle.cluster.specs.ClusterPins.{pin_ranks}
+use Rattle.cluster.specs.Blocks.{is_same_class}
+use Rattle.cluster.specs.ClusterPins.{pin_ranks, rank_of}
 
 -- the ranks of the first so many pins, and how many of each class are among them
 pub record AreRanked (pins : List Pin) (count : ℕ) (ranks : List ℕ) (inputs outputs clocks : ℕ) : Type 0 where

@@ -13,7 +13,8 @@ use Rattle.cluster.specs.declared.cluster_sets.ClusterSets.{ClusterSets}
 use Rattle.ble_cluster.specs.Nets.{has, with_nets}
 use Rattle.ble_cluster.specs.NetSets.{NetsAmong}
 use Rattle.ble_cluster.specs.Bles.{LogicElement}
-use Rattle.ble_cluster.specs.Clusters.{elements_at, inputs_of, outputs_of, outside_inputs, clocks_of}
+use Rattle.ble_cluster.specs.Clusters.{elements_at, outputs_of, outside_inputs, clocks_of}
+use Rattle.ble_cluster.specs.OutsideInputs.{inputs_of}
 use Rattle.rows.specs.ByKey.{items_with, items_by_key}
 use Rattle.cluster.specs.ClusterPins.{TellReaders, inputs_of_clusters, clocks_of_clusters, pads_with, clusters_with, nets_read, members_of, readers_by_net}
 use Rattle.rows.specs.ByKey.{pairs_with}

@@ -1,14 +1,15 @@
 -- Steps of packing: each makes one cluster of free elements while there are any, and then nothing changes any more.
-use Rattle.std.proofs.Common.{◌≡◌, ℕ, suc, zero, ◌+◌, ◌<◌, ◌≤◌, Bool, true, false, not, ◌||◌, ◌==◌, List, [], ◌∷◌, ◌++◌, Option, None, Some, filter, length, if◌then◌else◌, sym, ap, refl, ◌∙◌, arith, nat_lt, length-append, ◌-◌, max}
+use Rattle.std.proofs.Common.{◌≡◌, ℕ, suc, zero, ◌+◌, ◌<◌, ◌≤◌, Bool, true, false, not, ◌||◌, ◌==◌, List, [], ◌∷◌, ◌++◌, Option, filter, length, if◌then◌else◌, sym, ap, refl, ◌∙◌, arith, nat_lt, length-append, ◌-◌, max}
 use Rattle.std.proofs.lemmas.Bool.{eqb-true}
 use Rattle.std.proofs.lemmas.Bool.Decides.{nat_tests}
 use Rattle.std.specs.List.{list_any, range_with_len}
+use Rattle.std.specs.Option.{option_to_list}
 use Rattle.std.proofs.lemmas.List.Folds.{list_any-append}
 use Rattle.std.proofs.lemmas.List.FromFn.{length-range_with_len}
 use Rattle.arch_file.specs.declared.arch.Arch.{Arch}
 use Rattle.ble_cluster.specs.Nets.{has}
 use Rattle.ble_cluster.specs.Bles.{LogicElement}
-use Rattle.ble_cluster.specs.Clusters.{cluster_of, clusters_after, free_of, grown, input_count_at, leading, next_member, with_cluster, with_member}
+use Rattle.ble_cluster.specs.Clusters.{cluster_of, clusters_after, free_of, grown, input_count_at, leading, next_member, with_cluster}
 use Rattle.ble_cluster.proofs.Fitting.{no_cluster}
 
 -- a cluster begins with its seed
@@ -16,9 +17,8 @@ pub record BeginsWith (seed : ℕ) (members : List ℕ) : Type 0 where
   pub others : List ℕ
   pub whole : members ≡ seed ∷ others
 
-keeps_seed : {seed : ℕ} {members : List ℕ} (added : Option ℕ) → BeginsWith seed members → BeginsWith seed (with_member members added)
-keeps_seed None b = b
-keeps_seed (Some number) b = record { others = b.others ++ number ∷ []; whole = rw b.whole refl }
+keeps_seed : {seed : ℕ} {members : List ℕ} (added : Option ℕ) → BeginsWith seed members → BeginsWith seed (members ++ option_to_list added)
+keeps_seed added b = record { others = b.others ++ option_to_list added; whole = rw b.whole refl }
 
 grows_on : (arch : Arch) (elements : List LogicElement) (free : List ℕ) (seed additions : ℕ) → BeginsWith seed (grown arch elements free (seed ∷ []) additions)
 grows_on arch elements free seed zero = record { others = []; whole = refl }

@@ -1,14 +1,18 @@
 -- Private: what the pins of clusters may carry, and which blocks read nets.
-use Rattle.std.specs.Prelude.{ℕ, ◌+◌, ◌≡◌, ◌<◌, ◌==◌, List, [], ◌∷◌, ◌++◌, All, map, length, slice_index, if◌then◌else◌}
+use Rattle.std.specs.Prelude.{ℕ, ◌+◌, ◌^◌, ◌≡◌, ◌<◌, ◌==◌, List, [], ◌∷◌, ◌++◌, All, Option, Some, None, count_by, map, length, slice_get, slice_index, take, if◌then◌else◌}
 use Rattle.std.specs.List.{enumerate_from, flat_map, range_with_len, slice_index_or}
-use Rattle.std.specs.Option.{ForSome, option_to_list}
+use Rattle.std.specs.Option.{ForSome, option_map_or, option_to_list}
 use Rattle.arch_file.specs.declared.arch.Pin.{Pin}
+use Rattle.arch_file.specs.declared.arch.PinClass.{PinClass}
 use Rattle.blif.specs.declared.circuit.Circuit.{Circuit}
 use Rattle.rows.specs.declared.by_key.Keyed.{Keyed}
 use Rattle.ble_cluster.specs.Nets.{has, with_nets}
 use Rattle.ble_cluster.specs.Bles.{LogicElement}
 use Rattle.ble_cluster.specs.Clusters.{elements_at, clocks_of, outside_inputs}
-use Rattle.cluster.specs.Blocks.{rank_of}
+use Rattle.cluster.specs.declared.cluster_sets.ClusterSets.{ClusterSets}
+use Rattle.cluster.specs.declared.pin_nets.Gathered.{Gathered}
+use Rattle.cluster.specs.Clusters.{PackedCircuit}
+use Rattle.cluster.specs.Blocks.{is_same_class, leaves_block, net_name}
 use Rattle.rows.specs.ByKey.{items_with}
 
 -- the BLE's nets are among so many
@@ -16,6 +20,30 @@ pub record IsElementWithin (count : ℕ) (element : LogicElement) : Type 0 where
   pub inputs : All (λ net. net < count) element.inputs
   pub output : element.output < count
   pub clock : ForSome element.clock (λ net. net < count)
+
+-- the members are BLEs, whose nets are among so many
+pub record AreMembersWithin (count : ℕ) (elements : List LogicElement) (members : List ℕ) : Type 0 where
+  pub among : All (λ number. number < length elements) members
+  pub within : All (IsElementWithin count) elements
+
+-- the members are BLEs, whose nets are among as many as each of the sets is of
+pub record CanGather (sets : ClusterSets) (elements : List LogicElement) (members : List ℕ) : Type 0 where
+  pub among : All (λ number. number < length elements) members
+  pub within : All (IsElementWithin sets.inputs.count) elements
+  pub outputs_count : sets.outputs.count ≡ sets.inputs.count
+  pub clocks_count : sets.clocks.count ≡ sets.inputs.count
+
+-- each of the sets is of so many nets
+pub record AreSetsOf (count : ℕ) (sets : ClusterSets) : Type 0 where
+  pub input_nets : sets.inputs.count ≡ count
+  pub output_nets : sets.outputs.count ≡ count
+  pub clock_nets : sets.clocks.count ≡ count
+
+-- the BLEs have nets of the circuit, the members of the clusters are among them, and there are few blocks
+pub record AreClustersOf (circuit : Circuit) (bles : List LogicElement) (clusters : List (List ℕ)) : Type 0 where
+  pub elements : All (IsElementWithin (length circuit.nets)) bles
+  pub members : All (λ cluster. All (λ number. number < length bles) cluster) clusters
+  pub few : length circuit.inputs + length circuit.outputs + length clusters < 2 ^ 32
 
 -- the clocks of BLEs, as often as they clock one
 abbrev pub all_clocks_of : List LogicElement → List ℕ
@@ -50,10 +78,32 @@ pub record TellReaders (circuit : Circuit) (elements : List LogicElement) (clust
   pub within : All (λ pair. pair.key < length circuit.nets) pairs
   pub tell : (net : ℕ) → items_with pairs net ≡ pads_with circuit net pads ++ clusters_with circuit elements clusters net count
 
+-- no cluster is gathered yet, and the pairs tell of the pads of all outputs
+pub record IsBegun (circuit : Circuit) (elements : List LogicElement) (clusters : List (List ℕ)) (gathered : Gathered) : Type 0 where
+  pub inputs : gathered.inputs ≡ []
+  pub clocks : gathered.clocks ≡ []
+  pub pairs : TellReaders circuit elements clusters (length circuit.outputs) 0 gathered.pairs.items
+
 -- for each net the blocks that have it on a pin other than one that drives it
 abbrev pub readers_by_net : Circuit → List LogicElement → List (List ℕ) → List (List ℕ)
 readers_by_net circuit elements clusters = map (λ net. pads_with circuit net (length circuit.outputs) ++ clusters_with circuit elements clusters net (length clusters)) (range_with_len 0 (length circuit.nets))
 
+-- how many pins of that class stand before the pin of that number
+abbrev pub rank_of : List Pin → ℕ → PinClass → ℕ
+rank_of pins number class = count_by (λ pin. is_same_class class pin.class) (take number pins)
+
 -- the rank of each pin in its class
 abbrev pub pin_ranks : List Pin → List ℕ
 pin_ranks pins = map (λ pin. rank_of pins pin.0 pin.1.class) (enumerate_from 0 pins)
+
+-- the number of the block that is that cluster
+abbrev pub cluster_block : PackedCircuit → ℕ → ℕ
+cluster_block packed cluster = length packed.circuit.inputs + length packed.circuit.outputs + cluster
+
+-- the net, where it leaves the block
+abbrev pub if_leaving : PackedCircuit → ℕ → ℕ → Option ℕ
+if_leaving packed driver net = if leaves_block packed driver net then Some net else None
+
+-- the name of a cluster with these BLEs
+abbrev pub seed_name : Circuit → List LogicElement → List ℕ
+seed_name circuit elements = option_map_or (λ seed. net_name circuit seed.output) (slice_get elements 0) []

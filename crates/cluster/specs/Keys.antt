@@ -8,7 +8,7 @@ use Rattle.cluster.specs.declared.block.Block.TheVariants as block
 use Rattle.cluster.specs.declared.block.BlockKind.{BlockKind}
 use Rattle.cluster.specs.declared.block.BlockKind.TheVariants.{InputPad, OutputPad, Cluster}
 use Rattle.cluster.specs.Clusters.{PackedCircuit}
-use Rattle.cluster.specs.Blocks.{blocks_of, elements_in, net_name, seed_name}
+use Rattle.cluster.specs.Blocks.{block_name, blocks_of, net_name}
 
 -- what a block is told by: its kind and its name
 pub record BlockKey : Type 0 where
@@ -21,19 +21,15 @@ kind_number InputPad = 0
 kind_number OutputPad = 1
 kind_number Cluster = 2
 
--- the kind and the name in one text
-abbrev pub key_text : BlockKey → List ℕ
-key_text key = kind_number key.kind ∷ key.name
-
 -- by kind, then by name
 abbrev pub key_order : BlockKey → BlockKey → Ordering
-key_order key other = slice_cmp nat_cmp (key_text key) (key_text other)
+key_order key other = slice_cmp nat_cmp (kind_number key.kind ∷ key.name) (kind_number other.kind ∷ other.name)
 
 -- what a block is told by: its kind, and the name of the net that it is named after
 abbrev pub key_of : PackedCircuit → Block → BlockKey
 key_of packed (block.InputPad net) = record { kind = InputPad; name = net_name packed.circuit net }
 key_of packed (block.OutputPad net) = record { kind = OutputPad; name = net_name packed.circuit net }
-key_of packed (block.Cluster cluster) = record { kind = Cluster; name = seed_name packed.circuit (elements_in packed cluster) }
+key_of packed (block.Cluster cluster) = record { kind = Cluster; name = block_name packed (block.Cluster cluster) }
 
 -- what the blocks are told by, by number
 abbrev pub keys_of : PackedCircuit → List BlockKey

@@ -1,5 +1,5 @@
 -- Private: who uses which nets.
-use Rattle.std.specs.Prelude.{ℕ, ◌+◌, ◌==◌, Bool, not, ◌||◌, List, [], ◌∷◌, map, filter, length, slice_index}
+use Rattle.std.specs.Prelude.{ℕ, ◌+◌, ◌^◌, ◌≡◌, ◌<◌, ◌==◌, Bool, not, nat_lt, ◌||◌, List, [], ◌∷◌, All, map, filter, length, slice_index}
 use Rattle.std.specs.List.{flat_map, range_with_len, slice_index_or}
 use Rattle.std.specs.Option.{option_to_list}
 use Rattle.blif.specs.declared.circuit.Circuit.{Circuit}
@@ -8,8 +8,8 @@ use Rattle.cluster.specs.declared.net_uses.NetUses.{NetUses}
 use Rattle.ble_cluster.specs.Nets.{has}
 use Rattle.ble_cluster.specs.Bles.{LogicElement}
 use Rattle.ble_cluster.specs.Clusters.{outputs_of}
-use Rattle.cluster.specs.Blocks.{BlockNet, is_empty}
-use Rattle.cluster.specs.ClusterPins.{members_of}
+use Rattle.cluster.specs.Blocks.{BlockNet}
+use Rattle.cluster.specs.ClusterPins.{IsElementWithin, members_of}
 
 -- the nets that control latches, as often as they control one
 abbrev pub controls_of : List Latch → List ℕ
@@ -21,7 +21,7 @@ others driver readers = filter (λ reader. not (reader == driver)) readers
 
 -- what a block drives leaves it
 abbrev pub leaves_by : NetUses → ℕ → ℕ → Bool
-leaves_by uses driver net = has uses.globals.nets net || not (is_empty (others driver (slice_index_or uses.readers net [])))
+leaves_by uses driver net = has uses.globals.nets net || nat_lt 0 (length (others driver (slice_index_or uses.readers net [])))
 
 -- the net that the block drives
 abbrev pub net_by : NetUses → ℕ → ℕ → BlockNet
@@ -38,3 +38,32 @@ driven_nets uses driver elements = map (net_by uses driver) (filter (leaves_by u
 -- the nets that the first so many clusters drive
 abbrev pub cluster_nets : Circuit → NetUses → List LogicElement → List (List ℕ) → ℕ → List BlockNet
 cluster_nets circuit uses elements clusters count = flat_map (λ cluster. driven_nets uses (length circuit.inputs + length circuit.outputs + cluster) (members_of elements clusters cluster)) (range_with_len 0 count)
+
+-- the uses tell of the net
+pub record IsUsed (uses : NetUses) (net : ℕ) : Type 0 where
+  pub global : net < uses.globals.count
+  pub reader : net < length uses.readers
+
+-- the uses are of as many nets as the input pads' are among, and there are few of these
+pub record UsesInputs (circuit : Circuit) (uses : NetUses) : Type 0 where
+  pub within : All (λ net. net < uses.globals.count) circuit.inputs
+  pub same_count : length uses.readers ≡ uses.globals.count
+  pub few : length circuit.inputs < 2 ^ 32
+
+-- the uses are of as many nets as the BLEs' are among, and the members are BLEs
+pub record UsesMembers (uses : NetUses) (bles : List LogicElement) (members : List ℕ) : Type 0 where
+  pub elements : All (IsElementWithin uses.globals.count) bles
+  pub same_count : length uses.readers ≡ uses.globals.count
+  pub among : All (λ number. number < length bles) members
+
+-- the same of the members of each cluster, and there are few blocks
+pub record UsesClusters (circuit : Circuit) (uses : NetUses) (bles : List LogicElement) (clusters : List (List ℕ)) : Type 0 where
+  pub elements : All (IsElementWithin uses.globals.count) bles
+  pub same_count : length uses.readers ≡ uses.globals.count
+  pub among : All (λ cluster. All (λ number. number < length bles) cluster) clusters
+  pub few : length circuit.inputs + length circuit.outputs + length clusters < 2 ^ 32
+
+-- both of these
+pub record UsesBlocks (circuit : Circuit) (uses : NetUses) (bles : List LogicElement) (clusters : List (List ℕ)) : Type 0 where
+  pub of_inputs : UsesInputs circuit uses
+  pub of_clusters : UsesClusters circuit uses bles clusters

@@ -18,6 +18,11 @@ pub record AreTablesOf (packed : PackedCircuit) (tables : PackedTables) : Type 0
   pub nets : tables.nets ≡ block_nets packed
   pub ranks : tables.ranks.items ≡ pin_ranks packed.arch.pins
 
+-- the packed circuit is one that packing makes, and the BLEs are those of its circuit
+pub record IsPackedOf (value : PackedCircuit) (elements : List LogicElement) : Type 0 where
+  pub packed : IsPacked value
+  pub bles : elements ≡ bles_of value.circuit
+
 -- the BLEs and the tables are those of the packed circuit
 pub record ArePartsOf (packed : PackedCircuit) (elements : List LogicElement) (tables : PackedTables) : Type 0 where
   pub lawful : IsPacked packed

@@ -56,7 +56,13 @@ impl BlockNets {
     /// The net of that number.
     pub(crate) fn net(&self, number: usize) -> BlockNet<'_>
         requires { number < length self.now }
-        ensures { slice_get self.now number ≡ Some (record { net = result.net; driver = result.driver; readers = result.readers.now; global = result.global }) }
+        ensures { slice_get self.now number
+            ≡ Some (record {
+              net = result.net;
+              driver = result.driver;
+              readers = result.readers.now;
+              global = result.global;
+            }) }
     {
         let net = self.nets[number];
         BlockNet {
@@ -69,7 +75,14 @@ impl BlockNets {
 
     /// Adds a net at the end. Its driver isn't among its readers.
     pub(crate) fn push(&mut self, net: BlockNet<'_>) -> Result<(), AllocError>
-        ensures { IfOk result (λ _. self.new ≡ self.old ++ record { net = net.entry.net; driver = net.entry.driver; readers = others net.entry.driver net.entry.readers.now; global = net.entry.global } ∷ []) }
+        ensures { IfOk result (λ _. self.new
+            ≡ self.old ++ record {
+              net = net.entry.net;
+              driver = net.entry.driver;
+              readers = others net.entry.driver net.entry.readers.now;
+              global = net.entry.global;
+            }
+            ∷ []) }
     {
         let start = self.readers.len();
         add_others(&mut self.readers, net.driver, net.readers)?;
@@ -86,7 +99,8 @@ impl BlockNets {
 
 /// Adds those of the blocks that aren't the driver.
 fn add_others(readers: &mut Vec<u32>, driver: u32, blocks: &[u32]) -> Result<(), AllocError>
-    ensures added { OnOk result (readers.new.items ≡ readers.old.items ++ others driver blocks.now) }
+    ensures added { OnOk result (readers.new.items
+        ≡ readers.old.items ++ others driver blocks.now) }
     ensures grown { length readers.old.items ≤ length readers.new.items }
 {
     for block in blocks {

@@ -1,8 +1,9 @@
 //! The nets on the pins of one cluster.
-ghost use Rattle.std.specs.Prelude.{◌≡◌, ◌<◌, [], All, IfOk, length, filter, not};
+ghost use Rattle.std.specs.Prelude.{◌≡◌, [], IfOk, filter, not};
 ghost use Rattle.ble_cluster.specs.Nets.{has, with_nets};
-ghost use Rattle.ble_cluster.specs.Clusters.{elements_at, inputs_of, outputs_of, clocks_of, outside_inputs};
-ghost use Rattle.cluster.specs.ClusterPins.{IsElementWithin, all_clocks_of};
+ghost use Rattle.ble_cluster.specs.OutsideInputs.{inputs_of};
+ghost use Rattle.ble_cluster.specs.Clusters.{elements_at, outputs_of, clocks_of, outside_inputs};
+ghost use Rattle.cluster.specs.ClusterPins.{AreMembersWithin, CanGather, all_clocks_of};
 
 use ble_cluster::{Bles, NetSet};
 use std::alloc::{AllocError, Global};
@@ -31,12 +32,17 @@ impl ClusterSets {
 
     /// The nets of a cluster with these members.
     pub(crate) fn gather(&mut self, bles: &Bles, members: &[u32]) -> Result<(), AllocError>
-        requires members { All (λ number. number < length bles.now) members.now }
-        requires inputs_within { All (IsElementWithin self.old.inputs.count) bles.now }
-        requires outputs_count { self.old.outputs.count ≡ self.old.inputs.count }
-        requires clocks_count { self.old.clocks.count ≡ self.old.inputs.count }
-        ensures inputs { IfOk result (λ _. self.new.inputs ≡ record { count = self.old.inputs.count; nets = outside_inputs (elements_at bles.now members.now) }) }
-        ensures clocks { IfOk result (λ _. self.new.clocks ≡ record { count = self.old.inputs.count; nets = clocks_of (elements_at bles.now members.now) }) }
+        requires { CanGather self.old bles.now members.now }
+        ensures inputs { IfOk result (λ _. self.new.inputs
+            ≡ record {
+              count = self.old.inputs.count;
+              nets = outside_inputs (elements_at bles.now members.now);
+            }) }
+        ensures clocks { IfOk result (λ _. self.new.clocks
+            ≡ record {
+              count = self.old.inputs.count;
+              nets = clocks_of (elements_at bles.now members.now);
+            }) }
         ensures outputs_count { IfOk result (λ _. self.new.outputs.count ≡ self.old.inputs.count) }
     {
         self.outputs.clear();
@@ -51,9 +57,12 @@ impl ClusterSets {
 
 /// Adds what the members drive.
 fn add_outputs(outputs: &mut NetSet, bles: &Bles, members: &[u32]) -> Result<(), AllocError>
-    requires members { All (λ number. number < length bles.now) members.now }
-    requires within { All (IsElementWithin outputs.old.count) bles.now }
-    ensures { IfOk result (λ _. outputs.new ≡ record { count = outputs.old.count; nets = with_nets outputs.old.nets (outputs_of (elements_at bles.now members.now)) }) }
+    requires { AreMembersWithin outputs.old.count bles.now members.now }
+    ensures { IfOk result (λ _. outputs.new
+        ≡ record {
+          count = outputs.old.count;
+          nets = with_nets outputs.old.nets (outputs_of (elements_at bles.now members.now));
+        }) }
 {
     for member in members {
         outputs.insert(bles.ble(*member as usize).output)?;
@@ -68,10 +77,14 @@ fn add_inputs(
     bles: &Bles,
     members: &[u32],
 ) -> Result<(), AllocError>
-    requires members { All (λ number. number < length bles.now) members.now }
-    requires within { All (IsElementWithin inputs.old.count) bles.now }
+    requires members { AreMembersWithin inputs.old.count bles.now members.now }
     requires same_count { outputs.now.count ≡ inputs.old.count }
-    ensures { IfOk result (λ _. inputs.new ≡ record { count = inputs.old.count; nets = with_nets inputs.old.nets (filter (λ net. not (has outputs.now.nets net)) (inputs_of (elements_at bles.now members.now))) }) }
+    ensures { IfOk result (λ _. inputs.new
+        ≡ record {
+          count = inputs.old.count;
+          nets = with_nets inputs.old.nets (filter (λ net. not (has outputs.now.nets net))
+              (inputs_of (elements_at bles.now members.now)));
+        }) }
 {
     for member in members {
         inputs.insert_others(bles.ble(*member as usize).inputs, outputs)?;
@@ -81,9 +94,12 @@ fn add_inputs(
 
 /// Adds the clocks of the members.
 fn add_clocks(clocks: &mut NetSet, bles: &Bles, members: &[u32]) -> Result<(), AllocError>
-    requires members { All (λ number. number < length bles.now) members.now }
-    requires within { All (IsElementWithin clocks.old.count) bles.now }
-    ensures { IfOk result (λ _. clocks.new ≡ record { count = clocks.old.count; nets = with_nets clocks.old.nets (all_clocks_of (elements_at bles.now members.now)) }) }
+    requires { AreMembersWithin clocks.old.count bles.now members.now }
+    ensures { IfOk result (λ _. clocks.new
+        ≡ record {
+          count = clocks.old.count;
+          nets = with_nets clocks.old.nets (all_clocks_of (elements_at bles.now members.now));
+        }) }
 {
     for member in members {
         if let Some(clock) = bles.ble(*member as usize).clock {

@@ -1,8 +1,7 @@
 //! The nets that blocks drive.
-ghost use Rattle.std.specs.Prelude.{◌≡◌, ◌+◌, ◌^◌, ◌<◌, ◌++◌, All, IfOk, length};
+ghost use Rattle.std.specs.Prelude.{◌≡◌, ◌++◌, IfOk, length};
 ghost use Rattle.ble_cluster.specs.Clusters.{elements_at};
-ghost use Rattle.cluster.specs.ClusterPins.{IsElementWithin};
-ghost use Rattle.cluster.specs.NetUses.{input_nets, driven_nets, cluster_nets};
+ghost use Rattle.cluster.specs.NetUses.{UsesClusters, UsesInputs, UsesMembers, input_nets, driven_nets, cluster_nets};
 
 use crate::block::BlockNet;
 use crate::block_nets::BlockNets;
@@ -18,10 +17,9 @@ pub(crate) fn add_input_nets(
     circuit: &Circuit,
     uses: &NetUses,
 ) -> Result<(), AllocError>
-    requires within { All (λ net. net < uses.now.globals.count) circuit.now.inputs }
-    requires same_count { length uses.now.readers ≡ uses.now.globals.count }
-    requires few { length circuit.now.inputs < 2 ^ 32 }
-    ensures { IfOk result (λ _. nets.new ≡ nets.old ++ input_nets circuit.now uses.now (length circuit.now.inputs)) }
+    requires { UsesInputs circuit.now uses.now }
+    ensures { IfOk result (λ _. nets.new
+        ≡ nets.old ++ input_nets circuit.now uses.now (length circuit.now.inputs)) }
 {
     for (pad, net) in circuit.inputs.as_slice().iter().enumerate() {
         nets.push(BlockNet {
@@ -42,11 +40,10 @@ pub(crate) fn add_cluster_nets(
     bles: &Bles,
     clusters: &Rows,
 ) -> Result<(), AllocError>
-    requires elements { All (IsElementWithin uses.now.globals.count) bles.now }
-    requires same_count { length uses.now.readers ≡ uses.now.globals.count }
-    requires members { All (λ cluster. All (λ number. number < length bles.now) cluster) clusters.now }
-    requires few { length circuit.now.inputs + length circuit.now.outputs + length clusters.now < 2 ^ 32 }
-    ensures { IfOk result (λ _. nets.new ≡ nets.old ++ cluster_nets circuit.now uses.now bles.now clusters.now (length clusters.now)) }
+    requires { UsesClusters circuit.now uses.now bles.now clusters.now }
+    ensures { IfOk result (λ _. nets.new
+        ≡ nets.old ++ cluster_nets circuit.now uses.now bles.now clusters.now
+        (length clusters.now)) }
 {
     let first = circuit.inputs.as_slice().len() + circuit.outputs.as_slice().len();
     for cluster in 0..clusters.len() {
@@ -64,10 +61,9 @@ fn add_driven(
     bles: &Bles,
     members: &[u32],
 ) -> Result<(), AllocError>
-    requires elements { All (IsElementWithin uses.now.globals.count) bles.now }
-    requires same_count { length uses.now.readers ≡ uses.now.globals.count }
-    requires members { All (λ number. number < length bles.now) members.now }
-    ensures { IfOk result (λ _. nets.new ≡ nets.old ++ driven_nets uses.now driver (elements_at bles.now members.now)) }
+    requires { UsesMembers uses.now bles.now members.now }
+    ensures { IfOk result (λ _. nets.new
+        ≡ nets.old ++ driven_nets uses.now driver (elements_at bles.now members.now)) }
 {
     for member in members {
         let net = bles.ble(*member as usize).output;

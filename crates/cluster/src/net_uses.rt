@@ -3,7 +3,7 @@ ghost use Rattle.std.specs.Prelude.{◌≡◌, ◌<◌, ◌==◌, [], IfOk, leng
 ghost use Rattle.std.specs.List.{list_any, slice_index_or};
 ghost use Rattle.blif.specs.LawfulCircuits.{IsCircuit};
 ghost use Rattle.ble_cluster.specs.Nets.{has, distinct};
-ghost use Rattle.cluster.specs.NetUses.{controls_of, leaves_by};
+ghost use Rattle.cluster.specs.NetUses.{IsUsed, controls_of, leaves_by};
 
 use ble_cluster::NetSet;
 use blif::Circuit;
@@ -22,7 +22,11 @@ impl NetUses {
     /// The uses of the circuit's nets, which these blocks read.
     pub(crate) fn new(alloc: Global, circuit: &Circuit, readers: Rows) -> Result<Self, AllocError>
         requires { IsCircuit circuit.now }
-        ensures globals { IfOk result (λ uses. uses.globals ≡ record { count = length circuit.now.nets; nets = distinct (controls_of circuit.now.latches) }) }
+        ensures globals { IfOk result (λ uses.
+            uses.globals ≡ record {
+              count = length circuit.now.nets;
+              nets = distinct (controls_of circuit.now.latches);
+            }) }
         ensures readers { IfOk result (λ uses. uses.readers ≡ readers) }
     {
         match globals_of(alloc, circuit) {
@@ -52,8 +56,7 @@ impl NetUses {
 
     /// Whether the net leaves the block that drives it.
     pub(crate) fn leaves(&self, driver: u32, net: u32) -> bool
-        requires global { net < self.now.globals.count }
-        requires reader { net < length self.now.readers }
+        requires { IsUsed self.now net }
         ensures { result ≡ leaves_by self.now driver net }
     {
         self.is_global(net) || has_other(self.readers(net), driver)
@@ -63,7 +66,11 @@ impl NetUses {
 /// The nets that control latches.
 fn globals_of(alloc: Global, circuit: &Circuit) -> Result<NetSet, AllocError>
     requires { IsCircuit circuit.now }
-    ensures { IfOk result (λ globals. globals ≡ record { count = length circuit.now.nets; nets = distinct (controls_of circuit.now.latches) }) }
+    ensures { IfOk result (λ globals.
+        globals ≡ record {
+          count = length circuit.now.nets;
+          nets = distinct (controls_of circuit.now.latches);
+        }) }
 {
     let mut globals = NetSet::new(alloc, circuit.nets.len())?;
     match add_controls(&mut globals, circuit) {
@@ -79,7 +86,11 @@ fn globals_of(alloc: Global, circuit: &Circuit) -> Result<NetSet, AllocError>
 fn add_controls(globals: &mut NetSet, circuit: &Circuit) -> Result<(), AllocError>
     requires circuit { IsCircuit circuit.now }
     requires none { globals.old ≡ record { count = length circuit.now.nets; nets = [] } }
-    ensures { IfOk result (λ _. globals.new ≡ record { count = length circuit.now.nets; nets = distinct (controls_of circuit.now.latches) }) }
+    ensures { IfOk result (λ _. globals.new
+        ≡ record {
+          count = length circuit.now.nets;
+          nets = distinct (controls_of circuit.now.latches);
+        }) }
 {
     for latch in circuit.latches.as_slice() {
         if let Some(control) = latch.control {

@@ -1,10 +1,10 @@
 //! A packed circuit.
 ghost use Rattle.std.specs.Prelude.{◌≡◌, ◌+◌, ◌<◌, length, slice_get, Some};
 ghost use Rattle.ble_cluster.specs.Bles.{bles_of};
-ghost use Rattle.cluster.specs.Blocks.{blocks_of, block_nets, carried, elements_in, net_name, nets_of_cluster, pins_of, seed_name};
+ghost use Rattle.cluster.specs.Blocks.{block_name, blocks_of, block_nets, carried, net_name, pins_of};
 ghost use Rattle.cluster.specs.Keys.{keys_of};
 ghost use Rattle.cluster.specs.LawfulPackings.{IsPacked};
-ghost use Rattle.cluster.specs.PackedTables.{AreTablesOf};
+ghost use Rattle.cluster.specs.PackedTables.{ArePartsOf};
 
 use crate::block::{Block, BlockKey, BlockKind, BlockNet};
 use crate::packed_tables::PackedTables;
@@ -32,7 +32,11 @@ impl Model for Packed {
 
     ghost view = { λ p. record { circuit = p.circuit; arch = p.arch; clusters = p.clusters } };
 
-    ghost invariant = { λ p. ArePartsOf (record { circuit = p.circuit; arch = p.arch; clusters = p.clusters }) p.bles p.tables };
+    ghost invariant = { λ p. ArePartsOf (record {
+      circuit = p.circuit;
+      arch = p.arch;
+      clusters = p.clusters;
+    }) p.bles p.tables };
 }
 
 impl Packed {
@@ -44,9 +48,8 @@ impl Packed {
         clusters: Rows,
         tables: PackedTables,
     ) -> Self
-        requires bles { bles ≡ bles_of circuit }
-        requires packed { IsPacked (record { circuit = circuit; arch = arch; clusters = clusters }) }
-        requires tables { AreTablesOf (record { circuit = circuit; arch = arch; clusters = clusters }) tables }
+        requires { ArePartsOf (record { circuit = circuit; arch = arch; clusters = clusters }) bles
+            tables }
         ensures { result ≡ record { circuit = circuit; arch = arch; clusters = clusters } }
     {
         Packed {
@@ -84,7 +87,12 @@ impl Packed {
     /// The BLE of that number.
     pub fn ble(&self, number: usize) -> Ble<'_>
         requires { number < length (bles_of self.now.circuit) }
-        ensures { slice_get (bles_of self.now.circuit) number ≡ Some (record { inputs = result.inputs.now; output = result.output; clock = result.clock }) }
+        ensures { slice_get (bles_of self.now.circuit) number
+            ≡ Some (record {
+              inputs = result.inputs.now;
+              output = result.output;
+              clock = result.clock;
+            }) }
     {
         self.bles.ble(number)
     }
@@ -138,7 +146,8 @@ impl Packed {
     /// What the block of that number is told by: its kind and its name.
     pub fn key(&self, number: usize) -> BlockKey<'_>
         requires { number < length (blocks_of self.now) }
-        ensures { slice_get (keys_of self.now) number ≡ Some (record { kind = result.kind; name = result.name.now }) }
+        ensures { slice_get (keys_of self.now) number
+            ≡ Some (record { kind = result.kind; name = result.name.now }) }
     {
         let _ = self.circuit();
         match self.block(number) {
@@ -168,7 +177,8 @@ impl Packed {
     /// The net that a cluster's seed drives.
     fn seed_output(&self, cluster: usize) -> u32
         requires { cluster < length self.now.clusters }
-        ensures name { net_name self.now.circuit result ≡ seed_name self.now.circuit (elements_in self.now cluster) }
+        ensures name { net_name self.now.circuit result
+            ≡ block_name self.now (Block.Cluster cluster) }
         ensures named { result < length self.now.circuit.nets }
     {
         let seed = self.clusters.row(cluster)[0];
@@ -185,7 +195,13 @@ impl Packed {
     /// The net of that number, which is not its number in the circuit.
     pub fn net(&self, number: usize) -> BlockNet<'_>
         requires { number < length (block_nets self.now) }
-        ensures { slice_get (block_nets self.now) number ≡ Some (record { net = result.net; driver = result.driver; readers = result.readers.now; global = result.global }) }
+        ensures { slice_get (block_nets self.now) number
+            ≡ Some (record {
+              net = result.net;
+              driver = result.driver;
+              readers = result.readers.now;
+              global = result.global;
+            }) }
     {
         self.tables.nets.net(number)
     }
@@ -207,7 +223,7 @@ impl Packed {
     /// What the BLE at that place of a cluster drives, where it leaves the cluster.
     fn leaving_output(&self, cluster: usize, place: usize) -> Option<u32>
         requires { cluster < length self.now.clusters }
-        ensures { result ≡ carried (nets_of_cluster self.now cluster) PinClass.Output place }
+        ensures { result ≡ carried self.now cluster PinClass.Output place }
     {
         let members = self.clusters.row(cluster);
         if place >= members.len() {

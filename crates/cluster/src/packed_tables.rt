@@ -1,11 +1,9 @@
 //! What is kept beside a packed circuit, so that its pins and nets are told at once.
-ghost use Rattle.std.specs.Prelude.{◌≡◌, ◌+◌, ◌^◌, ◌<◌, ◌++◌, [], All, IfOk, length};
-ghost use Rattle.ble_cluster.specs.Bles.{bles_of};
+ghost use Rattle.std.specs.Prelude.{◌≡◌, ◌++◌, IfOk, length};
 ghost use Rattle.ble_cluster.specs.Nets.{distinct};
-ghost use Rattle.cluster.specs.ClusterPins.{IsElementWithin, pin_ranks, readers_by_net};
-ghost use Rattle.cluster.specs.LawfulPackings.{IsPacked};
-ghost use Rattle.cluster.specs.NetUses.{cluster_nets, controls_of, input_nets};
-ghost use Rattle.cluster.specs.PackedTables.{AreTablesOf};
+ghost use Rattle.cluster.specs.ClusterPins.{pin_ranks, readers_by_net};
+ghost use Rattle.cluster.specs.NetUses.{UsesBlocks, cluster_nets, controls_of, input_nets};
+ghost use Rattle.cluster.specs.PackedTables.{AreTablesOf, IsPackedOf};
 
 use crate::block_nets::BlockNets;
 use crate::driven_nets::{add_cluster_nets, add_input_nets};
@@ -38,9 +36,14 @@ impl PackedTables {
         bles: &Bles,
         clusters: &Rows,
     ) -> Result<Self, AllocError>
-        requires bles { bles.now ≡ bles_of circuit.now }
-        requires packed { IsPacked (record { circuit = circuit.now; arch = arch.now; clusters = clusters.now }) }
-        ensures { IfOk result (λ tables. AreTablesOf (record { circuit = circuit.now; arch = arch.now; clusters = clusters.now }) tables) }
+        requires { IsPackedOf (record {
+          circuit = circuit.now;
+          arch = arch.now;
+          clusters = clusters.now;
+        }) bles.now }
+        ensures { IfOk result (λ tables.
+            AreTablesOf (record { circuit = circuit.now; arch = arch.now; clusters = clusters.now })
+            tables) }
     {
         let PinNets {
             inputs,
@@ -73,12 +76,22 @@ fn uses_of(
     clusters: &Rows,
     readers: Rows,
 ) -> Result<(NetUses, BlockNets, Vec<usize>), AllocError>
-    requires bles { bles.now ≡ bles_of circuit.now }
-    requires packed { IsPacked (record { circuit = circuit.now; arch = arch.now; clusters = clusters.now }) }
+    requires parts { IsPackedOf (record {
+      circuit = circuit.now;
+      arch = arch.now;
+      clusters = clusters.now;
+    }) bles.now }
     requires readers { readers ≡ readers_by_net circuit.now bles.now clusters.now }
-    ensures globals { IfOk result (λ made. made.0.globals ≡ record { count = length circuit.now.nets; nets = distinct (controls_of circuit.now.latches) }) }
-    ensures readers { IfOk result (λ made. made.0.readers ≡ readers_by_net circuit.now bles.now clusters.now) }
-    ensures nets { IfOk result (λ made. made.1 ≡ input_nets circuit.now made.0 (length circuit.now.inputs) ++ cluster_nets circuit.now made.0 bles.now clusters.now (length clusters.now)) }
+    ensures globals { IfOk result (λ made.
+        made.0.globals ≡ record {
+          count = length circuit.now.nets;
+          nets = distinct (controls_of circuit.now.latches);
+        }) }
+    ensures readers { IfOk result (λ made.
+        made.0.readers ≡ readers_by_net circuit.now bles.now clusters.now) }
+    ensures nets { IfOk result (λ made.
+        made.1 ≡ input_nets circuit.now made.0 (length circuit.now.inputs)
+        ++ cluster_nets circuit.now made.0 bles.now clusters.now (length clusters.now)) }
     ensures ranks { IfOk result (λ made. made.2.items ≡ pin_ranks arch.now.pins) }
 {
     let uses = NetUses::new(alloc, circuit, readers)?;
@@ -100,12 +113,10 @@ fn nets_of(
     clusters: &Rows,
     uses: &NetUses,
 ) -> Result<(BlockNets, Vec<usize>), AllocError>
-    requires within { All (λ net. net < uses.now.globals.count) circuit.now.inputs }
-    requires elements { All (IsElementWithin uses.now.globals.count) bles.now }
-    requires same_count { length uses.now.readers ≡ uses.now.globals.count }
-    requires members { All (λ cluster. All (λ number. number < length bles.now) cluster) clusters.now }
-    requires few { length circuit.now.inputs + length circuit.now.outputs + length clusters.now < 2 ^ 32 }
-    ensures nets { IfOk result (λ made. made.0 ≡ input_nets circuit.now uses.now (length circuit.now.inputs) ++ cluster_nets circuit.now uses.now bles.now clusters.now (length clusters.now)) }
+    requires { UsesBlocks circuit.now uses.now bles.now clusters.now }
+    ensures nets { IfOk result (λ made.
+        made.0 ≡ input_nets circuit.now uses.now (length circuit.now.inputs)
+        ++ cluster_nets circuit.now uses.now bles.now clusters.now (length clusters.now)) }
     ensures ranks { IfOk result (λ made. made.1.items ≡ pin_ranks arch.now.pins) }
 {
     let mut nets = BlockNets::new(alloc);
@@ -118,7 +129,7 @@ fn nets_of(
     }
 }
 
-/// Adds the nets that the input pads and the clusters drive to none.
+/// Adds the nets that the input pads and the clusters drive.
 fn add_nets(
     nets: &mut BlockNets,
     circuit: &Circuit,
@@ -126,13 +137,10 @@ fn add_nets(
     bles: &Bles,
     clusters: &Rows,
 ) -> Result<(), AllocError>
-    requires within { All (λ net. net < uses.now.globals.count) circuit.now.inputs }
-    requires elements { All (IsElementWithin uses.now.globals.count) bles.now }
-    requires same_count { length uses.now.readers ≡ uses.now.globals.count }
-    requires members { All (λ cluster. All (λ number. number < length bles.now) cluster) clusters.now }
-    requires few { length circuit.now.inputs + length circuit.now.outputs + length clusters.now < 2 ^ 32 }
-    requires none { nets.old ≡ [] }
-    ensures { IfOk result (λ _. nets.new ≡ input_nets circuit.now uses.now (length circuit.now.inputs) ++ cluster_nets circuit.now uses.now bles.now clusters.now (length clusters.now)) }
+    requires { UsesBlocks circuit.now uses.now bles.now clusters.now }
+    ensures { IfOk result (λ _. nets.new
+        ≡ nets.old ++ input_nets circuit.now uses.now (length circuit.now.inputs)
+        ++ cluster_nets circuit.now uses.now bles.now clusters.now (length clusters.now)) }
 {
     add_input_nets(nets, circuit, uses)?;
     add_cluster_nets(nets, circuit, uses, bles, clusters)

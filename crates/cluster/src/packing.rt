@@ -3,7 +3,8 @@ ghost use Rattle.std.specs.Prelude.{◌≡◌, filter, not, IfOk, None, OnErr};
 ghost use Rattle.arch_file.specs.Arch.{IsArch};
 ghost use Rattle.blif.specs.LawfulCircuits.{IsCircuit};
 ghost use Rattle.ble_cluster.specs.Nets.{has};
-ghost use Rattle.ble_cluster.specs.Clusters.{cluster_of, unfit_among, unfit_of, with_cluster};
+ghost use Rattle.ble_cluster.specs.Clusters.{cluster_of, unfit_of, with_cluster};
+ghost use Rattle.ble_cluster.specs.FreeBles.{AllFit};
 ghost use Rattle.cluster.specs.Packing.{IsChecked, GoesOn};
 
 use crate::fault::{PackError, PackFault};
@@ -66,7 +67,8 @@ impl Packing {
         arch: &SharedArch,
     ) -> Result<Self, AllocError>
         requires { unfit_of circuit.now arch.now ≡ None }
-        ensures { IfOk result (λ packing. packing ≡ record { circuit = circuit.now; arch = arch.now; made = 0 }) }
+        ensures { IfOk result (λ packing.
+            packing ≡ record { circuit = circuit.now; arch = arch.now; made = 0 }) }
     {
         let bles = Bles::new(alloc, circuit.circuit())?;
         let grower = FreeBles::new(alloc, bles, circuit.circuit().nets.len())?;
@@ -163,11 +165,13 @@ fn share(
 
 /// Adds one cluster of free BLEs, if there are any. Without memory nothing is added.
 fn add_cluster(grower: &mut FreeBles, clusters: &mut Rows, arch: &Arch) -> Result<(), AllocError>
-    requires arch { IsArch arch.now }
-    requires fit { unfit_among arch.now grower.old.elements ≡ None }
+    requires { AllFit arch.now grower.old.elements }
     ensures elements { grower.new.elements ≡ grower.old.elements }
-    ensures added { IfOk result (λ _. clusters.new ≡ with_cluster clusters.old (cluster_of arch.now grower.old.elements grower.old.free)) }
-    ensures free { IfOk result (λ _. grower.new.free ≡ filter (λ number. not (has (cluster_of arch.now grower.old.elements grower.old.free) number)) grower.old.free) }
+    ensures added { IfOk result (λ _. clusters.new
+        ≡ with_cluster clusters.old (cluster_of arch.now grower.old.elements grower.old.free)) }
+    ensures free { IfOk result (λ _. grower.new.free
+        ≡ filter (λ number. not
+        (has (cluster_of arch.now grower.old.elements grower.old.free) number)) grower.old.free) }
     ensures unchanged { OnErr result (clusters.new ≡ clusters.old) }
     ensures still { OnErr result (grower.new.free ≡ grower.old.free) }
 {

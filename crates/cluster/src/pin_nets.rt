@@ -1,8 +1,8 @@
 //! The nets on the pins of all clusters, and the blocks that read each net.
-ghost use Rattle.std.specs.Prelude.{◌≡◌, ℕ, ◌+◌, ◌^◌, ◌<◌, List, [], ◌++◌, All, IfOk, length};
+ghost use Rattle.std.specs.Prelude.{◌≡◌, ℕ, List, [], ◌++◌, IfOk, length};
 ghost use Rattle.blif.specs.LawfulCircuits.{IsCircuit};
 ghost use Rattle.ble_cluster.specs.Bles.{LogicElement};
-ghost use Rattle.cluster.specs.ClusterPins.{IsElementWithin, inputs_of_clusters, clocks_of_clusters, readers_by_net, TellReaders};
+ghost use Rattle.cluster.specs.ClusterPins.{AreClustersOf, AreSetsOf, IsBegun, TellReaders, clocks_of_clusters, inputs_of_clusters, readers_by_net};
 ghost use Rattle.rows.specs.ByKey.{pairs_with};
 
 use crate::cluster_sets::ClusterSets;
@@ -28,12 +28,13 @@ impl PinNets {
         clusters: &Rows,
     ) -> Result<Self, AllocError>
         requires circuit { IsCircuit circuit.now }
-        requires elements { All (IsElementWithin (length circuit.now.nets)) bles.now }
-        requires members { All (λ cluster. All (λ number. number < length bles.now) cluster) clusters.now }
-        requires few { length circuit.now.inputs + length circuit.now.outputs + length clusters.now < 2 ^ 32 }
-        ensures inputs { IfOk result (λ nets. nets.inputs ≡ inputs_of_clusters bles.now clusters.now) }
-        ensures clocks { IfOk result (λ nets. nets.clocks ≡ clocks_of_clusters bles.now clusters.now) }
-        ensures readers { IfOk result (λ nets. nets.readers ≡ readers_by_net circuit.now bles.now clusters.now) }
+        requires clusters { AreClustersOf circuit.now bles.now clusters.now }
+        ensures inputs { IfOk result (λ nets.
+            nets.inputs ≡ inputs_of_clusters bles.now clusters.now) }
+        ensures clocks { IfOk result (λ nets.
+            nets.clocks ≡ clocks_of_clusters bles.now clusters.now) }
+        ensures readers { IfOk result (λ nets.
+            nets.readers ≡ readers_by_net circuit.now bles.now clusters.now) }
     {
         let mut gathered = Gathered::new(alloc, circuit)?;
         match gathered.add_all(alloc, circuit, bles, clusters) {
@@ -57,11 +58,13 @@ struct Gathered {
 impl Gathered {
     /// No cluster, and the pads of all outputs.
     fn new(alloc: Global, circuit: &Circuit) -> Result<Self, AllocError>
-        requires circuit { IsCircuit circuit.now }
-        requires few { length circuit.now.inputs + length circuit.now.outputs < 2 ^ 32 }
+        requires { IsCircuit circuit.now }
         ensures inputs { IfOk result (λ gathered. gathered.inputs ≡ []) }
         ensures clocks { IfOk result (λ gathered. gathered.clocks ≡ []) }
-        ensures pairs { IfOk result (λ gathered. (elements : List LogicElement) (clusters : List (List ℕ)) → TellReaders circuit.now elements clusters (length circuit.now.outputs) 0 gathered.pairs.items) }
+        ensures pairs { IfOk result (λ gathered.
+            (elements : List LogicElement) (clusters : List (List ℕ)) →
+            TellReaders circuit.now elements clusters (length circuit.now.outputs) 0
+            gathered.pairs.items) }
     {
         let pairs = pad_pairs(alloc, circuit)?;
         Ok(Gathered {
@@ -79,15 +82,14 @@ impl Gathered {
         bles: &Bles,
         clusters: &Rows,
     ) -> Result<Rows, AllocError>
-        requires elements { All (IsElementWithin (length circuit.now.nets)) bles.now }
-        requires members { All (λ cluster. All (λ number. number < length bles.now) cluster) clusters.now }
-        requires few { length circuit.now.inputs + length circuit.now.outputs + length clusters.now < 2 ^ 32 }
-        requires inputs { self.old.inputs ≡ [] }
-        requires clocks { self.old.clocks ≡ [] }
-        requires pairs { TellReaders circuit.now bles.now clusters.now (length circuit.now.outputs) 0 self.old.pairs.items }
-        ensures inputs { IfOk result (λ _. self.new.inputs ≡ inputs_of_clusters bles.now clusters.now) }
-        ensures clocks { IfOk result (λ _. self.new.clocks ≡ clocks_of_clusters bles.now clusters.now) }
-        ensures readers { IfOk result (λ readers. readers ≡ readers_by_net circuit.now bles.now clusters.now) }
+        requires clusters { AreClustersOf circuit.now bles.now clusters.now }
+        requires begun { IsBegun circuit.now bles.now clusters.now self.old }
+        ensures inputs { IfOk result (λ _. self.new.inputs
+            ≡ inputs_of_clusters bles.now clusters.now) }
+        ensures clocks { IfOk result (λ _. self.new.clocks
+            ≡ clocks_of_clusters bles.now clusters.now) }
+        ensures readers { IfOk result (λ readers.
+            readers ≡ readers_by_net circuit.now bles.now clusters.now) }
     {
         let count = circuit.nets.len();
         let mut sets = ClusterSets::new(alloc, count)?;
@@ -105,18 +107,15 @@ impl Gathered {
         bles: &Bles,
         clusters: &Rows,
     ) -> Result<(), AllocError>
-        requires elements { All (IsElementWithin (length circuit.now.nets)) bles.now }
-        requires members { All (λ cluster. All (λ number. number < length bles.now) cluster) clusters.now }
-        requires few { length circuit.now.inputs + length circuit.now.outputs + length clusters.now < 2 ^ 32 }
-        requires inputs { self.old.inputs ≡ [] }
-        requires clocks { self.old.clocks ≡ [] }
-        requires pairs { TellReaders circuit.now bles.now clusters.now (length circuit.now.outputs) 0 self.old.pairs.items }
-        requires input_nets { sets.old.inputs.count ≡ length circuit.now.nets }
-        requires output_nets { sets.old.outputs.count ≡ length circuit.now.nets }
-        requires clock_nets { sets.old.clocks.count ≡ length circuit.now.nets }
-        ensures inputs { IfOk result (λ _. self.new.inputs ≡ inputs_of_clusters bles.now clusters.now) }
-        ensures clocks { IfOk result (λ _. self.new.clocks ≡ clocks_of_clusters bles.now clusters.now) }
-        ensures pairs { IfOk result (λ _. TellReaders circuit.now bles.now clusters.now (length circuit.now.outputs) (length clusters.now) self.new.pairs.items) }
+        requires clusters { AreClustersOf circuit.now bles.now clusters.now }
+        requires begun { IsBegun circuit.now bles.now clusters.now self.old }
+        requires sets { AreSetsOf (length circuit.now.nets) sets.old }
+        ensures inputs { IfOk result (λ _. self.new.inputs
+            ≡ inputs_of_clusters bles.now clusters.now) }
+        ensures clocks { IfOk result (λ _. self.new.clocks
+            ≡ clocks_of_clusters bles.now clusters.now) }
+        ensures pairs { IfOk result (λ _. TellReaders circuit.now bles.now clusters.now
+            (length circuit.now.outputs) (length clusters.now) self.new.pairs.items) }
     {
         let first = circuit.inputs.as_slice().len() + circuit.outputs.as_slice().len();
         for cluster in 0..clusters.len() {
@@ -155,9 +154,9 @@ impl Gathered {
 
 /// Each output with its pad's number.
 fn pad_pairs(alloc: Global, circuit: &Circuit) -> Result<Vec<Keyed>, AllocError>
-    requires circuit { IsCircuit circuit.now }
-    requires few { length circuit.now.inputs + length circuit.now.outputs < 2 ^ 32 }
-    ensures { IfOk result (λ pairs. (elements : List LogicElement) (clusters : List (List ℕ)) → TellReaders circuit.now elements clusters (length circuit.now.outputs) 0 pairs.items) }
+    requires { IsCircuit circuit.now }
+    ensures { IfOk result (λ pairs. (elements : List LogicElement) (clusters : List (List ℕ)) →
+        TellReaders circuit.now elements clusters (length circuit.now.outputs) 0 pairs.items) }
 {
     let inputs = circuit.inputs.as_slice().len();
     let mut pairs = Vec::new(alloc);

@@ -1,6 +1,7 @@
 -- Who owns which resource of a device.
-use Rattle.std.specs.Prelude.{ℕ, ◌≡◌, ◌+◌, ◌*◌, ◌≤◌, ◌⊎◌, List, length, replicate, All, Bool, true, ◌&&◌, nat_le, nat_lt, max, Option, Some, None, if◌then◌else◌, slice_index_or, AllPairs, Contains, ◌↔◌}
+use Rattle.std.specs.Prelude.{ℕ, ◌≡◌, ◌+◌, ◌*◌, ◌<◌, ◌≤◌, ◌⊎◌, List, length, map, replicate, All, Bool, true, ◌&&◌, nat_le, nat_lt, max, Option, Some, None, if◌then◌else◌, slice_index_or, AllPairs, Contains, ◌↔◌}
 use Rattle.arch_file.specs.declared.arch.Arch.{Arch}
+use Rattle.arch_file.specs.Arch.{IsArch}
 use Rattle.rr_graph.specs.declared.resource.Resource.{Resource}
 use Rattle.rr_graph.specs.Resources.{IsEarlier, has, moved_resource, resource_rank}
 use Rattle.device_book.specs.declared.book.Extent.{Extent}
@@ -42,6 +43,11 @@ IsFree book resource = owner_of book resource ≡ None
 abbrev pub StandIn : Extent → ℕ → List Resource → Type 0
 StandIn extent offset resources = All (λ resource. in_book extent (moved_resource offset resource) ≡ true) resources
 
+-- the book has a place for each of these, and nobody owns them
+pub record CanClaim (book : Owners) (offset : ℕ) (resources : List Resource) : Type 0 where
+  pub there : StandIn book.extent offset resources
+  pub free : All (IsFree book) (map (moved_resource offset) resources)
+
 -- those and no others have that owner now
 abbrev pub AreOwned : Owners → List Resource → Option ℕ → Owners → Type 0
 AreOwned old resources owner new = (new.extent ≡ old.extent) × ((resource : Resource) → owner_of new resource ≡ (if has resources resource then owner else owner_of old resource))
@@ -62,6 +68,13 @@ OwnsJust book id resources = (resource : Resource) → (owner_of book resource �
 abbrev pub IsNoOneElses : Owners → ℕ → Resource → Type 0
 IsNoOneElses book id resource = (owner_of book resource ≡ None) ⊎ (owner_of book resource ≡ Some id)
 
+-- these are all that the tenancy owns at the one offset, the book has a place for each at both, and nobody else owns those at the other
+pub record CanShift (book : Owners) (id from to : ℕ) (resources : List Resource) : Type 0 where
+  pub left : StandIn book.extent from resources
+  pub taken : StandIn book.extent to resources
+  pub owned : OwnsJust book id (map (moved_resource from) resources)
+  pub free : All (IsNoOneElses book id) (map (moved_resource to) resources)
+
 -- the tenancy leaves some resources and takes others, and nobody else's change
 abbrev pub Shifts : Owners → ℕ → List Resource → List Resource → Owners → Type 0
 Shifts old id left taken new = (new.extent ≡ old.extent) × ((resource : Resource) → owner_of new resource ≡ (if has taken resource then Some id else if has left resource then None else owner_of old resource))
@@ -71,13 +84,34 @@ pub record ListsOwners (book : Owners) (list : List Owned) : Type 0 where
   pub in_order : AllPairs (λ a b. IsEarlier a.resource b.resource) list
   pub exact : (owned : Owned) → Contains list owned ↔ (owner_of book owned.resource ≡ Some owned.id)
 
--- a device is no wider, no higher and has no higher numbers
+-- a device of that architecture is no wider and no higher
+pub record IsSmall (arch : Arch) (columns rows : ℕ) : Type 0 where
+  pub lawful : IsArch arch
+  pub wide : columns ≤ 256
+  pub high : rows ≤ 64
+
+-- nor has it higher numbers
 pub record IsExtent (extent : Extent) : Type 0 where
   pub columns : extent.columns ≤ 256
   pub rows : extent.rows ≤ 64
   pub numbers : extent.numbers ≤ 145
 
+-- private: the resource has a place
+pub record HasPlace (extent : Extent) (resource : Resource) : Type 0 where
+  pub small : IsExtent extent
+  pub there : in_book extent resource ≡ true
+
+-- private: that is one of the places
+pub record IsPlace (extent : Extent) (place : ℕ) : Type 0 where
+  pub small : IsExtent extent
+  pub within : place < size_of extent
+
 -- the table has an entry for each place
 pub record IsBook (extent : Extent) (owners : List (Option ℕ)) : Type 0 where
   pub small : IsExtent extent
   pub long : length owners ≡ size_of extent
+
+-- private: and for each of these, so many columns to the right
+pub record CanWrite (extent : Extent) (owners : List (Option ℕ)) (offset : ℕ) (resources : List Resource) : Type 0 where
+  pub book : IsBook extent owners
+  pub there : StandIn extent offset resources

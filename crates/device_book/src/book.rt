@@ -1,7 +1,7 @@
 //! The book of owners.
-ghost use Rattle.std.specs.Prelude.{◌≡◌, ◌+◌, ◌<◌, ◌≤◌, ◌*◌, All, IfOk, None, Some, length, map, max, true};
+ghost use Rattle.std.specs.Prelude.{◌≡◌, ◌+◌, ◌<◌, ◌≤◌, ◌*◌, IfOk, None, Some, length, map, max, true};
 ghost use Rattle.arch_file.specs.Arch.{IsArch};
-ghost use Rattle.device_book.specs.Owners.{AreOwned, Claims, IsBook, IsExtent, IsFree, IsNoOneElses, ListsOwners, OwnsJust, Releases, Shifts, StandIn, extent_of, in_book, nobody, number_of, owner_of, size_of};
+ghost use Rattle.device_book.specs.Owners.{AreOwned, CanClaim, CanShift, CanWrite, Claims, HasPlace, IsBook, IsExtent, IsPlace, IsSmall, ListsOwners, Releases, Shifts, StandIn, extent_of, in_book, nobody, number_of, owner_of, size_of};
 ghost use Rattle.rr_graph.specs.Resources.{moved_resource, resource_rank};
 
 use arch_file::Arch;
@@ -40,9 +40,7 @@ impl Model for Book {
 impl Book {
     /// The book of a device that nobody uses.
     pub fn new(alloc: Global, arch: &Arch, columns: u32, rows: u32) -> Result<Self, AllocError>
-        requires arch { IsArch arch.now }
-        requires columns { columns ≤ 256 }
-        requires rows { rows ≤ 64 }
+        requires { IsSmall arch.now columns rows }
         ensures { IfOk result (λ book. book ≡ nobody (extent_of arch.now columns rows)) }
     {
         let numbers = numbers(arch);
@@ -76,8 +74,7 @@ impl Book {
 
     /// Gives resources that nobody owns to a tenancy: those of its strip, so many columns to the right.
     pub fn claim(&mut self, id: u16, offset: u32, resources: &[Resource])
-        requires there { StandIn self.old.extent offset resources.now }
-        requires free { All (IsFree self.old) (map (moved_resource offset) resources.now) }
+        requires { CanClaim self.old offset resources.now }
         ensures { Claims self.old id (map (moved_resource offset) resources.now) self.new }
     {
         let extent = self.extent;
@@ -95,11 +92,9 @@ impl Book {
 
     /// Moves what a tenancy owns from one offset of its strip to another: these resources of the strip. Old and new ones may overlap.
     pub fn shift(&mut self, id: u16, from: u32, to: u32, resources: &[Resource])
-        requires left { StandIn self.old.extent from resources.now }
-        requires taken { StandIn self.old.extent to resources.now }
-        requires owned { OwnsJust self.old id (map (moved_resource from) resources.now) }
-        requires free { All (IsNoOneElses self.old id) (map (moved_resource to) resources.now) }
-        ensures { Shifts self.old id (map (moved_resource from) resources.now) (map (moved_resource to) resources.now) self.new }
+        requires { CanShift self.old id from to resources.now }
+        ensures { Shifts self.old id (map (moved_resource from) resources.now)
+            (map (moved_resource to) resources.now) self.new }
     {
         self.release(from, resources);
         self.claim(id, to, resources);
@@ -142,8 +137,7 @@ fn in_book(extent: Extent, resource: Resource) -> bool
 
 /// The place of a resource.
 fn number_of(extent: Extent, resource: Resource) -> usize
-    requires extent { IsExtent extent }
-    requires there { in_book extent resource ≡ true }
+    requires { HasPlace extent resource }
     ensures value { result ≡ number_of extent resource }
     ensures within { result < size_of extent }
 {
@@ -173,11 +167,11 @@ fn write(
     offset: u32,
     resources: &[Resource],
 )
-    requires extent { IsExtent extent }
-    requires long { length owners.old ≡ size_of extent }
-    requires there { StandIn extent offset resources.now }
+    requires { CanWrite extent owners.old offset resources.now }
     ensures long { length owners.new ≡ length owners.old }
-    ensures owned { AreOwned (record { extent = extent; owners = owners.old }) (map (moved_resource offset) resources.now) owner (record { extent = extent; owners = owners.new }) }
+    ensures owned { AreOwned (record { extent = extent; owners = owners.old })
+        (map (moved_resource offset) resources.now) owner
+        (record { extent = extent; owners = owners.new }) }
 {
     for resource in resources {
         let place = number_of(extent, resource.moved(offset));
@@ -188,7 +182,8 @@ fn write(
 /// The resources that are owned, with their owners, in the order of their places.
 fn listed(alloc: Global, extent: Extent, owners: &[Option<u16>]) -> Result<Vec<Owned>, AllocError>
     requires { IsBook extent owners.now }
-    ensures { IfOk result (λ list. ListsOwners (record { extent = extent; owners = owners.now }) list.items) }
+    ensures { IfOk result (λ list. ListsOwners (record { extent = extent; owners = owners.now })
+        list.items) }
 {
     let mut list = Vec::new(alloc);
     for place in 0..owners.len() {
@@ -203,8 +198,7 @@ fn listed(alloc: Global, extent: Extent, owners: &[Option<u16>]) -> Result<Vec<O
 
 /// The resource of a place.
 fn resource_at(extent: Extent, place: usize) -> Resource
-    requires extent { IsExtent extent }
-    requires within { place < size_of extent }
+    requires { IsPlace extent place }
     ensures there { in_book extent result ≡ true }
     ensures place { number_of extent result ≡ place }
 {

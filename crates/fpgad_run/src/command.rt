@@ -23,7 +23,8 @@ pub fn run_words<
     R: Source,
     W: Sink,
 >(rt: &H, words: &[S], reader: &mut R, writer: &mut W) -> Result<Outcome, Error>
-    ensures { RunsWords (R.remaining reader.old) result (W.contents writer.old) (W.contents writer.new) }
+    ensures { RunsWords (R.remaining reader.old) result (W.contents writer.old)
+        (W.contents writer.new) }
 {
     match read_options(rt.alloc(), words) {
         Ok(line) => Ok(run_line(rt, &line, reader, writer)),
@@ -39,7 +40,8 @@ pub fn run_line<H: Files + Threads + Wait + Clock + AllocGlobal + Sync, R: Sourc
     reader: &mut R,
     writer: &mut W,
 ) -> Outcome
-    ensures { Runs line.now (R.remaining reader.old) result (W.contents writer.old) (W.contents writer.new) }
+    ensures { Runs line.now (R.remaining reader.old) result (W.contents writer.old)
+        (W.contents writer.new) }
 {
     let options = &line.options;
     let Some(path) = line.arch else {

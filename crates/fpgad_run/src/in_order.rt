@@ -27,7 +27,9 @@ pub(crate) fn replies(
 ) -> Result<Vec<u8>, Outcome>
     requires { length input.now < 2 ^ 63 }
     ensures settled { IfErr result (λ outcome. outcome ≡ Outcome.NotSettled → ⊥) }
-    ensures replies { Replies (λ output. IsReplies options.now (start_of options.now.tracks architecture.entry input.now) output) (start_of options.now.tracks architecture.entry input.now) result }
+    ensures replies { Replies (λ output. IsReplies options.now
+        (start_of options.now.tracks architecture.entry input.now) output)
+        (start_of options.now.tracks architecture.entry input.now) result }
 {
     let Some(texts) = Texts::new(architecture, input) else {
         return Err(Outcome::ArchUnreadable);
@@ -91,7 +93,10 @@ impl<'t, 'g> Running<'t, 'g> {
     /// Serves a script in order, and gives all that was told.
     fn serve_all(&mut self, alloc: Global, script: Script<'t>) -> Result<Vec<u8>, AllocError>
         requires { Begins self.old.graph.now self.old.core self.old }
-        ensures { (options : Options) (arch : Arch) → self.old.core ≡ empty (device_of options arch) → self.old.graph.now ≡ own_graph (device_of options arch) → IfOk result (λ output. IsReplies options (Ok (arch, script.entry)) output.items) }
+        ensures { (options : Options) (arch : Arch) →
+            self.old.core ≡ empty (device_of options arch) →
+            self.old.graph.now ≡ own_graph (device_of options arch) →
+            IfOk result (λ output. IsReplies options (Ok (arch, script.entry)) output.items) }
     {
         for act in script.into_acts() {
             self.serve(act)?;

@@ -30,7 +30,8 @@ impl<'a> Texts<'a> {
     /// The texts of a run with that input, if the architecture can be read.
     pub(crate) fn new(architecture: Architecture<'a>, input: &'a [u8]) -> Option<Self>
         requires { length input.now < 2 ^ 63 }
-        ensures { MatchOption result (architecture.entry ≡ Architecture.Unreadable) (λ texts. AreTexts architecture.entry input.now texts) }
+        ensures { MatchOption result (architecture.entry ≡ Architecture.Unreadable)
+            (λ texts. AreTexts architecture.entry input.now texts) }
     {
         match architecture {
             Architecture::InScript => Some(Self::below_architecture(input)),

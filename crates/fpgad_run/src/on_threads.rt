@@ -26,7 +26,9 @@ pub(crate) fn replies<H: Threads + Wait + Clock + AllocGlobal + Sync>(
 ) -> Result<Vec<u8>, Outcome>
     requires input { length input.now < 2 ^ 63 }
     requires workers { 1 ≤ options.now.workers }
-    ensures { Replies (λ output. AreThreadedReplies options.now (threaded_start_of options.now.tracks architecture.entry input.now) output) (threaded_start_of options.now.tracks architecture.entry input.now) result }
+    ensures { Replies (λ output. AreThreadedReplies options.now
+        (threaded_start_of options.now.tracks architecture.entry input.now) output)
+        (threaded_start_of options.now.tracks architecture.entry input.now) result }
 {
     let alloc = rt.alloc();
     let Some(texts) = Texts::new(architecture, input) else {
@@ -40,7 +42,9 @@ pub(crate) fn replies<H: Threads + Wait + Clock + AllocGlobal + Sync>(
 
 /// What was told, section by section.
 fn output(alloc: Global, answered: &Answered<'_>) -> Result<Vec<u8>, AllocError>
-    ensures { IfOk result (λ output. output.items ≡ output_of answered.now.operator.items (map section_of answered.now.sections.items)) }
+    ensures { IfOk result (λ output.
+        output.items ≡ output_of answered.now.operator.items
+        (map section_of answered.now.sections.items)) }
 {
     let mut out = Vec::new(alloc);
     push_section(&mut out, b"op", answered.operator.as_slice())?;
@@ -50,7 +54,8 @@ fn output(alloc: Global, answered: &Answered<'_>) -> Result<Vec<u8>, AllocError>
 
 /// Appends sections, one after another.
 fn push_sections(out: &mut Vec<u8>, sections: &[Section<'_>]) -> Result<(), AllocError>
-    ensures { OnOk result (out.new.items ≡ out.old.items ++ flat_map section_text (map section_of sections.now)) }
+    ensures { OnOk result (out.new.items
+        ≡ out.old.items ++ flat_map section_text (map section_of sections.now)) }
 {
     for section in sections {
         push_section(out, section.name, section.text.as_slice())?;

@@ -24,10 +24,13 @@ pub fn run_script<R: Source, W: Sink>(
     writer: &mut W,
 ) -> Outcome
     // What the text decides, where the reader tells it.
-    ensures decided { IfSome (R.remaining reader.old) (λ input. Decides (start_of options.now.tracks architecture.entry input) result) }
+    ensures decided { IfSome (R.remaining reader.old)
+        (λ input. Decides (start_of options.now.tracks architecture.entry input) result) }
     // What is written, and that nothing else is.
-    ensures written { Writes options.now architecture.entry (R.remaining reader.old) result (W.contents writer.old) (W.contents writer.new) }
-    ensures unreadable { architecture.entry ≡ Architecture.Unreadable → result ≡ Outcome.ArchUnreadable }
+    ensures written { Writes options.now architecture.entry (R.remaining reader.old) result
+        (W.contents writer.old) (W.contents writer.new) }
+    ensures unreadable { architecture.entry ≡ Architecture.Unreadable →
+        result ≡ Outcome.ArchUnreadable }
     ensures input { result ≡ Outcome.InputFailed → R.has_failed reader.new ≡ true }
     ensures output { result ≡ Outcome.OutputFailed → W.has_failed writer.new ≡ true }
     ensures settled { result ≡ Outcome.NotSettled → ⊥ }
@@ -49,9 +52,14 @@ pub fn run<H: Threads + Wait + Clock + AllocGlobal + Sync, R: Source, W: Sink>(
     reader: &mut R,
     writer: &mut W,
 ) -> Outcome
-    ensures in_order { options.now.workers ≡ 0 → RunsInOrder options.now architecture.entry (R.remaining reader.old) result (W.contents writer.old) (W.contents writer.new) }
-    ensures on_threads { 1 ≤ options.now.workers → RunsOnThreads options.now architecture.entry (R.remaining reader.old) result (W.contents writer.old) (W.contents writer.new) }
-    ensures unreadable { architecture.entry ≡ Architecture.Unreadable → result ≡ Outcome.ArchUnreadable }
+    ensures in_order { options.now.workers ≡ 0 →
+        RunsInOrder options.now architecture.entry (R.remaining reader.old) result
+        (W.contents writer.old) (W.contents writer.new) }
+    ensures on_threads { 1 ≤ options.now.workers →
+        RunsOnThreads options.now architecture.entry (R.remaining reader.old) result
+        (W.contents writer.old) (W.contents writer.new) }
+    ensures unreadable { architecture.entry ≡ Architecture.Unreadable →
+        result ≡ Outcome.ArchUnreadable }
     ensures input { result ≡ Outcome.InputFailed → R.has_failed reader.new ≡ true }
     ensures output { result ≡ Outcome.OutputFailed → W.has_failed writer.new ≡ true }
 {
@@ -87,7 +95,8 @@ fn read_input<R: Source>(
 
 /// Writes the replies, where there are some.
 fn write_replies<W: Sink>(writer: &mut W, replies: Result<Vec<u8>, Outcome>) -> Outcome
-    ensures { EndsWith replies result (W.contents writer.old) (W.contents writer.new) (W.has_failed writer.new) }
+    ensures { EndsWith replies result (W.contents writer.old) (W.contents writer.new)
+        (W.has_failed writer.new) }
 {
     match replies {
         Ok(output) => match write_all(writer, output.as_slice()) {

@@ -42,7 +42,8 @@ impl<'t> Sections<'t> {
         line: SessionLine,
     ) -> Result<(), AllocError>
         requires { length self.old.texts.items ≡ length self.old.names }
-        ensures { OnOk result (AnswersSession graph.now self.old core.old name.now id line self.new core.new) }
+        ensures { OnOk result (AnswersSession graph.now self.old core.old name.now id line self.new
+            core.new) }
     {
         let number = self.names.add_numbered(name)?;
         if number < self.texts.len() {
@@ -57,7 +58,8 @@ impl<'t> Sections<'t> {
     /// Appends all sections, each under its name.
     pub(crate) fn append_to(&self, out: &mut Vec<u8>) -> Result<(), AllocError>
         requires { length self.now.texts.items ≡ length self.now.names }
-        ensures { OnOk result (out.new.items ≡ out.old.items ++ flat_map section_text (zipped self.now.names self.now.texts.items)) }
+        ensures { OnOk result (out.new.items
+            ≡ out.old.items ++ flat_map section_text (zipped self.now.names self.now.texts.items)) }
     {
         for (number, text) in self.texts.iter().enumerate() {
             push_section(out, self.names.name(number), text.as_bytes())?;

@@ -1,7 +1,7 @@
 -- Whether a packed circuit fits a strip.
 use Rattle.std.specs.Prelude.{ℕ, Bool, true, false, length, count_by, nat_lt, if◌then◌else◌}
 use Rattle.cluster.specs.declared.block.Block.{Block}
-use Rattle.cluster.specs.declared.block.Block.TheVariants.{InputPad, OutputPad, Cluster}
+use Rattle.cluster.specs.declared.block.Block.TheVariants.{Cluster}
 use Rattle.cluster.specs.Clusters.{PackedCircuit}
 use Rattle.cluster.specs.Blocks.{blocks_of}
 use Rattle.grid.specs.declared.Strip.{Strip}
@@ -13,33 +13,33 @@ use Rattle.grid.specs.Places.{places_of}
 
 -- the kind of places that a block goes to
 abbrev pub kind_of : Block → Kind
-kind_of (InputPad net) = Pad
-kind_of (OutputPad net) = Pad
 kind_of (Cluster cluster) = Logic
+kind_of _ = Pad
 
 -- the two kinds are the same
 abbrev pub is_same_kind : Kind → Kind → Bool
 is_same_kind Logic Logic = true
-is_same_kind Logic Pad = false
-is_same_kind Pad Logic = false
 is_same_kind Pad Pad = true
-
--- a block goes to a place of that kind
-abbrev pub is_for : Kind → Block → Bool
-is_for kind block = is_same_kind kind (kind_of block)
+is_same_kind _ _ = false
 
 -- how many blocks are for places of that kind
 abbrev pub block_count : PackedCircuit → Kind → ℕ
-block_count packed kind = count_by (is_for kind) (blocks_of packed)
+block_count packed kind = count_by (λ block. is_same_kind kind (kind_of block)) (blocks_of packed)
 
--- logic first: places against blocks, then pads against pads
+-- whether there are places for all blocks. Logic first: places against blocks, then pads against pads
+unfoldable pub fit_of : Strip → PackedCircuit → Fit
+fit_of strip packed =
+    if nat_lt (length (places_of strip Logic)) (block_count packed Logic) then TooManyBlocks (length (places_of strip Logic)) (block_count packed Logic)
+    else if nat_lt (length (places_of strip Pad)) (block_count packed Pad) then TooManyPads (length (places_of strip Pad)) (block_count packed Pad)
+    else Fits
+
+-- Private: a block goes to a place of that kind
+abbrev pub is_for : Kind → Block → Bool
+is_for kind block = is_same_kind kind (kind_of block)
+
+-- Private: the same comparison of any numbers
 abbrev pub compared : ℕ → ℕ → ℕ → ℕ → Fit
 compared logic_places blocks pad_places pads =
     if nat_lt logic_places blocks then TooManyBlocks logic_places blocks
     else if nat_lt pad_places pads then TooManyPads pad_places pads
     else Fits
-
--- whether there are places for all blocks
-unfoldable pub fit_of : Strip → PackedCircuit → Fit
-fit_of strip packed =
-    compared (length (places_of strip Logic)) (block_count packed Logic) (length (places_of strip Pad)) (block_count packed Pad)

@@ -9,18 +9,18 @@ use Rattle.grid.specs.declared.place.Place.{Place}
 abbrev pub place_at : ℕ → ℕ → ℕ → Place
 place_at x y subblock = record { x = x; y = y; subblock = subblock }
 
--- the pads at an end of a column
-abbrev pub pads_at : Strip → ℕ → ℕ → List Place
-pads_at strip x y = map (place_at x y) (range_with_len 0 strip.io_rat)
-
 -- the places of a column: a logic block in each row from 1 on, or pads below the first row and above the last
 abbrev pub column_of : Strip → Kind → ℕ → List Place
 column_of strip Logic x = map (λ y. place_at x y 0) (range_with_len 1 strip.rows)
-column_of strip Pad x = flat_map (pads_at strip x) (0 ∷ (strip.rows + 1) ∷ [])
+column_of strip Pad x = flat_map (λ y. map (place_at x y) (range_with_len 0 strip.io_rat)) (0 ∷ (strip.rows + 1) ∷ [])
 
 -- the places, column by column from 1 on
 unfoldable pub places_of : Strip → Kind → List Place
 places_of strip kind = flat_map (column_of strip kind) (range_with_len 1 strip.width)
+
+-- Private: the pads at an end of a column
+abbrev pub pads_at : Strip → ℕ → ℕ → List Place
+pads_at strip x y = map (place_at x y) (range_with_len 0 strip.io_rat)
 
 -- Private: how many places a column has
 abbrev pub column_len : Strip → Kind → ℕ

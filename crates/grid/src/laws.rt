@@ -11,11 +11,15 @@ ghost use Rattle.grid.specs.PlaceLaws.{IsPlaceIn};
 /// Laws of the places of a strip.
 pub fn laws_of_places()
     // Each is in the strip, in a row for its kind.
-    ensures within { (strip : Strip) (kind : Kind) → IsStripSize strip → All (IsPlaceIn strip kind) (places_of strip kind) }
+    ensures within { (strip : Strip) (kind : Kind) → IsStripSize strip →
+        All (IsPlaceIn strip kind) (places_of strip kind) }
     // No two places of a kind are the same, nor one of each kind.
-    ensures apart { (strip : Strip) (kind : Kind) → IsStripSize strip → AllPairs (λ place other. place ≢ other) (places_of strip kind) }
-    ensures kinds_apart { (strip : Strip) (place : Place) → IsStripSize strip → Contains (places_of strip Logic) place → Contains (places_of strip Pad) place → ⊥ }
+    ensures apart { (strip : Strip) (kind : Kind) → IsStripSize strip →
+        AllPairs (λ place other. place ≢ other) (places_of strip kind) }
+    ensures kinds_apart { (strip : Strip) (place : Place) → IsStripSize strip →
+        Contains (places_of strip Logic) place → Contains (places_of strip Pad) place → ⊥ }
     // There are few.
-    ensures few_logic { (strip : Strip) → IsStripSize strip → length (places_of strip Logic) ≤ 16384 }
+    ensures few_logic { (strip : Strip) → IsStripSize strip →
+        length (places_of strip Logic) ≤ 16384 }
     ensures few_pads { (strip : Strip) → IsStripSize strip → length (places_of strip Pad) ≤ 4096 }
 {}

@@ -9,7 +9,7 @@ use Rattle.pathfinder.specs.PlacedNets.{wiring_of}
 use Rattle.pathfinder.specs.Wiring.{Net}
 use Rattle.rr_graph.specs.Graph.{Basis}
 use Rattle.rr_graph.specs.declared.resource.Resource.{Resource}
-use Rattle.strip_place.specs.Anneal.{PlacingUnderWay, is_finished, is_past_last}
+use Rattle.strip_place.specs.Anneal.{PlacingUnderWay, is_past_last}
 use Rattle.job_state.specs.declared.sources.JobKind.{JobKind}
 use Rattle.job_state.specs.declared.sources.JobKind.TheVariants.{Packing as PackingJob, Placing as PlacingJob, Routing as RoutingJob}
 use Rattle.job_state.specs.declared.sources.Sources.{Sources}
@@ -34,7 +34,7 @@ work_kind : (kind : JobKind) (sources : Sources) (circuit : Circuit) (steps : �
 work_kind PackingJob sources circuit steps =
     either_kind PackingJob (nat_lt steps (packing_steps circuit sources.arch)) (Packing (record { circuit = circuit; arch = sources.arch; made = steps })) (Packed (packed_of circuit sources.arch)) refl refl
 work_kind PlacingJob sources circuit steps =
-    either_kind PlacingJob (is_finished (placing_at sources circuit steps)) (Placed (placing_at sources circuit steps)) (Placing (placing_at sources circuit steps)) refl refl
+    either_kind PlacingJob (is_past_last sources.strip steps) (Placed (placing_at sources circuit steps)) (Placing (placing_at sources circuit steps)) refl refl
 work_kind RoutingJob sources circuit steps =
     let routed : RoutedTrees = routed_after (wiring_of (basis_in sources)) (nets_in sources circuit) steps in
     routing_kind (basis_in sources) (pads_in sources circuit) (nets_in sources circuit) steps routed routed.standing
@@ -85,12 +85,12 @@ module _ (sources : Sources) (circuit : Circuit) where
   -- a placing is whole after as many steps as passes are enough
   pub placing_whole : (kind : JobKind) (steps : ℕ) → kind ≡ PlacingJob → is_whole (work_of kind sources circuit steps) ≡ is_past_last sources.strip steps
   placing_whole PackingJob steps k = absurd (cc)
-  placing_whole PlacingJob steps k = whole_either (placing_at sources circuit steps) (is_finished (placing_at sources circuit steps))
+  placing_whole PlacingJob steps k = whole_either (placing_at sources circuit steps) (is_past_last sources.strip steps)
   placing_whole RoutingJob steps k = absurd (cc)
 
   placed_work : (kind : JobKind) (steps : ℕ) (placed : PlacingUnderWay) → kind ≡ PlacingJob → work_of kind sources circuit steps ≡ Placed placed → placed ≡ placing_at sources circuit steps
   placed_work PackingJob steps placed k is = absurd (cc)
-  placed_work PlacingJob steps placed k is = placed_either (placing_at sources circuit steps) placed (is_finished (placing_at sources circuit steps)) is
+  placed_work PlacingJob steps placed k is = placed_either (placing_at sources circuit steps) placed (is_past_last sources.strip steps) is
   placed_work RoutingJob steps placed k is = absurd (cc)
 
 placed_value : (sources : Sources) (circuit : Result Circuit BlifFault) (steps : ℕ) (placed : PlacingUnderWay) → sources.kind ≡ PlacingJob → steps ≤ 8192 →

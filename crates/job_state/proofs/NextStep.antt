@@ -9,22 +9,22 @@ use Rattle.pathfinder.specs.PlacedNets.{wiring_of}
 use Rattle.pathfinder.specs.Wiring.{Net}
 use Rattle.rr_graph.specs.Graph.{Basis}
 use Rattle.rr_graph.specs.declared.resource.Resource.{Resource}
-use Rattle.strip_place.specs.Anneal.{PlacingUnderWay, is_finished}
+use Rattle.strip_place.specs.Anneal.{PlacingUnderWay, is_past_last}
 use Rattle.job_state.specs.declared.sources.JobKind.{JobKind}
 use Rattle.job_state.specs.declared.sources.JobKind.TheVariants.{Packing as PackingJob, Placing as PlacingJob, Routing as RoutingJob}
 use Rattle.job_state.specs.declared.sources.Sources.{Sources}
 use Rattle.job_state.specs.declared.work.Work.{Work}
 use Rattle.job_state.specs.declared.work.Work.TheVariants.{Packing, Packed, Placing, Placed, Routing, Unlisted, Routed, GaveUp, NoPath}
 use Rattle.job_state.specs.Held.{StandsFor}
-use Rattle.job_state.specs.JobValue.{basis_in, circuit_in, nets_in, pads_in, is_whole, job_value, packing_after, placing_at, placing_stands, routing_after, routing_stands, value_of, work_of}
-use Rattle.job_state.specs.Steps.{graph_for, next_work}
+use Rattle.job_state.specs.JobValue.{basis_in, circuit_in, nets_in, pads_in, is_whole, job_value, placing_at, routing_after, routing_stands, value_of, work_of}
+use Rattle.job_state.specs.Steps.{graph_for, next_work, packing_after, placing_stands}
 
 packing_next : (circuit : Circuit) (arch : Arch) (steps : ℕ) (goes : Bool) → let now : Work = if goes then Packing (record { circuit = circuit; arch = arch; made = steps }) else Packed (packed_of circuit arch) in
     is_whole now ≡ false → packing_after circuit arch (steps + 1) ≡ next_work now
 packing_next circuit arch steps true going = refl
 packing_next circuit arch steps false going = absurd (cc)
 
-placing_next : (placing : PlacingUnderWay) (finished : Bool) → is_finished placing ≡ finished → let now : Work = if finished then Placed placing else Placing placing in
+placing_next : (placing : PlacingUnderWay) (finished : Bool) → is_past_last placing.strip placing.passes ≡ finished → let now : Work = if finished then Placed placing else Placing placing in
     is_whole now ≡ false → placing_stands (record placing { passes = placing.passes + 1 }) ≡ next_work now
 placing_next placing true is going = absurd (cc)
 placing_next placing false is going = rw is refl
@@ -38,7 +38,7 @@ routing_next basis pads nets steps routed (WithoutPath net) going = absurd (cc)
 
 work_next : (kind : JobKind) (sources : Sources) (circuit : Circuit) (steps : ℕ) → is_whole (work_of kind sources circuit steps) ≡ false → work_of kind sources circuit (steps + 1) ≡ next_work (work_of kind sources circuit steps)
 work_next PackingJob sources circuit steps going = packing_next circuit sources.arch steps (nat_lt steps (packing_steps circuit sources.arch)) going
-work_next PlacingJob sources circuit steps going = placing_next (placing_at sources circuit steps) (is_finished (placing_at sources circuit steps)) refl going
+work_next PlacingJob sources circuit steps going = placing_next (placing_at sources circuit steps) (is_past_last sources.strip steps) refl going
 work_next RoutingJob sources circuit steps going =
     let routed : RoutedTrees = routed_after (wiring_of (basis_in sources)) (nets_in sources circuit) steps in
     routing_next (basis_in sources) (pads_in sources circuit) (nets_in sources circuit) steps routed routed.standing going
@@ -76,7 +76,7 @@ routing_graph basis pads nets steps routed (WithoutPath net) = refl
 
 work_graph : (kind : JobKind) (sources : Sources) (circuit : Circuit) (steps : ℕ) → graph_for (basis_in sources) (work_of kind sources circuit steps) ≡ basis_in sources
 work_graph PackingJob sources circuit steps = packing_graph (basis_in sources) circuit sources.arch steps (nat_lt steps (packing_steps circuit sources.arch))
-work_graph PlacingJob sources circuit steps = placing_graph (basis_in sources) (placing_at sources circuit steps) (is_finished (placing_at sources circuit steps))
+work_graph PlacingJob sources circuit steps = placing_graph (basis_in sources) (placing_at sources circuit steps) (is_past_last sources.strip steps)
 work_graph RoutingJob sources circuit steps =
     let routed : RoutedTrees = routed_after (wiring_of (basis_in sources)) (nets_in sources circuit) steps in
     routing_graph (basis_in sources) (pads_in sources circuit) (nets_in sources circuit) steps routed routed.standing

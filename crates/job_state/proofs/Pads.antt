@@ -16,14 +16,20 @@ use Rattle.grid.specs.Fits.{kind_of}
 use Rattle.grid.specs.Places.{places_of}
 use Rattle.grid.specs.PlaceLaws.{IsPlaceIn}
 use Rattle.rr_graph.specs.declared.resource.Resource.{Resource}
+use Rattle.rr_graph.specs.declared.resource.ResourceKind.TheVariants.{Pad as PadResource}
 use Rattle.rr_graph.specs.Resources.{is_there}
 use Rattle.strip_place.specs.Placed.{ArePlaced, block_at, place_of}
-use Rattle.job_state.specs.RoutedCircuits.{pad_at, pad_of, pads_below, pads_of}
+use Rattle.job_state.specs.RoutedCircuits.{pad_of, pads_of}
+use Rattle.job_state.specs.Gathered.{pads_below}
 use Rattle.job_state.proofs.Gathered.{gathered_to}
 
 -- the places of a strip are in their rows
 abbrev Within : Strip → Type 0
 Within strip = (kind : Kind) → All (IsPlaceIn strip kind) (places_of strip kind)
+
+-- the pad at a place
+abbrev pad_at : Place → Resource
+pad_at place = record { x = place.x; kind = PadResource; y = place.y; n = place.subblock }
 
 or_left : (a b : Bool) → a ≡ true → (a || b) ≡ true
 or_left a b is = ap (λ t. t || b) is

@@ -9,7 +9,7 @@ use Rattle.pathfinder.specs.PlacedNets.{wiring_of}
 use Rattle.pathfinder.specs.Wiring.{Net}
 use Rattle.rr_graph.specs.declared.resource.Resource.{Resource}
 use Rattle.rr_graph.specs.Graph.{Basis}
-use Rattle.strip_place.specs.Anneal.{is_finished}
+use Rattle.strip_place.specs.Anneal.{is_past_last}
 use Rattle.job_state.specs.declared.sources.JobKind.{JobKind}
 use Rattle.job_state.specs.declared.sources.JobKind.TheVariants.{Packing as PackingJob, Placing as PlacingJob, Routing as RoutingJob}
 use Rattle.job_state.specs.declared.sources.Sources.{Sources}
@@ -51,7 +51,7 @@ routing_listed basis pads nets steps routed (WithoutPath net) = refl
 work_listed : (kind : JobKind) (sources : Sources) (circuit : Circuit) (steps : ℕ) → is_unlisted (work_of kind sources circuit steps) ≡ false
 work_listed PackingJob sources circuit steps =
     either_listed (nat_lt steps (packing_steps circuit sources.arch)) (Packing (record { circuit = circuit; arch = sources.arch; made = steps })) (Packed (packed_of circuit sources.arch)) refl refl
-work_listed PlacingJob sources circuit steps = either_listed (is_finished (placing_at sources circuit steps)) (Placed (placing_at sources circuit steps)) (Placing (placing_at sources circuit steps)) refl refl
+work_listed PlacingJob sources circuit steps = either_listed (is_past_last sources.strip steps) (Placed (placing_at sources circuit steps)) (Placing (placing_at sources circuit steps)) refl refl
 work_listed RoutingJob sources circuit steps =
     let routed : RoutedTrees = routed_after (wiring_of (basis_in sources)) (nets_in sources circuit) steps in
     routing_listed (basis_in sources) (pads_in sources circuit) (nets_in sources circuit) steps routed routed.standing

@@ -15,7 +15,8 @@ use Rattle.rr_graph.specs.Resources.{has, is_same, is_there, resource_of}
 use Rattle.arch_file.specs.declared.arch.Arch.{Arch}
 use Rattle.grid.specs.declared.Strip.{Strip}
 use Rattle.pathfinder.specs.Routings.{IsDone, RoutingState}
-use Rattle.job_state.specs.RoutedCircuits.{AreThere, ListsAll, on_path, on_tree, on_trees}
+use Rattle.job_state.specs.RoutedCircuits.{AreThere, ListsAll}
+use Rattle.job_state.specs.Gathered.{on_path, on_tree, on_trees}
 use Rattle.job_state.proofs.InOrder.{is_itself, same_is}
 
 -- what holds of each of them holds of one that they have

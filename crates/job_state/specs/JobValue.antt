@@ -14,7 +14,7 @@ use Rattle.pathfinder.specs.Routings.{told_by_node}
 use Rattle.pathfinder.specs.Wiring.{Net}
 use Rattle.rr_graph.specs.Graph.{Basis, graph_of}
 use Rattle.rr_graph.specs.declared.resource.Resource.{Resource}
-use Rattle.strip_place.specs.Anneal.{PlacingUnderWay, is_finished, is_past_last, places_by_block}
+use Rattle.strip_place.specs.Anneal.{PlacingUnderWay, is_past_last, places_by_block}
 use Rattle.job_state.specs.declared.sources.JobKind.{JobKind}
 use Rattle.job_state.specs.declared.sources.JobKind.TheVariants.{Packing as PackingJob, Placing as PlacingJob, Routing as RoutingJob}
 use Rattle.job_state.specs.declared.sources.Sources.{Sources}
@@ -38,18 +38,9 @@ routing_sources arch strip text kept seed effort = record { kind = RoutingJob; a
 abbrev pub circuit_in : Sources → Result Circuit BlifFault
 circuit_in sources = circuit_of sources.text sources.arch.lut_size
 
--- a packing makes a cluster a step, and after its last step it is whole
-abbrev pub packing_after : Circuit → Arch → ℕ → Work
-packing_after circuit arch steps =
-    if nat_lt steps (packing_steps circuit arch) then Packing (record { circuit = circuit; arch = arch; made = steps }) else Packed (packed_of circuit arch)
-
--- a placing makes a pass a step
+-- a placing of the packed circuit after so many passes
 abbrev pub placing_at : Sources → Circuit → ℕ → PlacingUnderWay
 placing_at sources circuit passes = record { packed = packed_of circuit sources.arch; strip = sources.strip; kept = sources.kept; seed = sources.seed; effort = sources.effort; passes = passes }
-
--- after the pass at temperature 0 it is whole
-abbrev pub placing_stands : PlacingUnderWay → Work
-placing_stands placing = if is_finished placing then Placed placing else Placing placing
 
 -- the most steps that are counted; no job has as many
 unfoldable pub step_limit : ℕ
@@ -81,10 +72,12 @@ routing_stands basis pads nets iterations routed (WithoutPath net) = NoPath net
 abbrev pub routing_after : Basis → List Resource → List Net → ℕ → Work
 routing_after basis pads nets iterations = routing_stands basis pads nets iterations (routed_after (wiring_of basis) nets iterations) (routed_after (wiring_of basis) nets iterations).standing
 
--- a job of that kind after so many steps
+-- a job of that kind after so many steps. A packing makes a cluster a step, and after its last step it is whole; a placing makes a pass a step, and is whole
+-- after the one at temperature 0
 abbrev pub work_of : JobKind → Sources → Circuit → ℕ → Work
-work_of PackingJob sources circuit steps = packing_after circuit sources.arch steps
-work_of PlacingJob sources circuit steps = placing_stands (placing_at sources circuit steps)
+work_of PackingJob sources circuit steps =
+    if nat_lt steps (packing_steps circuit sources.arch) then Packing (record { circuit = circuit; arch = sources.arch; made = steps }) else Packed (packed_of circuit sources.arch)
+work_of PlacingJob sources circuit steps = if is_past_last sources.strip steps then Placed (placing_at sources circuit steps) else Placing (placing_at sources circuit steps)
 work_of RoutingJob sources circuit steps = routing_after (basis_in sources) (pads_in sources circuit) (nets_in sources circuit) steps
 
 abbrev pub value_of : Sources → Result Circuit BlifFault → ℕ → Result Work BlifFault
@@ -98,14 +91,10 @@ job_value sources steps = value_of sources (circuit_in sources) steps
 -- a work with no step left to make
 abbrev pub is_whole : Work → Bool
 is_whole (Packing packing) = false
-is_whole (Packed packed) = true
 is_whole (Placing placing) = false
-is_whole (Placed placing) = true
 is_whole (Routing routing) = false
 is_whole (Unlisted routed) = false
-is_whole (Routed routes) = true
-is_whole GaveUp = true
-is_whole (NoPath net) = true
+is_whole work = true
 
 abbrev pub is_whole_value : Result Work BlifFault → Bool
 is_whole_value (Ok work) = is_whole work

@@ -6,6 +6,8 @@ pub mod Steps
 pub mod Held
 pub mod Ends
 pub mod RoutedCircuits
+pub mod Gathered
+pub mod Beginnings
 pub mod Progress
 pub mod RoutedSet
 pub mod Stages

@@ -4,7 +4,7 @@ use Rattle.std.specs.List.{flat_map, range_with_len}
 use Rattle.std.specs.Option.{option_to_list}
 use Rattle.arch_file.specs.declared.arch.Arch.{Arch}
 use Rattle.cluster.specs.declared.block.Block.{Block}
-use Rattle.cluster.specs.declared.block.Block.TheVariants.{InputPad, OutputPad, Cluster}
+use Rattle.cluster.specs.declared.block.Block.TheVariants.{Cluster}
 use Rattle.cluster.specs.Blocks.{blocks_of}
 use Rattle.cluster.specs.Clusters.{PackedCircuit}
 use Rattle.grid.specs.declared.Strip.{Strip}
@@ -29,36 +29,18 @@ on_strip arch strip = record { arch = arch; strip = strip }
 abbrev pub routed_on : Arch → Strip → List (List (List Node)) → List Resource → RoutedCircuit
 routed_on arch strip routes pads = record { basis = record { arch = arch; strip = strip }; routes = routes; pads = pads }
 
--- the pad at a place
-abbrev pub pad_at : Place → Resource
-pad_at place = record { x = place.x; kind = Pad; y = place.y; n = place.subblock }
-
--- a block for an input or an output stands on a pad, a cluster doesn't
+-- a block for an input or an output stands on the pad at its place, a cluster doesn't
 abbrev pub pad_of : Block → Place → List Resource
-pad_of (InputPad net) place = pad_at place ∷ []
-pad_of (OutputPad net) place = pad_at place ∷ []
 pad_of (Cluster cluster) place = []
+pad_of block place = record { x = place.x; kind = Pad; y = place.y; n = place.subblock } ∷ []
 
--- the pads of the blocks below a number, and of all blocks, by the block's number
-abbrev pub pads_below : PackedCircuit → List Place → ℕ → List Resource
-pads_below packed places count = flat_map (λ block. pad_of (block_at packed block) (place_of places block)) (range_with_len 0 count)
-
+-- the pads of all blocks, by the block's number
 abbrev pub pads_of : PackedCircuit → List Place → List Resource
-pads_of packed places = pads_below packed places (length (blocks_of packed))
+pads_of packed places = flat_map (λ block. pad_of (block_at packed block) (place_of places block)) (range_with_len 0 (length (blocks_of packed)))
 
--- the pins and wires on a path, on the paths of a tree, and of all trees
-abbrev pub on_path : List Node → List Resource
-on_path path = flat_map (λ node. option_to_list (resource_of node)) path
-
-abbrev pub on_tree : List (List Node) → List Resource
-on_tree tree = flat_map on_path tree
-
-abbrev pub on_trees : List (List (List Node)) → List Resource
-on_trees trees = flat_map on_tree trees
-
--- what it holds: the pins and wires of its trees, and its pads
+-- what it holds: the pins and wires on the paths of its trees, and its pads
 abbrev pub held_by : RoutedCircuit → List Resource
-held_by routed = on_trees routed.routes ++ routed.pads
+held_by routed = flat_map (λ tree. flat_map (λ path. flat_map (λ node. option_to_list (resource_of node)) path) tree) routed.routes ++ routed.pads
 
 -- each of these is of the strip
 abbrev pub AreThere : Basis → List Resource → Type 0

@@ -1,12 +1,24 @@
 -- Private: a work after one step more, and whose it is.
-use Rattle.std.specs.Prelude.{◌≡◌, ◌+◌}
+use Rattle.std.specs.Prelude.{ℕ, ◌≡◌, ◌+◌, nat_lt, if◌then◌else◌}
+use Rattle.arch_file.specs.declared.arch.Arch.{Arch}
+use Rattle.blif.specs.declared.circuit.Circuit.{Circuit}
+use Rattle.cluster.specs.Clusters.{packed_of, packing_steps}
 use Rattle.rr_graph.specs.Graph.{Basis}
-use Rattle.strip_place.specs.Anneal.{one_more}
+use Rattle.strip_place.specs.Anneal.{PlacingUnderWay, is_past_last, one_more}
 use Rattle.job_state.specs.declared.sources.JobKind.{JobKind}
 use Rattle.job_state.specs.declared.sources.JobKind.TheVariants.{Packing as PackingJob, Placing as PlacingJob, Routing as RoutingJob}
 use Rattle.job_state.specs.declared.work.Work.{Work}
 use Rattle.job_state.specs.declared.work.Work.TheVariants.{Packing, Packed, Placing, Placed, Routing, Unlisted, Routed, GaveUp, NoPath}
-use Rattle.job_state.specs.JobValue.{packing_after, placing_stands, routing_after}
+use Rattle.job_state.specs.JobValue.{routing_after}
+
+-- a packing after so many steps
+abbrev pub packing_after : Circuit → Arch → ℕ → Work
+packing_after circuit arch steps =
+    if nat_lt steps (packing_steps circuit arch) then Packing (record { circuit = circuit; arch = arch; made = steps }) else Packed (packed_of circuit arch)
+
+-- a placing that stands there
+abbrev pub placing_stands : PlacingUnderWay → Work
+placing_stands placing = if is_past_last placing.strip placing.passes then Placed placing else Placing placing
 
 -- what is whole has no step left
 abbrev pub next_work : Work → Work

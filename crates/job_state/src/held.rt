@@ -2,7 +2,8 @@
 ghost use Rattle.std.specs.Prelude.{◌≡◌, ◌++◌, ◌<◌, IfOk, [], length, slice_index_or};
 ghost use Rattle.std.specs.Option.{option_to_list};
 ghost use Rattle.rr_graph.specs.Resources.{resource_of};
-ghost use Rattle.job_state.specs.RoutedCircuits.{AreThere, IsInOrder, ListsAll, on_path, on_tree, on_trees, pad_of, pads_of};
+ghost use Rattle.job_state.specs.RoutedCircuits.{AreThere, IsInOrder, ListsAll, pad_of, pads_of};
+ghost use Rattle.job_state.specs.Gathered.{on_path, on_tree, on_trees};
 ghost use Rattle.strip_place.specs.Anneal.{places_by_block};
 
 use cluster::Block;
@@ -30,8 +31,11 @@ fn add_pad(mut pads: Vec<Resource>, block: Block, place: Place) -> Result<Vec<Re
 
 /// The pads of the blocks, by number.
 pub(crate) fn pads_of(alloc: Global, placing: &Placing) -> Result<Vec<Resource>, AllocError>
-    ensures exact { IfOk result (λ pads. pads.items ≡ pads_of placing.now.packed (places_by_block placing.now)) }
-    ensures there { IfOk result (λ pads. AreThere (record { arch = placing.now.packed.arch; strip = placing.now.strip }) pads.items) }
+    ensures exact { IfOk result (λ pads.
+        pads.items ≡ pads_of placing.now.packed (places_by_block placing.now)) }
+    ensures there { IfOk result (λ pads.
+        AreThere (record { arch = placing.now.packed.arch; strip = placing.now.strip })
+        pads.items) }
 {
     placing.laws();
     laws_of_places();
@@ -70,7 +74,8 @@ fn add_tree(
     net: usize,
 ) -> Result<Vec<Resource>, AllocError>
     requires { net < length routes.now }
-    ensures { IfOk result (λ new. new.items ≡ list.items ++ on_tree (slice_index_or routes.now net [])) }
+    ensures { IfOk result (λ new. new.items
+        ≡ list.items ++ on_tree (slice_index_or routes.now net [])) }
 {
     for number in 0..routes.path_count(net) {
         list = add_path(list, routes.path(net, number))?;

@@ -106,7 +106,8 @@ impl AnyJob {
     pub fn window<'g>(&self, graph: &'g DeviceGraph, offset: u32) -> Option<Window<'g>>
         ensures fits { IfSome result (λ window. window ≡ basis_in self.now.step.sources) }
         ensures there { IsTrue (is_some result) ↔
-            ((graph.now.arch ≡ self.now.step.sources.arch) × (is_on_device graph.now.strip self.now.step.sources.strip offset ≡ true)) }
+            ((graph.now.arch ≡ self.now.step.sources.arch)
+            × (is_on_device graph.now.strip self.now.step.sources.strip offset ≡ true)) }
     {
         let window = Window::new(graph, offset, self.step.sources.strip)?;
         if self.fits(&window) {
@@ -191,9 +192,11 @@ impl Done {
     /// How far the job is with this step; a routing's overuse is that of its strip's graph. Takes no memory.
     pub fn progress<G: StripGraph>(&self, graph: &G) -> Progress
         requires { G.basis graph.now ≡ basis_in self.now.sources }
-        ensures made { (work : Work) × (job_value self.now.sources self.now.number ≡ Ok work) × IsProgress work result }
+        ensures made { (work : Work) × (job_value self.now.sources self.now.number ≡ Ok work)
+            × IsProgress work result }
         ensures few { self.now.number ≤ 8192 }
-        ensures last { is_last self.now.sources self.now.number ≡ true → self.now.number ≡ step_count self.now.sources }
+        ensures last { is_last self.now.sources self.now.number ≡ true →
+            self.now.number ≡ step_count self.now.sources }
     {
         self.work.progress(graph)
     }

@@ -4,7 +4,7 @@ ghost use Rattle.cluster.specs.Clusters.{packed_of};
 ghost use Rattle.job_state.specs.declared.progress.Progress.{Progress};
 ghost use Rattle.job_state.specs.declared.work.Work.{Work};
 ghost use Rattle.job_state.specs.Progress.{IsProgress};
-ghost use Rattle.job_state.specs.JobValue.{packing_after};
+ghost use Rattle.job_state.specs.Steps.{packing_after};
 ghost use Rattle.job_state.specs.Unshared.{before_last};
 
 use crate::progress::Progress;
@@ -65,7 +65,8 @@ impl PackingJob {
 
     /// Makes one cluster more. Without memory the packing comes back as it was.
     pub(crate) fn next(self) -> Result<Work, PackingJob>
-        ensures made { IfOk result (λ work. work ≡ packing_after self.circuit self.arch (self.made + 1)) }
+        ensures made { IfOk result (λ work.
+            work ≡ packing_after self.circuit self.arch (self.made + 1)) }
         ensures back { IfErr result (λ back. back ≡ self) }
     {
         let PackingJob { alloc, made } = self;

@@ -1,19 +1,16 @@
 //! A job as its slot keeps it.
-ghost use Rattle.std.specs.Prelude.{◌≡◌, ◌≤◌, All, AllPairs, IfOk, None, Ok, false, true};
-ghost use Rattle.cluster.specs.Clusters.{PackedCircuit, packed_of, packing_steps, unfit_of};
-ghost use Rattle.grid.specs.declared.fit.Fit.TheVariants.{Fits};
-ghost use Rattle.grid.specs.Fits.{fit_of};
-ghost use Rattle.grid.specs.Sizes.{IsStripSize};
+ghost use Rattle.std.specs.Prelude.{◌≡◌, ◌≤◌, All, AllPairs, IfOk, Ok, false, true};
+ghost use Rattle.cluster.specs.Clusters.{packed_of, packing_steps};
 ghost use Rattle.job_state.specs.declared.sources.JobKind.{JobKind};
 ghost use Rattle.job_state.specs.declared.work.Work.{Work};
+ghost use Rattle.job_state.specs.Beginnings.{CanPack, CanPlace, CanRoute};
 ghost use Rattle.job_state.specs.Ends.{IsEndOf, IsOfNets};
 ghost use Rattle.job_state.specs.Held.{HasFewSteps};
-ghost use Rattle.job_state.specs.Job.{first_step, is_over};
+ghost use Rattle.job_state.specs.Job.{IsFinished, first_step, is_over};
 ghost use Rattle.job_state.specs.RoutedSet.{resources_of};
-ghost use Rattle.strip_place.specs.Keeping.{AreKeptOn};
 ghost use Rattle.rr_graph.specs.declared.resource.Resource.{Resource};
 ghost use Rattle.rr_graph.specs.Resources.{IsEarlier, has, is_there};
-ghost use Rattle.job_state.specs.JobValue.{circuit_in, end_value, is_whole, job_value, packing_sources, pass_count, placing_at, placing_sources};
+ghost use Rattle.job_state.specs.JobValue.{circuit_in, end_value, is_whole, job_value, pass_count, placing_at};
 
 use crate::ending::RoutingEnd;
 use crate::held::pads_of;
@@ -62,9 +59,7 @@ impl Parked {
         sources: Sources,
         circuit: &SharedCircuit,
     ) -> Result<Self, AllocError>
-        requires kind { sources ≡ packing_sources sources.arch sources.strip sources.text }
-        requires circuit { circuit_in sources ≡ Ok circuit.now }
-        requires fit { unfit_of circuit.now sources.arch ≡ None }
+        requires { CanPack sources circuit.now }
         ensures job { IfOk result (λ job. job ≡ first_step id generation sources) }
         ensures going { IfOk result (λ job. is_over job ≡ false) }
     {
@@ -83,14 +78,7 @@ impl Parked {
         sources: Sources,
         packing: &Parked,
     ) -> Result<Self, AllocError>
-        requires kind { sources.kind ≡ JobKind.Placing }
-        requires from { packing.now.step.sources ≡ packing_sources sources.arch sources.strip sources.text }
-        requires over { is_over packing.now ≡ true }
-        requires put { packing.now.made ≡ false }
-        requires size { IsStripSize sources.strip }
-        requires fit { (packed : PackedCircuit) → end_value packing.now.step.sources ≡ Ok (Work.Packed packed) → fit_of sources.strip packed ≡ Fits }
-        requires kept { AreKeptOn sources.strip sources.kept }
-        requires effort { sources.effort ≤ 100 }
+        requires { CanPlace sources packing.now }
         ensures job { IfOk result (λ job. job ≡ first_step id generation sources) }
         ensures going { IfOk result (λ job. is_over job ≡ false) }
     {
@@ -115,10 +103,7 @@ impl Parked {
         sources: Sources,
         placing: &Parked,
     ) -> Result<Self, AllocError>
-        requires kind { sources.kind ≡ JobKind.Routing }
-        requires from { placing.now.step.sources ≡ placing_sources sources.arch sources.strip sources.text sources.kept sources.seed sources.effort }
-        requires over { is_over placing.now ≡ true }
-        requires put { placing.now.made ≡ false }
+        requires { CanRoute sources placing.now }
         ensures job { IfOk result (λ job. job ≡ first_step id generation sources) }
         ensures going { IfOk result (λ job. is_over job ≡ false) }
     {
@@ -176,22 +161,20 @@ impl Parked {
 
     /// What a finished packing has made.
     pub fn packed(&self) -> &Packed
-        requires kind { self.now.step.sources.kind ≡ JobKind.Packing }
-        requires over { is_over self.now ≡ true }
-        requires put { self.now.made ≡ false }
+        requires { IsFinished JobKind.Packing self.now }
         ensures value { end_value self.now.step.sources ≡ Ok (Work.Packed result.now) }
-        ensures exact { IfOk (circuit_in self.now.step.sources) (λ circuit. result.now ≡ packed_of circuit self.now.step.sources.arch) }
+        ensures exact { IfOk (circuit_in self.now.step.sources)
+            (λ circuit. result.now ≡ packed_of circuit self.now.step.sources.arch) }
     {
         self.shared_packed().packed()
     }
 
     /// The same, as it is shared.
     fn shared_packed(&self) -> &SharedPacked
-        requires kind { self.now.step.sources.kind ≡ JobKind.Packing }
-        requires over { is_over self.now ≡ true }
-        requires put { self.now.made ≡ false }
+        requires { IsFinished JobKind.Packing self.now }
         ensures value { end_value self.now.step.sources ≡ Ok (Work.Packed result.now) }
-        ensures exact { IfOk (circuit_in self.now.step.sources) (λ circuit. result.now ≡ packed_of circuit self.now.step.sources.arch) }
+        ensures exact { IfOk (circuit_in self.now.step.sources)
+            (λ circuit. result.now ≡ packed_of circuit self.now.step.sources.arch) }
     {
         match &*self.work {
             Work::Packed(packed) => packed,
@@ -201,11 +184,11 @@ impl Parked {
 
     /// What a finished placing has made.
     pub fn placing(&self) -> &Placing
-        requires kind { self.now.step.sources.kind ≡ JobKind.Placing }
-        requires over { is_over self.now ≡ true }
-        requires put { self.now.made ≡ false }
+        requires { IsFinished JobKind.Placing self.now }
         ensures value { end_value self.now.step.sources ≡ Ok (Work.Placed result.now) }
-        ensures exact { IfOk (circuit_in self.now.step.sources) (λ circuit. result.now ≡ placing_at self.now.step.sources circuit (pass_count self.now.step.sources.strip)) }
+        ensures exact { IfOk (circuit_in self.now.step.sources)
+            (λ circuit. result.now
+            ≡ placing_at self.now.step.sources circuit (pass_count self.now.step.sources.strip)) }
     {
         match &*self.work {
             Work::Placed(placing) => placing,
@@ -215,11 +198,10 @@ impl Parked {
 
     /// How a finished routing ended. What it tells is of the nets of the packed circuit, by number.
     pub fn routing_end(&self) -> RoutingEnd<'_>
-        requires kind { self.now.step.sources.kind ≡ JobKind.Routing }
-        requires over { is_over self.now ≡ true }
-        requires put { self.now.made ≡ false }
+        requires { IsFinished JobKind.Routing self.now }
         ensures value { IsEndOf self.now.step.sources result }
-        ensures nets { IfOk (circuit_in self.now.step.sources) (λ circuit. IsOfNets (packed_of circuit self.now.step.sources.arch) result) }
+        ensures nets { IfOk (circuit_in self.now.step.sources)
+            (λ circuit. IsOfNets (packed_of circuit self.now.step.sources.arch) result) }
     {
         match &*self.work {
             Work::Routed(listed) => RoutingEnd::Routed(listed.routes()),
@@ -232,12 +214,12 @@ impl Parked {
     /// What the circuit of a finished routing holds of its strip, in node order: the pins and wires of its routes and the pads of
     /// its blocks, each once. Nothing where the routing ended without routes.
     pub fn resources(&self) -> &[Resource]
-        requires kind { self.now.step.sources.kind ≡ JobKind.Routing }
-        requires over { is_over self.now ≡ true }
-        requires put { self.now.made ≡ false }
+        requires { IsFinished JobKind.Routing self.now }
         ensures order { AllPairs IsEarlier result.now }
-        ensures exact { (r : Resource) → has result.now r ≡ has (resources_of self.now.step.sources) r }
-        ensures there { All (λ r. is_there self.now.step.sources.arch self.now.step.sources.strip r ≡ true) result.now }
+        ensures exact { (r : Resource) → has result.now r
+            ≡ has (resources_of self.now.step.sources) r }
+        ensures there { All (λ r. is_there self.now.step.sources.arch self.now.step.sources.strip r
+            ≡ true) result.now }
     {
         match &*self.work {
             Work::Routed(listed) => listed.resources(),

@@ -27,7 +27,8 @@ impl Model for Routed {
 
     ghost view = { λ r. routed_on r.arch r.strip r.routes r.pads.items };
 
-    ghost invariant = { λ r. AreThere (record { arch = r.arch; strip = r.strip }) (held_by (routed_on r.arch r.strip r.routes r.pads.items)) };
+    ghost invariant = { λ r. AreThere (record { arch = r.arch; strip = r.strip })
+        (held_by (routed_on r.arch r.strip r.routes r.pads.items)) };
 }
 
 /// A routed circuit with the list of what it holds of its strip: the pins and wires of its routes and the pads of its blocks, in
@@ -45,7 +46,8 @@ impl Model for Listed {
 
     ghost view = { λ l. l.routed };
 
-    ghost invariant = { λ l. ListsAll (held_by l.routed) l.resources.items × AreThere l.routed.basis l.resources.items };
+    ghost invariant = { λ l. ListsAll (held_by l.routed) l.resources.items
+        × AreThere l.routed.basis l.resources.items };
 }
 
 impl Routed {

@@ -3,7 +3,8 @@ ghost use Rattle.std.specs.Prelude.{◌≡◌, ◌+◌, IfErr, IfOk};
 ghost use Rattle.job_state.specs.declared.stage.Stage.{Stage};
 ghost use Rattle.job_state.specs.declared.work.Work.{Work};
 ghost use Rattle.job_state.specs.JobValue.{routing_after};
-ghost use Rattle.job_state.specs.RoutedCircuits.{AreThere, on_trees, on_strip};
+ghost use Rattle.job_state.specs.RoutedCircuits.{AreThere, on_strip};
+ghost use Rattle.job_state.specs.Gathered.{on_trees};
 ghost use Rattle.job_state.specs.Stages.{IsOf, state_at};
 ghost use Rattle.job_state.specs.Steps.{IsLeft};
 ghost use Rattle.pathfinder.specs.Overuse.{IsOveruse};
@@ -39,7 +40,8 @@ impl Model for RoutingJob {
 
     ghost view = { λ r. record { basis = on_strip r.arch r.strip; pads = r.pads.items; state = state_at (on_strip r.arch r.strip) r.stage } };
 
-    ghost invariant = { λ r. AreThere (on_strip r.arch r.strip) r.pads.items × IsOf (on_strip r.arch r.strip) r.stage };
+    ghost invariant = { λ r. AreThere (on_strip r.arch r.strip) r.pads.items
+        × IsOf (on_strip r.arch r.strip) r.stage };
 }
 
 impl RoutingJob {
@@ -53,7 +55,11 @@ impl RoutingJob {
     ) -> Self
         requires pads { AreThere (on_strip arch strip) pads.items }
         requires stage { IsOf (on_strip arch strip) stage }
-        ensures { result ≡ record { basis = on_strip arch strip; pads = pads.items; state = state_at (on_strip arch strip) stage } }
+        ensures { result ≡ record {
+          basis = on_strip arch strip;
+          pads = pads.items;
+          state = state_at (on_strip arch strip) stage;
+        } }
     {
         RoutingJob {
             alloc,
@@ -82,7 +88,8 @@ impl RoutingJob {
     /// has found, which aren't listed yet.
     pub(crate) fn next<G: StripGraph>(self, graph: &G) -> Result<Work, Work>
         requires { G.basis graph.now ≡ self.basis }
-        ensures made { IfOk result (λ work. work ≡ routing_after self.basis self.pads self.state.nets (self.state.iterations + 1)) }
+        ensures made { IfOk result (λ work.
+            work ≡ routing_after self.basis self.pads self.state.nets (self.state.iterations + 1)) }
         ensures back { IfErr result (λ back. IsLeft (Work.Routing self) back) }
     {
         let RoutingJob {

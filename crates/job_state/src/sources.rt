@@ -61,7 +61,8 @@ impl Sources {
         seed: u64,
         effort: u32,
     ) -> Result<Self, AllocError>
-        ensures { IfOk result (λ sources. sources ≡ placing_sources arch.now strip text.now kept.now seed effort) }
+        ensures { IfOk result (λ sources.
+            sources ≡ placing_sources arch.now strip text.now kept.now seed effort) }
     {
         Ok(Sources {
             kind: JobKind::Placing,
@@ -84,7 +85,8 @@ impl Sources {
         seed: u64,
         effort: u32,
     ) -> Result<Self, AllocError>
-        ensures { IfOk result (λ sources. sources ≡ routing_sources arch.now strip text.now kept.now seed effort) }
+        ensures { IfOk result (λ sources.
+            sources ≡ routing_sources arch.now strip text.now kept.now seed effort) }
     {
         Ok(Sources {
             kind: JobKind::Routing,

@@ -47,7 +47,8 @@ impl Begun {
     /// The routing on its graph. Without memory it comes back.
     fn on<G: StripGraph>(self, alloc: Global, graph: &G) -> Result<Routing, Stage>
         requires { IsOf (G.basis graph.now) (Stage.Begun self) }
-        ensures made { IfOk result (λ routing. routing ≡ state_at (G.basis graph.now) (Stage.Begun self)) }
+        ensures made { IfOk result (λ routing.
+            routing ≡ state_at (G.basis graph.now) (Stage.Begun self)) }
         ensures goes { IfOk result (λ routing. GoesOn (G.basis graph.now) routing) }
         ensures back { IfErr result (λ back. back ≡ Stage.Begun self) }
     {

@@ -1,10 +1,10 @@
 //! What a job has made.
 ghost use Rattle.std.specs.Prelude.{◌≡◌, ◌≢◌, IfErr, IfOk, false};
 ghost use Rattle.job_state.specs.declared.sources.JobKind.{JobKind};
-ghost use Rattle.job_state.specs.JobValue.{is_whole, placing_stands};
+ghost use Rattle.job_state.specs.JobValue.{is_whole};
 ghost use Rattle.job_state.specs.declared.work.Work.{Work};
 ghost use Rattle.job_state.specs.Progress.{IsProgress};
-ghost use Rattle.job_state.specs.Steps.{IsLeft, graph_for, kind_of, next_work};
+ghost use Rattle.job_state.specs.Steps.{IsLeft, graph_for, kind_of, next_work, placing_stands};
 ghost use Rattle.strip_place.specs.Anneal.{one_more};
 
 use crate::packing::PackingJob;

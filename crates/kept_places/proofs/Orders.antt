@@ -6,7 +6,7 @@ use Rattle.std.specs.Ordering.{is_lt, eq_by_cmp, nat_cmp, ordering_then}
 use Rattle.std.specs.Cmp.{IsTotalOrder}
 use Rattle.std.specs.Cmp.Lexicographic.{slice_cmp, on_texts}
 use Rattle.std.specs.FinMap.{nat_cmp-IsAntisymmetric, slice_cmp-IsAntisymmetric}
-use Rattle.cluster.specs.Keys.{BlockKey, key_order, key_text, kind_number}
+use Rattle.cluster.specs.Keys.{BlockKey, key_order, kind_number}
 use Rattle.cluster.specs.declared.block.BlockKey.{BlockKey as Key}
 use Rattle.cluster.specs.declared.block.BlockKind.{BlockKind}
 use Rattle.cluster.specs.declared.block.BlockKind.TheVariants.{InputPad, OutputPad, Cluster}
@@ -15,6 +15,10 @@ use Rattle.cluster.specs.contracts.block.BlockKeyOrd.TheImpl.{cmp-value as key_c
 use Rattle.kept_places.specs.contracts.table.KeptPlaceOrd.TheImpl.{cmp-value as place_cmp}
 use Rattle.kept_places.specs.declared.table.KeptPlace.{KeptPlace}
 use Rattle.kept_places.specs.Table.{entry_of, key_of}
+
+-- the kind and the name in one text
+abbrev key_text : BlockKey → List ℕ
+key_text key = kind_number key.kind ∷ key.name
 
 pub key_total : IsTotalOrder key_order
 key_total = on_texts key_text

@@ -17,7 +17,7 @@ use Rattle.least_path.specs.Graph.{Graph, IsLawful}
 use Rattle.least_path.specs.Path.{Leads, IsPath, cost_of, path_cmp}
 use Rattle.least_path.specs.LeastPath.{IsLeastPath}
 use Rattle.least_path.specs.Frontier.{no_label, cost_in, epoch_in, cost_at, AreBounds, IsLabelled, Reached, IsSettled}
-use Rattle.least_path.specs.Walk.{ends_of, after, ahead_of, IsShortWay, MayLead, Needs, Selects, Lists, TakesTurn, Begins, GoesOn, nodes_in}
+use Rattle.least_path.specs.Walk.{IsGuided, IsTried, ends_of, after, ahead_of, IsShortWay, MayLead, Needs, Selects, Lists, TakesTurn, Enters, Begins, GoesOn, nodes_in}
 use Rattle.least_path.specs.declared.search.Label.{Label}
 use Rattle.least_path.specs.declared.search.Search.{Search}
 use Rattle.least_path.specs.declared.search.Stop.{Stop}
@@ -245,6 +245,14 @@ module _ {g : Graph} {starts : List ℕ} {goal best epoch : ℕ} {labels : List 
   pub ahead_cheap : Walking g starts goal best epoch labels (Ahead stop ∷ below) → stop.cost < 2 ^ 60
   ahead_cheap w = omega (arith, w.stands.0.cheap, w.found.small)
 
+  -- a path over the node ahead may be tried
+  pub tries : Walking g starts goal best epoch labels (Ahead stop ∷ below) → IsTried g goal epoch labels stop.node stop.cost
+  tries w = record {
+    guided = record { lawful = w.found.law; goal = w.found.goal_in; room = w.room; begun = w.begun; bounds = w.bounds };
+    within = ahead_in w;
+    cheap = ahead_cheap w;
+  }
+
   -- A node ahead that leads nowhere is passed over.
   pub passes_over : Walking g starts goal best epoch labels (Ahead stop ∷ below)
       → (((may : MayLead epoch labels stop.node stop.cost) (rest : List ℕ) → IsShortWay g goal best stop.node stop.cost rest → ⊥))
@@ -433,6 +441,18 @@ bounds_kept g goal epoch labels node cost room bounds v b old =
       | inl q ↦ absurd (omega (arith, q.2, old))
       | inr q ↦ rw (ahead_other labels node v label q.0) (bounds v b (omega (arith, q.2, old)))
     ]
+
+-- and the pass stays guided
+pub still_guided : {g : Graph} {goal : ℕ} {s t : Search} (stop : Stop) → IsGuided g goal s.epoch s.labels → stop.node < g.count → Enters s t stop → IsGuided g goal t.epoch t.labels
+still_guided {g} {goal} {s} {t} stop i b e =
+    let room : stop.node < length s.labels = omega (arith, b, i.room) in
+    record {
+      lawful = i.lawful;
+      goal = i.goal;
+      room = rw (e.labels, length-set s.labels stop.node (record { cost = stop.cost; epoch = s.epoch; ahead = 0 })) i.room;
+      begun = rw e.epoch i.begun;
+      bounds = rw (e.epoch, e.labels) (bounds_kept g goal s.epoch s.labels stop.node stop.cost room i.bounds);
+    }
 
 -- A node is entered, and what may come after it is raised.
 pub walking_enters : {g : Graph} {starts : List ℕ} {goal best : ℕ} {s v : Search} (stop : Stop) → Walking g starts goal best s.epoch s.labels (Ahead stop ∷ reverse s.turns.items) → stop.node ≢ goal

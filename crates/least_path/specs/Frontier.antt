@@ -4,7 +4,7 @@ use Rattle.std.specs.List.{sum_by, All, Contains}
 use Rattle.std.specs.Prelude.{if◌then◌else◌, ◌==◌}
 use Rattle.std.specs.List.Sorted.{IsPermutation}
 use Rattle.std.specs.declared.cmp.Reverse.{Reverse}
-use Rattle.least_path.specs.Graph.{Graph}
+use Rattle.least_path.specs.Graph.{Graph, AreNodes, IsLawful}
 use Rattle.least_path.specs.Path.{Leads, IsPath, cost_of}
 use Rattle.least_path.specs.LowerBound.{IsLowerBound}
 use Rattle.least_path.specs.Queue.{TakesNearest}
@@ -110,6 +110,13 @@ pub record IsBegun (s : Search) (count : ℕ) : Type 0 where
   pub none_labelled : All (λ label. label.epoch < s.epoch) s.labels
   pub nothing_waits : s.queue ≡ []
 
+-- what is asked of a search, before its first label
+pub record IsAtStart (g : Graph) (from : List ℕ) (to : ℕ) (s : Search) : Type 0 where
+  pub lawful : IsLawful g
+  pub starts : AreNodes g from
+  pub goal : to < g.count
+  pub begun : IsBegun s g.count
+
 pub record IsSame (s t : Search) : Type 0 where
   pub epoch : t.epoch ≡ s.epoch
   pub labels : t.labels ≡ s.labels
@@ -127,6 +134,21 @@ pub record AddsLabel (g : Graph) (goal : ℕ) (s t : Search) (node cost : ℕ) :
   pub bound : IsLowerBound g goal node (Some ahead)
   pub pushed : IsPermutation (record { 0 = record { at_least = at_least; cost = record { 0 = cost }; node = node } } ∷ s.queue) t.queue
 
+-- A path to the node is offered at that cost, which can be told, and so can a bound on what is left that the label has.
+pub record IsOffered (g : Graph) (to : ℕ) (s : Search) (node cost : ℕ) : Type 0 where
+  pub lawful : IsLawful g
+  pub within : node < g.count
+  pub goal : to < g.count
+  pub room : node < length s.labels
+  pub small : cost < 2 ^ 60
+  pub bound : IsLabelled s node → IsLowerBound g to node (Some (ahead_in s.labels node))
+
+-- It is less than what the node's label says.
+pub record IsCheaper (s : Search) (node cost : ℕ) : Type 0 where
+  pub room : node < length s.labels
+  pub small : cost < 2 ^ 60
+  pub cheaper : IsLabelled s node → cost < cost_at s node
+
 -- what an offer changes
 abbrev pub Offers : Graph → ℕ → Search → Search → ℕ → ℕ → Type 0
 Offers g goal s t node cost = (IsSame s t × IsServed g goal s.epoch s.labels node cost) ⊎ AddsLabel g goal s t node cost
@@ -143,6 +165,15 @@ pub record Falls (s t : Search) : Type 0 where
   pub left : left t ≤ left s
   pub served : (g : Graph) (goal node cost : ℕ) → IsServed g goal s.epoch s.labels node cost → IsServed g goal t.epoch t.labels node cost
 
+-- The node came out of the queue by its label and is not the goal: its edges are looked at next.
+pub record IsTaken (g : Graph) (to node : ℕ) (s : Search) : Type 0 where
+  pub lawful : IsLawful g
+  pub within : node < g.count
+  pub goal : to < g.count
+  pub other : node ≢ to
+  pub labelled : IsLabelled s node
+  pub frontier : (starts : List ℕ) × IsFrontier g starts to node s
+
 -- the search before it looks at a further node
 pub record IsGoing (g : Graph) (starts : List ℕ) (goal : ℕ) (s : Search) : Type 0 where
   pub frontier : IsFrontier g starts goal g.count s
@@ -154,3 +185,10 @@ pub record IsSettled (g : Graph) (starts : List ℕ) (goal : ℕ) (s : Search) :
   pub entered : All (λ start. IsServed g goal s.epoch s.labels start 0) starts
   pub goal_labelled : IsLabelled s goal
   pub no_less : All (λ entry. cost_at s goal ≤ entry.0.at_least) s.queue
+
+-- what was asked, when the goal was taken
+pub record IsAtGoal (g : Graph) (from : List ℕ) (to : ℕ) (s : Search) : Type 0 where
+  pub lawful : IsLawful g
+  pub starts : AreNodes g from
+  pub goal : to < g.count
+  pub settled : IsSettled g from to s

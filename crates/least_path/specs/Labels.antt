@@ -1,5 +1,5 @@
 -- Private: labels of which the upper halves of the costs stand apart.
-use Rattle.std.proofs.Common.{◌≡◌, ℕ, ◌+◌, ◌*◌, ◌^◌, ◌≤◌, Bool, false, List, length, get_or, map}
+use Rattle.std.proofs.Common.{◌≡◌, ℕ, ◌+◌, ◌*◌, ◌^◌, ◌<◌, ◌≤◌, Bool, false, List, length, get_or, map}
 use Rattle.std.specs.List.{range_with_len}
 use Rattle.std.specs.Prelude.{slice_index}
 use Rattle.least_path.specs.declared.search.Label.{Label}
@@ -20,3 +20,8 @@ labels_of cells highs = map (λ node. label_of (get_or cells node no_cell) (slic
 pub record AreHalves (cells : List Cell) (highs : List ℕ) (are_high : Bool) : Type 0 where
   pub long : length cells ≤ length highs
   pub low : are_high ≡ false → (node : ℕ) → slice_index highs node ≡ 0
+
+-- the node has an upper half, and where none is high all are 0
+pub record HasHalf (highs : List ℕ) (are_high : Bool) (node : ℕ) : Type 0 where
+  pub within : node < length highs
+  pub low : are_high ≡ false → (place : ℕ) → slice_index highs place ≡ 0

@@ -24,6 +24,12 @@ abbrev pub all_of : List (List (Reverse Waiting)) → List (Reverse Waiting)
 all_of [] = []
 all_of (bucket ∷ near) = bucket ++ all_of near
 
+-- Of so many places all before the first and from the end on are of a kind.
+pub record AreAllBut (P : ℕ → Type 0) (first end count : ℕ) : Type 0 where
+  pub within : end ≤ count
+  pub low : (place : ℕ) → place < first → P place
+  pub high : (place : ℕ) → end ≤ place → P place
+
 -- Each bucket has what is so far, those before the first and from the end on are empty, and the rest is in a heap.
 pub record IsQueue (near : List (List (Reverse Waiting))) (first end : ℕ) (far : List (Reverse Waiting)) : Type 0 where
   pub level : (place : ℕ) → All (λ entry. entry.0.at_least ≡ place) (bucket_at near place)

@@ -1,11 +1,12 @@
 -- Private: what the second pass keeps true.
-use Rattle.std.proofs.Common.{◌≡◌, ℕ, ◌+◌, ◌<◌, ◌≤◌, Option, Some, None, List, [], ◌∷◌, ◌++◌, length, map, reverse, set}
+use Rattle.std.proofs.Common.{◌≡◌, ℕ, ◌+◌, ◌^◌, ◌<◌, ◌≤◌, Option, Some, None, List, [], ◌∷◌, ◌++◌, length, map, reverse, set}
 use Rattle.std.specs.List.{All, Contains, sum_by}
 use Rattle.std.specs.Option.{option_to_list}
+use Rattle.std.specs.Prelude.{IfSome}
 use Rattle.std.specs.List.Sorted.{IsPermutation, IsNonDecreasing}
-use Rattle.least_path.specs.Graph.{Graph}
+use Rattle.least_path.specs.Graph.{Graph, IsLawful}
 use Rattle.least_path.specs.Path.{Leads}
-use Rattle.least_path.specs.Frontier.{cost_in, epoch_in}
+use Rattle.least_path.specs.Frontier.{cost_in, epoch_in, AreBounds}
 use Rattle.least_path.specs.declared.search.Label.{Label}
 use Rattle.least_path.specs.declared.search.Search.{Search}
 use Rattle.least_path.specs.declared.search.Stop.{Stop}
@@ -21,6 +22,25 @@ ends_of g starts (Some stop) = g.ends stop.node
 abbrev pub after : Graph → Option Stop → ℕ → ℕ
 after g None node = 0
 after g (Some stop) node = stop.cost + g.cost node
+
+-- The graph is lawful, and what a path costs after the parent can be told.
+pub record MayFollow (g : Graph) (parent : Option Stop) : Type 0 where
+  pub lawful : IsLawful g
+  pub cheap : IfSome parent (λ stop. stop.cost < 2 ^ 60)
+
+-- The labels guide that pass to a goal of a lawful graph: each node has one, and those of the pass before tell bounds.
+pub record IsGuided (g : Graph) (to pass : ℕ) (labels : List Label) : Type 0 where
+  pub lawful : IsLawful g
+  pub goal : to < g.count
+  pub room : g.count ≤ length labels
+  pub begun : 1 ≤ pass
+  pub bounds : AreBounds g to pass labels
+
+-- The pass tries a path over the node, that costs so much there or before it.
+pub record IsTried (g : Graph) (to pass : ℕ) (labels : List Label) (node cost : ℕ) : Type 0 where
+  pub guided : IsGuided g to pass labels
+  pub within : node < g.count
+  pub cheap : cost < 2 ^ 60
 
 -- the way from the node to the goal with which the whole path costs just so much
 pub record IsShortWay (g : Graph) (goal best node cost : ℕ) (rest : List ℕ) : Type 0 where

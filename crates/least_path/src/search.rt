@@ -120,11 +120,13 @@ impl Search {
     ) -> Result<bool, AllocError>
         requires starts { AreNodes (R.graph roads.now) starts.now }
         requires goal { goal < (R.graph roads.now).count }
-        ensures found { result ≡ Ok true → TellsLeastPath (R.graph roads.now) starts.now goal path.new }
+        ensures found { result ≡ Ok true → TellsLeastPath (R.graph roads.now) starts.now goal
+            path.new }
         ensures none { result ≡ Ok false → HasNoPath (R.graph roads.now) starts.now goal }
         ensures kept { result ≡ Ok false → path.new ≡ path.old }
         ensures exact { IfOk result (λ found.
-            least_path (R.graph roads.now) starts.now goal ≡ (if found then Some path.new.nodes.items else None)) }
+            least_path (R.graph roads.now) starts.now goal
+            ≡ (if found then Some path.new.nodes.items else None)) }
     {
         self.begin(roads.count())?;
         if !self.settle(roads, starts, goal)? {

@@ -1,7 +1,8 @@
 -- Of faults that stand in their order the first is the least.
 use Rattle.std.proofs.Common.{◌≡◌, ◌∙◌, ℕ, ◌<◌, ◌==◌, Bool, true, false, cond, List, [], ◌∷◌, ◌++◌, Option, Some, None, option_map, map, filter, refl, ap, arith, nat_lt}
 use Rattle.std.proofs.lemmas.Bool.Decides.{nat_tests}
-use Rattle.line_text.specs.LeastFault.{Found, by_number, earlier_by, least_by, least_fault, precedes, turn_of}
+use Rattle.std.specs.Option.{option_map_or}
+use Rattle.line_text.specs.LeastFault.{Found, by_number, least_by, least_fault, precedes}
 
 -- the first of a list, if it has one
 abbrev pub first_of : {X : Type 0} → List X → Option X
@@ -55,6 +56,14 @@ pub InOrder-map : {X Y : Type 0} (R : X → X → Type 0) (S : Y → Y → Type 
 InOrder-map R S f [] keeps h = tt
 InOrder-map R S f (x ∷ xs) keeps h =
     (Each-map (S (f x)) f xs (Each-weaker (R x) (λ y. S (f x) (f y)) xs (keeps x) h.0), InOrder-map R S f xs keeps h.1)
+
+-- the end comes after all lines
+abbrev pub turn_of : Bool → ℕ
+turn_of at_end = cond at_end 1 0
+
+-- the first of one and another, if there is one, by this test
+abbrev pub earlier_by : {X : Type 0} → (X → X → Bool) → X → Option X → X
+earlier_by comes_before x other = option_map_or (λ y. cond (comes_before x y) x y) other x
 
 -- a fault comes before another
 abbrev pub Precedes : {F : Type 0} → Found F → Found F → Type 0

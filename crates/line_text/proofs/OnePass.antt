@@ -1,14 +1,27 @@
 -- Reading a text one physical line after another gives what its runs give.
-use Rattle.std.proofs.Common.{◌≡◌, ℕ, ◌+◌, Bool, true, false, cond, ◌&&◌, List, [], ◌∷◌, ◌++◌, length, map, filter, Result, Ok, Err, Option, Some, None, refl, sym, ap, ◌∙◌, arith, append_assoc, length-append, nat_lt}
+use Rattle.std.proofs.Common.{◌≡◌, ℕ, ◌+◌, Bool, true, false, cond, ◌&&◌, List, [], ◌∷◌, ◌++◌, length, map, filter, Result, Ok, Err, Option, Some, None, slice_get, refl, sym, ap, ◌∙◌, arith, append_assoc, length-append, nat_lt}
 use Rattle.std.proofs.lemmas.List.{append-nil}
 use Rattle.std.proofs.lemmas.Grind.{flat_map-append}
 use Rattle.std.specs.List.{slice_split, onto_first, flat_map, enumerate_from, find, filter_map, cons_option}
+use Rattle.std.specs.Option.{option_map, option_map_or, option_or}
 use Rattle.line_text.specs.declared.fault.LineFault.{LineFault}
 use Rattle.line_text.specs.declared.fault.LineFault.TheVariants.{NotAscii, LineTooLong}
 use Rattle.line_text.specs.Words.{is_blank, is_filled, words_of}
 use Rattle.line_text.specs.declared.lines.TheConstants.{MAX_LINE}
-use Rattle.line_text.specs.Lines.{JoinedLine, physical_lines, trimmed, without_comment, without_last, kept, is_continued, is_not_ascii, runs, unless_fault, joined_bytes, joined, fault_of, fault_at, lines_of_runs, lines_of}
+use Rattle.line_text.specs.Lines.{JoinedLine, physical_lines, trimmed, without_comment, ends_in_backslash, without_last, kept, is_continued, is_not_ascii, runs, is_too_long, joined_bytes, joined, fault_of, lines_of_runs, lines_of}
 use Rattle.line_text.specs.Reading.{OpenLine, Reading, begun, extended, ended, settled, continued_or_ended, after, finished}
+
+-- a final `\` becomes a blank
+abbrev pub blanked : List ℕ → List ℕ
+blanked bytes = cond (ends_in_backslash bytes) (without_last bytes ++ 32 ∷ []) bytes
+
+-- what is wrong with a run of which this line is not ASCII
+abbrev fault_at : Option (ℕ × List ℕ) → List (ℕ × List ℕ) → Option LineFault
+fault_at found run = option_or (option_map (λ line. NotAscii line.0) found) (cond (is_too_long run) (Some (LineTooLong (joined run).number)) None)
+
+-- the first of the faults, or the lines where there is none
+abbrev pub unless_fault : List LineFault → List JoinedLine → Result (List JoinedLine) LineFault
+unless_fault faults lines = option_map_or Err (slice_get faults 0) (Ok lines)
 
 slice_split-filled : {X : Type 0} (p : X → Bool) (xs : List X) → is_filled (slice_split p xs) ≡ true
 slice_split-filled p [] = refl

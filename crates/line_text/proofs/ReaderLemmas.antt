@@ -9,11 +9,11 @@ use Rattle.line_text.specs.declared.text_error.TextError.{TextError}
 use Rattle.line_text.specs.declared.text_error.TextError.TheVariants.{NoMemory, Fault}
 use Rattle.line_text.specs.Words.{is_filled, words_of}
 use Rattle.line_text.specs.declared.lines.TheConstants.{MAX_LINE}
-use Rattle.line_text.specs.Lines.{JoinedLine, ends_in_backslash, without_last, without_comment, trimmed, is_continued, is_not_ascii, blanked}
+use Rattle.line_text.specs.Lines.{JoinedLine, ends_in_backslash, without_last, without_comment, trimmed, is_continued, is_not_ascii}
 use Rattle.line_text.specs.Reading.{OpenLine, Reading, begun, ended, extended, after, continued_or_ended}
 use Rattle.line_text.specs.Spans.{AreWithin, seen_line, seen_lines}
 use Rattle.line_text.specs.Reader.{IsReadOn}
-use Rattle.line_text.proofs.OnePass.{words_of-blank}
+use Rattle.line_text.proofs.OnePass.{blanked, words_of-blank}
 
 same_line : (words more : List (List ℕ)) (span : Span) → span.start ≤ span.end → span.end ≤ length words → seen_line (words ++ more) span ≡ seen_line words span
 same_line words more span s e =

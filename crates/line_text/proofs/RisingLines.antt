@@ -1,11 +1,12 @@
 -- The lines of a text have rising numbers.
 use Rattle.std.proofs.Common.{◌≡◌, ℕ, ◌+◌, ◌≤◌, Bool, true, false, cond, List, [], ◌∷◌, Result, Ok, Err, IfOk, map, filter, if◌then◌else◌, arith}
 use Rattle.std.specs.List.{enumerate_from, filter_map, onto_first}
-use Rattle.line_text.specs.Lines.{JoinedLine, fault_of, first_number, is_continued, joined, lines_of, physical_lines, runs, unless_fault}
+use Rattle.line_text.specs.Lines.{JoinedLine, fault_of, is_continued, joined, lines_of, physical_lines, runs}
 use Rattle.line_text.specs.Words.{is_filled}
 use Rattle.line_text.specs.declared.fault.LineFault.{LineFault}
 use Rattle.line_text.specs.LineOrder.{RisesFrom}
 use Rattle.line_text.specs.TextErrors.{Gives}
+use Rattle.line_text.proofs.OnePass.{unless_fault}
 use Rattle.line_text.specs.declared.text_error.TextError.{TextError}
 
 pub rises_lower : (low high : ℕ) (lines : List JoinedLine) → low ≤ high → RisesFrom high lines → RisesFrom low lines
@@ -28,7 +29,7 @@ rises_joined number (line ∷ physical) = by (is_continued line) (runs (enumerat
     by : (b : Bool) (rest : List (List (ℕ × List ℕ))) → RisesFrom (number + 1) (map joined rest) → RisesFrom number (map joined (if b then onto_first (number, line) rest else ((number, line) ∷ []) ∷ rest))
     by false rest h = (omega arith, h)
     by true [] h = (omega arith, tt)
-    by true (run ∷ rest) h = (omega arith, rises_lower (number + 1) (first_number run + 1) (map joined rest) (omega (arith, h.0)) h.1)
+    by true (run ∷ rest) h = (omega arith, rises_lower (number + 1) ((joined run).number + 1) (map joined rest) (omega (arith, h.0)) h.1)
 
 rises_in_text : (text : List ℕ) (lines : List JoinedLine) → lines_of text ≡ Ok lines → RisesFrom 1 lines
 unfolding lines_of

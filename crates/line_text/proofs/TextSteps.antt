@@ -5,14 +5,14 @@ use Rattle.line_text.specs.declared.fault.LineFault.{LineFault}
 use Rattle.line_text.specs.declared.fault.LineFault.TheVariants.{NotAscii}
 use Rattle.line_text.specs.declared.text_error.TextError.{TextError}
 use Rattle.line_text.specs.declared.text_error.TextError.TheVariants.{NoMemory, Fault}
-use Rattle.line_text.specs.Lines.{JoinedLine, is_lawful, is_not_ascii, physical_lines, trimmed, ends_in_backslash, blanked, without_comment}
+use Rattle.line_text.specs.Lines.{JoinedLine, is_lawful, is_not_ascii, physical_lines, trimmed, ends_in_backslash, without_comment}
 use Rattle.line_text.specs.TextErrors.{Gives}
 use Rattle.line_text.specs.Physical.{IsContent, first_line, later_lines}
 use Rattle.line_text.specs.Reading.{OpenLine, Reading, after, begun, continued_or_ended, finished}
 use Rattle.line_text.specs.Reader.{IsReadOn}
 use Rattle.line_text.specs.Words.{words_of}
 use Rattle.line_text.proofs.LineLemmas.{content-again, is_empty, physical_lines-first}
-use Rattle.line_text.proofs.OnePass.{and_then, read_all}
+use Rattle.line_text.proofs.OnePass.{and_then, blanked, read_all}
 
 -- what is read from there on
 abbrev pub read_from : Reading → ℕ → List ℕ → Result (List JoinedLine) LineFault

@@ -1,5 +1,6 @@
 -- The least of all faults of a text: by line, number and word, those of the end last.
 use Rattle.std.specs.Prelude.{ℕ, ◌==◌, nat_lt, nat_le, Bool, ◌&&◌, ◌||◌, List, [], ◌∷◌, Option, Some, None, option_map, if◌then◌else◌}
+use Rattle.std.specs.Option.{option_map_or}
 
 -- a fault, and what it is told by: whether it is found only at the end of the text, the number of its line, the number of its kind,
 -- and the place of its word, 0 where it is the whole line's
@@ -14,25 +15,16 @@ pub record Found (F : Type 0) : Type 0 where
 abbrev pub by_number : ℕ → ℕ → Bool → Bool
 by_number first second next = nat_lt first second || (first == second && next)
 
--- the end comes after all lines
-abbrev pub turn_of : Bool → ℕ
-turn_of at_end = if at_end then 1 else 0
-
--- a fault comes before another one, or both stand at the same word, line and number
+-- a fault comes before another one, or both stand at the same word, line and number; the end comes after all lines
 abbrev pub precedes : {F : Type 0} → Found F → Found F → Bool
 precedes first second =
-    by_number (turn_of first.at_end) (turn_of second.at_end)
+    by_number (if first.at_end then 1 else 0) (if second.at_end then 1 else 0)
     (by_number first.line second.line (by_number first.number second.number (nat_le first.word second.word)))
-
--- the first of one and another, if there is one, by this test
-abbrev pub earlier_by : {X : Type 0} → (X → X → Bool) → X → Option X → X
-earlier_by comes_before x None = x
-earlier_by comes_before x (Some y) = if comes_before x y then x else y
 
 -- the least of all by this test
 abbrev pub least_by : {X : Type 0} → (X → X → Bool) → List X → Option X
 least_by comes_before [] = None
-least_by comes_before (x ∷ xs) = Some (earlier_by comes_before x (least_by comes_before xs))
+least_by comes_before (x ∷ xs) = Some (option_map_or (λ y. if comes_before x y then x else y) (least_by comes_before xs) x)
 
 -- the least of all faults
 abbrev pub least_fault : {F : Type 0} → List (Found F) → Option F

@@ -1,6 +1,7 @@
 -- Joined lines of words.
-use Rattle.std.specs.Prelude.{ℕ, ◌-◌, Bool, not, ◌&&◌, ◌||◌, ◌==◌, nat_lt, nat_le, if◌then◌else◌, List, [], ◌∷◌, ◌++◌, length, take, drop, map, filter, slice_index, Result, Ok, Err, Option, Some, None}
+use Rattle.std.specs.Prelude.{ℕ, ◌-◌, Bool, not, ◌&&◌, ◌||◌, ◌==◌, nat_lt, nat_le, if◌then◌else◌, List, [], ◌∷◌, ◌++◌, length, take, drop, map, filter, slice_get, slice_index, Result, Ok, Err, Option, Some, None}
 use Rattle.std.specs.List.{before_first, suffix_len, list_all, find, filter_map, flat_map, enumerate_from, onto_first}
+use Rattle.std.specs.Option.{option_map, option_map_or, option_or}
 use Rattle.line_text.specs.declared.fault.LineFault.{LineFault}
 use Rattle.line_text.specs.declared.fault.LineFault.TheVariants.{NotAscii, LineTooLong}
 use Rattle.line_text.specs.declared.lines.TheConstants.{MAX_LINE}
@@ -41,17 +42,13 @@ ends_in_backslash bytes = slice_index bytes (length bytes - 1) == 92
 abbrev pub without_last : List ℕ → List ℕ
 without_last bytes = take (length bytes - 1) bytes
 
--- a final `\` becomes a blank
-abbrev pub blanked : List ℕ → List ℕ
-blanked bytes = if ends_in_backslash bytes then without_last bytes ++ 32 ∷ [] else bytes
-
 -- whether a physical line is continued on the next one
 abbrev pub is_continued : List ℕ → Bool
 is_continued line = ends_in_backslash (trimmed (without_comment line))
 
--- what a physical line gives to its joined line
+-- what a physical line gives to its joined line: a final `\` becomes a blank
 abbrev pub kept : List ℕ → List ℕ
-kept line = blanked (trimmed (without_comment line))
+kept line = if is_continued line then without_last (trimmed (without_comment line)) ++ 32 ∷ [] else trimmed (without_comment line)
 
 -- whether a byte may stand outside comments: a blank, or a printing ASCII character
 abbrev pub is_lawful : ℕ → Bool
@@ -66,40 +63,26 @@ abbrev pub runs : List (ℕ × List ℕ) → List (List (ℕ × List ℕ))
 runs [] = []
 runs (line ∷ rest) = if is_continued line.1 then onto_first line (runs rest) else (line ∷ []) ∷ runs rest
 
--- the number of a run's first line
-abbrev pub first_number : List (ℕ × List ℕ) → ℕ
-first_number [] = 0
-first_number (line ∷ _) = line.0
-
 -- the bytes of the joined line of a run
 abbrev pub joined_bytes : List (ℕ × List ℕ) → List ℕ
 joined_bytes run = flat_map (λ line. kept line.1) run
 
--- the joined line of a run
+-- the joined line of a run, with the number of its first line
 abbrev pub joined : List (ℕ × List ℕ) → JoinedLine
-joined run = record { number = first_number run; words = words_of (joined_bytes run) }
+joined run = record { number = slice_index (map (λ line. line.0) run) 0; words = words_of (joined_bytes run) }
 
 -- whether the joined line of a run has words and too many bytes
 abbrev pub is_too_long : List (ℕ × List ℕ) → Bool
 is_too_long run = is_filled (words_of (joined_bytes run)) && nat_lt MAX_LINE (length (joined_bytes run))
 
--- a line that is not ASCII is named before the whole run's length
-abbrev pub fault_at : Option (ℕ × List ℕ) → List (ℕ × List ℕ) → Option LineFault
-fault_at (Some line) run = Some (NotAscii line.0)
-fault_at None run = if is_too_long run then Some (LineTooLong (first_number run)) else None
-
--- what is wrong with a run
+-- what is wrong with a run: a line that is not ASCII is named before the whole run's length
 abbrev pub fault_of : List (ℕ × List ℕ) → Option LineFault
-fault_of run = fault_at (find (λ line. is_not_ascii line.1) run) run
-
--- the first of the faults, or the lines where there is none
-abbrev pub unless_fault : List LineFault → List JoinedLine → Result (List JoinedLine) LineFault
-unless_fault [] lines = Ok lines
-unless_fault (fault ∷ _) lines = Err fault
+fault_of run =
+    option_or (option_map (λ line. NotAscii line.0) (find (λ line. is_not_ascii line.1) run)) (if is_too_long run then Some (LineTooLong (joined run).number) else None)
 
 -- the joined lines that have words, or the fault of the first run that has one
 abbrev pub lines_of_runs : List (List (ℕ × List ℕ)) → Result (List JoinedLine) LineFault
-lines_of_runs all = unless_fault (filter_map fault_of all) (filter (λ line. is_filled line.words) (map joined all))
+lines_of_runs all = option_map_or Err (slice_get (filter_map fault_of all) 0) (Ok (filter (λ line. is_filled line.words) (map joined all)))
 
 -- the joined lines of a text that have words, or the least fault
 unfoldable pub lines_of : List ℕ → Result (List JoinedLine) LineFault

@@ -14,7 +14,8 @@ const MOST_WHOLE: u64 = 1_000_000;
 
 /// The number with one more digit, where the byte is one and the number fits.
 fn with_byte(number: u64, byte: u8) -> Option<u64>
-    ensures { result ≡ (if is_digit byte && nat_lt (with_digit number byte) (2 ^ 64) then Some (with_digit number byte) else None) }
+    ensures { result ≡ (if is_digit byte && nat_lt (with_digit number byte) (2 ^ 64)
+        then Some (with_digit number byte) else None) }
 {
     if !byte.is_ascii_digit() {
         return None;
@@ -25,7 +26,8 @@ fn with_byte(number: u64, byte: u8) -> Option<u64>
 /// The number that these digits stand for, 0 where there is none. None where a byte is no digit or the number has more than 64 bits.
 fn digits(bytes: &[u8]) -> Option<u64>
     ensures bound { IfSome result (λ n. n < 10 ^ length bytes.now) }
-    ensures value { result ≡ (if list_all is_digit bytes.now && nat_lt (value_of bytes.now) (2 ^ 64) then Some (value_of bytes.now) else None) }
+    ensures value { result ≡ (if list_all is_digit bytes.now && nat_lt (value_of bytes.now) (2 ^ 64)
+        then Some (value_of bytes.now) else None) }
 {
     let mut number = 0;
     for byte in bytes {
@@ -81,7 +83,8 @@ fn split_point(bytes: &[u8]) -> (&[u8], &[u8])
 
 /// What stands before a point: any digits, at most a million.
 fn whole_part(bytes: &[u8]) -> Option<u64>
-    ensures value { result ≡ (if list_all is_digit bytes.now && nat_le (value_of bytes.now) 1000000 then Some (value_of bytes.now) else None) }
+    ensures value { result ≡ (if list_all is_digit bytes.now && nat_le (value_of bytes.now) 1000000
+        then Some (value_of bytes.now) else None) }
     ensures bound { IfSome result (λ n. n ≤ 1000000) }
 {
     match digits(bytes) {
@@ -92,7 +95,8 @@ fn whole_part(bytes: &[u8]) -> Option<u64>
 
 /// What stands after a point, in millionths: at most six digits.
 fn fraction_part(bytes: &[u8]) -> Option<u64>
-    ensures value { result ≡ (if list_all is_digit bytes.now && nat_le (length bytes.now) 6 then Some (value_of bytes.now * 10 ^ (6 - length bytes.now)) else None) }
+    ensures value { result ≡ (if list_all is_digit bytes.now && nat_le (length bytes.now) 6
+        then Some (value_of bytes.now * 10 ^ (6 - length bytes.now)) else None) }
     ensures bound { IfSome result (λ n. n < 1000000) }
 {
     if bytes.len() >= SCALES.len() {

@@ -46,7 +46,8 @@ impl<'a, 't> Line<'a, 't> {
 
     /// Its first word, and the line of the others; none where it has no word.
     pub fn split_first(&self) -> Option<(&'t [u8], Line<'a, 't>)>
-        ensures { MatchOption result (self.now.words ≡ []) (λ parts. self.now ≡ with_first parts.0.now parts.1) }
+        ensures { MatchOption result (self.now.words ≡ [])
+            (λ parts. self.now ≡ with_first parts.0.now parts.1) }
     {
         match self.words {
             [] => None,

@@ -22,8 +22,10 @@ fn plain_end(text: &[u8]) -> Option<usize>
 
 /// The plain bytes at the front, and the bytes from there on.
 fn split_plain(text: &[u8]) -> (&[u8], &[u8])
-    ensures front { result.0.now ≡ take (position_or_len (λ byte. not (is_plain_byte byte)) text.now) text.now }
-    ensures back { result.1.now ≡ drop (position_or_len (λ byte. not (is_plain_byte byte)) text.now) text.now }
+    ensures front { result.0.now ≡ take (position_or_len (λ byte. not (is_plain_byte byte))
+        text.now) text.now }
+    ensures back { result.1.now ≡ drop (position_or_len (λ byte. not (is_plain_byte byte)) text.now)
+        text.now }
 {
     text.split_at(plain_end(text).unwrap_or(text.len()))
 }
@@ -40,7 +42,8 @@ fn line_end(text: &[u8]) -> Option<usize>
 pub fn split_line(text: &[u8]) -> (&[u8], &[u8])
     ensures first { result.0.now ≡ first_line text.now }
     ensures later { result.1.now ≡ later_lines text.now }
-    ensures lines { 0 < length text.now → physical_lines text.now ≡ result.0.now ∷ physical_lines result.1.now }
+    ensures lines { 0 < length text.now →
+        physical_lines text.now ≡ result.0.now ∷ physical_lines result.1.now }
 {
     match line_end(text) {
         Some(end) => (&text[..end], &text[end + 1..]),
@@ -51,7 +54,8 @@ pub fn split_line(text: &[u8]) -> (&[u8], &[u8])
 /// The first physical line of a text without its comment, and what follows its LF. None where another byte than a blank or
 /// a printing ASCII character stands before the comment.
 pub(crate) fn split_content(text: &[u8]) -> Option<(&[u8], &[u8])>
-    ensures { MatchOption result (is_not_ascii (first_line text.now) ≡ true) (λ parts. IsContent text.now parts.0.now parts.1.now) }
+    ensures { MatchOption result (is_not_ascii (first_line text.now) ≡ true)
+        (λ parts. IsContent text.now parts.0.now parts.1.now) }
 {
     let (content, after) = split_plain(text);
     let Some((stop, rest)) = after.split_first() else {

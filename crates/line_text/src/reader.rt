@@ -23,7 +23,8 @@ fn trimmed(bytes: &[u8]) -> &[u8]
 
 /// The bytes before a final `\`, where there is one.
 fn before_backslash(bytes: &[u8]) -> Option<&[u8]>
-    ensures { MatchOption result (ends_in_backslash bytes.now ≡ false) (λ before. (ends_in_backslash bytes.now ≡ true) × (before.now ≡ without_last bytes.now)) }
+    ensures { MatchOption result (ends_in_backslash bytes.now ≡ false)
+        (λ before. (ends_in_backslash bytes.now ≡ true) × (before.now ≡ without_last bytes.now)) }
 {
     if bytes.is_empty() || bytes[bytes.len() - 1] != b'\\' {
         return None;
@@ -90,7 +91,8 @@ impl<'t> Reader<'t> {
     /// Begins a line of that number where none is open.
     fn begin_line(&mut self, number: u32)
         ensures done { done_of self.new ≡ done_of self.old }
-        ensures line { open_line self.new ≡ begun (line_if self.old.is_open (open_line self.old)) number }
+        ensures line { open_line self.new ≡ begun (line_if self.old.is_open (open_line self.old))
+            number }
         ensures opened { self.new.is_open ≡ true }
         ensures count { self.new.count ≤ self.old.count }
     {
@@ -106,7 +108,12 @@ impl<'t> Reader<'t> {
     fn extend(&mut self, bytes: &'t [u8], count: usize) -> Result<(), LineError>
         requires { self.old.count + count < 2 ^ 64 }
         ensures done { OnOk result (done_of self.new ≡ done_of self.old) }
-        ensures line { OnOk result (open_line self.new ≡ record { number = self.old.number; words = (open_line self.old).words ++ words_of bytes.now; count = self.old.count + count }) }
+        ensures line { OnOk result (open_line self.new
+            ≡ record {
+              number = self.old.number;
+              words = (open_line self.old).words ++ words_of bytes.now;
+              count = self.old.count + count;
+            }) }
         ensures opened { OnOk result (self.new.is_open ≡ self.old.is_open) }
         ensures err { IfErr result (λ e. e ≡ TextError.NoMemory) }
     {

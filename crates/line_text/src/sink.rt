@@ -20,7 +20,8 @@ pub trait Sink {
         ensures bound { WritesAtMost result bytes.now }
         ensures bytes { WriteAppends (contents self.old) (contents self.new) result bytes.now }
         ensures some { IfOk result (λ n. 0 < length bytes.now → 0 < n) }
-        ensures works { OnOk result ((has_failed self.old ≡ false) × (has_failed self.new ≡ false)) }
+        ensures works { OnOk result ((has_failed self.old ≡ false)
+            × (has_failed self.new ≡ false)) }
         ensures fails { OnErr result (has_failed self.new ≡ true) };
 }
 
@@ -28,7 +29,8 @@ pub trait Sink {
 pub fn write_all<K: Sink>(sink: &mut K, bytes: &[u8]) -> Result<(), Failed>
     ensures ok { OnOk result (Appends (K.contents sink.old) (K.contents sink.new) bytes.now) }
     ensures works { OnOk result (K.has_failed sink.new ≡ K.has_failed sink.old) }
-    ensures err { OnErr result ((n : ℕ) × (n ≤ length bytes.now) × Appends (K.contents sink.old) (K.contents sink.new) (take n bytes.now)) }
+    ensures err { OnErr result ((n : ℕ) × (n ≤ length bytes.now)
+        × Appends (K.contents sink.old) (K.contents sink.new) (take n bytes.now)) }
     ensures fails { OnErr result (K.has_failed sink.new ≡ true) }
 {
     let mut rest = bytes;

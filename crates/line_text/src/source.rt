@@ -33,7 +33,8 @@ pub trait Source {
     fn read(&mut self, buffer: &mut [u8]) -> Result<usize, Failed>
         ensures bound { ReadsAtMost result buffer.new }
         ensures bytes { ReadConsumes (remaining self.old) (remaining self.new) result buffer.new }
-        ensures works { OnOk result ((has_failed self.old ≡ false) × (has_failed self.new ≡ false)) }
+        ensures works { OnOk result ((has_failed self.old ≡ false)
+            × (has_failed self.new ≡ false)) }
         ensures fails { OnErr result (has_failed self.new ≡ true) }
         ensures counts { reads_left self.new ≡ reads_left self.old - 1 };
 
@@ -60,7 +61,8 @@ fn read_through<S: Source>(
     requires { 0 < length buffer.old }
     ensures ok { IfOk result (λ all. IfSome (S.remaining source.old) (λ bytes. all.items ≡ bytes)) }
     ensures end { OnOk result (IsAtEnd (S.remaining source.new)) }
-    ensures works { OnOk result ((S.has_failed source.old ≡ false) × (S.has_failed source.new ≡ false)) }
+    ensures works { OnOk result ((S.has_failed source.old ≡ false)
+        × (S.has_failed source.new ≡ false)) }
     ensures fails { IfErr result (λ e. e ≡ ReadError.Failed → S.has_failed source.new ≡ true) }
 {
     let mut all = Vec::new(alloc);
@@ -81,7 +83,8 @@ fn read_through<S: Source>(
 pub fn read_all<S: Source>(alloc: Global, source: &mut S) -> Result<Vec<u8>, ReadError>
     ensures ok { IfOk result (λ all. IfSome (S.remaining source.old) (λ bytes. all.items ≡ bytes)) }
     ensures end { OnOk result (IsAtEnd (S.remaining source.new)) }
-    ensures works { OnOk result ((S.has_failed source.old ≡ false) × (S.has_failed source.new ≡ false)) }
+    ensures works { OnOk result ((S.has_failed source.old ≡ false)
+        × (S.has_failed source.new ≡ false)) }
     ensures fails { IfErr result (λ e. e ≡ ReadError.Failed → S.has_failed source.new ≡ true) }
 {
     match room(alloc) {

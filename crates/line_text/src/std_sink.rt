@@ -42,7 +42,8 @@ impl<W: Write + Drop> StdSink<W> {
 /// One write, made again where it was interrupted.
 fn write_once<W: Write>(writer: &mut W, bytes: &[u8]) -> Result<usize, Failed>
     ensures bound { WritesAtMost result bytes.now }
-    ensures ok { IfOk result (λ n. Appends (W.contents writer.old) (W.contents writer.new) (take n bytes.now)) }
+    ensures ok { IfOk result (λ n. Appends (W.contents writer.old) (W.contents writer.new)
+        (take n bytes.now)) }
     ensures err { OnErr result (Keeps (W.contents writer.old) (W.contents writer.new)) }
 {
     for _ in 0..MOST_TRIES {

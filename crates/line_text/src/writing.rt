@@ -7,7 +7,8 @@ use crate::source::Failed;
 
 /// Writes the parts, one behind the other. At a failure the sink has taken a beginning of them.
 pub fn write_parts<W: Sink>(sink: &mut W, parts: &[&[u8]]) -> Result<(), Failed>
-    ensures { Writes W.contents W.has_failed sink.old sink.new (flat_map (λ part. part.now) parts.now) result }
+    ensures { Writes W.contents W.has_failed sink.old sink.new
+        (flat_map (λ part. part.now) parts.now) result }
 {
     for part in parts {
         write_all(sink, part)?;

@@ -2,6 +2,7 @@
 use Rattle.std.specs.Prelude.{ℕ, ◌≡◌, ◌⊎◌, ◌-◌, List, [], ◌∷◌, ◌++◌, Option, Some, None, option_map, reverse, ◌==◌, if◌then◌else◌}
 use Rattle.job_state.specs.Job.{JobState}
 use Rattle.std.specs.List.{filter_map}
+use Rattle.std.specs.Option.{option_map_or}
 use Rattle.service_core.specs.Run.{Call}
 use Rattle.service_core.specs.Run.Call.{Take, GiveBack}
 use Rattle.sessions.specs.declared.steps.StepOutcome.{StepOutcome}
@@ -22,8 +23,7 @@ without_job (job ∷ jobs) number = if number == 1 then None ∷ jobs else job �
 
 -- with one that was taken
 abbrev pub with_job : HeldList → Option JobState → HeldList
-with_job jobs None = jobs
-with_job jobs (Some job) = jobs ++ Some job ∷ []
+with_job jobs taken = option_map_or (λ job. jobs ++ Some job ∷ []) taken jobs
 
 -- the calls by which a job is taken to be held; where none is held, there was none to take, or one that the graph doesn't fit, which
 -- was given back

@@ -1,5 +1,6 @@
 -- The texts that the operator is answered with, and the names that tenancies were admitted under.
 use Rattle.std.specs.Prelude.{ℕ, ◌+◌, List, [], ◌∷◌, ◌++◌, length, codes, decimal, Result, Ok, Err, Option, Some, None, unwrap_or, if◌then◌else◌}
+use Rattle.std.specs.Option.{option_map_or}
 use Rattle.std.specs.Str.{bytes_eq}
 use Rattle.sessions.specs.declared.steps.StepOutcome.{StepOutcome}
 use Rattle.sessions.specs.declared.steps.StepOutcome.TheVariants.{Recorded, Full, Gone, NoMemory}
@@ -42,8 +43,7 @@ outcome_text outcome = outcome_word outcome ++ 10 ∷ []
 
 -- a job that was taken is told by its number
 abbrev pub taken_text : Option ℕ → List ℕ
-taken_text None = codes "none" ++ 10 ∷ []
-taken_text (Some number) = codes "ok job" ++ blank_word (decimal number) ++ 10 ∷ []
+taken_text number = option_map_or (λ n. codes "ok job" ++ blank_word (decimal n) ++ 10 ∷ []) number (codes "none" ++ 10 ∷ [])
 
 -- the last id of a name, or 0. The names are those of all ids, the newest first; the oldest has id 1
 abbrev pub last_id : List (List ℕ) → List ℕ → ℕ

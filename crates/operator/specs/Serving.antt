@@ -5,9 +5,8 @@ use Rattle.rr_graph.specs.Graph.{Basis}
 use Rattle.job_state.specs.Job.{JobState}
 use Rattle.service_core.specs.declared.op_refusal.OpRefusal.{OpRefusal}
 use Rattle.service_core.specs.History.{History}
-use Rattle.service_core.specs.Run.{Call, Run}
+use Rattle.service_core.specs.Run.{Call, Happens, Run}
 use Rattle.service_core.specs.Run.Call.{Admit as AdmitCall, Evict as EvictCall, Move as MoveCall, Take as TakeCall, Owners as OwnersCall}
-use Rattle.service_core.specs.Calls.{IsAdmitted, IsEvicted, IsMoved}
 use Rattle.service_core.specs.Service.{ServiceState, live_of}
 use Rattle.script_text.specs.declared.operator_line.OperatorLine.{OperatorLine}
 use Rattle.script_text.specs.declared.operator_line.OperatorLine.TheVariants.{Admit, Evict, Move, List as ListAll, Owners, Step, Take, Put}
@@ -37,32 +36,22 @@ HasOwnGraph stage = stage.graph ≡ own_graph stage.service.device
 abbrev pub IsAdmission : Option History → Stage → List ℕ → ℕ → List Call → List ℕ → Stage → Type 0
 IsAdmission (Some h) old name width calls text new = (calls ≡ []) × (text ≡ refused_text 7 (codes "NameInUse")) × (new ≡ old)
 IsAdmission None old name width calls text new = (answer : Result (ℕ × ℕ) OpRefusal)
-    × IsAdmitted old.service width answer new.service × (new.names ≡ names_after old.names name answer) × (new.jobs ≡ old.jobs)
+    × Happens old.service (AdmitCall width answer) new.service × (new.names ≡ names_after old.names name answer) × (new.jobs ≡ old.jobs)
     × (calls ≡ AdmitCall width answer ∷ []) × (text ≡ admitted_text answer) × (new.graph ≡ old.graph)
 
--- steps that were tried: the calls of the core that each comes to, and what came of it
-abbrev pub Tried : Type 0
-Tried = List (List Call × StepOutcome)
-
-abbrev pub tried_calls : Tried → List Call
-tried_calls tried = flat_map (λ t. t.0) tried
-
--- what came of them, a line each
-abbrev pub tried_text : Tried → List ℕ
-tried_text tried = flat_map (λ t. outcome_text t.1) tried
-
--- a line of the operator is answered with that text, after those calls of the core. The device's own graph fits each job
+-- a line of the operator is answered with that text, after those calls of the core. Steps that were tried are told a line each, by what came
+-- of their calls. The device's own graph fits each job
 abbrev pub IsServed : Stage → OperatorLine (List ℕ) → List Call → List ℕ → Stage → Type 0
 IsServed old (Admit name width) calls text new = IsAdmission (live_of old.service.histories (last_id old.names name)) old name width calls text new
 IsServed old (Evict name) calls text new = (answer : Result (Unit {0}) OpRefusal)
-    × IsEvicted old.service (last_id old.names name) answer new.service × (new.names ≡ old.names) × (new.jobs ≡ old.jobs)
+    × Happens old.service (EvictCall (last_id old.names name) answer) new.service × (new.names ≡ old.names) × (new.jobs ≡ old.jobs)
     × (calls ≡ EvictCall (last_id old.names name) answer ∷ []) × (text ≡ evicted_text answer) × (new.graph ≡ old.graph)
 IsServed old (Move name offset) calls text new = (answer : Result (Unit {0}) OpRefusal)
-    × IsMoved old.service (last_id old.names name) offset answer new.service × (new.names ≡ old.names) × (new.jobs ≡ old.jobs)
+    × Happens old.service (MoveCall (last_id old.names name) offset answer) new.service × (new.names ≡ old.names) × (new.jobs ≡ old.jobs)
     × (calls ≡ MoveCall (last_id old.names name) offset answer ∷ []) × (text ≡ moved_text offset answer) × (new.graph ≡ old.graph)
-IsServed old (Step name count) calls text new = (tried : Tried)
+IsServed old (Step name count) calls text new = (tried : List (List Call × StepOutcome))
     × (length tried ≡ count) × All (λ t. MakesStep (last_id old.names name) t.0 t.1) tried × Run old.service calls new.service
-    × (new.names ≡ old.names) × (new.jobs ≡ old.jobs) × (calls ≡ tried_calls tried) × (text ≡ tried_text tried)
+    × (new.names ≡ old.names) × (new.jobs ≡ old.jobs) × (calls ≡ flat_map (λ t. t.0) tried) × (text ≡ flat_map (λ t. outcome_text t.1) tried)
     × (new.graph ≡ old.graph) × (HasOwnGraph old → All (λ t. t.1 ≢ Unfit) tried)
 IsServed old (Take name) calls text new = (job : Option JobState)
     × Holds (last_id old.names name) job calls × Run old.service calls new.service
@@ -80,3 +69,13 @@ IsServed old Owners calls text new = (owners : List Owned)
 abbrev pub Leaves : Stage → OperatorLine (List ℕ) → Stage → Type 0
 Leaves old (Step name count) new = (made : ℕ) × (made ≤ count) × (calls : List Call) × (text : List ℕ) × IsServed old (Step name made) calls text new
 Leaves old line new = (new ≡ old) ⊎ ((calls : List Call) × (text : List ℕ) × IsServed old line calls text new)
+
+-- private: steps that were tried, each with its calls of the core and what came of it; and all their calls, and what is told of them
+abbrev pub Tried : Type 0
+Tried = List (List Call × StepOutcome)
+
+abbrev pub tried_calls : Tried → List Call
+tried_calls tried = flat_map (λ t. t.0) tried
+
+abbrev pub tried_text : Tried → List ℕ
+tried_text tried = flat_map (λ t. outcome_text t.1) tried

@@ -45,7 +45,10 @@ impl<'g> HeldJobs<'g> {
         graph: &'g DeviceGraph,
         id: u32,
     ) -> Result<Option<usize>, AllocError>
-        ensures taken { IfOk result (λ number. (job : Option JobState) × (calls : List Call) × Holds id job calls × Run core.old calls core.new × (self.new ≡ with_job self.old job) × (number ≡ option_map (λ _. length self.old + 1) job) × (graph.now ≡ own_graph core.old.device → job ≡ None → calls ≡ Take id None ∷ [])) }
+        ensures taken { IfOk result (λ number. (job : Option JobState) × (calls : List Call)
+            × Holds id job calls × Run core.old calls core.new × (self.new ≡ with_job self.old job)
+            × (number ≡ option_map (λ _. length self.old + 1) job)
+            × (graph.now ≡ own_graph core.old.device → job ≡ None → calls ≡ Take id None ∷ [])) }
         ensures stands { OnErr result ((core.new ≡ core.old) × (self.new ≡ self.old)) }
     {
         self.jobs.reserve(1)?;
@@ -67,7 +70,8 @@ impl<'g> HeldJobs<'g> {
     /// Steps the job of that number through the window that it has, and puts it, if it is held. It is held no longer.
     pub fn put(&mut self, core: &mut Service, number: u32) -> StepOutcome
         ensures jobs { self.new ≡ without_job self.old number }
-        ensures put { (calls : List Call) × PutsHeld (job_at self.old number) calls result × Run core.old calls core.new }
+        ensures put { (calls : List Call) × PutsHeld (job_at self.old number) calls result
+            × Run core.old calls core.new }
         ensures fits { result ≢ Unfit }
     {
         match self.remove(number) {
@@ -107,7 +111,8 @@ impl<'g> HeldJobs<'g> {
 
 /// Steps a job that was held, and puts it.
 fn put_held(core: &mut Service, held: HeldJob<'_>) -> StepOutcome
-    ensures put { (calls : List Call) × StepsAndPuts held.entry calls result × Run core.old calls core.new }
+    ensures put { (calls : List Call) × StepsAndPuts held.entry calls result
+        × Run core.old calls core.new }
     ensures fits { result ≢ Unfit }
 {
     let HeldJob { job, window } = held;

@@ -79,8 +79,10 @@ impl<'t> Operator<'t> {
         reply: &mut MemorySink,
     ) -> Result<(), AllocError>
         requires { length self.old ≡ length core.old.histories }
-        ensures told { OnOk result (Answers graph.now self.old jobs.old core.old line.entry (held reply.old) (held reply.new) self.new jobs.new core.new) }
-        ensures stands { OnErr result (Stands graph.now self.old jobs.old core.old line.entry self.new jobs.new core.new) }
+        ensures told { OnOk result (Answers graph.now self.old jobs.old core.old line.entry
+            (held reply.old) (held reply.new) self.new jobs.new core.new) }
+        ensures stands { OnErr result (Stands graph.now self.old jobs.old core.old line.entry
+            self.new jobs.new core.new) }
     {
         match line {
             OperatorLine::Admit(name, width) => self.admit(core, name, width, reply),
@@ -118,8 +120,10 @@ impl<'t> Operator<'t> {
         reply: &mut MemorySink,
     ) -> Result<(), AllocError>
         requires { length self.old ≡ length core.old.histories }
-        ensures told { OnOk result (Admits self.old core.old name.now width (held reply.old) (held reply.new) self.new core.new) }
-        ensures stands { OnErr result (AdmissionStands self.old core.old name.now width self.new core.new) }
+        ensures told { OnOk result (Admits self.old core.old name.now width (held reply.old)
+            (held reply.new) self.new core.new) }
+        ensures stands { OnErr result (AdmissionStands self.old core.old name.now width self.new
+            core.new) }
     {
         if core.state(self.last_id(name)).is_some() {
             return push_refused(reply, 7, "NameInUse");
@@ -175,7 +179,8 @@ fn step(
     count: u32,
     reply: &mut MemorySink,
 ) -> Result<(), AllocError>
-    ensures told { OnOk result (Steps graph.now core.old id count (held reply.old) (held reply.new) core.new) }
+    ensures told { OnOk result (Steps graph.now core.old id count (held reply.old) (held reply.new)
+        core.new) }
     ensures stands { OnErr result (TriesSome graph.now core.old id count core.new) }
 {
     for number in 0..count {

@@ -29,7 +29,8 @@ pub(crate) fn push_owners(
 
 /// Appends a line for each resource and its owner.
 fn push_each(reply: &mut MemorySink, rows: u32, owners: &[Owned]) -> Result<(), AllocError>
-    ensures { OnOk result (held reply.new ≡ held reply.old ++ flat_map (owned_text rows) owners.now) }
+    ensures { OnOk result (held reply.new
+        ≡ held reply.old ++ flat_map (owned_text rows) owners.now) }
 {
     for owned in owners {
         push_owned(reply, rows, *owned)?;
@@ -49,7 +50,8 @@ fn push_owned(reply: &mut MemorySink, rows: u32, owned: Owned) -> Result<(), All
 
 /// Appends a resource: a pin or a wire as its node stands in a `.route` file, and a pad likewise.
 fn push_resource(reply: &mut MemorySink, rows: u32, resource: Resource) -> Result<(), AllocError>
-    ensures { OnOk result (held reply.new ≡ held reply.old ++ resource_text rows resource resource.kind) }
+    ensures { OnOk result (held reply.new
+        ≡ held reply.old ++ resource_text rows resource resource.kind) }
 {
     match resource.kind {
         ResourceKind::Opin => push_node(reply, rows, NodeKind::Opin, resource),
@@ -62,7 +64,9 @@ fn push_resource(reply: &mut MemorySink, rows: u32, resource: Resource) -> Resul
 
 /// Appends a pad.
 fn push_pad(reply: &mut MemorySink, pad: Resource) -> Result<(), AllocError>
-    ensures { OnOk result (held reply.new ≡ held reply.old ++ codes "PAD " ++ position_text pad.x pad.y ++ codes " Pad: " ++ decimal pad.n) }
+    ensures { OnOk result (held reply.new
+        ≡ held reply.old ++ codes "PAD " ++ position_text pad.x pad.y ++ codes " Pad: "
+        ++ decimal pad.n) }
 {
     let (mut columns, mut rows, mut numbers) = (Buffer::new(), Buffer::new(), Buffer::new());
     let x = columns.format(pad.x).as_bytes();
@@ -78,7 +82,9 @@ fn push_node(
     kind: NodeKind,
     resource: Resource,
 ) -> Result<(), AllocError>
-    ensures { OnOk result (held reply.new ≡ held reply.old ++ node_text_of rows (record { x = resource.x; kind = kind; y = resource.y; n = resource.n })) }
+    ensures { OnOk result (held reply.new
+        ≡ held reply.old ++ node_text_of rows
+        (record { x = resource.x; kind = kind; y = resource.y; n = resource.n })) }
 {
     let Resource { x, y, n, .. } = resource;
     match write_node(Node { x, kind, y, n }, rows, reply) {

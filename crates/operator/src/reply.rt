@@ -37,7 +37,9 @@ fn push_row<'t>(
     width: u32,
     state: &'t str,
 ) -> Result<(), AllocError>
-    ensures { OnOk result (held reply.new ≡ held reply.old ++ decimal id ++ blank_word name.now ++ blank_word (decimal offset) ++ blank_word (decimal width) ++ blank_word state.now ++ 10 ∷ []) }
+    ensures { OnOk result (held reply.new
+        ≡ held reply.old ++ decimal id ++ blank_word name.now ++ blank_word (decimal offset)
+        ++ blank_word (decimal width) ++ blank_word state.now ++ 10 ∷ []) }
 {
     let (mut ids, mut offsets, mut widths) = (Buffer::new(), Buffer::new(), Buffer::new());
     let id = ids.format(id).as_bytes();
@@ -137,7 +139,8 @@ pub(crate) fn push_taken(reply: &mut MemorySink, number: Option<usize>) -> Resul
 
 /// Appends the parts, one behind the other.
 pub(crate) fn push_parts(reply: &mut MemorySink, parts: &[&[u8]]) -> Result<(), AllocError>
-    ensures { OnOk result (held reply.new ≡ held reply.old ++ flat_map (λ part. part.now) parts.now) }
+    ensures { OnOk result (held reply.new
+        ≡ held reply.old ++ flat_map (λ part. part.now) parts.now) }
 {
     match write_parts(reply, parts) {
         Ok(()) => Ok(()),

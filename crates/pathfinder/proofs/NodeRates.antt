@@ -41,8 +41,8 @@ rates_more basis history count rates rate known f c p = record {
 }
 
 -- the nodes of a graph are narrow
-pub narrow : (basis : Basis) (node : Node) → IsBasis basis → is_node basis.arch basis.strip node ≡ true → IsNarrow node
-narrow basis node limits there =
+pub narrow : (basis : Basis) (node : Node) (nets : ℕ) → IsBasis basis → is_node basis.arch basis.strip node ≡ true → nets < 2 ^ 8 → IsNarrow node nets
+narrow basis node nets limits there few =
     let outer = and_parts (nat_le node.x basis.strip.width) ((nat_le 1 node.x || is_chan_y node.kind) && is_slot basis.arch basis.strip node.kind node.y node.n) there in
     let slot = (and_parts (nat_le 1 node.x || is_chan_y node.kind) (is_slot basis.arch basis.strip node.kind node.y node.n) outer.1).1 in
     let small = member_small basis.arch basis.strip limits.arch limits.strip (member_of node.kind node.y node.n) slot in
@@ -50,6 +50,7 @@ narrow basis node limits there =
       x = omega (arith, leb-true node.x basis.strip.width outer.0, limits.strip.width.1);
       y = omega (arith, small.0);
       n = omega (arith, small.1);
+      capacity = few;
     }
 
 -- what a node costs by its rate

@@ -52,15 +52,16 @@ impl PinPrices {
 impl<G: StripGraph> Round<'_, G> {
     ghost use Rattle.rr_graph.specs.Graph.{graph_of};
     ghost use Rattle.pathfinder.specs.Entries.{AreOrdered, ArePinPrices, AreLasts, IsLowered};
+    ghost use Rattle.pathfinder.specs.Limits.{MayLower};
     ghost use Rattle.pathfinder.specs.PlacedNets.{wiring_of};
-    ghost use Rattle.pathfinder.specs.Tables.{tabled};
+    ghost use Rattle.pathfinder.specs.Tables.{IsTable, tabled};
 
     /// What a node costs, where a table tells how many trees hold each node.
     fn price(&self, held: &[u32], node: usize) -> u64
         requires within { node < (wiring_of (G.basis self.now.graph.now)).count }
-        requires long { length held.now ≡ (wiring_of (G.basis self.now.graph.now)).count }
-        requires low { All (λ x. x ≤ 8192) held.now }
-        ensures value { result ≡ (tabled (wiring_of (G.basis self.now.graph.now)) self.now.iterations self.now.history.now held.now).cost node }
+        requires held { IsTable (wiring_of (G.basis self.now.graph.now)).count 8192 held.now }
+        ensures value { result ≡ (tabled (wiring_of (G.basis self.now.graph.now))
+            self.now.iterations self.now.history.now held.now).cost node }
         ensures some { 1 ≤ result }
         ensures few { result ≤ 2 ^ 36 }
     {
@@ -77,10 +78,11 @@ impl<G: StripGraph> Round<'_, G> {
 
     /// At least what the sink's pins cost.
     pub(crate) fn pin_prices(&self, held: &[u32], sink: Node) -> PinPrices
-        requires long { length held.now ≡ (wiring_of (G.basis self.now.graph.now)).count }
-        requires low { All (λ x. x ≤ 8192) held.now }
+        requires { IsTable (wiring_of (G.basis self.now.graph.now)).count 8192 held.now }
         ensures ordered { AreOrdered result }
-        ensures low { ArePinPrices (G.basis self.now.graph.now) sink (tabled (wiring_of (G.basis self.now.graph.now)) self.now.iterations self.now.history.now held.now) result }
+        ensures low { ArePinPrices (G.basis self.now.graph.now) sink
+            (tabled (wiring_of (G.basis self.now.graph.now)) self.now.iterations
+            self.now.history.now held.now) result }
     {
         let _count = self.graph.count();
         let mut pins = PinPrices {
@@ -101,12 +103,12 @@ impl<G: StripGraph> Round<'_, G> {
 
     /// What is known of last wires and pins with some wires more, by what a pin on their side costs.
     fn lowered(&self, held: &[u32], lasts: Vec<u64>, wires: Numbers, side: u64) -> Vec<u64>
-        requires long { length held.now ≡ (wiring_of (G.basis self.now.graph.now)).count }
-        requires low { All (λ x. x ≤ 8192) held.now }
-        requires wires { (node : ℕ) → wires.first ≤ node → node < wires.end →
-            (node < (graph_of (G.basis self.now.graph.now)).count) × (((graph_of (G.basis self.now.graph.now)).node node).n < length lasts.items) }
-        requires side { side ≤ 2 ^ 36 }
-        ensures { IsLowered (G.basis self.now.graph.now) (tabled (wiring_of (G.basis self.now.graph.now)) self.now.iterations self.now.history.now held.now)
+        requires held { IsTable (wiring_of (G.basis self.now.graph.now)).count 8192 held.now }
+        requires wires { MayLower (G.basis self.now.graph.now) (length lasts.items) wires.first
+            wires.end side }
+        ensures { IsLowered (G.basis self.now.graph.now)
+            (tabled (wiring_of (G.basis self.now.graph.now)) self.now.iterations
+            self.now.history.now held.now)
             wires.first wires.end side lasts.items result.items }
     {
         let mut lasts = lasts;
@@ -125,12 +127,15 @@ impl<G: StripGraph> Round<'_, G> {
         pins: PinPrices,
         sink: Node,
     ) -> Result<Vec<u64>, AllocError>
-        requires long { length held.now ≡ (wiring_of (G.basis self.now.graph.now)).count }
-        requires low { All (λ x. x ≤ 8192) held.now }
+        requires held { IsTable (wiring_of (G.basis self.now.graph.now)).count 8192 held.now }
         requires ordered { AreOrdered pins }
-        ensures long { IfOk result (λ lasts. length lasts.items ≡ (G.basis self.now.graph.now).arch.tracks) }
+        ensures long { IfOk result (λ lasts.
+            length lasts.items ≡ (G.basis self.now.graph.now).arch.tracks) }
         ensures few { IfOk result (λ lasts. All (λ last. last ≤ 2 ^ 37) lasts.items) }
-        ensures low { IfOk result (λ lasts. AreLasts (G.basis self.now.graph.now) sink (tabled (wiring_of (G.basis self.now.graph.now)) self.now.iterations self.now.history.now held.now) pins lasts.items) }
+        ensures low { IfOk result (λ lasts.
+            AreLasts (G.basis self.now.graph.now) sink
+            (tabled (wiring_of (G.basis self.now.graph.now)) self.now.iterations
+            self.now.history.now held.now) pins lasts.items) }
     {
         let _count = self.graph.count();
         let (x, y) = (sink.x, sink.y);

@@ -4,6 +4,7 @@ ghost use Rattle.cluster.specs.Blocks.{blocks_of};
 ghost use Rattle.rr_graph.specs.Geometry.{is_node};
 ghost use Rattle.rr_graph.specs.Graph.{graph_of};
 ghost use Rattle.strip_place.specs.Placed.{ArePlaced, block_at, place_of};
+ghost use Rattle.pathfinder.specs.Sites.{IsPlacedBlock};
 ghost use Rattle.pathfinder.specs.Terminals.{source_at, sink_at};
 ghost use Rattle.pathfinder.specs.PlacedNets.{number_of, net_to_route, nets_to_route};
 ghost use Rattle.strip_place.specs.Anneal.{places_by_block};
@@ -47,7 +48,8 @@ impl Terminals {
 
 /// The places of the blocks, by number.
 pub fn places_of(alloc: Global, placing: &Placing) -> Result<Vec<Place>, AllocError>
-    ensures placed { IfOk result (λ places. ArePlaced placing.now.strip placing.now.packed places.items) }
+    ensures placed { IfOk result (λ places.
+        ArePlaced placing.now.strip placing.now.packed places.items) }
     ensures exact { IfOk result (λ places. places.items ≡ places_by_block placing.now) }
 {
     placing.laws();
@@ -95,9 +97,9 @@ fn number_of<G: StripGraph>(graph: &G, node: Node) -> usize
 
 /// The number of a block's source.
 fn source_of<G: StripGraph>(graph: &G, packed: &Packed, places: &[Place], block: usize) -> usize
-    requires placed { ArePlaced (G.basis graph.now).strip packed.now places.now }
-    requires within { block < length (blocks_of packed.now) }
-    ensures { result ≡ number_of (graph_of (G.basis graph.now)) (source_at (block_at packed.now block) (place_of places.now block)) }
+    requires { IsPlacedBlock (G.basis graph.now).strip packed.now places.now block }
+    ensures { result ≡ number_of (graph_of (G.basis graph.now))
+        (source_at (block_at packed.now block) (place_of places.now block)) }
 {
     let _count = graph.count();
     laws_of_places();
@@ -106,9 +108,9 @@ fn source_of<G: StripGraph>(graph: &G, packed: &Packed, places: &[Place], block:
 
 /// The number of a block's sink.
 fn sink_of<G: StripGraph>(graph: &G, packed: &Packed, places: &[Place], block: usize) -> usize
-    requires placed { ArePlaced (G.basis graph.now).strip packed.now places.now }
-    requires within { block < length (blocks_of packed.now) }
-    ensures { result ≡ number_of (graph_of (G.basis graph.now)) (sink_at (block_at packed.now block) (place_of places.now block)) }
+    requires { IsPlacedBlock (G.basis graph.now).strip packed.now places.now block }
+    ensures { result ≡ number_of (graph_of (G.basis graph.now))
+        (sink_at (block_at packed.now block) (place_of places.now block)) }
 {
     let _count = graph.count();
     laws_of_places();
@@ -126,7 +128,8 @@ fn sinks_of<G: StripGraph>(
     requires placed { ArePlaced (G.basis graph.now).strip packed.now places.now }
     requires readers { All (λ reader. reader < length (blocks_of packed.now)) readers.now }
     ensures { IfOk result (λ sinks. sinks.items ≡
-        map (λ reader. number_of (graph_of (G.basis graph.now)) (sink_at (block_at packed.now reader) (place_of places.now reader))) readers.now) }
+        map (λ reader. number_of (graph_of (G.basis graph.now))
+        (sink_at (block_at packed.now reader) (place_of places.now reader))) readers.now) }
 {
     let mut sinks = Vec::new(alloc);
     for reader in readers {
@@ -144,9 +147,21 @@ fn terminals_of<G: StripGraph>(
     net: BlockNet<'_>,
 ) -> Result<Terminals, AllocError>
     requires placed { ArePlaced (G.basis graph.now).strip packed.now places.now }
-    requires net { IsBlockNet packed.now (record { net = net.net; driver = net.driver; readers = net.readers.now; global = net.global }) }
+    requires net { IsBlockNet packed.now
+        (record {
+          net = net.net;
+          driver = net.driver;
+          readers = net.readers.now;
+          global = net.global;
+        }) }
     ensures { IfOk result (λ terminals. terminals ≡
-        net_to_route (G.basis graph.now) packed.now places.now (record { net = net.entry.net; driver = net.entry.driver; readers = net.entry.readers.now; global = net.entry.global })) }
+        net_to_route (G.basis graph.now) packed.now places.now
+        (record {
+          net = net.entry.net;
+          driver = net.entry.driver;
+          readers = net.entry.readers.now;
+          global = net.entry.global;
+        })) }
 {
     let source = source_of(graph, packed, places, net.driver as usize);
     if net.global {
@@ -165,7 +180,8 @@ pub(crate) fn nets_of<G: StripGraph>(
     places: &[Place],
 ) -> Result<Vec<Terminals>, AllocError>
     requires { ArePlaced (G.basis graph.now).strip packed.now places.now }
-    ensures { IfOk result (λ nets. nets.items ≡ nets_to_route (G.basis graph.now) packed.now places.now) }
+    ensures { IfOk result (λ nets. nets.items
+        ≡ nets_to_route (G.basis graph.now) packed.now places.now) }
 {
     laws_of_packing();
     let _arch = packed.arch();

@@ -26,42 +26,57 @@ impl Routing {
     {
         let _count = graph.count();
         let held = self.held.as_slice();
+        let counts = Counts { graph, held };
         Overuse {
-            nodes: count_overused(graph, held),
-            most: node_of(graph, most_overused(graph, held)),
+            nodes: counts.overused(),
+            most: node_of(graph, counts.most_overused()),
         }
     }
 }
 
-/// How many nodes are overused.
-fn count_overused<G: StripGraph>(graph: &G, held: &[u32]) -> usize
-    requires { length held.now ≡ (graph_of (G.basis graph.now)).count }
-    ensures { result ≡ count_over (over_in (G.basis graph.now) held.now) (length held.now) }
-{
-    let mut nodes = 0;
-    for node in 0..held.len() {
-        if held[node] > graph.capacity(node) {
-            nodes += 1;
-        }
-    }
-    nodes
+/// How many trees hold each node of a graph.
+#[derive(Drop)]
+struct Counts<'a, G: StripGraph> {
+    graph: &'a G,
+    held: &'a [u32],
+    ghost long: { length held.now ≡ (graph_of (G.basis graph.now)).count },
 }
 
-/// The node that is overused most, the first of several.
-fn most_overused<G: StripGraph>(graph: &G, held: &[u32]) -> Option<usize>
-    requires { length held.now ≡ (graph_of (G.basis graph.now)).count }
-    ensures { IsMost (over_in (G.basis graph.now) held.now) (length held.now) result }
-{
-    let mut most = None;
-    let mut by = 0;
-    for node in 0..held.len() {
-        let over = held[node].saturating_sub(graph.capacity(node));
-        if over > by {
-            by = over;
-            most = Some(node);
+impl<G: StripGraph> Counts<'_, G> {
+    /// How many nodes are overused.
+    fn overused(&self) -> usize
+        ensures { result ≡ count_over (over_in (G.basis self.now.graph.now) self.now.held.now)
+            (length self.now.held.now) }
+    {
+        let graph = self.graph;
+        let held = self.held;
+        let mut nodes = 0;
+        for node in 0..held.len() {
+            if held[node] > graph.capacity(node) {
+                nodes += 1;
+            }
         }
+        nodes
     }
-    most
+
+    /// The node that is overused most, the first of several.
+    fn most_overused(&self) -> Option<usize>
+        ensures { IsMost (over_in (G.basis self.now.graph.now) self.now.held.now)
+            (length self.now.held.now) result }
+    {
+        let graph = self.graph;
+        let held = self.held;
+        let mut most = None;
+        let mut by = 0;
+        for node in 0..held.len() {
+            let over = held[node].saturating_sub(graph.capacity(node));
+            if over > by {
+                by = over;
+                most = Some(node);
+            }
+        }
+        most
+    }
 }
 
 /// The node of a number, if there is one.

@@ -2,6 +2,7 @@
 ghost use Rattle.std.specs.Prelude.{◌≡◌, ◌+◌, ◌-◌, ◌*◌, ◌/◌, ◌<◌, ◌≤◌, ◌^◌};
 ghost use Rattle.rr_graph.specs.Geometry.{across_of, up_of};
 ghost use Rattle.rr_graph.specs.Ways.{from_sink};
+ghost use Rattle.pathfinder.specs.Limits.{MayCost};
 
 use rr_graph::{Node, NodeKind, across_of, point_from_sink, up_of};
 
@@ -27,8 +28,7 @@ impl Rate {
 
     /// What a node is and costs.
     pub(crate) fn new(place: Node, factor: u32, capacity: u32) -> Rate
-        requires place { IsNarrow place }
-        requires capacity { capacity < 2 ^ 8 }
+        requires { IsNarrow place capacity }
         ensures factor { result.factor ≡ factor }
         ensures capacity { result.capacity ≡ capacity }
         ensures node { node_of result ≡ place }
@@ -66,8 +66,7 @@ impl Rate {
 
 /// What a node costs after so many iterations, while so many trees hold it.
 pub(crate) fn price(rate: Rate, iterations: u32, held: u32) -> u64
-    requires few { iterations < 30 }
-    requires low { held ≤ 8192 }
+    requires { MayCost iterations held }
     ensures { result ≡ rate.factor * (1 + iterations * (held + 1 - rate.capacity)) }
 {
     let overused = (held + 1).saturating_sub(rate.capacity as u32);

@@ -1,7 +1,8 @@
 //! What all nodes are and cost in an iteration, but for the trees that hold them.
-ghost use Rattle.std.specs.Prelude.{◌≡◌, ◌≤◌, ◌^◌, All, IfOk, length};
+ghost use Rattle.std.specs.Prelude.{◌^◌, IfOk};
 ghost use Rattle.pathfinder.specs.PlacedNets.{wiring_of};
 ghost use Rattle.pathfinder.specs.Rates.{AreRates};
+ghost use Rattle.pathfinder.specs.Tables.{IsTable};
 
 use crate::rate::Rate;
 use rr_graph::StripGraph;
@@ -13,8 +14,7 @@ pub(crate) fn rates_of<G: StripGraph>(
     graph: &G,
     history: &[u32],
 ) -> Result<Vec<Rate>, AllocError>
-    requires long { length history.now ≡ (wiring_of (G.basis graph.now)).count }
-    requires low { All (λ x. x ≤ 2 ^ 20) history.now }
+    requires { IsTable (wiring_of (G.basis graph.now)).count (2 ^ 20) history.now }
     ensures { IfOk result (λ rates. AreRates (G.basis graph.now) history.now rates.items) }
 {
     let _count = graph.count();

@@ -32,7 +32,8 @@ fn nodes_on<G: StripGraph>(
     path: &[usize],
 ) -> Result<Vec<Node>, AllocError>
     requires { All (λ node. node < (graph_of (G.basis graph.now)).count) path.now }
-    ensures { IfOk result (λ nodes. nodes.items ≡ map (graph_of (G.basis graph.now)).node path.now) }
+    ensures { IfOk result (λ nodes.
+        nodes.items ≡ map (graph_of (G.basis graph.now)).node path.now) }
 {
     let mut nodes = Vec::new(alloc);
     nodes.reserve(path.len())?;
@@ -48,8 +49,11 @@ fn paths_of<G: StripGraph>(
     graph: &G,
     route: &Route,
 ) -> Result<Vec<Vec<Node>>, AllocError>
-    requires { All (λ path. All (λ node. node < (graph_of (G.basis graph.now)).count) path) route.now }
-    ensures { IfOk result (λ paths. map (λ path. path.items) paths.items ≡ map (λ path. map (graph_of (G.basis graph.now)).node path) route.now) }
+    requires { All (λ path. All (λ node. node < (graph_of (G.basis graph.now)).count) path)
+        route.now }
+    ensures { IfOk result (λ paths.
+        map (λ path. path.items) paths.items
+        ≡ map (λ path. map (graph_of (G.basis graph.now)).node path) route.now) }
 {
     let mut paths = Vec::new(alloc);
     for number in 0..route.len() {
@@ -65,8 +69,10 @@ impl Routes {
         graph: &G,
         trees: &[Route],
     ) -> Result<Self, AllocError>
-        requires { All (λ tree. All (λ path. All (λ node. node < (graph_of (G.basis graph.now)).count) path) tree) trees.now }
-        ensures { IfOk result (λ routes. routes ≡ told_by_node (graph_of (G.basis graph.now)) trees.now) }
+        requires { All (λ tree. All (λ path.
+            All (λ node. node < (graph_of (G.basis graph.now)).count) path) tree) trees.now }
+        ensures { IfOk result (λ routes.
+            routes ≡ told_by_node (graph_of (G.basis graph.now)) trees.now) }
     {
         let mut nets = Vec::new(alloc);
         for tree in trees {

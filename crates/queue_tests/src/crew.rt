@@ -23,7 +23,8 @@ impl Model for Crew {
 
     ghost view = { λ c. c.ready };
 
-    ghost invariant = { λ c. (c.first.of ≡ c.ready) × (c.second.of ≡ c.ready) × (c.third.of ≡ c.ready) × (c.pass.of ≡ c.ready) };
+    ghost invariant = { λ c. (c.first.of ≡ c.ready) × (c.second.of ≡ c.ready)
+        × (c.third.of ≡ c.ready) × (c.pass.of ≡ c.ready) };
 }
 
 impl Crew {

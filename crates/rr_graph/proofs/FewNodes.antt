@@ -13,8 +13,9 @@ use Rattle.rr_graph.specs.declared.node.NodeKind.TheVariants.{Source, Sink, Opin
 use Rattle.rr_graph.specs.declared.node.Node.{Node}
 use Rattle.rr_graph.specs.Column.{most_of}
 use Rattle.rr_graph.specs.Geometry.{is_node, is_slot, is_chan_y}
-use Rattle.rr_graph.specs.Graph.{Basis, IsBasis, nodes_of, graph_of, make_node, of_kind, in_place}
+use Rattle.rr_graph.specs.Graph.{Basis, IsBasis, nodes_of, graph_of, make_node}
 use Rattle.rr_graph.proofs.Columns.{member_bounds}
+use Rattle.rr_graph.proofs.Listing.{of_kind, in_place}
 
 -- only the first numbers pass
 few_numbers : (test : Node → Bool) (f : ℕ → Node) (most a count : ℕ) → ((n : ℕ) → test (f n) ≡ true → n < most) →
@@ -76,5 +77,5 @@ module _ (basis : Basis) (lawful : IsBasis basis) where
   unfolding nodes_of graph_of
   few_nodes =
       let columns = range_with_len 0 (basis.strip.width + 1) in
-      let few = few_of_each is_there (in_place basis.strip) 28644 columns few_in_place in
+      let few : (graph_of basis).count ≤ length columns * 28644 = few_of_each is_there (in_place basis.strip) 28644 columns few_in_place in
       omega (arith, few, length-range_with_len 0 (basis.strip.width + 1), lawful.strip.width.1)

@@ -16,7 +16,7 @@ use Rattle.rr_graph.specs.Node.{rank_of}
 use Rattle.rr_graph.specs.Column.{Separates, member_key, IsRising, AreFirsts}
 use Rattle.rr_graph.specs.Numbering.{IsNumbering, member_at, in_column, column_count, no_member}
 use Rattle.rr_graph.specs.Table.{IsRowBelow, IsRowAt, may_lead}
-use Rattle.rr_graph.proofs.Columns.{member_of, same_kind, rank_few, separates_order, separates_some}
+use Rattle.rr_graph.proofs.Columns.{member_of, member_found, same_kind, rank_few, separates_order, separates_some}
 use Rattle.rr_graph.proofs.GeometryLaws.{own_track}
 use Rattle.rr_graph.proofs.Numberings.{node_of_place, all_small}
 use Rattle.rr_graph.proofs.Rows.{leads, row_skip, part_push, kind_begins, kind_ends}
@@ -98,7 +98,7 @@ earlier_track arch strip ChanY y m wire h =
 
 -- a member of the column
 contained : (nodes : Numbering) (kind : NodeKind) (y n : ℕ) → IsNumbering nodes → y < 68 → n < 256 → is_slot nodes.arch nodes.strip kind y n ≡ true → Contains nodes.members.items (member_of kind y n)
-contained nodes kind y n lawful low few is = lawful.column.all.complete (member_of kind y n) is (omega (arith, rank_few kind, low, few))
+contained nodes kind y n lawful low few is = member_found nodes.members.items (member_of kind y n) (lawful.column.all.complete (member_of kind y n) is (omega (arith, rank_few kind, low, few)))
 
 -- a track's place has the index that many after the row's first
 pub track_index : (nodes : Numbering) (kind : NodeKind) (y first n : ℕ) → IsNumbering nodes → y < 68 → n < 256 → is_wire kind ≡ true → is_slot nodes.arch nodes.strip kind y n ≡ true →

@@ -27,6 +27,7 @@ mod numbering;
 mod part;
 mod resource;
 mod table;
+mod targets;
 mod ways;
 
 pub use edges::Edges;

@@ -30,8 +30,7 @@ fn is_read(arch: &Arch, track: u32) -> bool
 
 /// Whether what the row is for meets the track.
 fn met_by(arch: &Arch, row: u32, track: u32) -> bool
-    requires arch { IsArch arch.now }
-    requires row { row ≤ 145 }
+    requires { IsArch arch.now }
     ensures { result ≡ met_by arch.now row track }
 {
     if row == 0 {
@@ -58,7 +57,6 @@ pub(crate) fn met_table(alloc: Global, arch: &Arch, pads: u32) -> Result<Vec<boo
 fn met_in(table: &[bool], arch: &Arch, row: u32, track: u32) -> bool
     requires arch { IsArch arch.now }
     requires table { IsMetTable arch.now table.now }
-    requires row { row ≤ 145 }
     ensures { result ≡ met_by arch.now row track }
 {
     if track < 64 {
@@ -86,8 +84,8 @@ pub(crate) fn is_met(table: &[bool], arch: &Arch, strip: Strip, sink: Node, trac
 
 /// Which tracks the inputs of the sink's block meet, or its pad, from the first one on: as many as the table has there.
 pub(crate) fn met_row(table: &[bool], strip: Strip, sink: Node) -> &[bool]
-    requires { sink.n < 145 }
-    ensures long { (if is_block_row strip sink.y then 0 else sink.n + 1) * 64 + 64 ≤ length table.now → length result.now ≡ 64 }
+    ensures long { (if is_block_row strip sink.y then 0 else sink.n + 1) * 64 + 64
+        ≤ length table.now → length result.now ≡ 64 }
     ensures met { (arch : Arch) → IsMetTable arch table.now → AreMet arch strip sink result.now }
 {
     let row = if is_block_row(strip, sink.y) {

@@ -2,7 +2,6 @@
 ghost use Rattle.std.specs.Prelude.{◌≡◌, ◌<◌, ◌+◌, ◌≤◌, map, length, true};
 ghost use Rattle.rr_graph.specs.Geometry.{is_node};
 ghost use Rattle.rr_graph.specs.Graph.{Basis, graph_of};
-ghost use Rattle.rr_graph.specs.Numbering.{IsNumbering};
 ghost use Rattle.rr_graph.specs.Fabric.{HasRow, column_of, ends_of, with_width};
 ghost use Rattle.rr_graph.specs.declared.node.NodeKind.TheVariants.{Sink};
 ghost use Rattle.rr_graph.specs.Ways.{ends_towards, AreMet};
@@ -11,7 +10,7 @@ use crate::geometry::{capacity_of, is_block_row, is_node};
 use crate::graph::{Ends, Numbers, StripGraph};
 use crate::met::{is_met, met_row};
 use crate::node::{Node, NodeKind};
-use crate::numbering::Numbering;
+use crate::numbering::Nodes;
 use crate::table::Tables;
 use crate::ways::{further, is_passing};
 use arch_file::Arch;
@@ -22,7 +21,7 @@ use std::marker::Model;
 /// value is what it stands on, the architecture and the strip.
 #[derive(Debug, Drop)]
 pub struct Part<'a> {
-    pub(crate) nodes: &'a Numbering,
+    pub(crate) nodes: &'a Nodes,
     pub(crate) table: &'a Tables,
     pub(crate) wires: &'a Tables,
     pub(crate) met: &'a [bool],
@@ -36,18 +35,19 @@ impl<'a> Model for Part<'a> {
 
     ghost Value = { Basis };
 
-    ghost view = { λ p. basis_of (with_width p.nodes.now p.width) };
+    ghost view = { λ p. basis_of (with_width p.nodes.now.numbering p.width) };
 
-    ghost invariant = { λ p. IsPart p.nodes.now p.width p.table.now p.wires.now p.met.now p.inputs };
+    ghost invariant = { λ p. IsPart p.nodes.now.numbering p.width p.table.now p.wires.now p.met.now
+        p.inputs };
 }
 
 /// The ends of a node's edges in the tables, where there are so many columns.
 #[inline(always)]
-fn row_from<'a>(nodes: &Numbering, tables: &'a Tables, width: u32, node: usize, x: u32) -> Ends<'a>
-    requires lawful { IsNumbering nodes.now }
-    requires column { x ≡ column_of nodes.now node }
-    requires row { HasRow (with_width nodes.now width) tables.now node }
-    ensures { map (λ end. end + result.base) result.list.now ≡ ends_of (with_width nodes.now width) tables.now node }
+fn row_from<'a>(nodes: &Nodes, tables: &'a Tables, width: u32, node: usize, x: u32) -> Ends<'a>
+    requires column { x ≡ column_of nodes.now.numbering node }
+    requires row { HasRow (with_width nodes.now.numbering width) tables.now node }
+    ensures { map (λ end. end + result.base) result.list.now
+        ≡ ends_of (with_width nodes.now.numbering width) tables.now node }
 {
     let base = nodes.base(x);
     Ends {
@@ -72,7 +72,8 @@ impl<'a> Part<'a> {
     pub(crate) fn some_ends(&self, node: usize, place: Node, sink: Node) -> Ends<'a>
         requires node { node < (graph_of self.now).count }
         requires place { (graph_of self.now).node node ≡ place }
-        ensures { map (λ end. end + result.base) result.list.now ≡ ends_towards (graph_of self.now) sink node }
+        ensures { map (λ end. end + result.base) result.list.now
+            ≡ ends_towards (graph_of self.now) sink node }
     {
         if is_passing(sink, place) {
             row_from(self.nodes, self.wires, self.width, node, place.x)
@@ -87,7 +88,7 @@ impl<'a> Part<'a> {
         ensures long { sink.kind ≡ Sink → self.now.arch.tracks ≤ length result.now }
         ensures met { AreMet self.now.arch self.now.strip sink result.now }
     {
-        met_row(self.met, self.nodes.strip, sink)
+        met_row(self.met, self.nodes.numbering.strip, sink)
     }
 }
 
@@ -104,7 +105,7 @@ impl<'a> StripGraph for Part<'a> {
 
     fn number(&self, node: Node) -> Option<usize> {
         let strip = self.nodes.strip_of(self.width);
-        if !is_node(&self.nodes.arch, strip, node) {
+        if !is_node(&self.nodes.numbering.arch, strip, node) {
             return None;
         }
         Some(self.nodes.number(node))
@@ -129,8 +130,8 @@ impl<'a> StripGraph for Part<'a> {
     }
 
     fn further_from(&self, node: Node, sink: Node) -> Option<u64> {
-        let strip = self.nodes.strip;
-        let met = is_met(self.met, &self.nodes.arch, strip, sink, node.n);
+        let strip = self.nodes.numbering.strip;
+        let met = is_met(self.met, &self.nodes.numbering.arch, strip, sink, node.n);
         further(met, is_block_row(strip, sink.y), sink, node)
     }
 
@@ -140,15 +141,15 @@ impl<'a> StripGraph for Part<'a> {
 
     fn capacity(&self, node: usize) -> u32 {
         capacity_of(
-            &self.nodes.arch,
-            self.nodes.strip,
+            &self.nodes.numbering.arch,
+            self.nodes.numbering.strip,
             self.inputs,
             self.nodes.node(node),
         )
     }
 
     fn arch(&self) -> &Arch {
-        &self.nodes.arch
+        &self.nodes.numbering.arch
     }
 
     fn strip(&self) -> Strip {

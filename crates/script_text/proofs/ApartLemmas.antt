@@ -11,7 +11,8 @@ use Rattle.script_text.specs.declared.form.Form.TheVariants.{Skipped, Faulty, As
 use Rattle.script_text.specs.declared.operator_line.OperatorLine.{OperatorLine}
 use Rattle.line_text.specs.Lines.{physical_lines}
 use Rattle.script_text.specs.Script.{form_of}
-use Rattle.script_text.specs.Threaded.{AreApart, Heard, Parts, Said, Threaded, Within, behind_word, ended, goes_on, heard, hears, hears_form, hears_in, is_by_hand, nothing_said, threaded_from, threaded_of, with_input, with_operator}
+use Rattle.script_text.specs.Threaded.{AreApart, Heard, Parts, Said, Threaded, Within, behind_word, ended, heard, hears_form, hears_in, is_by_hand, nothing_said, threaded_from, threaded_of, with_input, with_operator}
+use Rattle.script_text.specs.Threads.{goes_on, hears}
 use Rattle.script_text.specs.Threaded.Within.{Script, Head, Upload}
 
 -- none of them has the name

@@ -3,6 +3,7 @@ use Rattle.std.specs.Prelude.{ℕ, ◌≡◌, ◌+◌, List, [], ◌∷◌, leng
 use Rattle.std.specs.Borrow.{Bor}
 use Rattle.std.specs.Char.{is_ascii_alphanumeric}
 use Rattle.std.specs.List.{list_all, position_or_len, before_first, after_first}
+use Rattle.std.specs.Option.{option_map_or}
 use Rattle.std.specs.Str.{bytes_eq}
 use Rattle.script_text.specs.declared.operator_line.OperatorLine.{OperatorLine}
 use Rattle.script_text.specs.declared.operator_line.OperatorLine.TheVariants.{Admit, Evict, Move, List as ListAll, Owners, Step, Take, Put}
@@ -43,10 +44,6 @@ operator_line (verb ∷ name ∷ number ∷ []) =
     if bytes_eq verb (codes "step") && is_name name then option_map (Step name) (decimal_of 32 number) else None
 operator_line words = None
 
-abbrev pub operator_form : Option (OperatorLine (List ℕ)) → Form (List ℕ)
-operator_form None = Faulty
-operator_form (Some line) = Asks (Operator line)
-
 -- a line of that name's session
 abbrev pub session_form : List ℕ → LineForm → Form (List ℕ)
 session_form name (LineAsks line) = Asks (Session name line)
@@ -58,7 +55,7 @@ form_by [] rest = Skipped
 form_by (b ∷ name) rest =
     if b == 35 then Skipped else
     if b == 64 then (if is_name name then session_form name (line_form rest) else Faulty) else
-    if bytes_eq (b ∷ name) (codes "op") then operator_form (operator_line (words_of rest)) else Faulty
+    if bytes_eq (b ∷ name) (codes "op") then option_map_or (λ line. Asks (Operator line)) (operator_line (words_of rest)) Faulty else Faulty
 
 -- the blanks ahead of a line are not looked at
 abbrev pub without_blanks : List ℕ → List ℕ
@@ -126,3 +123,7 @@ named_form Skipped = Skipped
 named_form Faulty = Faulty
 named_form (Asks act) = Asks (named_act act)
 named_form (Begins name kind) = Begins name.now kind
+
+-- private: a line of the operator, where its words ask something
+abbrev pub operator_form : Option (OperatorLine (List ℕ)) → Form (List ℕ)
+operator_form line = option_map_or (λ asked. Asks (Operator asked)) line Faulty

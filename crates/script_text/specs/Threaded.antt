@@ -1,6 +1,7 @@
 -- What a script says as threads run it: the operator's lines, and what each name's session says.
 use Rattle.std.specs.Prelude.{ℕ, ◌≡◌, ◌≢◌, ◌+◌, List, [], ◌∷◌, ◌++◌, length, map, AllPairs, Bool, true, false, ◌==◌, Option, Some, None, Result, Ok, Err, ⊤, if◌then◌else◌}
 use Rattle.std.specs.List.{after_first}
+use Rattle.std.specs.Option.{option_map_or}
 use Rattle.std.specs.Str.{bytes_eq}
 use Rattle.line_text.specs.Lines.{physical_lines}
 use Rattle.line_text.specs.Words.{is_blank}
@@ -9,7 +10,7 @@ use Rattle.script_text.specs.declared.act.Act.TheVariants.{Operator, Session}
 use Rattle.script_text.specs.declared.form.Form.{Form}
 use Rattle.script_text.specs.declared.form.Form.TheVariants.{Skipped, Faulty, Asks, Begins}
 use Rattle.script_text.specs.declared.operator_line.OperatorLine.{OperatorLine}
-use Rattle.script_text.specs.declared.operator_line.OperatorLine.TheVariants.{Admit, Evict, Move, List as ListAll, Owners, Step, Take, Put}
+use Rattle.script_text.specs.declared.operator_line.OperatorLine.TheVariants.{Step, Take, Put}
 use Rattle.script_text.specs.declared.script.ScriptError.{ScriptError}
 use Rattle.script_text.specs.declared.script.ScriptError.TheVariants.{NoMemory, Fault}
 use Rattle.script_text.specs.declared.inputs.SessionInput.{SessionInput}
@@ -57,14 +58,10 @@ behind_word line = after_first is_blank (without_blanks line)
 
 -- a job that is taken, stepped or put by hand
 abbrev pub is_by_hand : OperatorLine (List ℕ) → Bool
-is_by_hand (Admit name width) = false
-is_by_hand (Evict name) = false
-is_by_hand (Move name offset) = false
-is_by_hand ListAll = false
-is_by_hand Owners = false
 is_by_hand (Step name count) = true
 is_by_hand (Take name) = true
 is_by_hand (Put number) = true
+is_by_hand line = false
 
 -- where the next line stands: in no text, in the one at the script's head, or in one of that name's session
 pub data Within : Type 0 where
@@ -80,10 +77,6 @@ pub record Heard : Type 0 where
 abbrev pub heard : Parts → Within → Heard
 heard parts within = record { parts = parts; within = within }
 
--- where the line behind one of a text stands
-abbrev pub behind_line : List ℕ → Within → Within
-behind_line line within = if ends_text line then Script else within
-
 -- a line that stands in no text; none where it is faulty
 abbrev pub hears_form : Parts → Form (List ℕ) → List ℕ → Option Heard
 hears_form parts Skipped line = Some (heard parts Script)
@@ -92,27 +85,20 @@ hears_form parts (Asks (Operator asked)) line = if is_by_hand asked then None el
 hears_form parts (Asks (Session name item)) line = Some (heard (with_said parts name (ended (behind_word line))) Script)
 hears_form parts (Begins name kind) line = Some (heard (with_said parts name (ended (behind_word line))) (Upload name))
 
--- a line more; none where it is faulty
+-- a line more, where the next one stands behind the text that this one ends; none where it is faulty
 abbrev pub hears_in : Within → Parts → List ℕ → Option Heard
 hears_in Script parts line = hears_form parts (form_of line) line
-hears_in Head parts line = Some (heard parts (behind_line line Head))
-hears_in (Upload name) parts line = Some (heard (with_said parts name (ended line)) (behind_line line (Upload name)))
-
-abbrev pub hears : Heard → List ℕ → Option Heard
-hears h line = hears_in h.within h.parts line
+hears_in Head parts line = Some (heard parts (if ends_text line then Script else Head))
+hears_in (Upload name) parts line = Some (heard (with_said parts name (ended line)) (if ends_text line then Script else Upload name))
 
 -- what a script's lines say, or the number of the least faulty line
 abbrev pub Threaded : Type 0
 Threaded = Result Parts ℕ
 
-abbrev pub goes_on : ℕ → Option Heard → (Heard → Threaded) → Threaded
-goes_on number None rest = Err number
-goes_on number (Some h) rest = rest h
-
 -- what these lines say behind those that were heard, the first of them having that number
 abbrev pub threaded_from : ℕ → Heard → List (List ℕ) → Threaded
 threaded_from number h [] = Ok h.parts
-threaded_from number h (line ∷ lines) = goes_on number (hears h line) (λ next. threaded_from (number + 1) next lines)
+threaded_from number h (line ∷ lines) = option_map_or (λ next. threaded_from (number + 1) next lines) (hears_in h.within h.parts line) (Err number)
 
 -- what a script says whose first line has that number
 abbrev pub threaded_of : ℕ → List ℕ → Threaded

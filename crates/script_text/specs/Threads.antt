@@ -1,6 +1,7 @@
 -- Private: a threaded script that is being read.
 use Rattle.std.specs.Prelude.{ℕ, ◌≡◌, List, map, Option, Some, None, Result, Ok, Err, ⊤}
 use Rattle.std.specs.Borrow.{Bor}
+use Rattle.std.specs.Option.{option_map_or}
 use Rattle.script_text.specs.declared.script.ScriptError.{ScriptError}
 use Rattle.script_text.specs.declared.script.ScriptError.TheVariants.{NoMemory, Fault}
 use Rattle.script_text.specs.declared.threaded.ThreadedReader.{ThreadedReader}
@@ -8,7 +9,7 @@ use Rattle.script_text.specs.declared.form.Form.{Form}
 use Rattle.script_text.specs.declared.operator_line.OperatorLine.{OperatorLine}
 use Rattle.script_text.specs.Script.{named_form, named_operator}
 use Rattle.script_text.specs.Names.{AreNamed}
-use Rattle.script_text.specs.Threaded.{Heard, Parts, Within, heard, hears, hears_form, said_by, with_operator}
+use Rattle.script_text.specs.Threaded.{Heard, Parts, Threaded, Within, heard, hears_form, hears_in, said_by, with_operator}
 use Rattle.script_text.specs.Threaded.Within.{Script, Upload}
 
 -- where the next line stands, by the name whose text is being read
@@ -18,6 +19,14 @@ within_of (Some name) = Upload name.now
 
 abbrev pub parts_read : ThreadedReader → Parts
 parts_read r = record { ahead = map named_operator r.ahead.items; sessions = map said_by r.sessions.said.items; rest = map named_operator r.rest.items }
+
+-- a line more behind those that were heard
+abbrev pub hears : Heard → List ℕ → Option Heard
+hears h line = hears_in h.within h.parts line
+
+-- what comes of it, and of the rest; it has that number
+abbrev pub goes_on : ℕ → Option Heard → (Heard → Threaded) → Threaded
+goes_on number next rest = option_map_or rest next (Err number)
 
 abbrev pub heard_by : ThreadedReader → Heard
 heard_by r = heard (parts_read r) (within_of r.within)

@@ -43,7 +43,8 @@ impl<'t> Sessions<'t> {
     /// Appends a line, ended by LF, to what the name's session says.
     pub(crate) fn add(&mut self, name: &'t [u8], line: &[u8]) -> Result<(), AllocError>
         requires { AreNamed self.old }
-        ensures said { OnOk result (map said_by self.new.said.items ≡ with_input (map said_by self.old.said.items) name.now (ended line.now)) }
+        ensures said { OnOk result (map said_by self.new.said.items
+            ≡ with_input (map said_by self.old.said.items) name.now (ended line.now)) }
         ensures named { OnOk result (AreNamed self.new) }
     {
         let number = self.names.add_numbered(name)?;

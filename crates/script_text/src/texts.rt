@@ -22,7 +22,8 @@ pub struct Cut<'t> {
 /// Cuts off the text that these bytes of a script begin with, if a line ends it. Their first line has that number.
 pub fn cut_text(bytes: &[u8], number: usize) -> Option<Cut<'_>>
     requires { number + length bytes.now < 2 ^ 64 }
-    ensures { MatchOption result (HasNoEnd number bytes.now) (λ cut. IsCut number bytes.now cut.ahead.now cut.number cut.rest.now) }
+    ensures { MatchOption result (HasNoEnd number bytes.now)
+        (λ cut. IsCut number bytes.now cut.ahead.now cut.number cut.rest.now) }
 {
     let mut rest = bytes;
     let mut number = number;

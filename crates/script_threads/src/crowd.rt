@@ -134,7 +134,8 @@ fn start_all<
 ) -> bool
     requires seats { All (λ s. s.of ≡ ready.now) benches.0.items }
     requires passes { All (λ p. p.of ≡ ready.now) sessions.0.items }
-    ensures { IsTrue result → map started_by started.new.items ≡ map started_by started.old.items ++ sessions.entry.1.items }
+    ensures { IsTrue result → map started_by started.new.items
+        ≡ map started_by started.old.items ++ sessions.entry.1.items }
 {
     let (seats, shares) = benches;
     let (passes, seated) = sessions;
@@ -238,7 +239,8 @@ fn start_sessions<
     started: &mut Vec<Started<'t, C>>,
 ) -> bool
     requires { All (λ p. p.of ≡ ready.now) passes.items }
-    ensures { IsTrue result → map started_by started.new.items ≡ map started_by started.old.items ++ seated.entry.items }
+    ensures { IsTrue result → map started_by started.new.items
+        ≡ map started_by started.old.items ++ seated.entry.items }
 {
     let mut passes = passes;
     for seat in seated {
@@ -283,7 +285,8 @@ fn start_session<
             let run = move || -> Option<Part<C>>
                 requires of { pass.of ≡ ready.now }
                 requires new { lease.made ≡ 0 }
-                ensures { IfSome result (λ part. asked_in part ≡ asked_by (said_by said.entry) lease.id) }
+                ensures { IfSome result (λ part.
+                    asked_in part ≡ asked_by (said_by said.entry) lease.id) }
             { run_part(rt, shared, ready, pass, said, lease) };
             Some(Started::Runs(scope.spawn_with(kept, run).ok()?))
         }
@@ -296,7 +299,8 @@ fn join_sessions<'t, C: Begun, R: Threads + AllocGlobal>(
     rt: &R,
     started: Vec<Started<'t, C>>,
 ) -> Option<Vec<Part<'t, C>>>
-    ensures { IfSome result (λ parts. map asked_in parts.items ≡ map started_by started.entry.items) }
+    ensures { IfSome result (λ parts.
+        map asked_in parts.items ≡ map started_by started.entry.items) }
 {
     let mut parts = Vec::with_capacity(rt.alloc(), started.len()).ok();
     for session in started {
@@ -321,7 +325,9 @@ fn with_part<'t, C: Begun>(
     parts: Option<Vec<Part<'t, C>>>,
     part: Option<Part<'t, C>>,
 ) -> Option<Vec<Part<'t, C>>>
-    ensures { IfSome result (λ all. IsSomeAnd parts.entry (λ old. IsSomeAnd part.entry (λ p. all.items ≡ old.items ++ p ∷ []))) }
+    ensures { IfSome result (λ all.
+        IsSomeAnd parts.entry (λ old.
+        IsSomeAnd part.entry (λ p. all.items ≡ old.items ++ p ∷ []))) }
 {
     let mut parts = parts?;
     parts.push(part?).ok()?;

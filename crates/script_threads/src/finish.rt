@@ -28,7 +28,8 @@ pub(crate) fn finish<'t, C: Begun, P: Ledger>(
     shares: Vec<Share<P>>,
 ) -> Result<(Service, Vec<Section<'t>>), Unserved>
     requires { C.stay ≡ true }
-    ensures ok { IfOk result (λ r. Finishes C.begun parts.entry.items (map section_told r.1.items) r.0) }
+    ensures ok { IfOk result (λ r. Finishes C.begun parts.entry.items (map section_told r.1.items)
+        r.0) }
 {
     let Parted {
         sections,
@@ -53,7 +54,9 @@ fn part_all<'t, C: Begun>(
     alloc: Global,
     parts: Vec<Part<'t, C>>,
 ) -> Result<Parted<'t, C>, AllocError>
-    ensures { IfOk result (λ parted. AreParts parts.entry.items (map section_told parted.sections.items) parted.transcripts.items) }
+    ensures { IfOk result (λ parted.
+        AreParts parts.entry.items (map section_told parted.sections.items)
+        parted.transcripts.items) }
 {
     let mut parted = Parted {
         sections: Vec::with_capacity(alloc, parts.len())?,
@@ -68,7 +71,9 @@ fn part_all<'t, C: Begun>(
 impl<'t, C: Begun> Parted<'t, C> {
     /// Adds what a session was told, and its transcript, if it ran.
     fn add(&mut self, part: Part<'t, C>) -> Result<(), AllocError>
-        ensures { OnOk result (Adds part.entry (map section_told self.old.sections.items) self.old.transcripts.items (map section_told self.new.sections.items) self.new.transcripts.items) }
+        ensures { OnOk result (Adds part.entry (map section_told self.old.sections.items)
+            self.old.transcripts.items (map section_told self.new.sections.items)
+            self.new.transcripts.items) }
     {
         let Part {
             said,

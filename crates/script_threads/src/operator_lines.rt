@@ -21,7 +21,9 @@ pub(crate) fn serve_lines<'t>(
     reply: &mut MemorySink,
 ) -> Result<(), AllocError>
     requires { length operator.old ≡ length core.old.histories }
-    ensures replies { OnOk result (Replies graph.now operator.old core.old (map named_operator lines.entry.items) (held reply.old) (held reply.new) operator.new core.new) }
+    ensures replies { OnOk result (Replies graph.now operator.old core.old
+        (map named_operator lines.entry.items) (held reply.old) (held reply.new) operator.new
+        core.new) }
     ensures even { OnOk result (length operator.new ≡ length core.new.histories) }
 {
     let mut jobs = HeldJobs::new(alloc);
@@ -40,7 +42,9 @@ fn serve_each<'t, 'g>(
     reply: &mut MemorySink,
 ) -> Result<(), AllocError>
     requires { length operator.old ≡ length core.old.histories }
-    ensures { OnOk result (RepliesEach (stage graph.now operator.old jobs.old core.old) (map named_operator lines.entry.items) (held reply.old) (held reply.new) (stage graph.now operator.new jobs.new core.new)) }
+    ensures { OnOk result (RepliesEach (stage graph.now operator.old jobs.old core.old)
+        (map named_operator lines.entry.items) (held reply.old) (held reply.new)
+        (stage graph.now operator.new jobs.new core.new)) }
 {
     for line in lines {
         operator.serve(core, graph, jobs, line, reply)?;

@@ -35,7 +35,13 @@ impl<'t, C: Begun> Model for Part<'t, C> {
 
     ghost view = { λ p. record { name = p.said.name.now; input = p.said.input.items; id = p.id; text = p.text.items; transcript = p.transcript } };
 
-    ghost invariant = { λ p. IsTold (record { name = p.said.name.now; input = p.said.input.items; id = p.id; text = p.text.items; transcript = p.transcript }) };
+    ghost invariant = { λ p. IsTold (record {
+      name = p.said.name.now;
+      input = p.said.input.items;
+      id = p.id;
+      text = p.text.items;
+      transcript = p.transcript;
+    }) };
 }
 
 /// The session of a live tenancy, from its begin to its end. None where memory lacked for its text.
@@ -73,7 +79,8 @@ pub(crate) fn evicted_part<'t, C: Begun>(
     said: SessionInput<'t>,
     id: u32,
 ) -> Result<Part<'t, C>, AllocError>
-    ensures { IfOk result (λ part. asked_in part ≡ record (asked_by (said_by said.entry) id) { live = false }) }
+    ensures { IfOk result (λ part. asked_in part
+        ≡ record (asked_by (said_by said.entry) id) { live = false }) }
 {
     let text = evicted_text(alloc, said.input.as_slice())?;
     Ok(Part {

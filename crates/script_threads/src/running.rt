@@ -42,7 +42,8 @@ pub(crate) fn run_sessions<
     requires apart { AreApart (map said_by sessions.items) }
     requires begun { C.begun ≡ core.service }
     requires stay { C.stay ≡ true }
-    ensures ok { IfOk result (λ r. Ran operator.now core.service (map said_by sessions.entry.items) (map section_told r.1.items) r.0) }
+    ensures ok { IfOk result (λ r. Ran operator.now core.service (map said_by sessions.entry.items)
+        (map section_told r.1.items) r.0) }
 {
     let mut core = core;
     match prepare(rt.alloc(), workers, &mut core, operator, sessions) {
@@ -76,7 +77,9 @@ fn prepare<'t, C: Begun, P: Ledger>(
     requires apart { AreApart (map said_by sessions.items) }
     ensures seats { IfOk result (λ p. All (λ s. s.of ≡ p.ready) p.workers.0.items) }
     ensures passes { IfOk result (λ p. All (λ s. s.of ≡ p.ready) p.sessions.0.items) }
-    ensures seated { IfOk result (λ p. p.sessions.1.items ≡ map (asked_of operator.now core.old.service.histories) (map said_by sessions.entry.items)) }
+    ensures seated { IfOk result (λ p. p.sessions.1.items
+        ≡ map (asked_of operator.now core.old.service.histories)
+        (map said_by sessions.entry.items)) }
 {
     let shares = shares(alloc, core, workers)?;
     let (ready, seats, passes) = Ready::new(alloc, shares.len(), sessions.len())?;
@@ -103,7 +106,9 @@ fn run_prepared<
     requires seats { All (λ s. s.of ≡ prepared.ready) prepared.workers.0.items }
     requires passes { All (λ s. s.of ≡ prepared.ready) prepared.sessions.0.items }
     requires stay { C.stay ≡ true }
-    ensures ok { (names : List (List ℕ)) (sessions : List Said) → prepared.entry.sessions.1.items ≡ map (asked_of names C.begun.histories) sessions → IfOk result (λ r. Ran names C.begun sessions (map section_told r.1.items) r.0) }
+    ensures ok { (names : List (List ℕ)) (sessions : List Said) →
+        prepared.entry.sessions.1.items ≡ map (asked_of names C.begun.histories) sessions →
+        IfOk result (λ r. Ran names C.begun sessions (map section_told r.1.items) r.0) }
 {
     let Prepared {
         ready,

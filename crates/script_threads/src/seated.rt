@@ -43,7 +43,9 @@ pub(crate) fn seat_all<'t, C: Begun, P: Ledger>(
     requires apart { AreApart (map said_by sessions.items) }
     requires free { AreFree core.old.marks }
     ensures service { core.new.service ≡ core.old.service }
-    ensures seats { IfOk result (λ seats. seats.items ≡ map (asked_of operator.now core.old.service.histories) (map said_by sessions.entry.items)) }
+    ensures seats { IfOk result (λ seats.
+        seats.items ≡ map (asked_of operator.now core.old.service.histories)
+        (map said_by sessions.entry.items)) }
 {
     let mut seats = Vec::new(alloc);
     for said in sessions {
@@ -62,7 +64,8 @@ fn seat<'t, C: Begun, P: Ledger>(
     requires free { is_leased core.old.marks (last_id operator.now said.name.now) ≡ false }
     ensures service { core.new.service ≡ core.old.service }
     ensures seat { result ≡ asked_of operator.now core.old.service.histories (said_by said.entry) }
-    ensures leased { GivesOneLease core.old.marks (last_id operator.now said.entry.name.now) core.new.marks }
+    ensures leased { GivesOneLease core.old.marks (last_id operator.now said.entry.name.now)
+        core.new.marks }
 {
     let id = operator.last_id(said.name);
     let lease = core.lease(id);

@@ -1,9 +1,9 @@
 //! A whole script.
 ghost use Rattle.std.specs.Prelude.{◌≡◌, ◌≤◌, [], true, length, map, IfOk};
-ghost use Rattle.arch_file.specs.Arch.{IsArch};
 ghost use Rattle.operator.specs.Held.{held};
 ghost use Rattle.script_text.specs.Script.{named_operator};
 ghost use Rattle.script_text.specs.Threaded.{AreApart, parts_of, said_by};
+ghost use Rattle.service_core.specs.Kept.{IsDevice};
 ghost use Rattle.sessions.specs.Fitting.{own_graph};
 ghost use Rattle.script_threads.specs.Served.{Ends, IsServedFrom, IsServedOnThreads, RunsOn, section_told};
 
@@ -33,12 +33,9 @@ pub fn serve_on_threads<'t, R: Threads + Wait + Clock + AllocGlobal + Sync>(
 ) -> Result<Answered<'t>, Unserved>
     requires workers { workers ≤ 16 }
     requires apart { AreApart (map said_by script.sessions.items) }
-    requires arch { IsArch device.arch }
-    requires has_columns { 1 ≤ device.columns }
-    requires columns { device.columns ≤ 256 }
-    requires has_rows { 1 ≤ device.rows }
-    requires rows { device.rows ≤ 64 }
-    ensures ok { IfOk result (λ answered. IsServedOnThreads device (parts_of script.entry) answered) }
+    requires device { IsDevice device }
+    ensures ok { IfOk result (λ answered.
+        IsServedOnThreads device (parts_of script.entry) answered) }
 {
     match device_graph(rt.alloc(), &device) {
         Ok(graph) => {
@@ -64,13 +61,10 @@ fn serve_over<'t, R: Threads + Wait + Clock + AllocGlobal + Sync>(
 ) -> Result<Answered<'t>, Unserved>
     requires workers { workers ≤ 16 }
     requires apart { AreApart (map said_by script.sessions.items) }
-    requires arch { IsArch device.arch }
-    requires has_columns { 1 ≤ device.columns }
-    requires columns { device.columns ≤ 256 }
-    requires has_rows { 1 ≤ device.rows }
-    requires rows { device.rows ≤ 64 }
+    requires device { IsDevice device }
     requires own { graph.now ≡ own_graph device }
-    ensures ok { IfOk result (λ answered. IsServedOnThreads device (parts_of script.entry) answered) }
+    ensures ok { IfOk result (λ answered.
+        IsServedOnThreads device (parts_of script.entry) answered) }
 {
     match Service::new(rt.alloc(), device) {
         Ok(service) => serve_script(rt, workers, graph, service, script),
@@ -92,7 +86,9 @@ fn serve_script<'t, R: Threads + Wait + Clock + AllocGlobal + Sync>(
     requires workers { workers ≤ 16 }
     requires apart { AreApart (map said_by script.sessions.items) }
     requires unused { service.histories ≡ [] }
-    ensures ok { IfOk result (λ answered. IsServedFrom graph.now service (parts_of script.entry) (map section_told answered.sections.items) answered.operator.items) }
+    ensures ok { IfOk result (λ answered.
+        IsServedFrom graph.now service (parts_of script.entry)
+        (map section_told answered.sections.items) answered.operator.items) }
 {
     let alloc = rt.alloc();
     let mut operator = Operator::new(alloc);
@@ -134,7 +130,9 @@ fn serve_parts<'t, R: Threads + Wait + Clock + AllocGlobal + Sync>(
     requires unused { service.histories ≡ [] }
     requires names { operator.old ≡ [] }
     requires reply { held reply.old ≡ [] }
-    ensures ok { IfOk result (λ sections. IsServedFrom graph.now service (parts_of script.entry) (map section_told sections.items) (held reply.new)) }
+    ensures ok { IfOk result (λ sections.
+        IsServedFrom graph.now service (parts_of script.entry) (map section_told sections.items)
+        (held reply.new)) }
 {
     let ThreadedScript {
         ahead,
@@ -179,12 +177,16 @@ fn serve_sessions<
 ) -> Result<Vec<Section<'t>>, Unserved>
     requires workers { workers ≤ 16 }
     requires apart { AreApart (map said_by sessions.items) }
-    requires commands { (commands.name ≡ C.name) × (commands.parts ≡ C.parts) × (commands.parts ≡ 65536) }
+    requires commands { (commands.name ≡ C.name) × (commands.parts ≡ C.parts)
+        × (commands.parts ≡ 65536) }
     requires puts { (puts.name ≡ P.name) × (puts.parts ≡ P.parts) × (puts.parts ≡ 17) }
     requires begun { C.begun ≡ service }
     requires stay { C.stay ≡ true }
     requires even { length operator.old ≡ length service.histories }
-    ensures ok { IfOk result (λ sections. RunsOn graph.now operator.old service (map said_by sessions.entry.items) (map named_operator rest.entry.items) (map section_told sections.items) (held reply.old) (held reply.new)) }
+    ensures ok { IfOk result (λ sections.
+        RunsOn graph.now operator.old service (map said_by sessions.entry.items)
+        (map named_operator rest.entry.items) (map section_told sections.items) (held reply.old)
+        (held reply.new)) }
 {
     match Core::<C, P>::over(rt.alloc(), service, commands, puts) {
         Ok(core) => match run_sessions(rt, graph, workers, core, operator, sessions) {
@@ -216,7 +218,9 @@ fn serve_rest<'t>(
     reply: &mut MemorySink,
 ) -> Result<Vec<Section<'t>>, Unserved>
     requires { length operator.old ≡ length service.histories }
-    ensures ok { IfOk result (λ told. (told.items ≡ sections.entry.items) × Ends graph.now operator.old service (map named_operator rest.entry.items) (held reply.old) (held reply.new)) }
+    ensures ok { IfOk result (λ told. (told.items ≡ sections.entry.items)
+        × Ends graph.now operator.old service (map named_operator rest.entry.items) (held reply.old)
+        (held reply.new)) }
 {
     let mut service = service;
     let served = serve_lines(alloc, graph, operator, &mut service, rest, reply);

@@ -22,10 +22,10 @@ use Rattle.service_core.specs.declared.not_served.NotServed.TheVariants.{NoMemor
 use Rattle.service_core.specs.declared.put_reply.PutReply.TheVariants.{Recorded, Full, Gone}
 use Rattle.service_core.specs.History.{History, events_of, state_of, with_entry, with_here}
 use Rattle.service_core.specs.Tenancy.{closed}
-use Rattle.service_core.specs.Service.{AreAlone, IsAloneOn, ServiceState, admitted, empty, entries_in, history_of, journal_of, live_of, modified, strip_on, with_entry_of, with_here_of, with_tenancy}
-use Rattle.service_core.specs.Calls.{IsGivenBackTo, IsStepOf, step_entry, step_event}
+use Rattle.service_core.specs.Service.{AreAlone, IsAloneOn, ServiceState, admitted, empty, entries_in, history_of, journal_of, live_of, modified, strip_on, with_tenancy}
+use Rattle.service_core.specs.Kept.{with_entry_of, with_here_of}
 use Rattle.service_core.proofs.MovedStrips.{same_histories}
-use Rattle.service_core.specs.Run.{Call, Admit, Evict, GiveBack, Happens, Move, Owners, Put, Run, Take, Tenant}
+use Rattle.service_core.specs.Run.{Call, Admit, Evict, GiveBack, Happens, Move, Owners, Put, Run, Take, Tenant, IsGivenBackTo, IsStepOf, step_entry, step_event}
 use Rattle.service_core.specs.OwnEvents.{if_own, own_exchange, own_exchanges, own_events, own_replies}
 use Rattle.service_core.specs.Headline.{AreOwnJournals, EachIsAlone, IsBook}
 use Rattle.service_core.proofs.Lists.{history_of-past, history_of-modified, history_of-push, All-history_of}

@@ -32,7 +32,7 @@ use Rattle.service_core.specs.declared.entry.Entry.{Entry}
 use Rattle.service_core.specs.History.{History, state_of, with_entry, with_here}
 use Rattle.service_core.specs.Headline.{AreParted}
 use Rattle.service_core.specs.Service.{AreAlone, IsAloneOn, ServiceState, admitted, history_of, live_of, live_width, modified, placed_width, strip_on}
-use Rattle.service_core.specs.Calls.{step_entry}
+use Rattle.service_core.specs.Run.{step_entry}
 use Rattle.service_core.specs.Owners.{HasOneOwner, ListsOwnersOf}
 use Rattle.service_core.specs.Tenancy.{GivesHistoryBack, GivesUp, GivesUpOrKeeps, PutsHistory, ServesHistory, StandsIn, TakesHistory, closed, if_live}
 use Rattle.service_core.specs.Kept.{AreFree, IsDevice, IsLiveIn, IsSound, KeepsBook, TakesUp, held_at}
@@ -330,10 +330,10 @@ one_in_book book state keeps = λ r id other is is_other. same_Some _ _ (sym ((k
 
 -- and lists them
 pub listed_owners : (book : Owners) (state : ServiceState) (list : List Owned) → KeepsBook book state → ListsOwners book list → ListsOwnersOf state list
-listed_owners book state list keeps listed = record {
-  in_order = listed.in_order;
-  exact = λ owned. (
+listed_owners book state list keeps listed = (
+  listed.in_order,
+  λ owned. (
     (λ within. (owner_has state owned.resource owned.id).1 ((keeps.exact owned.resource owned.id).0 ((listed.exact owned).0 within))),
     (λ is. (listed.exact owned).1 ((keeps.exact owned.resource owned.id).1 ((owner_has state owned.resource owned.id).0 is))),
-  );
-}
+  ),
+)

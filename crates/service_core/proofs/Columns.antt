@@ -1,7 +1,7 @@
 -- What a tenancy holds of its strip stands in the strip's columns.
-use Rattle.std.proofs.Common.{◌≡◌, ℕ, zero, suc, ◌+◌, ◌%◌, ◌≤◌, inl, inr, Bool, true, false, cond, Option, Some, None, List, [], ◌∷◌, ◌++◌, length, get_or, map, ◌&&◌, ◌||◌, nat_le, Result, Ok, Err, refl, arith}
-use Rattle.std.specs.Prelude.{All, IfSome, find, unwrap_or}
-use Rattle.std.specs.List.{flat_map, range_with_len, zip}
+use Rattle.std.proofs.Common.{◌≡◌, ℕ, zero, suc, ◌+◌, ◌*◌, ◌%◌, ◌≤◌, inl, inr, Bool, true, false, cond, Option, Some, None, List, [], ◌∷◌, ◌++◌, length, get_or, map, ◌&&◌, ◌||◌, nat_le, Result, Ok, Err, refl, arith}
+use Rattle.std.specs.Prelude.{All, IfSome, find, not, option_and_then, unwrap_or}
+use Rattle.std.specs.List.{flat_map, list_any, range_with_len, zip}
 use Rattle.std.specs.Option.{option_to_list}
 use Rattle.std.proofs.lemmas.Bool.{and_parts, cases_lt, false≢true, leb-true}
 use Rattle.std.proofs.lemmas.List.{get_or_past}
@@ -26,11 +26,11 @@ use Rattle.rr_graph.specs.declared.resource.Resource.{Resource}
 use Rattle.rr_graph.specs.Geometry.{is_chan_y, is_node, is_slot}
 use Rattle.rr_graph.specs.Graph.{graph_of, make_node, nodes_of}
 use Rattle.rr_graph.specs.Resources.{has, resource_of}
-use Rattle.strip_place.specs.Anneal.{PlacingUnderWay, draws_of, placed_after, places_by_block, temperature_at}
+use Rattle.strip_place.specs.Anneal.{PlacingUnderWay, placed_after, places_by_block, temperature_at}
 use Rattle.strip_place.specs.Keeping.{kind_for}
-use Rattle.strip_place.specs.Pass.{Draw, after_draw, after_move, cost_of, drawn, drawn_block, exchanged, is_kept, pass_of}
+use Rattle.strip_place.specs.Pass.{Draw, after_draw, after_move, cost_of, drawn, exchanged, is_kept, pass_of}
 use Rattle.strip_place.specs.Placed.{block_at, is_same_place, place_of}
-use Rattle.strip_place.specs.Start.{first_free, is_kept_one, kept_by_block, place_for, placed_behind, placed_first, places_at_start}
+use Rattle.strip_place.specs.Start.{kept_by_block, place_for, placed_behind, placed_first, places_at_start}
 use Rattle.strip_place.specs.Task.{Task, task_of}
 use Rattle.pathfinder.specs.Negotiation.{Tree, Standing, More, Done, GaveUp as GivenUp, NoPath as WithoutPath, Routed as RoutedTrees, routed_after}
 use Rattle.pathfinder.specs.PlacedNets.{wiring_of}
@@ -39,7 +39,8 @@ use Rattle.pathfinder.specs.Wiring.{Net}
 use Rattle.job_state.specs.declared.sources.Sources.{Sources}
 use Rattle.kept_places.specs.Kept.{KeptPlaces, kept_place}
 use Rattle.job_state.specs.JobValue.{basis_in, circuit_in, nets_in, pads_in, pass_count, placing_at, routing_sources, routing_stands, step_count, value_of}
-use Rattle.job_state.specs.RoutedCircuits.{on_path, on_tree, on_trees, pad_of, pads_of}
+use Rattle.job_state.specs.RoutedCircuits.{pad_of, pads_of}
+use Rattle.job_state.specs.Gathered.{on_path, on_tree, on_trees}
 use Rattle.job_state.specs.RoutedSet.{held_at_end, resources_of}
 use Rattle.tenant_slot.specs.declared.reply.StateName.{StateName}
 use Rattle.tenant_slot.specs.declared.reply.StateName.TheVariants.{Empty, Loaded, Packing, Packed, Placing, Placed, Routing, Routed, Unrouted}
@@ -98,7 +99,7 @@ module _ (strip : Strip) where
     where
       moved : All Stands (after_move strip task draw places)
       moved =
-          let block = drawn_block task.kinds draw in
+          let block = draw.u % length task.kinds in
           let kind = get_or task.kinds block Logic in
           exchanged_in (place_of places block) (drawn strip kind draw.v) places (placed_in places block all) (placed_in (places_of strip kind) (draw.v % length (places_of strip kind)) (places_in kind)) all
 
@@ -114,7 +115,7 @@ module _ (strip : Strip) where
   passes_in : (task : Task) (start : List Place) (seed effort passes : ℕ) → All Stands start → All Stands (placed_after strip task start seed effort passes)
   unfolding placed_after
   passes_in task start seed effort zero all = all
-  passes_in task start seed effort (suc passes) all = pass_in task (temperature_at strip passes) _ (draws_of task effort) (placed_after strip task start seed effort passes) (passes_in task start seed effort passes all)
+  passes_in task start seed effort (suc passes) all = pass_in task (temperature_at strip passes) _ (effort * length task.kinds) (placed_after strip task start seed effort passes) (passes_in task start seed effort passes all)
 
   -- so does the start
   abbrev MayStand : Option Place → Type 0
@@ -135,7 +136,7 @@ module _ (strip : Strip) where
   behind_in : (taken : List Place) (blocks : List (Kind × Option Place)) → All (λ block. MayStand block.1) blocks → All Stands (placed_behind strip taken blocks)
   behind_in taken [] all = All-nil Stands
   behind_in taken (block ∷ blocks) all =
-      let free : Stands (first_free strip block.0 taken) = some_place _ (place_at 0 0 0) (found_in _ (places_of strip block.0) (places_in block.0)) (omega arith) in
+      let free : Stands (unwrap_or (find (λ place. not (list_any (is_same_place place) taken)) (places_of strip block.0)) (place_at 0 0 0)) = some_place _ (place_at 0 0 0) (found_in _ (places_of strip block.0) (places_in block.0)) (omega arith) in
       let here : Stands (place_for strip taken block) = some_place block.1 _ (All-head (λ (b : Kind × Option Place). MayStand b.1) block blocks all) free in
       All-cons Stands (place_for strip taken block) _ here (behind_in (taken ++ place_for strip taken block ∷ []) blocks (All-tail (λ (b : Kind × Option Place). MayStand b.1) block blocks all))
 
@@ -144,10 +145,14 @@ module _ (strip : Strip) where
   zip_in (kind ∷ kinds) [] all = All-nil (λ (b : Kind × Option Place). MayStand b.1)
   zip_in (kind ∷ kinds) (place ∷ kept) all = All-cons (λ (b : Kind × Option Place). MayStand b.1) (kind, place) (zip kinds kept) (All-head MayStand place kept all) (zip_in kinds kept (All-tail MayStand place kept all))
 
+  kept_in : (kind : Kind) (kept : Option Place) → MayStand (option_and_then (λ place. find (is_same_place place) (places_of strip kind)) kept)
+  kept_in kind None = tt
+  kept_in kind (Some place) = found_in (is_same_place place) (places_of strip kind) (places_in kind)
+
   start_in : (packed : PackedCircuit) (kept : KeptPlaces) → All Stands (places_at_start strip packed kept)
   unfolding placed_first
   start_in packed kept = behind_in _ _ (zip_in (task_of packed).kinds (kept_by_block strip packed kept)
-      (all_map MayStand (λ key. find (is_kept_one (kept_place kept key)) (places_of strip (kind_for key.kind))) (keys_of packed) (λ key. found_in _ (places_of strip (kind_for key.kind)) (places_in (kind_for key.kind)))))
+      (all_map MayStand (λ key. option_and_then (λ place. find (is_same_place place) (places_of strip (kind_for key.kind))) (kept_place kept key)) (keys_of packed) (λ key. kept_in (kind_for key.kind) (kept_place kept key))))
 
   blocks_in : (placing : PlacingUnderWay) → placing.strip ≡ strip → All Stands (places_by_block placing)
   blocks_in placing same = rw same (passes_in (task_of placing.packed) (places_at_start strip placing.packed placing.kept) placing.seed placing.effort placing.passes (start_in placing.packed placing.kept))

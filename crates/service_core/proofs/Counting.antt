@@ -13,14 +13,15 @@ use Rattle.tenant_slot.specs.declared.reply.Reply.TheVariants.{Step}
 use Rattle.tenant_slot.specs.declared.reply.StepReply.{StepReply}
 use Rattle.tenant_slot.specs.declared.reply.StepReply.TheVariants.{Advanced, Finished, Stale}
 use Rattle.tenant_slot.specs.Slot.{IsAdvanceOf, next_job, running_sources}
-use Rattle.tenant_slot.specs.SingleUser.{State, advance, advanced, answer_to, finished, go_on, is_next, running, sources_of, step}
+use Rattle.tenant_slot.specs.SingleUser.{State, advance, answer_to, finished, go_on, is_next, running, sources_of, step}
 use Rattle.tenant_slot.proofs.Runs.{step-room, step-served}
+use Rattle.tenant_slot.proofs.Leading.{advanced}
 use Rattle.service_core.specs.declared.device.Device.{Device}
 use Rattle.service_core.specs.declared.put_reply.PutReply.TheVariants.{Recorded}
 use Rattle.service_core.specs.History.{History, slot_of, state_of}
 use Rattle.service_core.specs.Service.{ServiceState, empty, history_of, live_of}
-use Rattle.service_core.specs.Calls.{IsNextStep, IsPut, IsStepOf, step_event}
-use Rattle.service_core.specs.Run.{Call, Run}
+use Rattle.service_core.specs.Calls.{IsNextStep, IsPut}
+use Rattle.service_core.specs.Run.{Call, Run, IsStepOf, step_event}
 use Rattle.service_core.specs.Headline.{Counts}
 use Rattle.service_core.proofs.Keeps.{IsService-empty, if_live_some}
 use Rattle.service_core.proofs.Effects.{Kept, run_keeps}

@@ -12,10 +12,9 @@ use Rattle.service_core.specs.declared.not_served.NotServed.TheVariants.{NoMemor
 use Rattle.service_core.specs.declared.put_reply.PutReply.TheVariants.{Recorded, Full, Gone}
 use Rattle.service_core.specs.History.{History, state_of}
 use Rattle.service_core.specs.Receipt.{Receipted}
-use Rattle.service_core.specs.Service.{ServiceState, history_of, live_of, with_entry_of, with_here_of, with_tenancy, without_tenancy}
-use Rattle.service_core.specs.Calls.{CanAdmit, IsGivenBackTo, IsReceipt, IsStepOf, step_entry}
-use Rattle.service_core.specs.Run.{Call, Admit, Evict, GiveBack, Happens, Move, Owners, Put, Run, Take, Tenant}
-use Rattle.service_core.specs.Kept.{IsService}
+use Rattle.service_core.specs.Service.{ServiceState, history_of, live_of, with_tenancy, without_tenancy}
+use Rattle.service_core.specs.Run.{Call, Admit, Evict, GiveBack, Happens, Move, Owners, Put, Run, Take, Tenant, CanAdmit, IsGivenBackTo, IsReceipt, IsStepOf, step_entry}
+use Rattle.service_core.specs.Kept.{IsService, with_entry_of, with_here_of}
 use Rattle.service_core.proofs.Keeps.{IsService-admitted, IsService-entry, IsService-evicted, IsService-here, if_live_some}
 use Rattle.service_core.proofs.MovedStrips.{IsService-moved}
 

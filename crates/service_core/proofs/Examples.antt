@@ -14,9 +14,8 @@ use Rattle.service_core.specs.declared.not_served.NotServed.TheVariants.{NoMemor
 use Rattle.service_core.specs.declared.put_reply.PutReply.TheVariants.{Recorded, Full, Gone}
 use Rattle.service_core.specs.History.{History}
 use Rattle.service_core.specs.Tenancy.{closed}
-use Rattle.service_core.specs.Calls.{step_event}
 use Rattle.service_core.specs.Service.{admitted, empty, history_of, live_of, modified, strip_on, with_tenancy, without_tenancy}
-use Rattle.service_core.specs.Run.{Call, Admit, Evict, GiveBack, Owners, Put, Take, Tenant}
+use Rattle.service_core.specs.Run.{Call, Admit, Evict, GiveBack, Owners, Put, Take, Tenant, step_event}
 use Rattle.service_core.specs.OwnEvents.{own_events, own_replies}
 
 -- the strip of a tenancy has its own width, and the device's rows and pads

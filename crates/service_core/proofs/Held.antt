@@ -29,8 +29,8 @@ use Rattle.tenant_slot.specs.declared.reply.StepReply.{StepReply}
 use Rattle.tenant_slot.specs.declared.reply.StepReply.TheVariants.{Advanced, Finished, Stale}
 use Rattle.tenant_slot.specs.Results.{failure_of}
 use Rattle.tenant_slot.specs.RoutedSet.{held_in, routed_set}
-use Rattle.tenant_slot.specs.SingleUser.{State, advance, advanced, after, answer_to, at_rest, begun, begun_placing, circuit_in, emptied, finished, go_on, is_lawful, is_next, keeping, loaded, misfit_of, pack_unless, place_unless, risen, routed_unless, running, serve, sources_of, start, state_after, step, stopped}
-use Rattle.tenant_slot.proofs.Leading.{load, net, pack, placing}
+use Rattle.tenant_slot.specs.SingleUser.{State, advance, after, answer_to, at_rest, circuit_in, finished, go_on, is_lawful, is_next, keeping, loaded, misfit_of, pack_unless, place_unless, risen, routed_unless, running, serve, sources_of, start, state_after, step}
+use Rattle.tenant_slot.proofs.Leading.{advanced, begun, begun_placing, emptied, load, net, pack, placing, stopped}
 use Rattle.tenant_slot.proofs.Runs.{step-room, step-served}
 
 -- the state of that name holds nothing

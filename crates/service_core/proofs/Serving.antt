@@ -22,7 +22,8 @@ use Rattle.service_core.specs.declared.not_served.NotServed.TheVariants.{NoMemor
 use Rattle.service_core.specs.declared.put_reply.PutReply.TheVariants.{Recorded}
 use Rattle.service_core.specs.History.{History, slot_of, with_entry, with_here}
 use Rattle.service_core.specs.Service.{ServiceState, modified}
-use Rattle.service_core.specs.Calls.{IsGivenBack, IsOriginIn, IsServed, IsTaken, Puts, step_entry}
+use Rattle.service_core.specs.Calls.{IsGivenBack, IsOriginIn, IsServed, IsTaken, Puts}
+use Rattle.service_core.specs.Run.{step_entry}
 use Rattle.service_core.specs.Tenancy.{GivesHistoryBack, PutsHistory, ServesHistory, TakesHistory}
 use Rattle.service_core.specs.Kept.{IsLiveIn, IsService}
 use Rattle.service_core.proofs.Keeps.{IsService-entry, IsService-here, history-live, live_is, set-kept, set-live}

@@ -10,7 +10,7 @@ use Rattle.tenant_slot.specs.declared.reply.StepReply.{StepReply}
 use Rattle.tenant_slot.specs.Slot.{GivesBack, Puts, SlotState}
 use Rattle.tenant_slot.specs.SingleUser.{State, step}
 use Rattle.service_core.specs.History.{History, slot_of, with_entry, with_here}
-use Rattle.service_core.specs.Calls.{IsStepOf, step_entry}
+use Rattle.service_core.specs.Run.{IsStepOf, step_entry}
 
 pub slot_is : (slot : SlotState) (id : ℕ) (state : State) → slot.id ≡ id → slot.state ≡ state → slot ≡ record { id = id; state = state; here = slot.here }
 slot_is slot id state its_id its_state = rw (← its_id, ← its_state) refl

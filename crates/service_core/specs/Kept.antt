@@ -1,5 +1,5 @@
 -- Private: what the core keeps, and what its own looks at it tell.
-use Rattle.std.specs.Prelude.{ℕ, ◌≡◌, ◌-◌, ◌<◌, ◌≤◌, ◌↔◌, List, [], length, map, true, Option, Some, None, Result, Ok, Err, All, slice_index_or}
+use Rattle.std.specs.Prelude.{ℕ, ◌≡◌, ◌-◌, ◌<◌, ◌≤◌, ◌↔◌, List, [], length, map, Bool, true, Option, Some, None, Result, Ok, Err, All, slice_index_or}
 use Rattle.arch_file.specs.Arch.{IsArch, IsWithin}
 use Rattle.strips.specs.declared.placed_strip.PlacedStrip.{PlacedStrip}
 use Rattle.rr_graph.specs.declared.resource.Resource.{Resource}
@@ -11,9 +11,10 @@ use Rattle.tenant_slot.specs.declared.reply.StepReply.TheVariants.{Finished}
 use Rattle.tenant_slot.specs.RoutedSet.{routed_set}
 use Rattle.service_core.specs.declared.device.Device.{Device}
 use Rattle.service_core.specs.declared.op_refusal.OpRefusal.{OpRefusal}
-use Rattle.service_core.specs.Calls.{CanAdmit, RefusesAdmission}
-use Rattle.service_core.specs.History.{History, state_of}
-use Rattle.service_core.specs.Service.{IsAloneOn, ServiceState, history_of, live_of, live_width, placed_width}
+use Rattle.service_core.specs.declared.entry.Entry.{Entry}
+use Rattle.service_core.specs.History.{History, state_of, with_entry, with_here}
+use Rattle.service_core.specs.Run.{CanAdmit, RefusesAdmission}
+use Rattle.service_core.specs.Service.{IsAloneOn, ServiceState, history_of, live_of, live_width, placed_width, with_change}
 use Rattle.service_core.specs.Tenancy.{StandsIn}
 
 -- the device keeps the limits
@@ -75,6 +76,13 @@ held_at offset h = map (moved_resource offset) (routed_set (state_of h))
 abbrev pub AreFree : Owners → ℕ → History → Type 0
 AreFree book offset h = All (IsFree book) (held_at offset h)
 
+-- a live tenancy's strip has its places in the book, and nobody owns what it holds where its job has finished
+pub record CanTakeUp (book : Owners) (id offset : ℕ) (h : History) (reply : StepReply) : Type 0 where
+  pub live : h.live ≡ true
+  pub few : id ≤ 65535
+  pub there : StandsIn book.extent offset h.arch h.strip
+  pub free : reply ≡ Finished → AreFree book offset h
+
 -- a tenancy whose job has finished takes up what it holds now
 abbrev pub TakesUp : Owners → ℕ → ℕ → History → StepReply → Owners → Type 0
 TakesUp old id offset h Finished new = Claims old id (held_at offset h) new
@@ -84,3 +92,11 @@ TakesUp old id offset h reply new = new ≡ old
 abbrev pub ChecksAdmission : ServiceState → ℕ → Result ℕ OpRefusal → Type 0
 ChecksAdmission state width (Ok offset) = CanAdmit state width × IsFirstFit state.plan width (Some offset)
 ChecksAdmission state width (Err refusal) = RefusesAdmission state width refusal
+
+-- one entry more in that tenancy's journal
+abbrev pub with_entry_of : ServiceState → ℕ → Entry → ServiceState
+with_entry_of state id entry = with_change state id (with_entry entry)
+
+-- that tenancy has that of its running job's next step here
+abbrev pub with_here_of : ServiceState → ℕ → Option Bool → ServiceState
+with_here_of state id here = with_change state id (with_here here)

@@ -5,33 +5,23 @@ use Rattle.tenant_slot.specs.declared.event.Event.{Event}
 use Rattle.tenant_slot.specs.declared.event.Event.TheVariants.{Command as Asked}
 use Rattle.tenant_slot.specs.declared.reply.Reply.{Reply}
 use Rattle.tenant_slot.specs.declared.reply.Reply.TheVariants.{Step}
-use Rattle.service_core.specs.declared.not_served.NotServed.TheVariants.{NoMemory, JournalFull, NoSuchTenancy}
-use Rattle.service_core.specs.declared.put_reply.PutReply.TheVariants.{Recorded, Full, Gone}
-use Rattle.service_core.specs.Calls.{step_event}
-use Rattle.service_core.specs.Run.{Call}
-use Rattle.service_core.specs.Run.Call.{Admit, Evict, Move, Tenant, Take, Put, GiveBack, Owners}
+use Rattle.service_core.specs.declared.not_served.NotServed.TheVariants.{JournalFull}
+use Rattle.service_core.specs.declared.put_reply.PutReply.TheVariants.{Recorded, Full}
+use Rattle.service_core.specs.Run.{Call, step_event}
+use Rattle.service_core.specs.Run.Call.{Tenant, Put}
 
 -- an event of the tenancy `t` with its reply, where that is the one of `id`
 abbrev pub if_own : ℕ → ℕ → Event → Option Reply → List (Event × Option Reply)
 if_own id t event reply = if t == id then (event, reply) ∷ [] else []
 
 -- a call as an event of that tenancy, with its reply, none where its journal was full. A call that found no memory, or the tenancy
--- not live, is none of its events
+-- not live, and any other call is none of its events
 abbrev pub own_exchange : ℕ → Call → List (Event × Option Reply)
 own_exchange id (Tenant t command (Ok receipt)) = if_own id t (Asked command) (Some receipt.reply)
 own_exchange id (Tenant t command (Err (JournalFull note))) = if_own id t (Asked command) None
-own_exchange id (Tenant t command (Err (NoSuchTenancy note))) = []
-own_exchange id (Tenant t command (Err NoMemory)) = []
 own_exchange id (Put done foreign (Ok (Recorded reply))) = if_own id done.id (step_event done foreign) (Some (Step reply))
 own_exchange id (Put done foreign (Ok Full)) = if_own id done.id (step_event done foreign) None
-own_exchange id (Put done foreign (Ok Gone)) = []
-own_exchange id (Put done foreign (Err back)) = []
-own_exchange id (Admit width answer) = []
-own_exchange id (Evict t answer) = []
-own_exchange id (Move t offset answer) = []
-own_exchange id (Take t answer) = []
-own_exchange id (GiveBack job) = []
-own_exchange id (Owners list) = []
+own_exchange id call = []
 
 abbrev pub own_exchanges : ℕ → List Call → List (Event × Option Reply)
 own_exchanges id calls = flat_map (own_exchange id) calls

@@ -18,6 +18,5 @@ abbrev pub HasOneOwner : ServiceState → Type 0
 HasOneOwner state = (resource : Resource) (id other : ℕ) → IsOwner state resource id → IsOwner state resource other → id ≡ other
 
 -- a list has all that is owned, each with its owner, in node order, and nothing else
-pub record ListsOwnersOf (state : ServiceState) (list : List Owned) : Type 0 where
-  pub in_order : AllPairs (λ a b. IsEarlier a.resource b.resource) list
-  pub exact : (owned : Owned) → Contains list owned ↔ IsOwner state owned.resource owned.id
+abbrev pub ListsOwnersOf : ServiceState → List Owned → Type 0
+ListsOwnersOf state list = AllPairs (λ a b. IsEarlier a.resource b.resource) list × ((owned : Owned) → Contains list owned ↔ IsOwner state owned.resource owned.id)

@@ -1,11 +1,12 @@
 -- All tenancies on one device.
-use Rattle.std.specs.Prelude.{ℕ, ◌≡◌, ◌+◌, ◌-◌, List, [], ◌∷◌, ◌++◌, length, Bool, true, false, Option, Some, None, option_and_then, option_map, All, ◌==◌, if◌then◌else◌}
+use Rattle.std.specs.Prelude.{ℕ, ◌≡◌, ◌+◌, ◌-◌, List, [], ◌∷◌, ◌++◌, length, true, false, Option, Some, None, option_and_then, option_map, All, ◌==◌, if◌then◌else◌}
+use Rattle.std.specs.Option.{option_map_or}
 use Rattle.grid.specs.declared.Strip.{Strip}
 use Rattle.strips.specs.declared.placed_strip.PlacedStrip.{PlacedStrip}
-use Rattle.strips.specs.Plan.{Plan, strip_of, with_strip, without}
+use Rattle.strips.specs.Plan.{Plan, strip_of, without}
 use Rattle.service_core.specs.declared.device.Device.{Device}
 use Rattle.service_core.specs.declared.entry.Entry.{Entry}
-use Rattle.service_core.specs.History.{History, IsReplayed, with_entry, with_here}
+use Rattle.service_core.specs.History.{History, IsReplayed}
 
 -- the device, where the live tenancies' strips stand, and the history of each id from 1 on
 pub record ServiceState : Type 0 where
@@ -32,8 +33,7 @@ abbrev pub live_of : List History → ℕ → Option History
 live_of histories id = option_and_then (λ h. if h.live then Some h else None) (history_of histories id)
 
 abbrev pub entries_in : Option History → List Entry
-entries_in None = []
-entries_in (Some h) = h.entries
+entries_in o = option_map_or (λ h. h.entries) o []
 
 -- the journal of that id, closed or not
 abbrev pub journal_of : ServiceState → ℕ → List Entry
@@ -50,7 +50,7 @@ admitted device id width = record { id = id; arch = device.arch; strip = strip_o
 -- one tenancy more, of the next id
 abbrev pub with_tenancy : ServiceState → ℕ → ℕ → ServiceState
 with_tenancy state width offset = record state {
-  plan = with_strip state.plan (record { id = length state.histories + 1; offset = offset; width = width });
+  plan = record state.plan { strips = state.plan.strips ++ record { id = length state.histories + 1; offset = offset; width = width } ∷ [] };
   histories = state.histories ++ admitted state.device (length state.histories + 1) width ∷ [];
 }
 
@@ -61,13 +61,9 @@ without_tenancy state id = record state {
   histories = modified state.histories id (λ h. record h { live = false; here = Some false });
 }
 
--- one entry more in that tenancy's journal
-abbrev pub with_entry_of : ServiceState → ℕ → Entry → ServiceState
-with_entry_of state id entry = record state { histories = modified state.histories id (with_entry entry) }
-
--- that tenancy has that of its running job's next step here
-abbrev pub with_here_of : ServiceState → ℕ → Option Bool → ServiceState
-with_here_of state id here = record state { histories = modified state.histories id (with_here here) }
+-- that tenancy's history changed
+abbrev pub with_change : ServiceState → ℕ → (History → History) → ServiceState
+with_change state id change = record state { histories = modified state.histories id change }
 
 -- the tenancy is one of that device, and its journal is that of the tenancy alone
 pub record IsAloneOn (device : Device) (h : History) : Type 0 where

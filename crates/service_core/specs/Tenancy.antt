@@ -21,7 +21,7 @@ use Rattle.tenant_slot.specs.RoutedSet.{routed_set}
 use Rattle.tenant_slot.specs.Slot.{GivesBack, SlotState, is_takeable, next_job}
 use Rattle.service_core.specs.declared.entry.Entry.{Entry}
 use Rattle.service_core.specs.History.{History, IsReplayed, events_of, slot_of, state_of, with_entry, with_here}
-use Rattle.service_core.specs.Calls.{IsStepOf, step_entry}
+use Rattle.service_core.specs.Run.{IsStepOf, step_entry}
 
 -- what is here of its next step
 abbrev pub slot_here : Option SlotState → Option Bool

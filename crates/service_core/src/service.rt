@@ -1,13 +1,10 @@
-ghost use Rattle.std.specs.Prelude.{◌≡◌, ◌≤◌, ◌+◌, IfOk, None, All, MatchBool, true, length, option_map, option_copied, slice_get};
-ghost use Rattle.arch_file.specs.Arch.{IsArch};
+ghost use Rattle.std.specs.Prelude.{◌≡◌, ◌≤◌, ◌+◌, IfOk, None, MatchBool, length, option_map, option_copied, slice_get};
 ghost use Rattle.strips.specs.Plan.{IsLaidOut, offset_of};
 ghost use Rattle.service_core.specs.History.{state_of};
 ghost use Rattle.service_core.specs.Service.{AreAlone, empty, journal_of, live_of};
 ghost use Rattle.service_core.specs.Calls.{IsAdmitted, IsEvicted, IsGivenBack, IsMoved, IsOriginIn, IsServed, IsTaken, Puts, takeable_in};
-ghost use Rattle.service_core.specs.Kept.{AreFree, ChecksAdmission, IsLiveIn, IsPlaceOf, TakesUp};
+ghost use Rattle.service_core.specs.Kept.{CanTakeUp, ChecksAdmission, IsDevice, IsLiveIn, IsPlaceOf, TakesUp};
 ghost use Rattle.service_core.specs.Owners.{HasOneOwner, ListsOwnersOf};
-ghost use Rattle.service_core.specs.Tenancy.{StandsIn};
-ghost use Rattle.tenant_slot.specs.declared.reply.StepReply.{StepReply};
 ghost use Rattle.service_core.specs.Headline.{AreParted};
 
 use crate::device::Device;
@@ -53,17 +50,15 @@ impl Model for Service {
       histories = s.tenancies.items;
     } };
 
-    ghost invariant = { λ s. IsSound s.book (record { arch = s.arch; columns = s.layout.columns; rows = s.rows }) s.layout.strips s.tenancies.items };
+    ghost invariant = { λ s. IsSound s.book
+        (record { arch = s.arch; columns = s.layout.columns; rows = s.rows }) s.layout.strips
+        s.tenancies.items };
 }
 
 impl Service {
     /// The service of a device that no one uses.
     pub fn new(alloc: Global, device: Device) -> Result<Self, AllocError>
-        requires arch { IsArch device.arch }
-        requires has_columns { 1 ≤ device.columns }
-        requires columns { device.columns ≤ 256 }
-        requires has_rows { 1 ≤ device.rows }
-        requires rows { device.rows ≤ 64 }
+        requires { IsDevice device }
         ensures { IfOk result (λ service. service ≡ empty device) }
     {
         let Device {
@@ -93,7 +88,8 @@ impl Service {
 
     /// The state of a live tenancy.
     pub fn state(&self, id: u32) -> Option<StateName>
-        ensures value { result ≡ option_map (λ h. (state_of h).name) (live_of self.now.histories id) }
+        ensures value { result ≡ option_map (λ h. (state_of h).name)
+            (live_of self.now.histories id) }
         ensures alone { AreAlone self.now }
     {
         if !is_live(&self.tenancies, id) {
@@ -332,10 +328,7 @@ impl Service {
 
 /// Claims what a tenancy holds once a job of it has finished.
 fn claim(book: &mut Book, id: u32, offset: u32, tenancy: &Tenancy, reply: StepReply)
-    requires live { tenancy.now.live ≡ true }
-    requires id { id ≤ 65535 }
-    requires there { StandsIn book.old.extent offset tenancy.now.arch tenancy.now.strip }
-    requires free { reply ≡ StepReply.Finished → AreFree book.old offset tenancy.now }
+    requires { CanTakeUp book.old id offset tenancy.now reply }
     ensures { TakesUp book.old id offset tenancy.now reply book.new }
 {
     match reply {

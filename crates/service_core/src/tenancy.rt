@@ -51,7 +51,14 @@ impl Tenancy {
         strip: Strip,
     ) -> Result<Self, AllocError>
         requires { IsStripSize strip }
-        ensures { IfOk result (λ t. t ≡ record { id = id; arch = arch.now; strip = strip; live = true; here = Some false; entries = [] }) }
+        ensures { IfOk result (λ t. t ≡ record {
+          id = id;
+          arch = arch.now;
+          strip = strip;
+          live = true;
+          here = Some false;
+          entries = [];
+        }) }
     {
         Ok(Tenancy {
             id,
@@ -111,8 +118,10 @@ impl Tenancy {
     /// What it holds of its strip, in node order.
     pub(crate) fn routed(&self) -> &[Resource]
         requires { self.now.live ≡ true }
-        ensures exact { (resource : Resource) → has result.now resource ≡ has (routed_set (state_of self.now)) resource }
-        ensures there { All (λ resource. is_there self.now.arch self.now.strip resource ≡ true) result.now }
+        ensures exact { (resource : Resource) →
+            has result.now resource ≡ has (routed_set (state_of self.now)) resource }
+        ensures there { All (λ resource. is_there self.now.arch self.now.strip resource ≡ true)
+            result.now }
     {
         match &self.slot {
             Some(slot) => slot.routed(),
@@ -209,7 +218,8 @@ impl Tenancy {
 /// Gives up what a tenancy holds where it is answered that its state changes.
 fn give_up(book: &mut Book, offset: u32, slot: &Slot, reply: &Reply)
     requires { StandsIn book.old.extent offset slot.now.state.arch slot.now.state.strip }
-    ensures { GivesUp book.old (map (moved_resource offset) (routed_set slot.now.state)) reply.now book.new }
+    ensures { GivesUp book.old (map (moved_resource offset) (routed_set slot.now.state)) reply.now
+        book.new }
 {
     if let Reply::Accepted(_) = reply {
         book.release(offset, slot.routed());
@@ -218,7 +228,8 @@ fn give_up(book: &mut Book, offset: u32, slot: &Slot, reply: &Reply)
 
 /// The answer to a command, and what is told of it. Nothing changes yet.
 fn answered(slot: &Slot, command: &Command) -> Result<(Answer, (Command, Reply)), NotServed>
-    ensures ok { IfOk result (λ r. Answers slot.now command.now (Ok r.0) × (r.1.0 ≡ command.now) × (r.1.1 ≡ r.0.reply)) }
+    ensures ok { IfOk result (λ r. Answers slot.now command.now (Ok r.0) × (r.1.0 ≡ command.now)
+        × (r.1.1 ≡ r.0.reply)) }
     ensures err { IfErr result (λ e. Answers slot.now command.now (Err e)) }
 {
     let answer = slot.answer(command)?;

@@ -5,7 +5,8 @@ use Rattle.std.proofs.lemmas.Grind.{flat_map-append}
 use Rattle.tenant_slot.specs.declared.command.Command.{Command as TenantCommand}
 use Rattle.service_core.specs.declared.not_served.NoteCause.{NoteCause}
 use Rattle.service_core.specs.declared.not_served.NoteCause.TheVariants.{JournalFull, NoSuchTenancy}
-use Rattle.service_core.specs.Calls.{IsReceipt, IsServed}
+use Rattle.service_core.specs.Calls.{IsServed}
+use Rattle.service_core.specs.Run.{IsReceipt}
 use Rattle.service_core.specs.History.{History}
 use Rattle.service_core.specs.Receipt.{Noted, Receipted}
 use Rattle.service_core.specs.Service.{ServiceState, live_of}

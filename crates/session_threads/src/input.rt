@@ -41,7 +41,8 @@ impl Input {
 
     /// The next byte. None at the source's end.
     pub(crate) fn next_byte<S: Source>(&mut self, source: &mut S) -> Result<Option<u8>, Failed>
-        ensures byte { GivesByte (prepend_known self.old (S.remaining source.old)) (prepend_known self.new (S.remaining source.new)) result }
+        ensures byte { GivesByte (prepend_known self.old (S.remaining source.old))
+            (prepend_known self.new (S.remaining source.new)) result }
         ensures ahead { OnErr result (self.new ≡ []) }
         ensures fails { OnErr result (S.has_failed source.new ≡ true) }
     {
@@ -64,9 +65,11 @@ impl Input {
     /// Reads ahead.
     fn refill<S: Source>(&mut self, source: &mut S) -> Result<(), Failed>
         requires { self.old ≡ [] }
-        ensures ok { OnOk result (Consumes (S.remaining source.old) (S.remaining source.new) self.new) }
+        ensures ok { OnOk result (Consumes (S.remaining source.old) (S.remaining source.new)
+            self.new) }
         ensures end { OnOk result (self.new ≡ [] → IsAtEnd (S.remaining source.new)) }
-        ensures err { OnErr result ((self.new ≡ []) × Keeps (S.remaining source.old) (S.remaining source.new)) }
+        ensures err { OnErr result ((self.new ≡ [])
+            × Keeps (S.remaining source.old) (S.remaining source.new)) }
         ensures fails { OnErr result (S.has_failed source.new ≡ true) }
     {
         self.at = 0;

@@ -50,7 +50,8 @@ impl ItemReader {
 
     /// Takes the next line.
     pub(crate) fn take_line(&mut self, line: &Line) -> Outcome
-        ensures line { (bytes : List ℕ) → IsLine line.now bytes → ComesTo self.old.within bytes result self.new.within }
+        ensures line { (bytes : List ℕ) → IsLine line.now bytes →
+            ComesTo self.old.within bytes result self.new.within }
         ensures item { IsItem result }
     {
         let (within, outcome) = match mem::replace(&mut self.within, Within::Session) {
@@ -78,7 +79,8 @@ impl ItemReader {
 
 /// Takes a line outside of texts. Takes no memory.
 fn begin(alloc: Global, line: &Line) -> (Within, Outcome)
-    ensures line { (bytes : List ℕ) → IsLine line.now bytes → ComesTo Session bytes result.1 result.0 }
+    ensures line { (bytes : List ℕ) → IsLine line.now bytes →
+        ComesTo Session bytes result.1 result.0 }
     ensures item { IsItem result.1 }
 {
     match line.form() {
@@ -93,7 +95,8 @@ fn begin(alloc: Global, line: &Line) -> (Within, Outcome)
 
 /// Takes a line of a text.
 fn go_on(alloc: Global, text: PendingText, line: &Line) -> (Within, Outcome)
-    ensures line { (bytes : List ℕ) → IsLine line.now bytes → ComesTo (Text text) bytes result.1 result.0 }
+    ensures line { (bytes : List ℕ) → IsLine line.now bytes →
+        ComesTo (Text text) bytes result.1 result.0 }
     ensures item { IsItem result.1 }
 {
     if line.ends_text() {
@@ -116,7 +119,8 @@ fn go_on(alloc: Global, text: PendingText, line: &Line) -> (Within, Outcome)
 
 /// Takes a line of a text that is lost. The item that ends with the text found no memory.
 fn drop_line(line: &Line) -> (Within, Outcome)
-    ensures line { (bytes : List ℕ) → IsLine line.now bytes → ComesTo LostText bytes result.1 result.0 }
+    ensures line { (bytes : List ℕ) → IsLine line.now bytes →
+        ComesTo LostText bytes result.1 result.0 }
     ensures item { IsItem result.1 }
 {
     if line.ends_text() {

@@ -63,7 +63,8 @@ impl Line {
 
     /// Whether it has no byte.
     pub(crate) fn is_empty(&self) -> bool
-        ensures { (line : List ℕ) → IsLine self.now line → MatchBool result (line ≡ []) (0 < length line) }
+        ensures { (line : List ℕ) → IsLine self.now line →
+            MatchBool result (line ≡ []) (0 < length line) }
     {
         self.head.is_empty()
     }
@@ -84,7 +85,8 @@ impl Line {
 
     /// Its bytes without a CR at their end. None if memory lacked for them.
     pub(crate) fn content(&self) -> Option<&[u8]>
-        ensures { (line : List ℕ) → IsLine self.now line → IfSome result (λ bytes. bytes.now ≡ without_cr line) }
+        ensures { (line : List ℕ) → IsLine self.now line →
+            IfSome result (λ bytes. bytes.now ≡ without_cr line) }
     {
         if self.is_lost {
             return None;
@@ -95,7 +97,8 @@ impl Line {
 
 /// Takes one more byte of a line into its head. A head that is full takes a byte of a word in place of its last.
 fn push_head(head: &mut ArrayVec<u8, HEAD>, byte: u8)
-    ensures { (line : List ℕ) → IsHead head.old.items line → IsHead head.new.items (line ++ byte ∷ []) }
+    ensures { (line : List ℕ) → IsHead head.old.items line →
+        IsHead head.new.items (line ++ byte ∷ []) }
 {
     if !head.is_full() {
         head.push(byte);

@@ -43,7 +43,8 @@ impl LineReader {
         rt: &R,
         source: &mut S,
     ) -> Result<LineEnd, Failed>
-        ensures line { ReadsLine (prepend_known self.old.input (S.remaining source.old)) (prepend_known self.new.input (S.remaining source.new)) self.new.line result }
+        ensures line { ReadsLine (prepend_known self.old.input (S.remaining source.old))
+            (prepend_known self.new.input (S.remaining source.new)) self.new.line result }
         ensures ahead { OnErr result (self.new.input ≡ []) }
         ensures fails { OnErr result (S.has_failed source.new ≡ true) }
     {

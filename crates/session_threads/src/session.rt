@@ -36,8 +36,10 @@ pub fn run_session<C: Begun, P: Ledger, S: Source, W: Sink, R: Wait + AllocGloba
 ) -> Transcript<C>
     requires of { pass.of ≡ ready.now }
     requires new { lease.made ≡ 0 }
-    ensures session { IsSession lease.id (S.remaining reader.old) (S.remaining reader.new) (λ text end. Wrote W.contents W.has_failed writer.old writer.new text end) result }
-    ensures reader { IfSome result.end (λ end. EndsReading (S.remaining reader.new) (S.has_failed reader.new) end) }
+    ensures session { IsSession lease.id (S.remaining reader.old) (S.remaining reader.new)
+        (λ text end. Wrote W.contents W.has_failed writer.old writer.new text end) result }
+    ensures reader { IfSome result.end (λ end.
+        EndsReading (S.remaining reader.new) (S.has_failed reader.new) end) }
 {
     let mut session = Session {
         pass,
@@ -72,7 +74,10 @@ impl<C: Begun> Session<C> {
     ) -> End
         requires { self.old.pass.of ≡ ready.now }
         ensures of { self.new.pass.of ≡ self.old.pass.of }
-        ensures session { WholeSession self.old.transcript.id (S.remaining reader.old) (S.remaining reader.new) (λ text end. Wrote W.contents W.has_failed writer.old writer.new text end) self.old.transcript result self.new.transcript }
+        ensures session { WholeSession self.old.transcript.id (S.remaining reader.old)
+            (S.remaining reader.new)
+            (λ text end. Wrote W.contents W.has_failed writer.old writer.new text end)
+            self.old.transcript result self.new.transcript }
         ensures reader { EndsReading (S.remaining reader.new) (S.has_failed reader.new) result }
     {
         let mut lines = LineReader::new(rt.alloc());
@@ -99,9 +104,15 @@ impl<C: Begun> Session<C> {
     ) -> Option<End>
         requires { self.old.pass.of ≡ ready.now }
         ensures of { self.new.pass.of ≡ self.old.pass.of }
-        ensures turn { Turns self.old.transcript.id (prepend_known lines.old.input (S.remaining reader.old)) (prepend_known lines.new.input (S.remaining reader.new)) items.old.within items.new.within (λ text end. Wrote W.contents W.has_failed writer.old writer.new text end) self.old.transcript result self.new.transcript }
+        ensures turn { Turns self.old.transcript.id
+            (prepend_known lines.old.input (S.remaining reader.old))
+            (prepend_known lines.new.input (S.remaining reader.new))
+            items.old.within items.new.within (λ text end.
+            Wrote W.contents W.has_failed writer.old writer.new text end) self.old.transcript result
+            self.new.transcript }
         ensures ahead { IfSome result (λ end. KeepsNoneAhead end lines.new.input) }
-        ensures reader { IfSome result (λ end. EndsReading (S.remaining reader.new) (S.has_failed reader.new) end) }
+        ensures reader { IfSome result (λ end.
+            EndsReading (S.remaining reader.new) (S.has_failed reader.new) end) }
     {
         let Ok(end) = lines.read_line(rt, reader) else {
             return Some(End::ReaderFailed);
@@ -128,7 +139,9 @@ impl<C: Begun> Session<C> {
     ) -> Result<(), Failed>
         requires { self.old.pass.of ≡ ready.now }
         ensures of { self.new.pass.of ≡ self.old.pass.of }
-        ensures told { ServesLine self.old.transcript.id items.old.within items.new.within line.now (λ text. Writes W.contents W.has_failed writer.old writer.new text result) self.old.transcript self.new.transcript }
+        ensures told { ServesLine self.old.transcript.id items.old.within items.new.within line.now
+            (λ text. Writes W.contents W.has_failed writer.old writer.new text result)
+            self.old.transcript self.new.transcript }
     {
         let outcome = items.take_line(line);
         self.serve(rt, shared, ready, outcome, writer)
@@ -146,7 +159,9 @@ impl<C: Begun> Session<C> {
     ) -> End
         requires { self.old.pass.of ≡ ready.now }
         ensures of { self.new.pass.of ≡ self.old.pass.of }
-        ensures told { EndsInput self.old.transcript.id items.old.within line.now (λ text end. Wrote W.contents W.has_failed writer.old writer.new text end) self.old.transcript result self.new.transcript }
+        ensures told { EndsInput self.old.transcript.id items.old.within line.now
+            (λ text end. Wrote W.contents W.has_failed writer.old writer.new text end)
+            self.old.transcript result self.new.transcript }
     {
         if line.is_empty() {
             return self.finish(rt, shared, ready, items, writer);
@@ -168,7 +183,10 @@ impl<C: Begun> Session<C> {
     ) -> End
         requires { self.old.pass.of ≡ ready.now }
         ensures of { self.new.pass.of ≡ self.old.pass.of }
-        ensures told { Finishes self.old.transcript.id items.now.within (λ text end. Wrote W.contents W.has_failed writer.old writer.new text end) self.old.transcript result self.new.transcript }
+        ensures told { Finishes self.old.transcript.id
+            items.now.within (λ text end.
+            Wrote W.contents W.has_failed writer.old writer.new text end) self.old.transcript result
+            self.new.transcript }
     {
         match items.finish() {
             Some(item) => match self.answer(rt, shared, ready, item, writer) {
@@ -191,7 +209,9 @@ impl<C: Begun> Session<C> {
         requires of { self.old.pass.of ≡ ready.now }
         requires item { IsItem outcome }
         ensures of { self.new.pass.of ≡ self.old.pass.of }
-        ensures told { Serves self.old.transcript.id outcome (λ text. Writes W.contents W.has_failed writer.old writer.new text result) self.old.transcript self.new.transcript }
+        ensures told { Serves self.old.transcript.id outcome
+            (λ text. Writes W.contents W.has_failed writer.old writer.new text result)
+            self.old.transcript self.new.transcript }
     {
         match outcome {
             Outcome::Nothing => Ok(()),
@@ -216,7 +236,9 @@ impl<C: Begun> Session<C> {
         requires of { self.old.pass.of ≡ ready.now }
         requires item { is_item item ≡ true }
         ensures of { self.new.pass.of ≡ self.old.pass.of }
-        ensures told { TellsItem self.old.transcript.id item (λ text. Writes W.contents W.has_failed writer.old writer.new text result) self.old.transcript self.new.transcript }
+        ensures told { TellsItem self.old.transcript.id item
+            (λ text. Writes W.contents W.has_failed writer.old writer.new text result)
+            self.old.transcript self.new.transcript }
     {
         self.push_ready(rt, shared, ready);
         if self.note(rt, shared, ready, item) {
@@ -237,7 +259,8 @@ impl<C: Begun> Session<C> {
         requires of { self.old.pass.of ≡ ready.now }
         requires item { is_item item ≡ true }
         ensures of { self.new.pass.of ≡ self.old.pass.of }
-        ensures noted { NotesBy (AnswersItem self.old.transcript.id item) self.old.transcript result self.new.transcript }
+        ensures noted { NotesBy (AnswersItem self.old.transcript.id item) self.old.transcript result
+            self.new.transcript }
     {
         match item {
             SessionLine::Blank => unreachable!(),
@@ -263,7 +286,8 @@ impl<C: Begun> Session<C> {
     ) -> bool
         requires { self.old.pass.of ≡ ready.now }
         ensures of { self.new.pass.of ≡ self.old.pass.of }
-        ensures noted { NotesBy (AnswersCommand self.old.transcript.id command) self.old.transcript result self.new.transcript }
+        ensures noted { NotesBy (AnswersCommand self.old.transcript.id command) self.old.transcript
+            result self.new.transcript }
     {
         let has_place = self.transcript.enter(&mut *shared.core.lock(rt), command);
         if has_place && self.began_job() {

@@ -10,7 +10,8 @@ use transcripts::{Item, Place};
 
 /// Writes what an item is told. Without a place it found no memory.
 pub fn write_told<W: Sink>(writer: &mut W, told: Option<&Place>) -> Result<(), Failed>
-    ensures { Writes W.contents W.has_failed writer.old writer.new (told_text (option_copied told.entry)) result }
+    ensures { Writes W.contents W.has_failed writer.old writer.new
+        (told_text (option_copied told.entry)) result }
 {
     match told {
         Some(place) => write_place(writer, place),

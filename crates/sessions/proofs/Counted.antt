@@ -12,10 +12,10 @@ use Rattle.job_state.specs.declared.sources.Sources.{Sources}
 use Rattle.tenant_slot.proofs.Runs.{step-served}
 use Rattle.service_core.specs.declared.entry.Entry.{Entry}
 use Rattle.service_core.specs.declared.put_reply.PutReply.TheVariants.{Recorded as PutRecorded}
-use Rattle.service_core.specs.Calls.{IsNextStep, IsPut, IsStepOf, IsTaken, step_entry, step_event}
+use Rattle.service_core.specs.Calls.{IsNextStep, IsPut, IsTaken}
 use Rattle.service_core.specs.History.{History, slot_of, state_of, with_entry, with_here}
 use Rattle.service_core.specs.Tenancy.{if_live}
-use Rattle.service_core.specs.Run.{Call, Run}
+use Rattle.service_core.specs.Run.{Call, Run, IsStepOf, step_entry, step_event}
 use Rattle.service_core.specs.Run.Call.{Take, Put}
 use Rattle.service_core.specs.Service.{ServiceState, history_of, live_of, modified}
 use Rattle.service_core.proofs.Histories.{state_after-push}

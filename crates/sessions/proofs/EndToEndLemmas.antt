@@ -11,10 +11,10 @@ use Rattle.tenant_slot.proofs.Runs.{step-full}
 use Rattle.service_core.specs.declared.device.Device.{Device}
 use Rattle.service_core.specs.declared.not_served.NotServed.{NotServed}
 use Rattle.service_core.specs.declared.not_served.NotServed.TheVariants.{NoMemory as NotServedNoMemory, JournalFull, NoSuchTenancy}
-use Rattle.service_core.specs.Calls.{IsReceipt, IsServed}
+use Rattle.service_core.specs.Calls.{IsServed}
 use Rattle.service_core.specs.History.{History, state_of}
 use Rattle.service_core.specs.Receipt.{Noted, Receipted}
-use Rattle.service_core.specs.Run.{Call, Run}
+use Rattle.service_core.specs.Run.{Call, Run, IsReceipt}
 use Rattle.service_core.specs.Run.Call.{Tenant}
 use Rattle.service_core.specs.Service.{IsAloneOn, ServiceState, empty, history_of, live_of, live_width}
 use Rattle.service_core.proofs.Alone.{state_alone}

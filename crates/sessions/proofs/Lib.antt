@@ -10,3 +10,4 @@ mod Stepping
 mod WaitLemmas
 mod WholeSessionLemmas
 mod WordLemmas
+pub mod RefusalTexts

@@ -4,10 +4,9 @@ use Rattle.std.specs.Prelude.{All, ⊤, option_map, if◌then◌else◌}
 use Rattle.std.specs.List.{flat_map}
 use Rattle.job_state.specs.Job.{JobState}
 use Rattle.service_core.specs.declared.put_reply.PutReply.TheVariants.{Recorded as PutRecorded, Full as PutFull, Gone as PutGone}
-use Rattle.service_core.specs.Calls.{IsGivenBackTo, step_entry}
 use Rattle.service_core.specs.History.{History, with_entry, with_here}
 use Rattle.service_core.specs.Tenancy.{if_live}
-use Rattle.service_core.specs.Run.{Call, Happens, Run}
+use Rattle.service_core.specs.Run.{Call, Happens, Run, IsGivenBackTo, step_entry}
 use Rattle.service_core.specs.Run.Call.{Admit, Evict, Move, Tenant, Take, Put, GiveBack, Owners}
 use Rattle.service_core.specs.Service.{ServiceState, history_of, live_of, live_width, modified}
 use Rattle.service_core.proofs.Lists.{history_of-modified}

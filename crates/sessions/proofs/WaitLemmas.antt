@@ -4,6 +4,7 @@ use Rattle.std.specs.Prelude.{◌⊎◌, ◌&&◌, IfSome, is_some, nat_lt, if�
 use Rattle.std.proofs.lemmas.Bool.Decides.{nat_tests}
 use Rattle.std.specs.declared.alloc.AllocError.{AllocError}
 use Rattle.std.specs.List.{flat_map}
+use Rattle.std.specs.Option.{option_map_or}
 use Rattle.job_state.specs.declared.step.JobStep.{JobStep}
 use Rattle.job_state.specs.Job.{JobState}
 use Rattle.tenant_slot.specs.declared.command.Command.TheVariants.{Status}
@@ -12,17 +13,17 @@ use Rattle.tenant_slot.specs.declared.reply.Reply.{Reply}
 use Rattle.tenant_slot.specs.declared.reply.Refusal.TheVariants.{WrongState}
 use Rattle.tenant_slot.specs.declared.reply.Reply.TheVariants.{Refused}
 use Rattle.tenant_slot.specs.SingleUser.{State, after, answer_to, is_lawful, running, serve, start, step}
-use Rattle.tenant_slot.specs.Slot.{is_takeable, next_job, here_after}
+use Rattle.tenant_slot.specs.Slot.{is_takeable, next_job}
 use Rattle.tenant_slot.proofs.Runs.{step-room, step-served}
 use Rattle.service_core.specs.declared.entry.Entry.{Entry}
 use Rattle.service_core.specs.declared.not_served.NotServed.{NotServed}
 use Rattle.service_core.specs.declared.not_served.NotServed.TheVariants.{JournalFull, NoMemory as NotServedNoMemory, NoSuchTenancy}
 use Rattle.service_core.specs.declared.put_reply.PutReply.{PutReply}
 use Rattle.service_core.specs.declared.put_reply.PutReply.TheVariants.{Full as PutFull, Gone as PutGone}
-use Rattle.service_core.specs.Calls.{IsReceipt, IsServed, IsTaken, takeable_in}
+use Rattle.service_core.specs.Calls.{IsServed, IsTaken, takeable_in}
 use Rattle.service_core.specs.History.{History, slot_of, state_of, with_entry, with_here}
 use Rattle.service_core.specs.Receipt.{Receipted}
-use Rattle.service_core.specs.Run.{Call, Run}
+use Rattle.service_core.specs.Run.{Call, Run, IsReceipt}
 use Rattle.service_core.specs.Run.Call.{Take, Put}
 use Rattle.service_core.specs.Service.{ServiceState, live_of}
 use Rattle.service_core.proofs.Histories.{state_after-push}
@@ -102,7 +103,7 @@ status_left_of h reply told left =
     let next : state_of (with_entry e h) ≡ record (state_of h) { entries = (state_of h).entries + 1 } =
     state_after-push (start h.arch h.strip) h.entries e
     ∙ (ap (λ (p : State × Option Reply). p.0) (step-room (state_of h) (Asked Status) served.1) ∙ ap (after (state_of h)) (status_changes (state_of h))) in
-    let here : (slot_of (with_entry e h)).here ≡ h.here = ap (here_after (slot_of h)) (status_changes (state_of h)) in
+    let here : (slot_of (with_entry e h)).here ≡ h.here = ap (λ (change : Option State). option_map_or (λ new. Some false) change h.here) (status_changes (state_of h)) in
     ap (λ (s : State). is_some (running s.name) && (is_some (slot_of (with_entry e h)).here && nat_lt s.entries 65536)) next
     ∙ (ap (λ here. is_some (running (state_of h).name) && (is_some here && nat_lt ((state_of h).entries + 1) 65536)) here
     ∙ fewer (is_some (running (state_of h).name)) (is_some h.here) (state_of h).entries left)

@@ -16,12 +16,12 @@ use Rattle.service_core.specs.declared.device.Device.{Device}
 use Rattle.service_core.specs.declared.not_served.NotServed.{NotServed}
 use Rattle.service_core.specs.declared.not_served.NotServed.TheVariants.{NoMemory as NotServedNoMemory, JournalFull, NoSuchTenancy}
 use Rattle.service_core.specs.declared.put_reply.PutReply.TheVariants.{Recorded as PutRecorded, Full as PutFull, Gone as PutGone}
-use Rattle.service_core.specs.Calls.{IsGivenBackTo, IsServed, step_entry, step_event}
+use Rattle.service_core.specs.Calls.{IsServed}
 use Rattle.service_core.specs.History.{History, with_entry, with_here}
 use Rattle.service_core.specs.Tenancy.{closed}
 use Rattle.service_core.specs.OwnEvents.{if_own, own_events, own_exchange, own_exchanges}
 use Rattle.service_core.specs.Receipt.{Receipted}
-use Rattle.service_core.specs.Run.{Call, Happens, Run}
+use Rattle.service_core.specs.Run.{Call, Happens, Run, IsGivenBackTo, step_entry, step_event}
 use Rattle.service_core.specs.Run.Call.{Admit, Evict, Move, Tenant, Take, Put, GiveBack, Owners}
 use Rattle.service_core.specs.Service.{ServiceState, empty, history_of, live_of, live_width, modified, strip_on, with_tenancy}
 use Rattle.service_core.proofs.MovedStrips.{same_histories}

@@ -1,5 +1,6 @@
 -- What a session is told, by the service for a single user.
 use Rattle.std.specs.Prelude.{ℕ, ◌≡◌, ◌-◌, ◌⊎◌, List, [], ◌++◌, length, take, Option, Some, None, Err}
+use Rattle.std.specs.Option.{option_map_or}
 use Rattle.tenant_slot.specs.declared.command.Command.{Command as TenantCommand}
 use Rattle.tenant_slot.specs.declared.command.Command.TheVariants.{Status}
 use Rattle.tenant_slot.specs.declared.event.Event.TheVariants.{Command as Asked}
@@ -17,18 +18,14 @@ use Rattle.sessions.specs.declared.told.Answer.{Answer}
 use Rattle.sessions.specs.declared.told.Answer.TheVariants.{Served}
 use Rattle.sessions.specs.SessionText.{answer_text, journal_full_text, reply_text, session_refusal_text}
 
--- the state that a tenancy's own events of those calls lead to alone, on a device of its strip's size
-abbrev pub alone_after : Device → ℕ → ℕ → List Call → State
-alone_after device width id calls = state_after (start device.arch (strip_on device width)) (own_events id calls)
-
 -- that service's reply as it is told; it has none where the journal is full
 abbrev pub told_text : Option Reply → List ℕ
-told_text (Some reply) = reply_text reply
-told_text None = journal_full_text
+told_text reply = option_map_or reply_text reply journal_full_text
 
--- what it tells for a command after those calls; without a width the tenancy isn't live
+-- what it tells for a command in the state that a tenancy's own events of those calls lead to alone, on a device of its strip's size;
+-- without a width the tenancy isn't live
 abbrev pub alone_text : Device → Option ℕ → ℕ → List Call → TenantCommand → List ℕ
-alone_text device (Some width) id calls command = told_text (step (alone_after device width id calls) (Asked command)).1
+alone_text device (Some width) id calls command = told_text (step (state_after (start device.arch (strip_on device width)) (own_events id calls)) (Asked command)).1
 alone_text device None id calls command = session_refusal_text Evicted
 
 -- a command is told so in that state of the core, unless memory lacked
@@ -41,3 +38,7 @@ LineIsToldAlone device state id before calls Blank answer = answer_text answer �
 LineIsToldAlone device state id before calls (Refused refusal) answer = answer_text answer ≡ session_refusal_text refusal
 LineIsToldAlone device state id before calls (Command command) answer = IsToldAlone device state id before command answer
 LineIsToldAlone device state id before calls Wait answer = IsToldAlone device state id (before ++ take (length calls - 1) calls) Status answer
+
+-- private: that state
+abbrev pub alone_after : Device → ℕ → ℕ → List Call → State
+alone_after device width id calls = state_after (start device.arch (strip_on device width)) (own_events id calls)

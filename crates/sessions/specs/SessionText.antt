@@ -57,21 +57,12 @@ reply_text (File kind text) = codes "text" ++ blank_word (file_text kind) ++ bla
 reply_text (Step reply) = step_text reply ++ 10 ∷ []
 reply_text (Refused refusal) = numbered_line (codes "refused") (refusal_number refusal) (refusal_text refusal) (cause_text refusal)
 
-abbrev pub session_refusal_number : SessionRefusal → ℕ
-session_refusal_number UnknownCommand = 1
-session_refusal_number BadNumber = 2
-session_refusal_number UnfinishedUpload = 3
-session_refusal_number Evicted = 4
-
-abbrev pub session_refusal_name : SessionRefusal → List ℕ
-session_refusal_name UnknownCommand = codes "UnknownCommand"
-session_refusal_name BadNumber = codes "BadNumber"
-session_refusal_name UnfinishedUpload = codes "UnfinishedUpload"
-session_refusal_name Evicted = codes "Evicted"
-
 -- a session's refusal as a line
 abbrev pub session_refusal_text : SessionRefusal → List ℕ
-session_refusal_text refusal = numbered_line (codes "line") (session_refusal_number refusal) (session_refusal_name refusal) []
+session_refusal_text UnknownCommand = numbered_line (codes "line") 1 (codes "UnknownCommand") []
+session_refusal_text BadNumber = numbered_line (codes "line") 2 (codes "BadNumber") []
+session_refusal_text UnfinishedUpload = numbered_line (codes "line") 3 (codes "UnfinishedUpload") []
+session_refusal_text Evicted = numbered_line (codes "line") 4 (codes "Evicted") []
 
 -- no memory, and a full journal, as lines
 abbrev pub no_memory_text : List ℕ
@@ -92,3 +83,16 @@ answer_text Nothing = []
 answer_text (Served (Ok receipt)) = reply_text receipt.reply
 answer_text (Served (Err refusal)) = unserved_text refusal
 answer_text (RefusedAnswer refusal) = session_refusal_text refusal
+
+-- a session's refusal's number and name in its line
+abbrev pub session_refusal_number : SessionRefusal → ℕ
+session_refusal_number UnknownCommand = 1
+session_refusal_number BadNumber = 2
+session_refusal_number UnfinishedUpload = 3
+session_refusal_number Evicted = 4
+
+abbrev pub session_refusal_name : SessionRefusal → List ℕ
+session_refusal_name UnknownCommand = codes "UnknownCommand"
+session_refusal_name BadNumber = codes "BadNumber"
+session_refusal_name UnfinishedUpload = codes "UnfinishedUpload"
+session_refusal_name Evicted = codes "Evicted"

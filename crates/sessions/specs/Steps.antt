@@ -33,16 +33,16 @@ abbrev pub MakesStep : ℕ → List Call → StepOutcome → Type 0
 MakesStep id calls Nothing = calls ≡ Take id None ∷ []
 MakesStep id calls outcome = (job : JobState) × (more : List Call) × StepsAndPuts job more outcome × (calls ≡ Take id (Some job) ∷ more)
 
--- a step that was recorded, with its calls
-abbrev pub MadeStep : Type 0
-MadeStep = List Call × StepReply
-
 -- the steps that were recorded end there
 abbrev pub EndsSteps : StepOutcome → Type 0
 EndsSteps (Recorded reply) = ⊥
 EndsSteps outcome = ⊤
 
--- steps that were recorded, and then one that was not
+-- steps that were recorded, each with its calls and its reply, and then one that was not
 abbrev pub Waits : ℕ → List Call → StepOutcome → Type 0
-Waits id calls last = (made : List MadeStep) × (end : List Call)
+Waits id calls last = (made : List (List Call × StepReply)) × (end : List Call)
     × All (λ m. MakesStep id m.0 (Recorded m.1)) made × MakesStep id end last × EndsSteps last × (calls ≡ flat_map (λ m. m.0) made ++ end)
+
+-- private: a step that was recorded, with its calls and its reply
+abbrev pub MadeStep : Type 0
+MadeStep = List Call × StepReply

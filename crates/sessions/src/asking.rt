@@ -24,7 +24,8 @@ pub fn answer<W: Sink>(
 ) -> (Answer, Result<(), Failed>)
     ensures answered { IsAnswer core.old id line result.0 core.new }
     ensures own { graph.now ≡ own_graph core.old.device → LeavesNone id line result.0 core.new }
-    ensures written { Writes W.contents W.has_failed writer.old writer.new (answer_text result.0) result.1 }
+    ensures written { Writes W.contents W.has_failed writer.old writer.new (answer_text result.0)
+        result.1 }
 {
     let answer = ask(core, graph, id, line);
     let written = write_answer(writer, &answer);

@@ -19,7 +19,10 @@ ghost use Rattle.sessions.specs.WholeSession.{Turn, Turns, events_in, heard, ses
 /// time, a line is told the text of what the service for a single user replies after the tenancy's own events: a wait what that
 /// service replies to `status` after those and the steps that the wait has made.
 pub fn end_to_end()
-    ensures { (device : Device) (before calls : List Call) (old new : ServiceState) (id : ℕ) (line : SessionLine) (answer : Answer) → Run (empty device) before old → Asks id line calls answer → Run old calls new → LineIsToldAlone device old id before calls line answer }
+    ensures { (device : Device) (before calls : List Call) (old new : ServiceState) (id : ℕ)
+        (line : SessionLine) (answer : Answer) → Run (empty device) before old →
+        Asks id line calls answer → Run old calls new →
+        LineIsToldAlone device old id before calls line answer }
 {}
 
 /// A whole session, end to end. While it goes on, others may call the core as they like, but for the commands and the eviction
@@ -27,14 +30,24 @@ pub fn end_to_end()
 /// The bytes that the session is written are one text: that of the replies that the service for a single user gives to the
 /// tenancy's events, in order. So in a core with one tenancy, from its admission on; and in any core, from any moment on.
 pub fn whole_session()
-    ensures one { (device : Device) (width offset : ℕ) (old new : ServiceState) (turns : List Turn) → Run (empty device) (Admit width (Ok (1, offset)) ∷ []) old → Turns 1 old turns new → written turns ≡ session_text (heard 1 turns) (replies_to (start device.arch (strip_on device width)) (events_in (heard 1 turns))) }
-    ensures any { (device : Device) (before : List Call) (old new : ServiceState) (id width : ℕ) (turns : List Turn) → Run (empty device) before old → live_width old.histories id ≡ Some width → Turns id old turns new → written turns ≡ session_text (heard id turns) (replies_to (alone_after device width id before) (events_in (heard id turns))) }
+    ensures one { (device : Device) (width offset : ℕ) (old new : ServiceState)
+        (turns : List Turn) → Run (empty device) (Admit width (Ok (1, offset)) ∷ []) old →
+        Turns 1 old turns new →
+        written turns ≡ session_text (heard 1 turns)
+        (replies_to (start device.arch (strip_on device width)) (events_in (heard 1 turns))) }
+    ensures any { (device : Device) (before : List Call) (old new : ServiceState) (id width : ℕ)
+        (turns : List Turn) → Run (empty device) before old →
+        live_width old.histories id ≡ Some width → Turns id old turns new →
+        written turns ≡ session_text (heard id turns)
+        (replies_to (alone_after device width id before) (events_in (heard id turns))) }
 {}
 
 /// Where the steps of a wait end, if memory didn't lack and the graph is that of the job's device: there is no step to take. So no
 /// job of the tenancy runs, its next step is out, the journal is full, or the tenancy isn't live.
 pub fn wait_ends()
-    ensures { (old new : ServiceState) (id : ℕ) (steps : List Call) (last : StepOutcome) → Waits id steps last → Run old steps new → (last ≡ NoMemory) ⊎ ((last ≡ Unfit) ⊎ (takeable_in (live_of new.histories id) ≡ false)) }
+    ensures { (old new : ServiceState) (id : ℕ) (steps : List Call) (last : StepOutcome) →
+        Waits id steps last → Run old steps new → (last ≡ NoMemory)
+        ⊎ ((last ≡ Unfit) ⊎ (takeable_in (live_of new.histories id) ≡ false)) }
 {}
 
 /// The device's own graph has a window for each job that the core gives out, where the strip of its tenancy stands then. Whatever

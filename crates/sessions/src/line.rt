@@ -66,7 +66,8 @@ pub fn line_form(line: &[u8]) -> LineForm
 
 /// The first word of a line, and what stands behind it. None where there is no word.
 fn next_word(line: &[u8]) -> Option<(&[u8], &[u8])>
-    ensures { MatchOption result (words_of line.now ≡ []) (λ parts. words_of line.now ≡ parts.0.now ∷ words_of parts.1.now) }
+    ensures { MatchOption result (words_of line.now ≡ [])
+        (λ parts. words_of line.now ≡ parts.0.now ∷ words_of parts.1.now) }
 {
     let line = skip_blanks(line);
     if line.is_empty() {
@@ -106,7 +107,8 @@ fn place_line(words: &[u8]) -> SessionLine
 
 /// The words, where they are two.
 fn two_words(words: &[u8]) -> Option<(&[u8], &[u8])>
-    ensures { MatchOption result (length (words_of words.now) ≢ 2) (λ two. words_of words.now ≡ two.0.now ∷ two.1.now ∷ []) }
+    ensures { MatchOption result (length (words_of words.now) ≢ 2)
+        (λ two. words_of words.now ≡ two.0.now ∷ two.1.now ∷ []) }
 {
     let (first, others) = next_word(words)?;
     let (second, others) = next_word(others)?;

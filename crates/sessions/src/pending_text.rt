@@ -42,7 +42,8 @@ impl PendingText {
 
     /// The text with one more line, without its end, as far as it is kept.
     pub fn with_line(self, line: &[u8]) -> Result<Self, AllocError>
-        ensures { IfOk result (λ text. text ≡ record { kind = self.kind; bytes = kept (self.bytes ++ line.now ++ 10 ∷ []) }) }
+        ensures { IfOk result (λ text.
+            text ≡ record { kind = self.kind; bytes = kept (self.bytes ++ line.now ++ 10 ∷ []) }) }
     {
         let PendingText { kind, mut bytes } = self;
         append_kept(&mut bytes, line)?;

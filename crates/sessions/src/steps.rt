@@ -47,7 +47,8 @@ pub fn make_step(core: &mut Service, graph: &DeviceGraph, id: u32) -> StepOutcom
 /// device's own graph has one for each job that its tenancy would take now.
 pub fn window_of<'g>(core: &Service, graph: &'g DeviceGraph, job: &AnyJob) -> Option<Window<'g>>
     ensures fits { IfSome result (λ window. window ≡ basis_in job.now.step.sources) }
-    ensures own { graph.now ≡ own_graph core.now.device → IsNextStep core.now job.now.step → IsSome result }
+    ensures own { graph.now ≡ own_graph core.now.device → IsNextStep core.now job.now.step →
+        IsSome result }
 {
     match core.offset(job.id()) {
         Some(offset) => job.window(graph, offset),
@@ -67,7 +68,8 @@ fn unfit(core: &mut Service, job: AnyJob) -> StepOutcome
 /// given back.
 pub fn step_and_put(core: &mut Service, job: AnyJob, window: &Window<'_>) -> StepOutcome
     requires { window.now ≡ basis_in job.step.sources }
-    ensures put { (calls : List Call) × StepsAndPuts job calls result × Run core.old calls core.new }
+    ensures put { (calls : List Call) × StepsAndPuts job calls result
+        × Run core.old calls core.new }
     ensures fits { result ≢ Unfit }
 {
     step_and_put_from(core, job, window, Origin::Unknown)
@@ -82,7 +84,8 @@ fn step_and_put_from(
 ) -> StepOutcome
     requires origin { IsOriginIn core.old job.step origin }
     requires window { window.now ≡ basis_in job.step.sources }
-    ensures put { (calls : List Call) × StepsAndPuts job calls result × Run core.old calls core.new }
+    ensures put { (calls : List Call) × StepsAndPuts job calls result
+        × Run core.old calls core.new }
     ensures fits { result ≢ Unfit }
 {
     match job.step(window) {

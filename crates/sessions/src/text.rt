@@ -19,7 +19,8 @@ fn write_numbered<'t, W: Sink>(
     more: &'t [u8],
     last: &'t [u8],
 ) -> Result<(), Failed>
-    ensures { Writes W.contents W.has_failed sink.old sink.new (numbered_line word.now number name.now (more.now ++ last.now)) result }
+    ensures { Writes W.contents W.has_failed sink.old sink.new
+        (numbered_line word.now number name.now (more.now ++ last.now)) result }
 {
     let mut digits = Buffer::new();
     let digits = digits.format(number).as_bytes();
@@ -29,14 +30,17 @@ fn write_numbered<'t, W: Sink>(
 
 /// Writes a refusal, as the line `refused NUMBER NAME`.
 pub fn write_refused<W: Sink>(sink: &mut W, number: u32, name: &str) -> Result<(), Failed>
-    ensures { Writes W.contents W.has_failed sink.old sink.new (numbered_line (codes "refused") number name.now []) result }
+    ensures { Writes W.contents W.has_failed sink.old sink.new
+        (numbered_line (codes "refused") number name.now []) result }
 {
     write_numbered(sink, b"refused", number, name, b"", b"")
 }
 
 /// Writes the line of a session's refusal.
+#[tactic(auto, using(crate::proofs::RefusalTexts::refusal_line))]
 pub fn write_session_refusal<W: Sink>(sink: &mut W, refusal: SessionRefusal) -> Result<(), Failed>
-    ensures { Writes W.contents W.has_failed sink.old sink.new (session_refusal_text refusal) result }
+    ensures { Writes W.contents W.has_failed sink.old sink.new (session_refusal_text refusal)
+        result }
 {
     write_numbered(sink, b"line", refusal.number(), refusal.name(), b"", b"")
 }
@@ -67,7 +71,8 @@ pub fn write_reply<W: Sink>(sink: &mut W, reply: &Reply) -> Result<(), Failed>
 
 /// Writes the line of a status.
 fn write_status<W: Sink>(sink: &mut W, status: &Status) -> Result<(), Failed>
-    ensures { Writes W.contents W.has_failed sink.old sink.new (reply_text (InState status.now)) result }
+    ensures { Writes W.contents W.has_failed sink.old sink.new (reply_text (InState status.now))
+        result }
 {
     let name = status.state.name();
     match &status.ending {
@@ -87,7 +92,9 @@ fn write_steps<'t, W: Sink>(
     more: &'t [u8],
     last: &'t [u8],
 ) -> Result<(), Failed>
-    ensures { Writes W.contents W.has_failed sink.old sink.new (codes "status" ++ blank_word name.now ++ blank_word (decimal steps) ++ (more.now ++ last.now) ++ 10 ∷ []) result }
+    ensures { Writes W.contents W.has_failed sink.old sink.new
+        (codes "status" ++ blank_word name.now ++ blank_word (decimal steps)
+        ++ (more.now ++ last.now) ++ 10 ∷ []) result }
 {
     let mut digits = Buffer::new();
     let steps = digits.format(steps).as_bytes();
@@ -97,7 +104,9 @@ fn write_steps<'t, W: Sink>(
 
 /// Writes the line of a file of that name, and its bytes behind it.
 fn write_file<'t, W: Sink>(sink: &mut W, name: &'t str, file: &'t [u8]) -> Result<(), Failed>
-    ensures { Writes W.contents W.has_failed sink.old sink.new (codes "text" ++ blank_word name.now ++ blank_word (decimal (length file.now)) ++ 10 ∷ file.now) result }
+    ensures { Writes W.contents W.has_failed sink.old sink.new
+        (codes "text" ++ blank_word name.now ++ blank_word (decimal (length file.now)) ++ 10
+        ∷ file.now) result }
 {
     let mut digits = Buffer::new();
     let count = digits.format(file.len()).as_bytes();
@@ -107,7 +116,8 @@ fn write_file<'t, W: Sink>(sink: &mut W, name: &'t str, file: &'t [u8]) -> Resul
 
 /// Writes the line of a refused command, with its cause.
 fn write_refusal<W: Sink>(sink: &mut W, refusal: &Refusal) -> Result<(), Failed>
-    ensures { Writes W.contents W.has_failed sink.old sink.new (reply_text (Refused refusal.now)) result }
+    ensures { Writes W.contents W.has_failed sink.old sink.new (reply_text (Refused refusal.now))
+        result }
 {
     let (number, name) = (refusal.number(), refusal.name());
     match refusal {
@@ -139,7 +149,8 @@ fn write_misfit<'t, W: Sink>(
     name: &'t str,
     misfit: Misfit,
 ) -> Result<(), Failed>
-    ensures { Writes W.contents W.has_failed sink.old sink.new (numbered_line (codes "refused") number name.now (cause_text (DoesNotFit misfit))) result }
+    ensures { Writes W.contents W.has_failed sink.old sink.new
+        (numbered_line (codes "refused") number name.now (cause_text (DoesNotFit misfit))) result }
 {
     match misfit {
         Misfit::Blocks { have, need } => {
@@ -158,7 +169,9 @@ fn write_amounts<'t, W: Sink>(
     have: usize,
     need: usize,
 ) -> Result<(), Failed>
-    ensures { Writes W.contents W.has_failed sink.old sink.new (numbered_line (codes "refused") number name.now (word.now ++ decimal have ++ blank_word (decimal need))) result }
+    ensures { Writes W.contents W.has_failed sink.old sink.new
+        (numbered_line (codes "refused") number name.now
+        (word.now ++ decimal have ++ blank_word (decimal need))) result }
 {
     let (mut digits, mut haves, mut needs) = (Buffer::new(), Buffer::new(), Buffer::new());
     let number = digits.format(number).as_bytes();
@@ -188,7 +201,8 @@ fn write_fault<W: Sink>(
     name: &str,
     fault: &BlifFault,
 ) -> Result<(), Failed>
-    ensures { Writes W.contents W.has_failed sink.old sink.new (numbered_line (codes "refused") number name.now (cause_text (BadBlif fault.now))) result }
+    ensures { Writes W.contents W.has_failed sink.old sink.new
+        (numbered_line (codes "refused") number name.now (cause_text (BadBlif fault.now))) result }
 {
     let (mut digits, mut kinds, mut lines) = (Buffer::new(), Buffer::new(), Buffer::new());
     let number = digits.format(number).as_bytes();

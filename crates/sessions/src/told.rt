@@ -31,7 +31,8 @@ pub(crate) fn write_answer<W: Sink>(writer: &mut W, answer: &Answer) -> Result<(
 
 /// Writes why the core had no reply.
 fn write_unserved<W: Sink>(writer: &mut W, refusal: &NotServed) -> Result<(), Failed>
-    ensures { Writes W.contents W.has_failed writer.old writer.new (unserved_text refusal.now) result }
+    ensures { Writes W.contents W.has_failed writer.old writer.new (unserved_text refusal.now)
+        result }
 {
     match refusal {
         NotServed::NoSuchTenancy(_) => write_session_refusal(writer, SessionRefusal::Evicted),

@@ -30,7 +30,8 @@ pub(crate) fn has_each_lease<C: Begun, P: Ledger>(
     core: &Core<C, P>,
     transcripts: &[Transcript<C>],
 ) -> bool
-    ensures { MatchBool result ((id : ℕ) → is_leased core.now.marks id ≡ true → has_id transcripts.now id ≡ true) (LacksLease core.now transcripts.now) }
+    ensures { MatchBool result ((id : ℕ) → is_leased core.now.marks id ≡ true →
+        has_id transcripts.now id ≡ true) (LacksLease core.now transcripts.now) }
 {
     for index in 0..core.admissions() {
         if core.leased(index + 1) && !has_id(transcripts, index + 1) {
@@ -60,7 +61,8 @@ fn is_borne_out<C: Begun, P: Ledger>(
     least: u64,
     receipt: &Receipt,
 ) -> bool
-    ensures { IsTrue result ↔ IsBorneOut core.now (record { id = id; repeated = repeated; least = least; receipt = receipt.now }) }
+    ensures { IsTrue result ↔ IsBorneOut core.now
+        (record { id = id; repeated = repeated; least = least; receipt = receipt.now }) }
 {
     if receipt.id() != id || repeated || (receipt.place() as u64) < least {
         return false;
@@ -81,8 +83,10 @@ fn mismatch_in<C: Begun, P: Ledger>(
     repeated: bool,
 ) -> Option<At>
     ensures { MatchOption result
-        (All (IsBorneOut core.now) (claims_in transcript.now.id repeated 0 (receipts_of transcript.now.items)))
-        (λ at. IsFirstBad core.now (claims_in transcript.now.id repeated 0 (receipts_of transcript.now.items)) at.0 at.1) }
+        (All (IsBorneOut core.now)
+        (claims_in transcript.now.id repeated 0 (receipts_of transcript.now.items)))
+        (λ at. IsFirstBad core.now
+        (claims_in transcript.now.id repeated 0 (receipts_of transcript.now.items)) at.0 at.1) }
 {
     let id = transcript.id();
     let items = transcript.items();

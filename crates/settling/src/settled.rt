@@ -55,8 +55,10 @@ pub fn settle<C: Begun, P: Ledger>(
     ensures settled { IfOk result (λ s. IsSettled C.begun core transcripts.items shares.items) }
     ensures follows { IfOk result (λ s. Follows C.begun s.service) }
     ensures stays { IfOk result (λ s. C.stay ≡ true → Stays C.begun s.service) }
-    ensures cause { IfErr result (λ e. IsCause core transcripts.items (length shares.items) e.cause) }
-    ensures back { IfErr result (λ e. (e.core ≡ core) × (e.transcripts.items ≡ transcripts.items) × (e.shares.items ≡ shares.items)) }
+    ensures cause { IfErr result (λ e. IsCause core transcripts.items (length shares.items)
+        e.cause) }
+    ensures back { IfErr result (λ e. (e.core ≡ core) × (e.transcripts.items ≡ transcripts.items)
+        × (e.shares.items ≡ shares.items)) }
 {
     if let Some(cause) = first_cause(&core, &transcripts, shares.len()) {
         return Err(NotSettled {
@@ -82,7 +84,8 @@ fn first_cause<C: Begun, P: Ledger>(
     shares: usize,
 ) -> Option<Cause>
     ensures { MatchOption result
-        (AreAllThere core.now transcripts.now shares × All (IsBorneOut core.now) (claims_of transcripts.now))
+        (AreAllThere core.now transcripts.now shares
+        × All (IsBorneOut core.now) (claims_of transcripts.now))
         (λ cause. IsCause core.now transcripts.now shares cause) }
 {
     if !has_each_lease(core, transcripts) || shares < core.shares_given() as usize {

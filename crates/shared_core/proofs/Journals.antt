@@ -15,8 +15,10 @@ use Rattle.service_core.specs.declared.put_reply.PutReply.TheVariants.{Recorded,
 use Rattle.service_core.specs.History.{History, with_entry, with_here}
 use Rattle.service_core.specs.Tenancy.{if_live}
 use Rattle.service_core.specs.Receipt.{Receipted}
-use Rattle.service_core.specs.Service.{ServiceState, entries_in, history_of, live_of, modified, with_entry_of, with_here_of}
-use Rattle.service_core.specs.Calls.{IsGivenBack, IsGivenBackTo, IsPut, IsReceipt, IsServed, IsTaken, Puts, step_entry}
+use Rattle.service_core.specs.Service.{ServiceState, entries_in, history_of, live_of, modified}
+use Rattle.service_core.specs.Kept.{with_entry_of, with_here_of}
+use Rattle.service_core.specs.Calls.{IsGivenBack, IsPut, IsServed, IsTaken, Puts}
+use Rattle.service_core.specs.Run.{IsGivenBackTo, IsReceipt, step_entry}
 use Rattle.service_core.proofs.Lists.{history_of-modified}
 use Rattle.shared_core.specs.CoreState.{is_put, puts_among, puts_in}
 use Rattle.shared_core.specs.CoreCalls.{puts_of}

@@ -14,7 +14,8 @@ use Rattle.service_core.specs.declared.op_refusal.OpRefusal.{OpRefusal}
 use Rattle.service_core.specs.declared.op_refusal.OpRefusal.TheVariants.{BadWidth, IdsSpent, NoMemory as OpNoMemory, NoRoom, NoSuchTenancy as OpNoSuchTenancy, TooManyStrips}
 use Rattle.service_core.specs.Receipt.{Receipted}
 use Rattle.service_core.specs.Service.{AreAlone, IsAloneOn, ServiceState, admitted, entries_in, history_of, live_of, modified, placed_width, live_width, with_tenancy, without_tenancy}
-use Rattle.service_core.specs.Calls.{IsAdmitted, IsEvicted, IsMoved, IsReceipt, IsServed}
+use Rattle.service_core.specs.Calls.{IsAdmitted, IsEvicted, IsMoved, IsServed}
+use Rattle.service_core.specs.Run.{IsReceipt}
 use Rattle.service_core.specs.Headline.{AreParted}
 use Rattle.service_core.proofs.MovedStrips.{same_histories}
 use Rattle.service_core.proofs.Lists.{All-history_of, history_of-modified, history_of-past, history_of-push, history_of-zero, length-modified}

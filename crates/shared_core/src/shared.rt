@@ -1,15 +1,15 @@
 //! The service with its account.
-ghost use Rattle.std.specs.Prelude.{◌≡◌, ◌+◌, ◌≤◌, IfErr, IfOk, Some, length, option_copied, option_map, slice_get, true, false};
-ghost use Rattle.arch_file.specs.Arch.{IsArch};
+ghost use Rattle.std.specs.Prelude.{◌≡◌, ◌≤◌, IfErr, IfOk, Some, length, option_copied, option_map, slice_get, true, false};
 ghost use Rattle.strips.specs.Plan.{offset_of};
 ghost use Rattle.service_core.specs.Calls.{IsAdmitted, IsEvicted, IsGivenBack, IsMoved, IsServed, IsTaken, Puts};
 ghost use Rattle.service_core.specs.Headline.{AreParted};
 ghost use Rattle.service_core.specs.History.{state_of};
+ghost use Rattle.service_core.specs.Kept.{IsDevice};
 ghost use Rattle.service_core.specs.Service.{AreAlone, empty, journal_of, live_of};
-ghost use Rattle.shared_core.specs.Accounts.{AreMarks, leases_in, places_sum};
 ghost use Rattle.shared_core.specs.CoreCalls.{Admits, ChangesService, CountsCommand, CountsOwnPut, CountsPut, Evicts, GivesLease, GivesShare, IsWrapped, MarksEntry};
-ghost use Rattle.shared_core.specs.Following.{Follows, Stays};
-ghost use Rattle.shared_core.specs.CoreState.{AreSlotted, can_lease, has_room_in, holder_of, is_idle_in, is_leased, is_live, is_marked, puts_in, ready_number, with_mark};
+ghost use Rattle.shared_core.specs.CoreState.{AreSlotted, can_lease, has_room_in, holder_of, is_idle_in, is_leased, is_live, is_marked, ready_number, with_mark};
+
+mod closing;
 
 use crate::begun::Begun;
 use crate::lease_marks::{LeaseMarks, marks_of};
@@ -49,7 +49,9 @@ impl<C: Begun, P: Ledger> Model for Core<C, P> {
 
     ghost view = { λ c. record { service = c.service; marks = c.marks.items; slots = c.slots; shares = c.shares; own_puts = c.own.amount } };
 
-    ghost invariant = { λ c. IsAccount C.begun C.stay c.service c.marks.items c.slots.holders (c.commands.total, c.spare.parts, c.spare.amount, C.parts) (c.puts.total, c.own.parts, P.parts) c.shares };
+    ghost invariant = { λ c. IsAccount C.begun C.stay c.service c.marks.items c.slots.holders
+        (c.commands.total, c.spare.parts, c.spare.amount, C.parts)
+        (c.puts.total, c.own.parts, P.parts) c.shares };
 }
 
 impl<C: Begun, P: Ledger> Core<C, P> {
@@ -60,12 +62,9 @@ impl<C: Begun, P: Ledger> Core<C, P> {
         commands: Blank,
         puts: Blank,
     ) -> Result<Self, AllocError>
-        requires arch { IsArch device.arch }
-        requires has_columns { 1 ≤ device.columns }
-        requires columns { device.columns ≤ 256 }
-        requires has_rows { 1 ≤ device.rows }
-        requires rows { device.rows ≤ 64 }
-        requires commands { (commands.name ≡ C.name) × (commands.parts ≡ C.parts) × (commands.parts ≡ 65536) }
+        requires device { IsDevice device }
+        requires commands { (commands.name ≡ C.name) × (commands.parts ≡ C.parts)
+            × (commands.parts ≡ 65536) }
         requires puts { (puts.name ≡ P.name) × (puts.parts ≡ P.parts) × (puts.parts ≡ 17) }
         requires begun { C.begun ≡ empty device }
         ensures { IfOk result (λ core. IsWrapped (empty device) core) }
@@ -88,7 +87,8 @@ impl<C: Begun, P: Ledger> Core<C, P> {
         commands: Blank,
         puts: Blank,
     ) -> Result<Self, (Service, AllocError)>
-        requires commands { (commands.name ≡ C.name) × (commands.parts ≡ C.parts) × (commands.parts ≡ 65536) }
+        requires commands { (commands.name ≡ C.name) × (commands.parts ≡ C.parts)
+            × (commands.parts ≡ 65536) }
         requires puts { (puts.name ≡ P.name) × (puts.parts ≡ P.parts) × (puts.parts ≡ 17) }
         requires begun { C.begun ≡ service }
         ensures ok { IfOk result (λ core. IsWrapped service core) }
@@ -128,7 +128,8 @@ impl<C: Begun, P: Ledger> Core<C, P> {
 
     /// The state of a live tenancy.
     pub fn state(&self, id: u32) -> Option<StateName>
-        ensures value { result ≡ option_map (λ h. (state_of h).name) (live_of self.now.service.histories id) }
+        ensures value { result ≡ option_map (λ h. (state_of h).name)
+            (live_of self.now.service.histories id) }
         ensures alone { AreAlone self.now.service }
     {
         self.service.state(id)
@@ -366,61 +367,11 @@ impl<C: Begun, P: Ledger> Core<C, P> {
     /// Unmarks a slot number, and tells the live tenancy whose it is. Takes no memory.
     pub fn popped(&mut self, slot: u32) -> Option<u32>
         ensures value { result ≡ holder_of self.old.slots.holders slot }
-        ensures core { self.new ≡ record self.old { slots = with_mark self.old.slots (Some slot) false } }
+        ensures core { self.new ≡ record self.old {
+          slots = with_mark self.old.slots (Some slot) false;
+        } }
         ensures slotted { AreSlotted (is_live self.old.service.histories) self.old.slots.holders }
     {
         self.slots.unmark(slot)
-    }
-
-    /// Of a core whose leases and shares are all back: their amounts are the marked entries and the puts.
-    pub fn close(
-        self,
-        commands: ledger::Share<C>,
-        puts: ledger::Share<P>,
-    ) -> (Service, Vec<LeaseMarks>)
-        requires leases { leases_in self.marks ≤ commands.parts }
-        requires shares { self.shares ≤ puts.parts }
-        ensures service { result.0 ≡ self.service }
-        ensures marks { result.1.items ≡ self.marks }
-        ensures leases { commands.parts ≡ leases_in self.marks }
-        ensures shares { puts.parts ≡ self.shares }
-        ensures commands { commands.amount ≡ places_sum self.marks }
-        ensures puts { puts.amount + self.own_puts ≡ puts_in self.service.histories }
-        ensures account { AreMarks C.begun.histories self.service.histories self.marks }
-        ensures follows { Follows C.begun self.service }
-        ensures stays { C.stay ≡ true → Stays C.begun self.service }
-    {
-        let Core {
-            alloc: _,
-            service,
-            marks,
-            slots: _,
-            commands: mut book,
-            spare: mut all,
-            puts: mut put_book,
-            own: mut all_puts,
-            shares: _,
-        } = self;
-        all.merge(commands);
-        book.audit(&mut all);
-        all_puts.merge(puts);
-        put_book.audit(&mut all_puts);
-        (service, marks)
-    }
-
-    /// A part of nothing, to which leases' parts are added.
-    pub fn no_commands(&mut self) -> ledger::Share<C>
-        ensures nothing { (result.parts ≡ 0) × (result.amount ≡ 0) }
-        ensures same { self.new ≡ self.old }
-    {
-        self.spare.empty()
-    }
-
-    /// A part of nothing, to which shares' parts are added.
-    pub fn no_puts(&mut self) -> ledger::Share<P>
-        ensures nothing { (result.parts ≡ 0) × (result.amount ≡ 0) }
-        ensures same { self.new ≡ self.old }
-    {
-        self.own.empty()
     }
 }

@@ -14,7 +14,8 @@ use tenant_slot::{Event, MAX_ENTRIES};
 
 /// No marks, of each tenancy that has been admitted.
 pub(crate) fn no_marks(alloc: Global, service: &Service) -> Result<Vec<LeaseMarks>, AllocError>
-    ensures marks { IfOk result (λ marks. marks.items ≡ replicate (length service.now.histories) unmarked) }
+    ensures marks { IfOk result (λ marks.
+        marks.items ≡ replicate (length service.now.histories) unmarked) }
     ensures few { length service.now.histories ≤ 65535 }
 {
     let admissions = service.admissions();

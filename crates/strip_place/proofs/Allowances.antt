@@ -8,8 +8,8 @@ use Rattle.std.proofs.lemmas.Bool.{cases_lt, leb-true, ltb-true}
 use Rattle.std.proofs.lemmas.Bool.Decides.{nat_tests}
 use Rattle.std.proofs.lemmas.Grind.{div_ceil_times}
 use Rattle.std.proofs.lemmas.Nat.{leading_length}
-use Rattle.strip_place.specs.Pass.{halvings, is_kept}
-use Rattle.strip_place.specs.Boards.{allowance}
+use Rattle.strip_place.specs.Pass.{is_kept}
+use Rattle.strip_place.specs.Boards.{allowance, halvings}
 
 -- comparisons as tests
 le_true : (a b : ℕ) → a ≤ b → nat_le a b ≡ true

@@ -22,7 +22,7 @@ use Rattle.kept_places.specs.declared.table.KeptPlace.{KeptPlace}
 use Rattle.kept_places.specs.Kept.{KeptPlaces, in_order}
 use Rattle.kept_places.specs.Table.{entries_of, entry_of}
 use Rattle.kept_places.proofs.Entries.{find-in_order, tied}
-use Rattle.strip_place.specs.Keeping.{AreKeptOn, kept_of, kind_for}
+use Rattle.strip_place.specs.Keeping.{AreKeptOn, kind_for}
 use Rattle.strip_place.specs.Placed.{ArePlaced, block_at}
 
 -- what is found by a key
@@ -47,7 +47,7 @@ key_kind packed (OutputPad net) = refl
 key_kind packed (Cluster cluster) = refl
 
 -- places that are those of blocks may be kept
-pub placed_kept : (strip : Strip) (packed : PackedCircuit) (places : List Place) → ArePlaced strip packed places → AreKeptOn strip (kept_of packed places)
+pub placed_kept : (strip : Strip) (packed : PackedCircuit) (places : List Place) → ArePlaced strip packed places → AreKeptOn strip (in_order (zip (keys_of packed) places))
 placed_kept strip packed places placed = record {
   by_kind = λ key place is.
       (let at = zip_found (keys_of packed) places key place (sym (find-in_order key (zip (keys_of packed) places)) ∙ is) in
@@ -112,10 +112,10 @@ keys_distinct strip packed places rows placed apart are =
     subst (IsDistinct (eq_by_cmp key_order)) (sym keys) (IsDistinct-from_apart (eq_by_cmp key_order) (keys_of packed) (λ i j d before lt. other_key _ _ (apart i j d before lt)))
 
 -- what was made of them
-pub kept_exact : {E : Type 0} (packed : PackedCircuit) (places : List Place) (rows : List KeptPlace) (made : Result KeptPlaces E) → entries_of rows ≡ zip (keys_of packed) places → IfOk made (λ kept. kept ≡ in_order (entries_of rows)) → IfOk made (λ kept. kept ≡ kept_of packed places)
+pub kept_exact : {E : Type 0} (packed : PackedCircuit) (places : List Place) (rows : List KeptPlace) (made : Result KeptPlaces E) → entries_of rows ≡ zip (keys_of packed) places → IfOk made (λ kept. kept ≡ in_order (entries_of rows)) → IfOk made (λ kept. kept ≡ in_order (zip (keys_of packed) places))
 kept_exact packed places rows (Ok kept) are is = is ∙ ap in_order are
 kept_exact packed places rows (Err error) are is = tt
 
-pub kept_lawfully : {E : Type 0} (strip : Strip) (packed : PackedCircuit) (places : List Place) (made : Result KeptPlaces E) → ArePlaced strip packed places → IfOk made (λ kept. kept ≡ kept_of packed places) → IfOk made (λ kept. AreKeptOn strip kept)
+pub kept_lawfully : {E : Type 0} (strip : Strip) (packed : PackedCircuit) (places : List Place) (made : Result KeptPlaces E) → ArePlaced strip packed places → IfOk made (λ kept. kept ≡ in_order (zip (keys_of packed) places)) → IfOk made (λ kept. AreKeptOn strip kept)
 kept_lawfully strip packed places (Ok kept) placed is = subst (AreKeptOn strip) (sym is) (placed_kept strip packed places placed)
 kept_lawfully strip packed places (Err error) placed is = tt

@@ -1,6 +1,6 @@
 -- The places at the start are those of the sites at the start.
 use Rattle.std.proofs.Common.{◌≡◌, ◌≢◌, ℕ, zero, suc, ◌+◌, ◌-◌, ◌<◌, ◌≤◌, All, Bool, true, false, not, cond, ◌||◌, List, [], ◌∷◌, ◌++◌, Option, Some, None, nat_eq, find, length, get_or, map, slice_get, refl, sym, ap, ◌∙◌, arith}
-use Rattle.std.specs.Prelude.{AllPairs, option_map, unwrap_or}
+use Rattle.std.specs.Prelude.{AllPairs, option_and_then, option_map, unwrap_or}
 use Rattle.std.specs.List.{flat_map, range_with_len, zip}
 use Rattle.std.specs.Option.{option_to_list}
 use Rattle.std.proofs.lemmas.List.{append-nil, append_assoc, get_or-append_right, length_push, map_push}
@@ -15,12 +15,12 @@ use Rattle.grid.specs.declared.place.Kind.TheVariants.{Logic, Pad}
 use Rattle.grid.specs.declared.place.Place.{Place}
 use Rattle.grid.specs.Places.{place_at, places_of}
 use Rattle.kept_places.specs.Kept.{KeptPlaces, kept_place}
-use Rattle.strip_place.specs.Boards.{places_on}
+use Rattle.strip_place.specs.Boards.{places_on, has_place}
 use Rattle.strip_place.specs.Keeping.{AreKeptOn, kind_for}
 use Rattle.strip_place.specs.KeptSites.{kept_sites_of, site_of}
 use Rattle.strip_place.specs.Placed.{is_same_place}
 use Rattle.strip_place.specs.Sites.{AreDistinct, first_site, is_among, kept_sites, least_free, seated_behind, site_count, site_place, sites_of, start_of}
-use Rattle.strip_place.specs.Start.{first_free, has_place, is_kept_one, kept_by_block, placed_behind, placed_first}
+use Rattle.strip_place.specs.Start.{kept_by_block, placed_behind, placed_first}
 use Rattle.strip_place.specs.Starting.{AreKeptSites, HaveRoom}
 use Rattle.strip_place.proofs.Carrying.{Inside, test_carried}
 use Rattle.strip_place.proofs.KeptSites.{is_itself, number_of, place_back, same_parts}
@@ -83,7 +83,7 @@ module _ (strip : Strip) (distinct : AreDistinct strip) where
   kind_inside Logic = omega (arith, length-sites_of strip)
   kind_inside Pad = omega (arith, length-sites_of strip)
 
-  free_carried : (kind : Kind) (taken : List ℕ) → All (Inside strip distinct) taken → IsLeast taken (first_site strip kind) (site_count strip kind) (least_free strip kind taken) → site_place strip (least_free strip kind taken) ≡ first_free strip kind (places_on strip taken)
+  free_carried : (kind : Kind) (taken : List ℕ) → All (Inside strip distinct) taken → IsLeast taken (first_site strip kind) (site_count strip kind) (least_free strip kind taken) → site_place strip (least_free strip kind taken) ≡ unwrap_or (find (λ place. not (has_place (places_on strip taken) place)) (places_of strip kind)) (place_at 0 0 0)
   free_carried kind taken all least =
       sym (ap (λ (places : List Place). unwrap_or (find (λ place. not (has_place (places_on strip taken) place)) places) (place_at 0 0 0)) (places_are strip kind)
       ∙ ap (λ (o : Option Place). unwrap_or o (place_at 0 0 0)) (find_carried taken (first_site strip kind) (site_count strip kind) all (kind_inside kind))
@@ -138,33 +138,29 @@ module _ (strip : Strip) (distinct : AreDistinct strip) where
       ∙ ap (placed_behind strip (flat_map option_to_list (map (option_map (site_place strip)) kept))) (zip_carried kinds kept)
 
 -- what is kept is found in the strip
-find_none : (places : List Place) → find (is_kept_one None) places ≡ None
-find_none [] = refl
-find_none (place ∷ places) = find_none places
-
 found : (a b : Place) → is_same_place a b ≡ true → b ≡ a
 found a b same = sym (same_parts a b (grind (arith, nat_tests, same)) (grind (arith, nat_tests, same)) (grind (arith, nat_tests, same)))
 
-find_kept : (places : List Place) (number : ℕ) (place : Place) → slice_get places number ≡ Some place → find (is_kept_one (Some place)) places ≡ Some place
+find_kept : (places : List Place) (number : ℕ) (place : Place) → slice_get places number ≡ Some place → find (is_same_place place) places ≡ Some place
 find_kept [] number place is = absurd (let lt = slice_get_within [] number place is in omega (arith, lt))
 find_kept (first ∷ places) zero place is =
     let same : first ≡ place = cc in
-    ap (λ (b : Bool). cond b (Some first) (find (is_kept_one (Some place)) places)) (ap (is_same_place place) same ∙ is_itself place) ∙ ap (λ (p : Place). let o : Option Place = Some p in o) same
+    ap (λ (b : Bool). cond b (Some first) (find (is_same_place place) places)) (ap (is_same_place place) same ∙ is_itself place) ∙ ap (λ (p : Place). let o : Option Place = Some p in o) same
 find_kept (first ∷ places) (suc number) place is = by (is_same_place place first) refl (find_kept places number place is)
   where
-    by : (b : Bool) → is_same_place place first ≡ b → find (is_kept_one (Some place)) places ≡ Some place → cond (is_same_place place first) (Some first) (find (is_kept_one (Some place)) places) ≡ Some place
-    by true same rest = ap (λ (b : Bool). cond b (Some first) (find (is_kept_one (Some place)) places)) same ∙ ap (λ (p : Place). let o : Option Place = Some p in o) (found place first same)
-    by false differs rest = ap (λ (b : Bool). cond b (Some first) (find (is_kept_one (Some place)) places)) differs ∙ rest
+    by : (b : Bool) → is_same_place place first ≡ b → find (is_same_place place) places ≡ Some place → cond (is_same_place place first) (Some first) (find (is_same_place place) places) ≡ Some place
+    by true same rest = ap (λ (b : Bool). cond b (Some first) (find (is_same_place place) places)) same ∙ ap (λ (p : Place). let o : Option Place = Some p in o) (found place first same)
+    by false differs rest = ap (λ (b : Bool). cond b (Some first) (find (is_same_place place) places)) differs ∙ rest
 
 module _ (strip : Strip) (apart : (kind : Kind) → AllPairs (λ place next. place ≢ next) (places_of strip kind)) (kept : KeptPlaces) (lawful : AreKeptOn strip kept) where
-  one_kept : (key : BlockKey) (o : Option Place) → kept_place kept key ≡ o → option_map (site_place strip) (option_map (site_of strip key.kind) o) ≡ find (is_kept_one o) (places_of strip (kind_for key.kind))
-  one_kept key None is = sym (find_none (places_of strip (kind_for key.kind)))
+  one_kept : (key : BlockKey) (o : Option Place) → kept_place kept key ≡ o → option_map (site_place strip) (option_map (site_of strip key.kind) o) ≡ option_and_then (λ place. find (is_same_place place) (places_of strip (kind_for key.kind))) o
+  one_kept key None is = refl
   one_kept key (Some place) is =
       let there = lawful.by_kind key place is in
       ap (λ (p : Place). let o : Option Place = Some p in o) (place_back strip apart key.kind place there)
       ∙ sym (find_kept (places_of strip (kind_for key.kind)) _ place (number_of strip apart (kind_for key.kind) place there))
 
-  all_kept : (keys : List BlockKey) → map (option_map (site_place strip)) (map (λ key. option_map (site_of strip key.kind) (kept_place kept key)) keys) ≡ map (λ key. find (is_kept_one (kept_place kept key)) (places_of strip (kind_for key.kind))) keys
+  all_kept : (keys : List BlockKey) → map (option_map (site_place strip)) (map (λ key. option_map (site_of strip key.kind) (kept_place kept key)) keys) ≡ map (λ key. option_and_then (λ place. find (is_same_place place) (places_of strip (kind_for key.kind))) (kept_place kept key)) keys
   all_kept [] = refl
   all_kept (key ∷ keys) =
       let head = one_kept key (kept_place kept key) refl in

@@ -6,7 +6,7 @@ use Rattle.strip_place.specs.declared.net_box.NetBox.{NetBox}
 use Rattle.strip_place.specs.declared.point.Point.{Point}
 use Rattle.strip_place.specs.declared.sides.Sides.{Sides}
 use Rattle.strip_place.specs.Extents.{IsNear, count_at, mirrored}
-use Rattle.strip_place.specs.Nets.{net_at}
+use Rattle.strip_place.specs.Nets.{AreNets, net_at}
 use Rattle.strip_place.specs.Pass.{spread}
 use Rattle.strip_place.specs.Sides.{farther, nearer, sum_of}
 
@@ -111,6 +111,20 @@ pub record AreFewOf (count : ℕ) (touched : List ℕ) : Type 0 where
   pub few : length touched ≤ 2147483648
   pub within : (k : ℕ) → k < length touched → slice_index touched k < count
 
+-- no box is larger than the field
+abbrev pub AreInside : List NetBox → Type 0
+AreInside boxes = (number : ℕ) → number < length boxes → sum_of (box_at boxes number).near ≤ 131070
+
+-- they can be summed up
+pub record CanSum (all : List NetBox) : Type 0 where
+  pub few : length all < 2147483648
+  pub boxes : AreInside all
+
+-- those of the nets of these numbers can be summed up
+pub record CanWeigh (all : List NetBox) (numbers : List ℕ) : Type 0 where
+  pub touched : AreFewOf (length all) numbers
+  pub boxes : AreInside all
+
 -- each net has its box
 pub record AreBoxes (points : List Point) (nets : List (List ℕ)) (boxes : List NetBox) : Type 0 where
   pub long : length boxes ≡ length nets
@@ -120,3 +134,16 @@ pub record AreBoxes (points : List Point) (nets : List (List ℕ)) (boxes : List
 abbrev pub StayDeep : List Point → List (List ℕ) → List NetBox → Exchanged → Type 0
 StayDeep points nets boxes moved =
     (number : ℕ) → number < length nets → IsDeep (box_at boxes number) moved.one → IsDeep (box_at boxes number) moved.other → IsBox points (net_at nets number) (box_at boxes number)
+
+-- the boxes of the nets of these numbers can be worked out once two blocks changed places
+pub record CanRenew (points : List Point) (nets : List (List ℕ)) (numbers : List ℕ) (boxes : List NetBox) (moved : Exchanged) : Type 0 where
+  pub lawful : AreNets (length points) nets
+  pub long : length boxes ≡ length nets
+  pub touched : AreFewOf (length nets) numbers
+  pub deep : StayDeep points nets boxes moved
+
+-- so can those of the nets on two lists, over lawful nets
+pub record AreTouchedBy (points : List Point) (nets : List (List ℕ)) (one two : List ℕ) (boxes : List NetBox) (moved : Exchanged) : Type 0 where
+  pub first : AreFewOf (length nets) one
+  pub second : AreFewOf (length nets) two
+  pub deep : StayDeep points nets boxes moved

@@ -1,26 +1,19 @@
 -- The places that blocks keep.
-use Rattle.std.specs.Prelude.{◌≡◌, List, Some, Contains}
-use Rattle.std.specs.List.{zip}
-use Rattle.cluster.specs.Clusters.{PackedCircuit}
-use Rattle.cluster.specs.Keys.{BlockKey, keys_of}
+use Rattle.std.specs.Prelude.{◌≡◌, Some, Contains}
+use Rattle.cluster.specs.Keys.{BlockKey}
 use Rattle.cluster.specs.declared.block.BlockKind.{BlockKind}
-use Rattle.cluster.specs.declared.block.BlockKind.TheVariants.{InputPad, OutputPad, Cluster}
+use Rattle.cluster.specs.declared.block.BlockKind.TheVariants.{Cluster}
 use Rattle.grid.specs.declared.Strip.{Strip}
 use Rattle.grid.specs.declared.place.Kind.{Kind}
 use Rattle.grid.specs.declared.place.Kind.TheVariants.{Logic, Pad}
 use Rattle.grid.specs.declared.place.Place.{Place}
 use Rattle.grid.specs.Places.{places_of}
-use Rattle.kept_places.specs.Kept.{KeptPlaces, in_order, kept_place}
+use Rattle.kept_places.specs.Kept.{KeptPlaces, kept_place}
 
 -- the kind of places that blocks of a kind go to
 abbrev pub kind_for : BlockKind → Kind
-kind_for InputPad = Pad
-kind_for OutputPad = Pad
 kind_for Cluster = Logic
-
--- the places of blocks, to be kept
-abbrev pub kept_of : PackedCircuit → List Place → KeptPlaces
-kept_of packed places = in_order (zip (keys_of packed) places)
+kind_for _ = Pad
 
 -- each place that is kept is one of the strip's, for a block of its kind, and none is kept twice
 pub record AreKeptOn (strip : Strip) (kept : KeptPlaces) : Type 0 where

@@ -1,16 +1,23 @@
 -- Private: the sites of the places that blocks keep.
-use Rattle.std.specs.Prelude.{ℕ, ◌+◌, List, map, Option, option_map}
+use Rattle.std.specs.Prelude.{ℕ, ◌+◌, List, map, Option, option_map, Contains}
 use Rattle.std.specs.List.{position_or_len}
 use Rattle.cluster.specs.Clusters.{PackedCircuit}
 use Rattle.cluster.specs.Keys.{keys_of}
 use Rattle.cluster.specs.declared.block.BlockKind.{BlockKind}
 use Rattle.grid.specs.declared.Strip.{Strip}
+use Rattle.grid.specs.declared.place.Kind.{Kind}
 use Rattle.grid.specs.declared.place.Place.{Place}
 use Rattle.grid.specs.Places.{places_of}
+use Rattle.grid.specs.Sizes.{IsStripSize}
 use Rattle.kept_places.specs.Kept.{KeptPlaces, kept_place}
 use Rattle.strip_place.specs.Keeping.{kind_for}
 use Rattle.strip_place.specs.Placed.{is_same_place}
 use Rattle.strip_place.specs.Sites.{first_site}
+
+-- it is a place of that kind in the strip
+pub record IsPlaceOf (strip : Strip) (kind : Kind) (place : Place) : Type 0 where
+  pub size : IsStripSize strip
+  pub there : Contains (places_of strip kind) place
 
 -- the site of a place, for a block of that kind
 abbrev pub site_of : Strip → BlockKind → Place → ℕ

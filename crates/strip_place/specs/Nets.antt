@@ -1,6 +1,7 @@
 -- Private: nets of blocks, and the nets that a block is on.
-use Rattle.std.specs.Prelude.{ℕ, ◌≡◌, ◌+◌, ◌<◌, ◌≤◌, ◌^◌, ◌==◌, List, [], ◌∷◌, ◌++◌, length, count_by, slice_index, All}
+use Rattle.std.specs.Prelude.{ℕ, ◌≡◌, ◌+◌, ◌<◌, ◌≤◌, ◌^◌, ◌==◌, List, [], ◌∷◌, ◌++◌, length, count_by, filter, map, not, slice_index, All}
 use Rattle.std.specs.List.{slice_index_or}
+use Rattle.cluster.specs.Blocks.{BlockNet}
 use Rattle.rows.specs.declared.by_key.Keyed.{Keyed}
 use Rattle.rows.specs.ByKey.{items_by_key, pairs_with}
 
@@ -11,6 +12,19 @@ net_at nets number = slice_index_or nets number []
 -- how often the block stands on the net
 abbrev pub times_on : ℕ → List ℕ → ℕ
 times_on block net = count_by (λ other. other == block) net
+
+-- the blocks on a net: the one that drives it, and its readers
+abbrev pub blocks_on : BlockNet → List ℕ
+blocks_on net = net.driver ∷ net.readers
+
+-- the blocks on each net that isn't global
+abbrev pub placed_nets : List BlockNet → List (List ℕ)
+placed_nets nets = map blocks_on (filter (λ net. not net.global) nets)
+
+-- a net has blocks of that many
+pub record IsNetOf (count : ℕ) (net : List ℕ) : Type 0 where
+  pub some : 0 < length net
+  pub within : All (λ block. block < count) net
 
 -- nets have blocks of that many, each at most once
 pub record AreNets (count : ℕ) (nets : List (List ℕ)) : Type 0 where

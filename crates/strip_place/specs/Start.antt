@@ -1,5 +1,5 @@
 -- Where blocks start.
-use Rattle.std.specs.Prelude.{Bool, false, not, List, [], ◌∷◌, ◌++◌, map, find, Option, Some, None, unwrap_or}
+use Rattle.std.specs.Prelude.{not, List, [], ◌∷◌, ◌++◌, map, find, Option, option_and_then, unwrap_or}
 use Rattle.std.specs.List.{flat_map, list_any, zip}
 use Rattle.std.specs.Option.{option_to_list}
 use Rattle.cluster.specs.Clusters.{PackedCircuit}
@@ -13,17 +13,9 @@ use Rattle.strip_place.specs.Keeping.{kind_for}
 use Rattle.strip_place.specs.Placed.{is_same_place}
 use Rattle.strip_place.specs.Task.{task_of}
 
--- the place is among these
-abbrev pub has_place : List Place → Place → Bool
-has_place places place = list_any (is_same_place place) places
-
--- the first place of a kind, in the strip's order, that isn't among the taken
-abbrev pub first_free : Strip → Kind → List Place → Place
-first_free strip kind taken = unwrap_or (find (λ place. not (has_place taken place)) (places_of strip kind)) (place_at 0 0 0)
-
--- the place of a block: the one that it keeps, or the first of its kind that is free
+-- the place of a block: the one that it keeps, or the first of its kind, in the strip's order, that isn't among the taken
 abbrev pub place_for : Strip → List Place → Kind × Option Place → Place
-place_for strip taken block = unwrap_or block.1 (first_free strip block.0 taken)
+place_for strip taken block = unwrap_or block.1 (unwrap_or (find (λ place. not (list_any (is_same_place place) taken)) (places_of strip block.0)) (place_at 0 0 0))
 
 -- the places of blocks, one after another
 abbrev pub placed_behind : Strip → List Place → List (Kind × Option Place) → List Place
@@ -35,14 +27,9 @@ placed_behind strip taken (block ∷ blocks) = place_for strip taken block ∷ p
 unfoldable pub placed_first : Strip → List Kind → List (Option Place) → List Place
 placed_first strip kinds kept = placed_behind strip (flat_map option_to_list kept) (zip kinds kept)
 
--- the place is the one that is kept
-abbrev pub is_kept_one : Option Place → Place → Bool
-is_kept_one None place = false
-is_kept_one (Some kept) place = is_same_place kept place
-
 -- the place that each block keeps, if it keeps one: the one of its kind in the strip that is kept for it
 abbrev pub kept_by_block : Strip → PackedCircuit → KeptPlaces → List (Option Place)
-kept_by_block strip packed kept = map (λ key. find (is_kept_one (kept_place kept key)) (places_of strip (kind_for key.kind))) (keys_of packed)
+kept_by_block strip packed kept = map (λ key. option_and_then (λ place. find (is_same_place place) (places_of strip (kind_for key.kind))) (kept_place kept key)) (keys_of packed)
 
 abbrev pub places_at_start : Strip → PackedCircuit → KeptPlaces → List Place
 places_at_start strip packed kept = placed_first strip (task_of packed).kinds (kept_by_block strip packed kept)

@@ -3,6 +3,12 @@ use Rattle.std.specs.Prelude.{ℕ, ◌≡◌, ◌+◌, ◌<◌, ◌≤◌, List,
 use Rattle.grid.specs.declared.Strip.{Strip}
 use Rattle.grid.specs.declared.place.Kind.{Kind}
 use Rattle.grid.specs.declared.place.Kind.TheVariants.{Logic, Pad}
+use Rattle.grid.specs.declared.fit.Fit.TheVariants.{Fits}
+use Rattle.grid.specs.Fits.{fit_of}
+use Rattle.grid.specs.Sizes.{IsStripSize}
+use Rattle.cluster.specs.Clusters.{PackedCircuit}
+use Rattle.kept_places.specs.Kept.{KeptPlaces}
+use Rattle.strip_place.specs.Keeping.{AreKeptOn}
 use Rattle.strip_place.specs.Sites.{IsSiteFor, site_count}
 
 -- how many blocks take each kind of place
@@ -26,3 +32,20 @@ pub record AreKeptSites (strip : Strip) (kinds : List Kind) (kept : List (Option
   pub long : length kept ≡ length kinds
   pub by_kind : (block site : ℕ) → block < length kinds → slice_index_or kept block None ≡ Some site → IsSiteFor strip (slice_index_or kinds block Logic) site
   pub apart : (block other site : ℕ) → block < length kinds → other < length kinds → slice_index_or kept block None ≡ Some site → slice_index_or kept other None ≡ Some site → block ≡ other
+
+-- so they can be seated
+pub record CanSeat (strip : Strip) (kinds : List Kind) (sites : List (Option ℕ)) : Type 0 where
+  pub size : IsStripSize strip
+  pub kept : AreKeptSites strip kinds sites
+  pub room : HaveRoom strip kinds
+
+-- the places that are kept are places of that strip
+pub record CanKeep (strip : Strip) (places : KeptPlaces) : Type 0 where
+  pub size : IsStripSize strip
+  pub kept : AreKeptOn strip places
+
+-- the packed circuit can start on that strip
+pub record CanStart (strip : Strip) (packed : PackedCircuit) (places : KeptPlaces) : Type 0 where
+  pub size : IsStripSize strip
+  pub fits : fit_of strip packed ≡ Fits
+  pub kept : AreKeptOn strip places

@@ -1,6 +1,7 @@
 -- Private: which sites are taken.
-use Rattle.std.specs.Prelude.{ℕ, ◌+◌, ◌<◌, ◌≤◌, ◌^◌, Bool, true, false, List, [], ◌∷◌, Option, Some, None, drop, length, replicate, slice_set}
+use Rattle.std.specs.Prelude.{ℕ, ◌+◌, ◌<◌, ◌≤◌, ◌^◌, Bool, true, false, List, [], ◌∷◌, Option, Some, None, drop, length, replicate, slice_set, All}
 use Rattle.std.specs.List.{prefix_len}
+use Rattle.std.specs.Option.{ForSome}
 use Rattle.grid.specs.declared.place.Kind.{Kind}
 use Rattle.grid.specs.declared.place.Kind.TheVariants.{Logic, Pad}
 
@@ -14,6 +15,11 @@ pub record IsVacancies (marks : List Bool) (logic pads : ℕ) : Type 0 where
   pub few : length marks < 2 ^ 32
   pub logic_inside : logic ≤ length marks
   pub pads_inside : pads ≤ length marks
+
+-- there are so many sites, and those that are kept are of these
+pub record AreSitesOf (count : ℕ) (kept : List (Option ℕ)) : Type 0 where
+  pub few : count < 2 ^ 32
+  pub inside : All (λ site. ForSome site (λ number. number < count)) kept
 
 -- nothing is taken
 abbrev pub all_free : ℕ → List Bool

@@ -1,7 +1,7 @@
 //! The boxes of all nets, and how long nets are by them.
-ghost use Rattle.std.specs.Prelude.{◌≡◌, ℕ, ◌*◌, ◌<◌, ◌≤◌, ◌^◌, All, length, sum_by};
-ghost use Rattle.strip_place.specs.Boxes.{AreBothRenewed, AreFewOf, AreRenewed, IsBox, IsDeep, StayDeep, boxed_length, box_at, half_of, length_after};
-ghost use Rattle.strip_place.specs.Nets.{AreNets};
+ghost use Rattle.std.specs.Prelude.{◌≡◌, ◌*◌, ◌<◌, ◌≤◌, length, sum_by};
+ghost use Rattle.strip_place.specs.Boxes.{AreBothRenewed, AreRenewed, AreTouchedBy, CanRenew, CanSum, CanWeigh, IsBox, IsDeep, boxed_length, half_of, length_after};
+ghost use Rattle.strip_place.specs.Nets.{AreNets, IsNetOf};
 ghost use Rattle.strip_place.specs.Sides.{sum_of};
 
 use crate::net_box::NetBox;
@@ -21,8 +21,7 @@ pub(crate) struct Lengths {
 
 /// How long the nets of these numbers are, and come to be at least once a block on each of them goes from there to there.
 pub(crate) fn weigh(boxes: &[NetBox], touched: &[u32], from: Sides, to: Sides) -> Lengths
-    requires touched { AreFewOf (length boxes.now) touched.now }
-    requires boxes { (number : ℕ) → number < length boxes.now → sum_of (box_at boxes.now number).near ≤ 131070 }
+    requires touched { CanWeigh boxes.now touched.now }
     requires to { sum_of to ≤ 131070 }
     ensures before { result.before ≡ boxed_length boxes.now touched.now }
     ensures after { result.after ≡ length_after boxes.now from to touched.now }
@@ -43,8 +42,7 @@ pub(crate) fn weigh(boxes: &[NetBox], touched: &[u32], from: Sides, to: Sides) -
 
 /// How long all nets are together.
 pub(crate) fn whole_length(boxes: &[NetBox]) -> u64
-    requires few { length boxes.now < 2 ^ 31 }
-    requires boxes { (number : ℕ) → number < length boxes.now → sum_of (box_at boxes.now number).near ≤ 131070 }
+    requires { CanSum boxes.now }
     ensures { result ≡ sum_by half_of boxes.now }
 {
     let mut total = 0;
@@ -72,9 +70,7 @@ pub(crate) fn renew_both(
 ) -> u64
     requires lawful { AreNets (length points.now) nets.now }
     requires long { length boxes.old ≡ length nets.now }
-    requires first { AreFewOf (length nets.now) first.now }
-    requires second { AreFewOf (length nets.now) second.now }
-    requires deep { StayDeep points.now nets.now boxes.old moved }
+    requires touched { AreTouchedBy points.now nets.now first.now second.now boxes.old moved }
     ensures { AreBothRenewed points.now nets.now first.now second.now boxes.old boxes.new result }
 {
     renew(boxes, nets, points, first, moved) + renew(boxes, nets, points, second, moved)
@@ -88,11 +84,9 @@ fn renew(
     touched: &[u32],
     moved: Exchanged,
 ) -> u64
-    requires lawful { AreNets (length points.now) nets.now }
-    requires long { length boxes.old ≡ length nets.now }
-    requires touched { AreFewOf (length nets.now) touched.now }
-    requires deep { StayDeep points.now nets.now boxes.old moved }
-    ensures { AreRenewed points.now nets.now touched.now (length touched.now) boxes.old boxes.new result }
+    requires { CanRenew points.now nets.now touched.now boxes.old moved }
+    ensures { AreRenewed points.now nets.now touched.now (length touched.now) boxes.old boxes.new
+        result }
 {
     let mut total = 0;
     for number in touched {
@@ -106,9 +100,9 @@ fn renew(
 
 /// The box of a net that had another one: the same where the net is large and the blocks that changed places are far from its sides.
 fn renewed(stood: NetBox, net: &[u32], points: &[Point], moved: Exchanged) -> NetBox
-    requires some { 0 < length net.now }
-    requires within { All (λ block. block < length points.now) net.now }
-    requires deep { IsDeep stood moved.one → IsDeep stood moved.other → IsBox points.now net.now stood }
+    requires net { IsNetOf (length points.now) net.now }
+    requires deep { IsDeep stood moved.one → IsDeep stood moved.other →
+        IsBox points.now net.now stood }
     ensures { IsBox points.now net.now result }
 {
     if net.len() > FEW_BLOCKS && stood.is_deep(moved.one) && stood.is_deep(moved.other) {

@@ -1,5 +1,6 @@
 //! The box of a net.
-ghost use Rattle.std.specs.Prelude.{◌≡◌, ◌<◌, ◌≤◌, ⊤, All, MatchBool, length};
+ghost use Rattle.std.specs.Prelude.{◌≡◌, ◌<◌, ◌≤◌, ⊤, MatchBool, length};
+ghost use Rattle.strip_place.specs.Nets.{IsNetOf};
 ghost use Rattle.strip_place.specs.Sides.{sum_of};
 ghost use Rattle.strip_place.specs.Boxes.{IsBox, IsDeep, half_after, half_of, met, rest};
 
@@ -16,8 +17,7 @@ pub(crate) struct NetBox {
 impl NetBox {
     /// The box of a net whose blocks stand at these points.
     pub(crate) fn of(net: &[u32], points: &[Point]) -> Self
-        requires some { 0 < length net.now }
-        requires within { All (λ block. block < length points.now) net.now }
+        requires { IsNetOf (length points.now) net.now }
         ensures { IsBox points.now net.now result }
     {
         let nowhere = Sides {

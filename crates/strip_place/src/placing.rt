@@ -1,12 +1,15 @@
 //! Placing, pass by pass.
 ghost use Rattle.std.specs.Prelude.{◌≡◌, ◌*◌, ◌<◌, ◌≤◌, length, IfOk, slice_get, Some};
+ghost use Rattle.std.specs.List.{zip};
 ghost use Rattle.cluster.specs.Blocks.{blocks_of};
+ghost use Rattle.cluster.specs.Keys.{keys_of};
 ghost use Rattle.grid.specs.declared.fit.Fit.TheVariants.{Fits};
 ghost use Rattle.grid.specs.Fits.{fit_of};
 ghost use Rattle.grid.specs.Sizes.{IsStripSize};
+ghost use Rattle.kept_places.specs.Kept.{in_order};
 ghost use Rattle.strip_place.specs.Anneal.{one_more, end_of, after_words, draw_of, places_by_block};
 ghost use Rattle.strip_place.specs.Placed.{ArePlaced};
-ghost use Rattle.strip_place.specs.Keeping.{AreKeptOn, kept_of};
+ghost use Rattle.strip_place.specs.Keeping.{AreKeptOn};
 ghost use Rattle.strip_place.specs.Pass.{cost_of, pass_of};
 ghost use Rattle.strip_place.specs.Task.{task_of};
 
@@ -51,7 +54,8 @@ impl Model for Placing {
 
     ghost view = { λ p. record { packed = p.packed; strip = p.board.strip; kept = p.kept; seed = p.seed; effort = p.effort; passes = p.passes } };
 
-    ghost invariant = { λ p. IsUnderWay p.packed p.kept p.board p.seed p.effort p.passes p.words p.temperature p.finished };
+    ghost invariant = { λ p. IsUnderWay p.packed p.kept p.board p.seed p.effort p.passes p.words
+        p.temperature p.finished };
 }
 
 impl Placing {
@@ -69,7 +73,15 @@ impl Placing {
         requires fits { fit_of strip packed.now ≡ Fits }
         requires kept { AreKeptOn strip kept.now }
         requires effort { effort ≤ 100 }
-        ensures { IfOk result (λ placing. placing ≡ record { packed = packed.now; strip = strip; kept = kept.now; seed = seed; effort = effort; passes = 0 }) }
+        ensures { IfOk result (λ placing.
+            placing ≡ record {
+              packed = packed.now;
+              strip = strip;
+              kept = kept.now;
+              seed = seed;
+              effort = effort;
+              passes = 0;
+            }) }
     {
         let board = start_board(alloc, packed.packed(), strip, kept)?;
         let packed = packed.clone()?;
@@ -146,7 +158,8 @@ impl Placing {
 
     /// The places, to be kept: by what the blocks are told by.
     pub fn kept(&self, alloc: Global) -> Result<Kept, AllocError>
-        ensures exact { IfOk result (λ kept. kept ≡ kept_of self.now.packed (places_by_block self.now)) }
+        ensures exact { IfOk result (λ kept.
+            kept ≡ in_order (zip (keys_of self.now.packed) (places_by_block self.now))) }
         ensures lawful { IfOk result (λ kept. AreKeptOn self.now.strip kept) }
     {
         self.laws();
@@ -175,7 +188,10 @@ impl Placing {
 /// Makes so many draws.
 fn make_draws(board: &mut Board, words: &mut Pcg32, temperature: u32, draws: usize)
     requires { 0 < draws → 0 < length board.old.task.kinds }
-    ensures board { board.new ≡ record board.old { places = pass_of board.old.strip board.old.task temperature (draw_of words.old) draws board.old.places } }
+    ensures board { board.new ≡ record board.old {
+      places = pass_of board.old.strip board.old.task
+          temperature (draw_of words.old) draws board.old.places;
+    } }
     ensures words { words.new ≡ after_words words.old (3 * draws) }
 {
     for _ in 0..draws {

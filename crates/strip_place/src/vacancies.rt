@@ -1,9 +1,9 @@
 //! Which sites are taken.
-ghost use Rattle.std.specs.Prelude.{◌≡◌, ◌+◌, ◌<◌, ◌≤◌, ◌^◌, All, Bool, drop, length, IfOk};
+ghost use Rattle.std.specs.Prelude.{◌≡◌, ◌+◌, ◌<◌, ◌≤◌, All, Bool, drop, length, IfOk};
 ghost use Rattle.std.specs.List.{prefix_len};
 ghost use Rattle.std.specs.Option.{ForSome};
 ghost use Rattle.grid.specs.declared.place.Kind.TheVariants.{Logic, Pad};
-ghost use Rattle.strip_place.specs.Vacancies.{all_free, lowest, marked, without_lowest};
+ghost use Rattle.strip_place.specs.Vacancies.{AreSitesOf, all_free, lowest, marked, without_lowest};
 
 use grid::Kind;
 use std::alloc::{AllocError, Global};
@@ -35,9 +35,13 @@ impl Vacancies {
         pads: usize,
         kept: &[Option<u32>],
     ) -> Result<Self, AllocError>
-        requires few { logic + pads < 2 ^ 32 }
-        requires inside { All (λ site. ForSome site (λ number. number < logic + pads)) kept.now }
-        ensures { IfOk result (λ vacancies. vacancies ≡ record { marks = marked (all_free (logic + pads)) kept.now; logic = 0; pads = logic }) }
+        requires { AreSitesOf (logic + pads) kept.now }
+        ensures { IfOk result (λ vacancies.
+            vacancies ≡ record {
+              marks = marked (all_free (logic + pads)) kept.now;
+              logic = 0;
+              pads = logic;
+            }) }
     {
         let mut marks = Vec::from_elem(alloc, false, logic + pads)?;
         mark(marks.as_mut_slice(), kept);

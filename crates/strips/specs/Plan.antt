@@ -1,5 +1,5 @@
 -- Where strips stand on a device.
-use Rattle.std.specs.Prelude.{ℕ, ◌≢◌, ◌+◌, ◌<◌, ◌≤◌, ◌⊎◌, List, [], ◌∷◌, ◌++◌, length, filter, map, if◌then◌else◌, ◌≡◌, Result, Ok, Err, All, AllPairs, Bool, not, ◌||◌, ◌==◌, nat_lt, Option, Some, None, option_map, find}
+use Rattle.std.specs.Prelude.{ℕ, ◌≢◌, ◌+◌, ◌^◌, ◌<◌, ◌≤◌, ◌⊎◌, List, [], ◌∷◌, ◌++◌, length, filter, map, if◌then◌else◌, ◌≡◌, Result, Ok, Err, All, AllPairs, Bool, not, ◌||◌, ◌==◌, nat_lt, Option, Some, None, option_map, find}
 use Rattle.strips.specs.declared.placed_strip.PlacedStrip.{PlacedStrip}
 use Rattle.strips.specs.declared.layout.NoRoom.{NoRoom}
 use Rattle.strips.specs.declared.layout.TheConstants.{MAX_STRIPS}
@@ -25,7 +25,7 @@ with_strip plan strip = record plan { strips = plan.strips ++ strip ∷ [] }
 -- a strip of that width can stand at that offset: with it, whatever its id, the strips are parted
 pub record FitsAt (plan : Plan) (width offset : ℕ) : Type 0 where
   pub wide : 0 < width
-  pub parted : IsParted (with_strip plan (record { id = 0; offset = offset; width = width }))
+  pub parted : IsParted (record plan { strips = plan.strips ++ record { id = 0; offset = offset; width = width } ∷ [] })
 
 -- the least offset at which it fits, or none where it fits at none
 abbrev pub IsFirstFit : Plan → ℕ → Option ℕ → Type 0
@@ -50,6 +50,17 @@ pub record IsLaidOut (plan : Plan) : Type 0 where
   pub wide : All (λ s. 0 < s.width) plan.strips
   pub parted : IsParted plan
   pub distinct : AllPairs (λ s t. s.id ≢ t.id) plan.strips
+
+-- one strip more fits, and its id is new
+pub record CanPlace (plan : Plan) (strip : PlacedStrip) : Type 0 where
+  pub few : length plan.strips < MAX_STRIPS
+  pub fits : FitsAt plan strip.width strip.offset
+  pub new : offset_of plan.strips strip.id ≡ None
+
+-- private: no strip reaches beyond 32 bits
+pub record AreNear (strips : List PlacedStrip) (strip : PlacedStrip) : Type 0 where
+  pub small : strip.offset + strip.width < 2 ^ 32
+  pub inside : All (λ s. s.offset + s.width < 2 ^ 32) strips
 
 -- no strip of that width can stand on that device
 abbrev pub is_bad_width : Plan → ℕ → Bool

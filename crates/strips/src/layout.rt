@@ -1,7 +1,7 @@
 //! The strips on a device.
 
-ghost use Rattle.std.specs.Prelude.{◌≡◌, ◌↔◌, ◌<◌, ◌≤◌, ◌+◌, ◌^◌, ◌==◌, ◌⊎◌, [], length, map, option_map, All, IsSome, IsTrue, None, Some};
-ghost use Rattle.strips.specs.Plan.{AreApart, FitsAt, IsFirstFit, IsLaidOut, Moves, is_bad_width, moved_strip, offset_of, strip_of, with_strip, without};
+ghost use Rattle.std.specs.Prelude.{◌≡◌, ◌↔◌, ◌<◌, ◌≤◌, ◌+◌, ◌==◌, ◌⊎◌, [], length, map, option_map, All, IsSome, IsTrue, None, Some};
+ghost use Rattle.strips.specs.Plan.{AreApart, AreNear, CanPlace, IsFirstFit, IsLaidOut, Moves, is_bad_width, moved_strip, offset_of, strip_of, with_strip, without};
 
 use crate::placed_strip::PlacedStrip;
 use arrayvec::ArrayVec;
@@ -90,9 +90,7 @@ impl Layout {
 
     /// Places a strip of a new id where it fits, as at the offset of [`Layout::first_fit`].
     pub fn place(&mut self, strip: PlacedStrip)
-        requires few { length self.old.strips < MAX_STRIPS }
-        requires fits { FitsAt self.old strip.width strip.offset }
-        requires new { offset_of self.old.strips strip.id ≡ None }
+        requires { CanPlace self.old strip }
         ensures { self.new ≡ with_strip self.old strip }
     {
         self.strips.push(strip);
@@ -127,8 +125,7 @@ impl Layout {
 
 /// Whether a column lies unused between the strip and each of those.
 fn is_apart_from_all(strips: &[PlacedStrip], strip: PlacedStrip) -> bool
-    requires small { strip.offset + strip.width < 2 ^ 32 }
-    requires inside { All (λ s. s.offset + s.width < 2 ^ 32) strips.now }
+    requires { AreNear strips.now strip }
     ensures { IsTrue result ↔ All (λ s. AreApart s strip) strips.now }
 {
     strips.iter().all(|s| {
@@ -138,8 +135,7 @@ fn is_apart_from_all(strips: &[PlacedStrip], strip: PlacedStrip) -> bool
 
 /// Whether a column lies unused between the strip and each of those but the one of its own id.
 fn is_apart_from_others(strips: &[PlacedStrip], strip: PlacedStrip) -> bool
-    requires small { strip.offset + strip.width < 2 ^ 32 }
-    requires inside { All (λ s. s.offset + s.width < 2 ^ 32) strips.now }
+    requires { AreNear strips.now strip }
     ensures { IsTrue result ↔ All (λ s. (s.id ≡ strip.id) ⊎ AreApart s strip) strips.now }
 {
     strips.iter().all(|s| {

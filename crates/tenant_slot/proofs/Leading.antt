@@ -1,14 +1,33 @@
--- What the text of a netlist leads to.
-use Rattle.std.specs.Prelude.{ℕ, List, Result, Option, Some, None}
+-- What a command or a step leads to, by parts that lemmas speak of.
+use Rattle.std.specs.Prelude.{ℕ, ◌+◌, List, [], Result, Option, Some, None}
 use Rattle.blif.specs.declared.circuit.Circuit.{Circuit}
 use Rattle.blif.specs.declared.fault.BlifFault.{BlifFault}
 use Rattle.cluster.specs.Clusters.{packed_of, unfit_of}
 use Rattle.tenant_slot.specs.declared.reply.FileKind.TheVariants.{Net as NetFile}
 use Rattle.tenant_slot.specs.declared.reply.Reply.{Reply}
 use Rattle.tenant_slot.specs.declared.reply.Reply.TheVariants.{Accepted, File}
-use Rattle.tenant_slot.specs.declared.reply.StateName.TheVariants.{Loaded}
-use Rattle.tenant_slot.specs.SingleUser.{State, loaded, pack_unless, place, with_circuit}
+use Rattle.tenant_slot.specs.declared.reply.StateName.{StateName}
+use Rattle.tenant_slot.specs.declared.reply.StateName.TheVariants.{Empty, Loaded, Placing}
+use Rattle.tenant_slot.specs.SingleUser.{State, at_rest, loaded, pack_unless, place, risen, with_circuit}
 use Rattle.vpr_files.specs.NetFile.{net_text_of}
+
+-- a job begins, a placing with its seed and its effort
+abbrev pub begun : State → StateName → State
+begun state name = record (risen state) { name = name }
+
+abbrev pub begun_placing : State → ℕ → ℕ → State
+begun_placing state seed effort = record (risen state) { name = Placing; seed = seed; effort = effort; ending = None }
+
+-- the running job is given up, and all is
+abbrev pub stopped : State → State
+stopped state = record (risen state) { name = at_rest state.name }
+
+abbrev pub emptied : State → State
+emptied state = record (risen state) { name = Empty; text = []; kept = []; ending = None }
+
+-- the running job goes on by a step
+abbrev pub advanced : State → State
+advanced state = record state { steps = state.steps + 1 }
 
 -- an upload or a change
 abbrev pub load : State → List ℕ → Result Circuit BlifFault → Option State × Reply

@@ -1,6 +1,7 @@
 -- What a slot carries along after a put.
 use Rattle.std.proofs.Common.{◌≡◌, ℕ, ◌+◌, ◌-◌, ◌<◌, ◌≤◌, Bool, true, false, not, Option, Some, None, refl, sym, ap, subst, ◌∙◌, arith}
 use Rattle.std.specs.Prelude.{◌==◌, ◌&&◌, option_map, if◌then◌else◌}
+use Rattle.std.specs.Option.{option_map_or}
 use Rattle.std.proofs.lemmas.Bool.Decides.{Decides-eqb}
 use Rattle.arch_file.specs.declared.arch.Arch.{Arch}
 use Rattle.grid.specs.declared.Strip.{Strip}
@@ -28,11 +29,12 @@ use Rattle.tenant_slot.specs.declared.standing.Standing.{Standing}
 use Rattle.tenant_slot.specs.JobNames.{before, during}
 use Rattle.tenant_slot.specs.Content.{CanFinish, HasContent, IsMadeOf, name_at_rest, routed_with}
 use Rattle.tenant_slot.specs.Results.{failure_of}
-use Rattle.tenant_slot.specs.SingleUser.{State, advance, advanced, after, answer_to, finished, go_on, is_next, routed_unless, running, sources_from, sources_of, step}
-use Rattle.tenant_slot.specs.Slot.{IsAdvanceOf, SlotState, after_event, here_after, running_sources}
+use Rattle.tenant_slot.specs.SingleUser.{State, advance, after, answer_to, finished, go_on, is_next, routed_unless, running, sources_from, sources_of, step}
+use Rattle.tenant_slot.specs.Slot.{IsAdvanceOf, SlotState, after_event, running_sources}
 use Rattle.tenant_slot.specs.Standing.{IsSlot, put_in, put_reply, seen, seen_state}
 use Rattle.strip_place.specs.Keeping.{AreKeptOn}
 use Rattle.tenant_slot.proofs.Runs.{step-room}
+use Rattle.tenant_slot.proofs.Leading.{advanced}
 
 abbrev pub standing_of : Content → Option Running → KeptPlaces → ℕ → ℕ → ℕ → ℕ → Standing
 standing_of content job kept seed effort generation steps = record { content = content; running = job; kept = kept; seed = seed; effort = effort; generation = generation; steps = steps }
@@ -46,7 +48,7 @@ pub record IsPut (id : ℕ) (arch : Arch) (strip : Strip) (standing : Standing) 
 
 -- an event that has that answer
 abbrev answered_with : SlotState → Option State → SlotState
-answered_with slot change = record slot { state = after slot.state change; here = here_after slot change }
+answered_with slot change = record slot { state = after slot.state change; here = option_map_or (λ new. Some false) change slot.here }
 
 answered : (slot : SlotState) (event : Event) (change : Option State) (reply : Reply) → slot.state.entries < 65536 → answer_to slot.state event ≡ (change, reply) →
     ((step slot.state event).1 ≡ Some reply) × (answered_with slot change ≡ after_event slot event)

@@ -5,7 +5,7 @@ use Rattle.std.proofs.lemmas.Bool.Decides.{nat_tests}
 use Rattle.tenant_slot.specs.declared.event.Event.{Event}
 use Rattle.tenant_slot.specs.declared.reply.Reply.{Reply}
 use Rattle.tenant_slot.specs.Answer.{Outcome, accepted, changed}
-use Rattle.tenant_slot.specs.Slot.{SlotState, after_event, here_after}
+use Rattle.tenant_slot.specs.Slot.{SlotState, after_event}
 use Rattle.tenant_slot.specs.SingleUser.{State, after, answer_to, step, state_after, replies_to}
 
 pub state_after-append : (state : State) (xs ys : List Event) → state_after state (xs ++ ys) ≡ state_after (state_after state xs) ys
@@ -42,7 +42,6 @@ step-accepted slot answer event room is = step-room slot.state event (omega arit
 pub accepted-event : (slot : SlotState) (answer : Outcome) (event : Event) → slot.state.entries < 65536 →
     answer_to slot.state event ≡ (option_map (changed slot.state) answer.change, answer.reply) → accepted slot answer ≡ after_event slot event
 accepted-event slot answer event room is =
-    let slot_with : State → Option State → SlotState = λ state change. record slot { state = state; here = here_after slot change } in
     let states : (step slot.state event).0 ≡ (accepted slot answer).state = ap (λ (p : State × Option Reply). p.0) (step-accepted slot answer event room is) in
     let changes : (answer_to slot.state event).0 ≡ option_map (changed slot.state) answer.change = ap (λ (p : Option State × Reply). p.0) is in
     rw (states, changes) refl

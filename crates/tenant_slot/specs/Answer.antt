@@ -1,5 +1,6 @@
 -- A reply before it is given.
-use Rattle.std.specs.Prelude.{ℕ, ◌≡◌, ◌<◌, Result, Ok, Err, Option, Some, option_map, true, ⊤}
+use Rattle.std.specs.Prelude.{ℕ, ◌≡◌, ◌<◌, [], Result, Ok, Err, Option, Some, None, true, false, option_map, ⊤}
+use Rattle.std.specs.Option.{option_map_or}
 use Rattle.job_state.specs.Job.{first_step}
 use Rattle.job_state.specs.declared.sources.JobKind.TheVariants.{Placing as PlacingJob}
 use Rattle.tenant_slot.specs.declared.standing.Change.{Change}
@@ -9,11 +10,12 @@ use Rattle.tenant_slot.specs.declared.command.Command.{Command}
 use Rattle.tenant_slot.specs.declared.command.Command.TheVariants.{Place as Asks}
 use Rattle.tenant_slot.specs.declared.event.Event.TheVariants.{Command as Asked}
 use Rattle.tenant_slot.specs.declared.reply.Reply.{Reply}
+use Rattle.tenant_slot.specs.declared.reply.StateName.TheVariants.{Empty as EmptyName, Placing}
 use Rattle.tenant_slot.specs.declared.not_served.NotServed.{NotServed}
 use Rattle.tenant_slot.specs.declared.not_served.NotServed.TheVariants.{NoMemory, JournalFull}
-use Rattle.tenant_slot.specs.SingleUser.{State, after, answer_to, begun, begun_placing, emptied, is_lawful, keeping, loaded, risen, sources_of, stopped}
+use Rattle.tenant_slot.specs.SingleUser.{State, after, answer_to, at_rest, is_lawful, keeping, loaded, risen, sources_of}
 use Rattle.strip_place.specs.Keeping.{AreKeptOn}
-use Rattle.tenant_slot.specs.Slot.{SlotState, here_after}
+use Rattle.tenant_slot.specs.Slot.{SlotState}
 use Rattle.tenant_slot.specs.JobNames.{before, during}
 
 -- an answer that isn't given yet: for tables of how many inputs it is computed, what it changes, and the reply
@@ -26,10 +28,10 @@ pub record Outcome : Type 0 where
 abbrev pub changed : State → Change → State
 changed state (Load netlist) = loaded state netlist.text
 changed state (Replace netlist kept) = loaded (record (risen state) { kept = kept }) netlist.text
-changed state (Begin job) = begun state (during job.sources.kind)
-changed state (Place job) = begun_placing state job.sources.seed job.sources.effort
-changed state Stop = stopped state
-changed state Empty = emptied state
+changed state (Begin job) = record (risen state) { name = during job.sources.kind }
+changed state (Place job) = record (risen state) { name = Placing; seed = job.sources.seed; effort = job.sources.effort; ending = None }
+changed state Stop = record (risen state) { name = at_rest state.name }
+changed state Empty = record (risen state) { name = EmptyName; text = []; kept = []; ending = None }
 
 -- a job that begins in that state is computed from it, and stands before its first step
 pub record IsBegun (id : ℕ) (state : State) (job : Running) : Type 0 where
@@ -50,6 +52,11 @@ pub record IsAnswerTo (slot : SlotState) (answer : Outcome) : Type 0 where
   pub room : slot.state.entries < 65536
   pub begins : Begins slot answer.change
 
+-- a lawful command, with room for its entry
+pub record IsAsked (slot : SlotState) (command : Command) : Type 0 where
+  pub lawful : is_lawful slot.state.name command ≡ true
+  pub room : slot.state.entries < 65536
+
 -- what a command may be answered, before anything changes
 abbrev pub Answers : SlotState → Command → Result Outcome NotServed → Type 0
 Answers slot command (Ok answer) = IsAnswerTo slot answer × (answer_to slot.state (Asked command) ≡ (option_map (changed slot.state) answer.change, answer.reply))
@@ -58,4 +65,4 @@ Answers slot command (Err NoMemory) = slot.state.entries < 65536
 
 -- the slot once the answer is accepted
 abbrev pub accepted : SlotState → Outcome → SlotState
-accepted slot answer = record slot { state = after slot.state (option_map (changed slot.state) answer.change); here = here_after slot (option_map (changed slot.state) answer.change) }
+accepted slot answer = record slot { state = after slot.state (option_map (changed slot.state) answer.change); here = option_map_or (λ new. Some false) (option_map (changed slot.state) answer.change) slot.here }

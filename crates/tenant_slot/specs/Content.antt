@@ -2,9 +2,9 @@
 use Rattle.std.specs.Prelude.{ℕ, ◌≡◌, List, [], Ok, ⊤, true, false, Option, Some, None}
 use Rattle.arch_file.specs.declared.arch.Arch.{Arch}
 use Rattle.blif.specs.CircuitOf.{circuit_of}
+use Rattle.grid.specs.Sizes.{IsStripSize}
 use Rattle.grid.specs.declared.Strip.{Strip}
-use Rattle.job_state.specs.Job.{JobState, is_over}
-use Rattle.job_state.specs.declared.sources.JobKind.{JobKind}
+use Rattle.job_state.specs.Job.{IsFinished, JobState, is_over}
 use Rattle.job_state.specs.declared.sources.JobKind.TheVariants.{Routing as RoutingJob}
 use Rattle.job_state.specs.declared.sources.Sources.{Sources}
 use Rattle.job_state.specs.JobValue.{end_value, packing_sources, placing_sources, routing_sources}
@@ -15,6 +15,7 @@ use Rattle.tenant_slot.specs.declared.failure.RoutingFailure.{RoutingFailure}
 use Rattle.tenant_slot.specs.declared.reply.StateName.{StateName}
 use Rattle.tenant_slot.specs.declared.reply.StateName.TheVariants.{Empty as EmptyName, Loaded as LoadedName, Packed as PackedName, Placed as PlacedName, Routed as RoutedName, Unrouted as UnroutedName}
 use Rattle.kept_places.specs.Kept.{KeptPlaces}
+use Rattle.strip_place.specs.Keeping.{AreKeptOn}
 use Rattle.tenant_slot.specs.Results.{failure_of}
 
 -- the name of the state where no job runs
@@ -85,12 +86,6 @@ finished_with (Packed netlist packing) job = Placed netlist packing job
 finished_with (Placed netlist packing placing) job = routed_with netlist packing placing job (failure_of (end_value job.step.sources))
 finished_with content job = content
 
--- a job of that kind is finished
-pub record IsFinished (of : JobKind) (job : JobState) : Type 0 where
-  pub kind : job.step.sources.kind ≡ of
-  pub over : is_over job ≡ true
-  pub put : job.made ≡ false
-
 -- the job may have begun there
 abbrev pub CanFinish : Content → JobState → Type 0
 CanFinish (Loaded netlist) job = ⊤
@@ -107,6 +102,13 @@ pub record IsMadeOf (from : Sources) (job : JobState) : Type 0 where
   pub sources : job.step.sources ≡ from
   pub over : is_over job ≡ true
   pub put : job.made ≡ false
+
+-- the packing of that netlist is finished, and there are places to be kept
+pub record IsPacked (arch : Arch) (strip : Strip) (of : Netlist) (stays : KeptPlaces) (job : JobState) : Type 0 where
+  pub netlist : IsNetlist arch.lut_size of
+  pub packing : IsMadeOf (packing_sources arch strip of.text) job
+  pub size : IsStripSize strip
+  pub kept : AreKeptOn strip stays
 
 -- what is carried along is what the text, the kept places, the seed and the effort lead to
 abbrev pub HasContent : Arch → Strip → KeptPlaces → ℕ → ℕ → Content → Type 0

@@ -1,16 +1,17 @@
 -- What the end of a placing and of a routing means to a user: the files, and how a routing ended without routes.
 use Rattle.std.specs.Prelude.{ℕ, List, [], Result, Ok, Err, Option, Some, None, slice_get}
+use Rattle.std.specs.List.{zip}
 use Rattle.std.specs.Option.{option_map_or}
 use Rattle.arch_file.specs.declared.arch.Arch.{Arch}
 use Rattle.blif.specs.declared.circuit.Circuit.{Circuit}
 use Rattle.blif.specs.declared.fault.BlifFault.{BlifFault}
 use Rattle.cluster.specs.Blocks.{block_nets, net_name}
 use Rattle.cluster.specs.Clusters.{PackedCircuit, packed_of}
+use Rattle.cluster.specs.Keys.{keys_of}
 use Rattle.job_state.specs.declared.work.Work.{Work}
 use Rattle.job_state.specs.declared.work.Work.TheVariants.{Placed, Routed, GaveUp as GivenUp, NoPath as WithoutPath}
-use Rattle.kept_places.specs.Kept.{KeptPlaces}
+use Rattle.kept_places.specs.Kept.{KeptPlaces, in_order}
 use Rattle.strip_place.specs.Anneal.{places_by_block}
-use Rattle.strip_place.specs.Keeping.{kept_of}
 use Rattle.tenant_slot.specs.declared.failure.RoutingFailure.{RoutingFailure}
 use Rattle.tenant_slot.specs.declared.failure.RoutingFailure.TheVariants.{GaveUp as FailedAll, NoPath as FailedNet}
 use Rattle.tenant_slot.specs.declared.reply.Ending.{Ending}
@@ -34,9 +35,9 @@ abbrev pub ending_told : Result Circuit BlifFault → Arch → RoutingFailure �
 ending_told (Ok circuit) arch failure = Some (ending_of (packed_of circuit arch) failure)
 ending_told (Err fault) arch failure = None
 
--- the places of a whole placing, to be kept
+-- the places of a whole placing, to be kept: by what the blocks are told by
 abbrev pub kept_at_end : Result Work BlifFault → KeptPlaces
-kept_at_end (Ok (Placed placing)) = kept_of placing.packed (places_by_block placing)
+kept_at_end (Ok (Placed placing)) = in_order (zip (keys_of placing.packed) (places_by_block placing))
 kept_at_end value = []
 
 -- the `.place` file of a whole placing

@@ -66,34 +66,28 @@ at_rest Placing = Packed
 at_rest Routing = Placed
 at_rest name = name
 
--- the state has places: those of a placing that has ended and wasn't given up
-abbrev pub has_places : StateName → Bool
-has_places Placed = true
-has_places Routing = true
-has_places Routed = true
-has_places Unrouted = true
-has_places name = false
-
--- the commands that are lawful in a state of that name, and no other is
+-- the commands that are lawful in a state of that name, and no other is. A state has places where `placefile` is: those of a placing that has ended and wasn't
+-- given up
 abbrev pub is_lawful : StateName → Command → Bool
 is_lawful name Status = true
-is_lawful Empty (Upload text) = true
-is_lawful Empty (Change text) = false
-is_lawful name (Change text) = true
-is_lawful Empty Withdraw = false
-is_lawful name Withdraw = true
 is_lawful name Cancel = is_some (running name)
+is_lawful Empty (Upload text) = true
+is_lawful Empty command = false
+is_lawful name (Change text) = true
+is_lawful name Withdraw = true
 is_lawful Loaded Pack = true
 is_lawful Packed (Place seed effort) = true
 is_lawful Placed (Place seed effort) = true
 is_lawful Routed (Place seed effort) = true
 is_lawful Unrouted (Place seed effort) = true
 is_lawful Placed Route = true
-is_lawful Empty Net = false
 is_lawful Loaded Net = false
 is_lawful Packing Net = false
 is_lawful name Net = true
-is_lawful name PlaceFile = has_places name
+is_lawful Placed PlaceFile = true
+is_lawful Routing PlaceFile = true
+is_lawful Routed PlaceFile = true
+is_lawful Unrouted PlaceFile = true
 is_lawful Routed RouteFile = true
 is_lawful name command = false
 
@@ -104,26 +98,6 @@ risen state = record state { generation = state.generation + 1; steps = 0 }
 -- a netlist is loaded
 abbrev pub loaded : State → List ℕ → State
 loaded state text = record state { name = Loaded; text = text; ending = None }
-
--- the job of a state of that name begins
-abbrev pub begun : State → StateName → State
-begun state name = record (risen state) { name = name }
-
--- a placing with that seed and that effort begins; old places and routes are given up, as they are those of the seed and the effort
-abbrev pub begun_placing : State → ℕ → ℕ → State
-begun_placing state seed effort = record (begun state Placing) { seed = seed; effort = effort; ending = None }
-
--- the running job is given up
-abbrev pub stopped : State → State
-stopped state = record (risen state) { name = at_rest state.name }
-
--- all is given up, and no place is kept
-abbrev pub emptied : State → State
-emptied state = record (risen state) { name = Empty; text = []; kept = []; ending = None }
-
--- the running job goes on by a step
-abbrev pub advanced : State → State
-advanced state = record state { steps = state.steps + 1 }
 
 -- a routing ends with its routes, or so
 abbrev pub routed_unless : State → Option RoutingFailure → State
@@ -140,7 +114,7 @@ sources_of state kind = sources_from state.arch state.strip state.text state.kep
 
 -- a change keeps the places at that moment; in a state without places what was kept before stays
 abbrev pub keeping : State → State
-keeping state = record state { kept = if has_places state.name then kept_at_end (end_value (sources_of state PlacingJob)) else state.kept }
+keeping state = record state { kept = if is_lawful state.name PlaceFile then kept_at_end (end_value (sources_of state PlacingJob)) else state.kept }
 
 -- a job of that kind has made its last step
 abbrev pub finished : State → JobKind → State
@@ -159,7 +133,7 @@ with_circuit (Err fault) leads = (None, Refused (BadBlif fault))
 
 -- a packing begins, unless that is the least BLE that fits into no cluster alone
 abbrev pub pack_unless : State → Option ℕ → Option State × Reply
-pack_unless state None = (Some (begun state Packing), Accepted Packing)
+pack_unless state None = (Some (record (risen state) { name = Packing }), Accepted Packing)
 pack_unless state (Some ble) = (None, Refused (CannotPack ble))
 
 -- what a strip has too little of
@@ -168,24 +142,25 @@ misfit_of Fits = None
 misfit_of (TooManyBlocks have need) = Some (Blocks have need)
 misfit_of (TooManyPads have need) = Some (Pads have need)
 
--- a placing begins, unless the strip has that too little of
+-- a placing begins, unless the strip has that too little of; old places and routes are given up, as they are those of the seed and the effort
 abbrev pub place_unless : State → ℕ → ℕ → Option Misfit → Option State × Reply
-place_unless state seed effort None = (Some (begun_placing state seed effort), Accepted Placing)
+place_unless state seed effort None = (Some (record (risen state) { name = Placing; seed = seed; effort = effort; ending = None }), Accepted Placing)
 place_unless state seed effort (Some misfit) = (None, Refused (DoesNotFit misfit))
 
 -- the placing of the packing of a circuit; an effort above 100 is refused first
 abbrev pub place : State → ℕ → ℕ → Circuit → Option State × Reply
 place state seed effort circuit = if nat_lt 100 effort then (None, Refused BadEffort) else place_unless state seed effort (misfit_of (fit_of state.strip (packed_of circuit state.arch)))
 
--- a lawful command: the new state, if it changes, and the reply. The files are what the last placing has made, and what its routing has
+-- a lawful command: the new state, if it changes, and the reply. `cancel` gives up the running job, and `withdraw` all, so that no place is kept. The files are
+-- what the last placing has made, and what its routing has
 abbrev pub serve : State → Command → Option State × Reply
 serve state (Upload text) = with_circuit (circuit_of text state.arch.lut_size) (λ circuit. (Some (loaded state text), Accepted Loaded))
 serve state (Change text) = with_circuit (circuit_of text state.arch.lut_size) (λ circuit. (Some (loaded (keeping (risen state)) text), Accepted Loaded))
 serve state Pack = with_circuit (circuit_in state) (λ circuit. pack_unless state (unfit_of circuit state.arch))
 serve state (Place seed effort) = with_circuit (circuit_in state) (place state seed effort)
-serve state Route = (Some (begun state Routing), Accepted Routing)
-serve state Cancel = (Some (stopped state), Accepted (at_rest state.name))
-serve state Withdraw = (Some (emptied state), Accepted Empty)
+serve state Route = (Some (record (risen state) { name = Routing }), Accepted Routing)
+serve state Cancel = (Some (record (risen state) { name = at_rest state.name }), Accepted (at_rest state.name))
+serve state Withdraw = (Some (record (risen state) { name = Empty; text = []; kept = []; ending = None }), Accepted Empty)
 serve state Status = (None, InState (record { state = state.name; steps = state.steps; ending = option_and_then (ending_told (circuit_in state) state.arch) state.ending }))
 serve state Net = with_circuit (circuit_in state) (λ circuit. (None, File NetFile (net_text_of (packed_of circuit state.arch))))
 serve state PlaceFile = (None, File PlacesFile (place_file_of (end_value (sources_of state PlacingJob))))
@@ -197,7 +172,7 @@ is_next state advance = advance.generation == state.generation && (advance.numbe
 
 -- the running job makes its next step
 abbrev pub go_on : State → JobKind → Option State × Reply
-go_on state kind = if is_last (sources_of state kind) (state.steps + 1) then (Some (finished state kind), Step Finished) else (Some (advanced state), Step Advanced)
+go_on state kind = if is_last (sources_of state kind) (state.steps + 1) then (Some (finished state kind), Step Finished) else (Some (record state { steps = state.steps + 1 }), Step Advanced)
 
 -- a step that was made, while a job of that kind runs
 abbrev pub advance : State → Advance → Option JobKind → Option State × Reply

@@ -1,5 +1,6 @@
 -- A slot: one tenancy by its id, and its running job, which may be out.
 use Rattle.std.specs.Prelude.{ℕ, ◌≡◌, ◌+◌, ◌<◌, ◌↔◌, Result, Ok, Err, Option, Some, None, option_map, is_some, Bool, true, false, ◌&&◌, nat_lt, ⊤}
+use Rattle.std.specs.Option.{option_map_or}
 use Rattle.job_state.specs.declared.step.JobStep.{JobStep}
 use Rattle.job_state.specs.declared.sources.Sources.{Sources}
 use Rattle.job_state.specs.Job.{JobState}
@@ -22,14 +23,9 @@ pub record SlotState : Type 0 where
   pub state : State
   pub here : Option Bool
 
--- an event that changes the state leaves the running job's next step here, not made
-abbrev pub here_after : SlotState → Option State → Option Bool
-here_after slot None = slot.here
-here_after slot (Some new) = Some false
-
--- the slot after an event that has a reply
+-- the slot after an event that has a reply: one that changes the state leaves the running job's next step here, not made
 abbrev pub after_event : SlotState → Event → SlotState
-after_event slot event = record slot { state = (step slot.state event).0; here = here_after slot (answer_to slot.state event).0 }
+after_event slot event = record slot { state = (step slot.state event).0; here = option_map_or (λ new. Some false) (answer_to slot.state event).0 slot.here }
 
 -- what a command may be answered, with the slots before and after it: without memory nothing changes
 abbrev pub Serves : SlotState → Command → Result Reply NotServed → SlotState → Type 0
@@ -64,6 +60,11 @@ pub record IsAdvanceOf (state : State) (done : JobStep) (made : Advance) : Type 
 abbrev pub IsOrigin : SlotState → JobStep → Origin → Type 0
 IsOrigin slot done Running = next_job slot ≡ Some done
 IsOrigin slot done Unknown = ⊤
+
+-- a step of this tenancy can be put while the journal has room for its entry
+pub record CanPut (slot : SlotState) (done : JobStep) : Type 0 where
+  pub id : done.id ≡ slot.id
+  pub room : slot.state.entries < 65536
 
 -- what a put may be answered
 pub record Puts (old : SlotState) (done : JobStep) (made : Advance) (reply : StepReply) (new : SlotState) : Type 0 where

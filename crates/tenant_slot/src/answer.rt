@@ -4,14 +4,12 @@ ghost use Rattle.blif.specs.CircuitOf.{circuit_of};
 ghost use Rattle.cluster.specs.Blocks.{block_nets};
 ghost use Rattle.cluster.specs.Clusters.{packed_of, unfit_of};
 ghost use Rattle.grid.specs.Fits.{fit_of};
-ghost use Rattle.grid.specs.Sizes.{IsStripSize};
 ghost use Rattle.job_state.specs.JobValue.{packing_sources, placing_sources, routing_sources};
 ghost use Rattle.strip_place.specs.Anneal.{places_by_block};
 ghost use Rattle.vpr_files.specs.NetFile.{net_text_of};
 ghost use Rattle.vpr_files.specs.PlaceFile.{place_text_of};
 ghost use Rattle.vpr_files.specs.RouteFile.{route_text_of};
-ghost use Rattle.strip_place.specs.Keeping.{AreKeptOn};
-ghost use Rattle.tenant_slot.specs.Content.{IsMadeOf, IsNetlist};
+ghost use Rattle.tenant_slot.specs.Content.{IsMadeOf, IsNetlist, IsPacked};
 ghost use Rattle.tenant_slot.specs.Outcomes.{file_outcome, job_begun, load_outcome, loading, pack_outcome, place_outcome, route_outcome};
 ghost use Rattle.tenant_slot.specs.SingleUser.{misfit_of};
 ghost use Rattle.tenant_slot.specs.Standing.{IsChange};
@@ -91,7 +89,8 @@ impl Answer {
         text: &SharedText,
         kept: Option<Kept>,
     ) -> Result<Self, NotServed>
-        ensures ok { IfOk result (λ a. a ≡ load_outcome lut_size text.now kept (circuit_of text.now lut_size)) }
+        ensures ok { IfOk result (λ a. a
+            ≡ load_outcome lut_size text.now kept (circuit_of text.now lut_size)) }
         ensures err { IfErr result (λ e. e ≡ NotServed.NoMemory) }
     {
         match read_blif(alloc, text.as_bytes(), lut_size) {
@@ -117,7 +116,11 @@ impl Answer {
     /// The answer to the packing of a netlist.
     pub(crate) fn pack(job: &Beginning<'_>) -> Result<Self, NotServed>
         requires { IsNetlist job.now.arch.now.lut_size job.now.netlist.now }
-        ensures ok { IfOk result (λ a. a ≡ pack_outcome job.now.arch.now.lut_size (job_begun job.now.id job.now.generation (packing_sources job.now.arch.now job.now.strip job.now.netlist.now.text)) (unfit_of job.now.netlist.now.circuit job.now.arch.now)) }
+        ensures ok { IfOk result (λ a. a
+            ≡ pack_outcome job.now.arch.now.lut_size
+            (job_begun job.now.id job.now.generation
+            (packing_sources job.now.arch.now job.now.strip job.now.netlist.now.text))
+            (unfit_of job.now.netlist.now.circuit job.now.arch.now)) }
         ensures err { IfErr result (λ e. e ≡ NotServed.NoMemory) }
     {
         let arch = job.arch.arch();
@@ -142,11 +145,15 @@ impl Answer {
         seed: u64,
         effort: u32,
     ) -> Result<Self, NotServed>
-        requires netlist { IsNetlist job.now.arch.now.lut_size job.now.netlist.now }
-        requires packing { IsMadeOf (packing_sources job.now.arch.now job.now.strip job.now.netlist.now.text) packing.now }
-        requires size { IsStripSize job.now.strip }
-        requires kept { AreKeptOn job.now.strip job.now.kept.now }
-        ensures ok { IfOk result (λ a. a ≡ place_outcome job.now.arch.now.lut_size (job_begun job.now.id job.now.generation (placing_sources job.now.arch.now job.now.strip job.now.netlist.now.text job.now.kept.now seed effort)) (nat_lt 100 effort) (misfit_of (fit_of job.now.strip (packed_of job.now.netlist.now.circuit job.now.arch.now)))) }
+        requires { IsPacked job.now.arch.now job.now.strip job.now.netlist.now job.now.kept.now
+            packing.now }
+        ensures ok { IfOk result (λ a. a
+            ≡ place_outcome job.now.arch.now.lut_size
+            (job_begun job.now.id job.now.generation
+            (placing_sources job.now.arch.now job.now.strip job.now.netlist.now.text
+            job.now.kept.now seed effort)) (nat_lt 100 effort)
+            (misfit_of (fit_of job.now.strip
+            (packed_of job.now.netlist.now.circuit job.now.arch.now)))) }
         ensures err { IfErr result (λ e. e ≡ NotServed.NoMemory) }
     {
         let lut_size = job.arch.arch().lut_size;
@@ -174,9 +181,13 @@ impl Answer {
         seed: u64,
         effort: u32,
     ) -> Result<Self, NotServed>
-        requires netlist { IsNetlist job.now.arch.now.lut_size job.now.netlist.now }
-        requires placing { IsMadeOf (placing_sources job.now.arch.now job.now.strip job.now.netlist.now.text job.now.kept.now seed effort) placing.now }
-        ensures ok { IfOk result (λ a. a ≡ route_outcome job.now.arch.now.lut_size (job_begun job.now.id job.now.generation (routing_sources job.now.arch.now job.now.strip job.now.netlist.now.text job.now.kept.now seed effort))) }
+        requires { IsMadeOf (placing_sources job.now.arch.now job.now.strip job.now.netlist.now.text
+            job.now.kept.now seed effort) placing.now }
+        ensures ok { IfOk result (λ a. a
+            ≡ route_outcome job.now.arch.now.lut_size
+            (job_begun job.now.id job.now.generation
+            (routing_sources job.now.arch.now job.now.strip job.now.netlist.now.text
+            job.now.kept.now seed effort))) }
         ensures err { IfErr result (λ e. e ≡ NotServed.NoMemory) }
     {
         let lut_size = job.arch.arch().lut_size;
@@ -187,7 +198,8 @@ impl Answer {
 
     /// The answer with the `.net` file of a packed netlist.
     pub(crate) fn net(alloc: Global, lut_size: u32, packed: &Packed) -> Result<Self, NotServed>
-        ensures ok { IfOk result (λ a. a ≡ file_outcome lut_size FileKind.Net (net_text_of packed.now)) }
+        ensures ok { IfOk result (λ a. a
+            ≡ file_outcome lut_size FileKind.Net (net_text_of packed.now)) }
         ensures err { IfErr result (λ e. e ≡ NotServed.NoMemory) }
     {
         let mut sink = MemorySink::new(alloc);
@@ -203,7 +215,9 @@ impl Answer {
         lut_size: u32,
         placing: &Placing,
     ) -> Result<Self, NotServed>
-        ensures ok { IfOk result (λ a. a ≡ file_outcome lut_size FileKind.Place (place_text_of placing.now.strip placing.now.packed (places_by_block placing.now))) }
+        ensures ok { IfOk result (λ a. a
+            ≡ file_outcome lut_size FileKind.Place
+            (place_text_of placing.now.strip placing.now.packed (places_by_block placing.now))) }
         ensures err { IfErr result (λ e. e ≡ NotServed.NoMemory) }
     {
         let mut sink = MemorySink::new(alloc);
@@ -221,7 +235,10 @@ impl Answer {
         routes: &Routes,
     ) -> Result<Self, NotServed>
         requires { length routes.now ≡ length (block_nets placing.now.packed) }
-        ensures ok { IfOk result (λ a. a ≡ file_outcome lut_size FileKind.Route (route_text_of placing.now.strip placing.now.packed (places_by_block placing.now) routes.now)) }
+        ensures ok { IfOk result (λ a. a
+            ≡ file_outcome lut_size FileKind.Route
+            (route_text_of placing.now.strip placing.now.packed (places_by_block placing.now)
+            routes.now)) }
         ensures err { IfErr result (λ e. e ≡ NotServed.NoMemory) }
     {
         let mut sink = MemorySink::new(alloc);
@@ -238,7 +255,8 @@ impl Answer {
         kind: FileKind,
         sink: MemorySink,
     ) -> Result<Self, NotServed>
-        ensures ok { (bytes : List ℕ) → ⟦<MemorySink as Sink>⟧.contents sink ≡ Some bytes → IfOk result (λ a. a ≡ file_outcome lut_size kind bytes) }
+        ensures ok { (bytes : List ℕ) → ⟦<MemorySink as Sink>⟧.contents sink ≡ Some bytes →
+            IfOk result (λ a. a ≡ file_outcome lut_size kind bytes) }
         ensures err { IfErr result (λ e. e ≡ NotServed.NoMemory) }
     {
         match SharedText::new(alloc, Text::new(sink.into_bytes())) {

@@ -1,12 +1,8 @@
 //! Jobs that begin.
-ghost use Rattle.std.specs.Prelude.{◌≡◌, ◌≤◌, IfOk, None, false};
-ghost use Rattle.cluster.specs.Clusters.{packed_of, unfit_of};
-ghost use Rattle.grid.specs.declared.fit.Fit.TheVariants.{Fits};
-ghost use Rattle.grid.specs.Fits.{fit_of};
-ghost use Rattle.grid.specs.Sizes.{IsStripSize};
+ghost use Rattle.std.specs.Prelude.{◌≡◌, IfOk, false};
+ghost use Rattle.job_state.specs.Beginnings.{CanPack, CanPlace};
 ghost use Rattle.job_state.specs.JobValue.{is_last, packing_sources, placing_sources, routing_sources};
-ghost use Rattle.strip_place.specs.Keeping.{AreKeptOn};
-ghost use Rattle.tenant_slot.specs.Content.{IsMadeOf, IsNetlist};
+ghost use Rattle.tenant_slot.specs.Content.{IsMadeOf};
 ghost use Rattle.tenant_slot.specs.Outcomes.{job_begun};
 
 use crate::content::Netlist;
@@ -32,9 +28,11 @@ pub(crate) struct Beginning<'a> {
 impl Beginning<'_> {
     /// The packing of the netlist, each BLE of which fits into a cluster alone.
     pub(crate) fn packing(&self) -> Result<Running, AllocError>
-        requires netlist { IsNetlist self.now.arch.now.lut_size self.now.netlist.now }
-        requires fit { unfit_of self.now.netlist.now.circuit self.now.arch.now ≡ None }
-        ensures job { IfOk result (λ job. job ≡ job_begun self.now.id self.now.generation (packing_sources self.now.arch.now self.now.strip self.now.netlist.now.text)) }
+        requires { CanPack (packing_sources self.now.arch.now self.now.strip
+            self.now.netlist.now.text) self.now.netlist.now.circuit }
+        ensures job { IfOk result (λ job.
+            job ≡ job_begun self.now.id self.now.generation
+            (packing_sources self.now.arch.now self.now.strip self.now.netlist.now.text)) }
         ensures going { IfOk result (λ job. is_last job.sources 0 ≡ false) }
     {
         let sources = Sources::packing(self.arch, self.strip, &self.netlist.text)?;
@@ -54,13 +52,12 @@ impl Beginning<'_> {
         seed: u64,
         effort: u32,
     ) -> Result<Running, AllocError>
-        requires netlist { IsNetlist self.now.arch.now.lut_size self.now.netlist.now }
-        requires packing { IsMadeOf (packing_sources self.now.arch.now self.now.strip self.now.netlist.now.text) packing.now }
-        requires size { IsStripSize self.now.strip }
-        requires fit { fit_of self.now.strip (packed_of self.now.netlist.now.circuit self.now.arch.now) ≡ Fits }
-        requires kept { AreKeptOn self.now.strip self.now.kept.now }
-        requires effort { effort ≤ 100 }
-        ensures job { IfOk result (λ job. job ≡ job_begun self.now.id self.now.generation (placing_sources self.now.arch.now self.now.strip self.now.netlist.now.text self.now.kept.now seed effort)) }
+        requires { CanPlace (placing_sources self.now.arch.now self.now.strip
+            self.now.netlist.now.text self.now.kept.now seed effort) packing.now }
+        ensures job { IfOk result (λ job.
+            job ≡ job_begun self.now.id self.now.generation
+            (placing_sources self.now.arch.now self.now.strip self.now.netlist.now.text
+            self.now.kept.now seed effort)) }
         ensures going { IfOk result (λ job. is_last job.sources 0 ≡ false) }
     {
         let text = &self.netlist.text;
@@ -80,9 +77,12 @@ impl Beginning<'_> {
         seed: u64,
         effort: u32,
     ) -> Result<Running, AllocError>
-        requires netlist { IsNetlist self.now.arch.now.lut_size self.now.netlist.now }
-        requires placing { IsMadeOf (placing_sources self.now.arch.now self.now.strip self.now.netlist.now.text self.now.kept.now seed effort) placing.now }
-        ensures job { IfOk result (λ job. job ≡ job_begun self.now.id self.now.generation (routing_sources self.now.arch.now self.now.strip self.now.netlist.now.text self.now.kept.now seed effort)) }
+        requires { IsMadeOf (placing_sources self.now.arch.now self.now.strip
+            self.now.netlist.now.text self.now.kept.now seed effort) placing.now }
+        ensures job { IfOk result (λ job.
+            job ≡ job_begun self.now.id self.now.generation
+            (routing_sources self.now.arch.now self.now.strip self.now.netlist.now.text
+            self.now.kept.now seed effort)) }
         ensures going { IfOk result (λ job. is_last job.sources 0 ≡ false) }
     {
         let text = &self.netlist.text;

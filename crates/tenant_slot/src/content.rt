@@ -1,7 +1,8 @@
 //! What is there where no job runs.
 ghost use Rattle.std.specs.Prelude.{◌≡◌, is_some, Some, true};
-ghost use Rattle.tenant_slot.specs.Content.{CanFinish, IsFinished, cut_back, failure_in, finished_with, name_at_rest, netlist_in, packing_in, placing_in, routed_with};
+ghost use Rattle.tenant_slot.specs.Content.{CanFinish, cut_back, failure_in, finished_with, name_at_rest, netlist_in, packing_in, placing_in, routed_with};
 ghost use Rattle.tenant_slot.specs.Results.{failure_of};
+ghost use Rattle.job_state.specs.Job.{IsFinished};
 ghost use Rattle.job_state.specs.JobValue.{end_value};
 
 use crate::failure::RoutingFailure;
@@ -139,7 +140,8 @@ impl Content {
 /// A placed netlist with its routes, or with how its routing ended.
 fn routed_with(netlist: Netlist, packing: Parked, placing: Parked, routing: Parked) -> Content
     requires { IsFinished JobKind.Routing routing }
-    ensures { result ≡ routed_with netlist packing placing routing (failure_of (end_value routing.step.sources)) }
+    ensures { result ≡ routed_with netlist packing placing routing
+        (failure_of (end_value routing.step.sources)) }
 {
     match failure_of(&routing) {
         None => Content::Routed(netlist, packing, placing, routing),

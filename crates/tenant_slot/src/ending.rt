@@ -31,7 +31,8 @@ pub(crate) fn told_ending(
 
 /// The name of a net between blocks, and no byte where there is no such net.
 fn block_net_name(packed: &Packed, net: u32) -> &[u8]
-    ensures { result.now ≡ option_map_or (λ found. net_name packed.now.circuit found.net) (slice_get (block_nets packed.now) net) [] }
+    ensures { result.now ≡ option_map_or (λ found. net_name packed.now.circuit found.net)
+        (slice_get (block_nets packed.now) net) [] }
 {
     if (net as usize) < packed.net_count() {
         net_name(packed.circuit(), packed.net(net as usize).net)

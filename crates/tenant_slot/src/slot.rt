@@ -1,30 +1,28 @@
 //! One tenancy: its commands, and its job that leaves and comes back.
-ghost use Rattle.std.specs.Prelude.{◌≡◌, ◌<◌, All, AllPairs, Some, false, true, option_and_then, IfOk};
+ghost use Rattle.std.specs.Prelude.{◌≡◌, All, AllPairs, Some, false, true};
 ghost use Rattle.grid.specs.Sizes.{IsStripSize};
 ghost use Rattle.rr_graph.specs.declared.resource.Resource.{Resource};
 ghost use Rattle.rr_graph.specs.Resources.{IsEarlier, has, is_there};
-ghost use Rattle.tenant_slot.specs.Results.{ending_told};
 ghost use Rattle.tenant_slot.specs.RoutedSet.{routed_set};
-ghost use Rattle.tenant_slot.specs.SingleUser.{circuit_in, is_lawful, is_next, keeping, start};
-ghost use Rattle.strip_place.specs.Keeping.{AreKeptOn};
+ghost use Rattle.tenant_slot.specs.SingleUser.{is_next, start};
 ghost use Rattle.tenant_slot.specs.Answer.{Answers, IsAnswerTo, accepted};
-ghost use Rattle.tenant_slot.specs.Slot.{GivesBack, IsAdvanceOf, IsOrigin, Puts, Serves, Takes, is_takeable};
+ghost use Rattle.tenant_slot.specs.Slot.{CanPut, GivesBack, IsAdvanceOf, IsOrigin, Puts, Serves, Takes, is_takeable};
+
+mod commands;
 
 use crate::answer::Answer;
-use crate::beginning::Beginning;
 use crate::command::Command;
 use crate::content::Content;
-use crate::ending::told_ending;
 use crate::event::Advance;
 use crate::not_served::NotServed;
 use crate::origin::Origin;
-use crate::reply::{Ending, Refusal, Reply, StateName, Status, StepReply};
-use crate::standing::{Change, Standing};
+use crate::reply::{Refusal, Reply, StateName, StepReply};
+use crate::standing::Standing;
 use arch_file::SharedArch;
 use grid::Strip;
-use job_state::{AnyJob, Back, Done, RoutingEnd, SharedText, Sources};
+use job_state::{AnyJob, Back, Done, Sources};
 use rr_graph::Resource;
-use std::alloc::{AllocError, Global};
+use std::alloc::Global;
 use std::marker::Model;
 use strip_place::Kept;
 
@@ -113,192 +111,13 @@ impl Slot {
         self.serve(command)
     }
 
-    /// The answer to a lawful command.
-    fn serve(&self, command: &Command) -> Result<Answer, NotServed>
-        requires lawful { is_lawful self.now.state.name command.now ≡ true }
-        requires room { self.now.state.entries < 65536 }
-        ensures { Answers self.now command.now result }
-    {
-        let lut_size = self.arch.arch().lut_size;
-        match command {
-            Command::Upload(text) => Answer::load(self.alloc, lut_size, text, None),
-            Command::Change(text) => self.change(text),
-            Command::Pack => self.pack(),
-            Command::Place { seed, effort } => self.place(*seed, *effort),
-            Command::Route => self.route(),
-            Command::Cancel => {
-                let reply = Reply::Accepted(self.standing.content.name());
-                Ok(Answer::changing(lut_size, Change::Stop, reply))
-            }
-            Command::Withdraw => {
-                let reply = Reply::Accepted(StateName::Empty);
-                Ok(Answer::changing(lut_size, Change::Empty, reply))
-            }
-            Command::Status => self.status(),
-            Command::Net => self.net(),
-            Command::PlaceFile => self.place_file(),
-            Command::RouteFile => self.route_file(),
-        }
-    }
-
-    /// The answer to `change`.
-    fn change(&self, text: &SharedText) -> Result<Answer, NotServed>
-        requires lawful { is_lawful self.now.state.name (Command.Change text.now) ≡ true }
-        requires room { self.now.state.entries < 65536 }
-        ensures { Answers self.now (Command.Change text.now) result }
-    {
-        let lut_size = self.arch.arch().lut_size;
-        let kept = self.kept_next()?;
-        Answer::load(self.alloc, lut_size, text, Some(kept))
-    }
-
-    /// The places that a change keeps: those at this moment, and where there are none those that were kept before.
-    fn kept_next(&self) -> Result<Kept, AllocError>
-        ensures exact { IfOk result (λ kept. kept ≡ (keeping self.now.state).kept) }
-        ensures lawful { IfOk result (λ kept. AreKeptOn self.now.state.strip kept) }
-    {
-        match &self.standing.content {
-            Content::Placed(_, _, placing) => placing.placing().kept(self.alloc),
-            Content::Routed(_, _, placing, _) => placing.placing().kept(self.alloc),
-            Content::Unrouted(_, _, placing, _) => placing.placing().kept(self.alloc),
-            Content::Empty | Content::Loaded(_) | Content::Packed(..) => self.standing.kept.clone(),
-        }
-    }
-
-    /// The answer to `pack`.
-    fn pack(&self) -> Result<Answer, NotServed>
-        requires lawful { is_lawful self.now.state.name Command.Pack ≡ true }
-        requires room { self.now.state.entries < 65536 }
-        ensures { Answers self.now Command.Pack result }
-    {
-        let job = Beginning {
-            alloc: self.alloc,
-            id: self.id,
-            generation: self.standing.generation + 1,
-            arch: &self.arch,
-            strip: self.strip,
-            netlist: self.standing.content.netlist(),
-            kept: &self.standing.kept,
-        };
-        Answer::pack(&job)
-    }
-
-    /// The answer to `place`.
-    fn place(&self, seed: u64, effort: u32) -> Result<Answer, NotServed>
-        requires lawful { is_lawful self.now.state.name (Command.Place seed effort) ≡ true }
-        requires room { self.now.state.entries < 65536 }
-        ensures { Answers self.now (Command.Place seed effort) result }
-    {
-        let job = Beginning {
-            alloc: self.alloc,
-            id: self.id,
-            generation: self.standing.generation + 1,
-            arch: &self.arch,
-            strip: self.strip,
-            netlist: self.standing.content.netlist(),
-            kept: &self.standing.kept,
-        };
-        let packing = self.standing.content.packing();
-        Answer::place(&job, packing, seed, effort)
-    }
-
-    /// The answer to `route`.
-    fn route(&self) -> Result<Answer, NotServed>
-        requires lawful { is_lawful self.now.state.name Command.Route ≡ true }
-        requires room { self.now.state.entries < 65536 }
-        ensures { Answers self.now Command.Route result }
-    {
-        let job = Beginning {
-            alloc: self.alloc,
-            id: self.id,
-            generation: self.standing.generation + 1,
-            arch: &self.arch,
-            strip: self.strip,
-            netlist: self.standing.content.netlist(),
-            kept: &self.standing.kept,
-        };
-        let placing = self.standing.content.placing();
-        let (seed, effort) = (self.standing.seed, self.standing.effort);
-        Answer::route(&job, placing, seed, effort)
-    }
-
-    /// The answer to `status`.
-    fn status(&self) -> Result<Answer, NotServed>
-        requires room { self.now.state.entries < 65536 }
-        ensures { Answers self.now Command.Status result }
-    {
-        let lut_size = self.arch.arch().lut_size;
-        let state = self.state();
-        let steps = self.standing.steps;
-        let ending = self.ending()?;
-        let reply = Reply::Status(Status {
-            state,
-            steps,
-            ending,
-        });
-        Ok(Answer::unchanged(lut_size, reply))
-    }
-
-    /// How a routing ended without routes.
-    fn ending(&self) -> Result<Option<Ending>, AllocError>
-        ensures { IfOk result (λ ending. ending ≡ option_and_then (ending_told (circuit_in self.now.state) self.now.state.arch) self.now.state.ending) }
-    {
-        let content = &self.standing.content;
-        match content.failure() {
-            Some(failure) => {
-                let packed = content.packing().packed();
-                Ok(Some(told_ending(self.alloc, packed, failure)?))
-            }
-            None => Ok(None),
-        }
-    }
-
-    /// The answer to `net`.
-    fn net(&self) -> Result<Answer, NotServed>
-        requires lawful { is_lawful self.now.state.name Command.Net ≡ true }
-        requires room { self.now.state.entries < 65536 }
-        ensures { Answers self.now Command.Net result }
-    {
-        let lut_size = self.arch.arch().lut_size;
-        let packing = self.standing.content.packing();
-        Answer::net(self.alloc, lut_size, packing.packed())
-    }
-
-    /// The answer to `placefile`.
-    fn place_file(&self) -> Result<Answer, NotServed>
-        requires lawful { is_lawful self.now.state.name Command.PlaceFile ≡ true }
-        requires room { self.now.state.entries < 65536 }
-        ensures { Answers self.now Command.PlaceFile result }
-    {
-        let lut_size = self.arch.arch().lut_size;
-        let placing = self.standing.content.placing();
-        Answer::place_file(self.alloc, lut_size, placing.placing())
-    }
-
-    /// The answer to `routefile`.
-    fn route_file(&self) -> Result<Answer, NotServed>
-        requires lawful { is_lawful self.now.state.name Command.RouteFile ≡ true }
-        requires room { self.now.state.entries < 65536 }
-        ensures { Answers self.now Command.RouteFile result }
-    {
-        let lut_size = self.arch.arch().lut_size;
-        match &self.standing.content {
-            Content::Routed(_, _, placing, routing) => match routing.routing_end() {
-                RoutingEnd::Routed(routes) => {
-                    Answer::route_file(self.alloc, lut_size, placing.placing(), routes)
-                }
-                RoutingEnd::GaveUp | RoutingEnd::NoPath(_) => unreachable!(),
-            },
-            _ => unreachable!(),
-        }
-    }
-
     /// What the circuit holds of its strip, in node order: in the state Routed the pins and wires of its routes and the pads of its
     /// blocks, each once, and nothing in the others.
     pub fn routed(&self) -> &[Resource]
         ensures order { AllPairs IsEarlier result.now }
         ensures exact { (r : Resource) → has result.now r ≡ has (routed_set self.now.state) r }
-        ensures there { All (λ r. is_there self.now.state.arch self.now.state.strip r ≡ true) result.now }
+        ensures there { All (λ r. is_there self.now.state.arch self.now.state.strip r ≡ true)
+            result.now }
     {
         match &self.standing.content {
             Content::Routed(_, _, _, routing) => routing.resources(),
@@ -340,8 +159,7 @@ impl Slot {
 
     /// Puts a step that was made: the running job goes on where it is its next one. It is an entry. Takes no memory.
     pub fn put(&mut self, done: Done) -> (Advance, StepReply)
-        requires id { done.id ≡ self.old.id }
-        requires room { self.old.state.entries < 65536 }
+        requires { CanPut self.old done }
         ensures { Puts self.old done result.0 result.1 self.new }
     {
         self.put_from(done, Origin::Unknown)
@@ -350,8 +168,7 @@ impl Slot {
     /// Puts a step of which that is known, as `put` does. Where it is known to be the running job's next one, its sources are
     /// compared with nothing, so its cost doesn't grow with the netlist. Takes no memory.
     pub fn put_from(&mut self, done: Done, origin: Origin) -> (Advance, StepReply)
-        requires id { done.id ≡ self.old.id }
-        requires room { self.old.state.entries < 65536 }
+        requires can { CanPut self.old done }
         requires origin { IsOrigin self.old done origin }
         ensures { Puts self.old done result.0 result.1 self.new }
     {
@@ -396,7 +213,13 @@ impl Slot {
 
     /// How a step of this tenancy, of that generation and number and of these sources, is written down.
     fn advance_of(&self, generation: u32, number: u32, sources: &Sources) -> Advance
-        ensures { IsAdvanceOf self.now.state (record { id = self.now.id; generation = generation; number = number; sources = sources.now }) result }
+        ensures { IsAdvanceOf self.now.state
+            (record {
+              id = self.now.id;
+              generation = generation;
+              number = number;
+              sources = sources.now;
+            }) result }
     {
         Advance {
             generation,

@@ -144,7 +144,12 @@ impl Standing {
 
     /// A placing runs, and places and routes are given up.
     fn place(&mut self, job: Running)
-        ensures { self.new ≡ record self.old { content = cut_back self.old.content; running = Some job; seed = job.sources.seed; effort = job.sources.effort } }
+        ensures { self.new ≡ record self.old {
+          content = cut_back self.old.content;
+          running = Some job;
+          seed = job.sources.seed;
+          effort = job.sources.effort;
+        } }
     {
         self.seed = job.sources.seed;
         self.effort = job.sources.effort;
@@ -176,7 +181,9 @@ impl Standing {
     /// The running job's next step, which is out then.
     pub(crate) fn take(&mut self) -> Option<Parked>
         ensures job { result ≡ ready_of self.old.running }
-        ensures out { self.new ≡ record self.old { running = option_map without_ready self.old.running } }
+        ensures out { self.new ≡ record self.old {
+          running = option_map without_ready self.old.running;
+        } }
     {
         match &mut self.running {
             Some(job) => job.ready.take(),
@@ -186,7 +193,9 @@ impl Standing {
 
     /// The running job's next step stands here again.
     pub(crate) fn stand_ready(&mut self, job: Parked)
-        ensures { self.new ≡ record self.old { running = option_map (ready_with job) self.old.running } }
+        ensures { self.new ≡ record self.old {
+          running = option_map (ready_with job) self.old.running;
+        } }
     {
         match &mut self.running {
             Some(running) => drop(mem::replace(&mut running.ready, Some(job))),
@@ -218,7 +227,11 @@ impl Standing {
     /// The running job is finished.
     fn finish(&mut self, job: Parked)
         requires { CanFinish self.old.content job }
-        ensures { self.new ≡ record self.old { content = finished_with self.old.content job; running = None; steps = 0 } }
+        ensures { self.new ≡ record self.old {
+          content = finished_with self.old.content job;
+          running = None;
+          steps = 0;
+        } }
     {
         self.steps = 0;
         self.run(None);

@@ -56,7 +56,8 @@ pub(crate) fn new_core<C: Begun, P: Ledger>(
     puts: Blank,
 ) -> Option<Core<C, P>>
     requires small { IsSmall device }
-    requires commands { (commands.name ≡ C.name) × (commands.parts ≡ C.parts) × (commands.parts ≡ 65536) }
+    requires commands { (commands.name ≡ C.name) × (commands.parts ≡ C.parts)
+        × (commands.parts ≡ 65536) }
     requires puts { (puts.name ≡ P.name) × (puts.parts ≡ P.parts) × (puts.parts ≡ 17) }
     requires begun { C.begun ≡ empty device }
 {

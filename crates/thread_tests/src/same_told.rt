@@ -145,7 +145,8 @@ fn are_told<
     P: Ledger + Send + Sync,
     R: Threads + Wait + Clock + AllocGlobal + Sync,
 >(rt: &R, core: Core<C, P>, graph: &DeviceGraph, ready: &Ready, crew: Crew<C, P>) -> bool
-    requires speakers { All (λ s. (s.pass.of ≡ ready.now) × (s.lease.made ≡ 0)) crew.speakers.items }
+    requires speakers { All (λ s. (s.pass.of ≡ ready.now) × (s.lease.made ≡ 0))
+        crew.speakers.items }
     requires workers { All (λ w. w.seat.of ≡ ready.now) crew.workers.items }
 {
     let Crew { speakers, workers } = crew;

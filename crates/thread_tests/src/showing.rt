@@ -84,7 +84,8 @@ fn shows_on<
     R: Threads + Wait + Clock + AllocGlobal + Sync,
 >(rt: &R, device: Device, commands: Blank, puts: Blank, shown: Shown) -> bool
     requires small { IsSmall device }
-    requires commands { (commands.name ≡ C.name) × (commands.parts ≡ C.parts) × (commands.parts ≡ 65536) }
+    requires commands { (commands.name ≡ C.name) × (commands.parts ≡ C.parts)
+        × (commands.parts ≡ 65536) }
     requires puts { (puts.name ≡ P.name) × (puts.parts ≡ P.parts) × (puts.parts ≡ 17) }
     requires begun { C.begun ≡ empty device }
     requires stay { C.stay ≡ false }

@@ -46,7 +46,8 @@ fn a_pair<C: Begun, P: Ledger>(
     requires seats { All (λ s. s.of ≡ ready.now) seats.old.items }
     requires passes { All (λ p. p.of ≡ ready.now) passes.old.items }
     requires stay { C.stay ≡ false }
-    ensures speaker { IfSome result (λ pair. (pair.speaker.pass.of ≡ ready.now) × (pair.speaker.lease.made ≡ 0)) }
+    ensures speaker { IfSome result (λ pair. (pair.speaker.pass.of ≡ ready.now)
+        × (pair.speaker.lease.made ≡ 0)) }
     ensures worker { IfSome result (λ pair. pair.worker.seat.of ≡ ready.now) }
 {
     if core.admit(1) != Ok((1, 0)) {

@@ -76,7 +76,8 @@ impl<C: Ledger> Transcript<C> {
 
     /// Notes that an item is refused by itself. Without memory it is counted.
     pub fn refuse(&mut self, refusal: SessionRefusal) -> bool
-        ensures { MatchBool result (self.new ≡ with_place self.old (Refused refusal)) (self.new ≡ with_no_memory self.old) }
+        ensures { MatchBool result (self.new ≡ with_place self.old (Refused refusal))
+            (self.new ≡ with_no_memory self.old) }
     {
         if self.items.reserve(1).is_err() {
             self.count_no_memory();
@@ -147,7 +148,8 @@ impl<C: Begun> Transcript<C> {
 /// Appends an item told so, behind so many that found no memory.
 fn append(items: &mut Vec<Item>, no_memory: &mut u64, place: Place)
     requires { vec_len items.old < vec_capacity items.old }
-    ensures items { items.new.items ≡ items.old.items ++ record { place = place; no_memory_before = no_memory.old } ∷ [] }
+    ensures items { items.new.items ≡ items.old.items
+        ++ record { place = place; no_memory_before = no_memory.old } ∷ [] }
     ensures none { no_memory.new ≡ 0 }
 {
     let no_memory_before = *no_memory;

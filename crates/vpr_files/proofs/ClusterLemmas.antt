@@ -18,7 +18,8 @@ use Rattle.arch_file.specs.declared.arch.PinClass.{PinClass}
 use Rattle.arch_file.specs.declared.arch.PinClass.TheVariants.{Input, Output, Clock}
 use Rattle.cluster.specs.Bles.{LogicElement, bles_of, element_at}
 use Rattle.cluster.specs.Clusters.{PackedCircuit, outputs_of}
-use Rattle.cluster.specs.Blocks.{block_name, blocks_of, elements_in, is_same_class, net_name, pins_of, seed_name}
+use Rattle.cluster.specs.Blocks.{block_name, blocks_of, elements_in, is_same_class, net_name, pins_of}
+use Rattle.cluster.specs.ClusterPins.{seed_name}
 use Rattle.cluster.specs.declared.block.Block.{Block}
 use Rattle.cluster.specs.declared.block.Block.TheVariants.{InputPad, OutputPad, Cluster}
 use Rattle.vpr_files.specs.BlockClusters.{HasCluster}

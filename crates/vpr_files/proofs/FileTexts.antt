@@ -3,6 +3,7 @@ use Rattle.std.proofs.Common.{◌≡◌, ℕ, ◌==◌, ◌||◌, nat_lt, Bool, 
 use Rattle.std.specs.List.{flat_map}
 use Rattle.std.proofs.lemmas.Grind.{flat_map-append}
 use Rattle.std.proofs.lemmas.Option.{get_or_from_slice_get}
+use Rattle.blif.specs.declared.circuit.Circuit.{Circuit}
 use Rattle.cluster.specs.declared.block.Block.{Block}
 use Rattle.cluster.specs.Clusters.{PackedCircuit}
 use Rattle.cluster.specs.Blocks.{BlockNet, block_name, block_nets, blocks_of, net_name}
@@ -12,10 +13,10 @@ use Rattle.grid.specs.declared.place.Place.{Place}
 use Rattle.rr_graph.specs.declared.node.Node.{Node}
 use Rattle.strip_place.specs.Placed.{block_at, place_of}
 use Rattle.vpr_files.specs.TextLines.{line_of, spaced, text_of}
-use Rattle.vpr_files.specs.PlaceFile.{place_headings, placed_line}
+use Rattle.vpr_files.specs.PlaceFile.{placed_line}
 use Rattle.vpr_files.specs.NodeText.{kind_word, node_text_of, number_word}
-use Rattle.vpr_files.specs.RouteFile.{connected_line, connections, net_heading, route_headings}
-use Rattle.vpr_files.specs.NetLines.{connected_lines, node_line, numbered_net}
+use Rattle.vpr_files.specs.RouteFile.{connected_line}
+use Rattle.vpr_files.specs.FileParts.{connected_lines, connections, net_heading, node_line, numbered_net, place_headings, route_headings}
 use Rattle.vpr_files.proofs.ClusterLemmas.{all_at}
 
 -- lists in a row
@@ -101,19 +102,12 @@ node_parts start kind x y between label number e f =
     ∙ sym (three kind (spaced (codes "(" ++ x ++ codes "," ++ y ++ codes ")")) (spaced label) (spaced number)
     ∙ ap (λ t. kind ++ 32 ∷ t) (position_tail x y (spaced label ++ spaced number)))
 
--- the first line of a net, and an empty one
-local_text : (number name : List ℕ) → codes "Net " ++ (number ++ (codes " (" ++ (name ++ codes ")\n\n"))) ≡ text_of ((codes "Net" ∷ number ∷ (codes "(" ++ name ++ codes ")") ∷ []) ∷ [] ∷ [])
-local_text number name =
+-- the first line of a net, with what ends it, and an empty one
+first_text : (number name end : List ℕ) → codes "Net " ++ (number ++ (codes " (" ++ (name ++ (end ++ codes "\n\n")))) ≡ text_of ((codes "Net" ∷ number ∷ (codes "(" ++ name ++ end) ∷ []) ∷ [] ∷ [])
+first_text number name end =
     sym (ap (λ t. codes "Net " ++ t) (
-    three number (codes " (" ++ ((name ++ codes ")") ++ [])) (10 ∷ []) (10 ∷ [])
-    ∙ ap (λ t. number ++ (codes " (" ++ t)) (last name (codes ")") (codes "\n\n"))))
-
-global_text : (number name : List ℕ) → codes "Net " ++ (number ++ (codes " (" ++ (name ++ codes "): global net connecting:\n\n")))
-    ≡ text_of ((codes "Net" ∷ number ∷ (codes "(" ++ name ++ codes "):") ∷ codes "global" ∷ codes "net" ∷ codes "connecting:" ∷ []) ∷ [] ∷ [])
-global_text number name =
-    sym (ap (λ t. codes "Net " ++ t) (
-    three number (codes " (" ++ ((name ++ codes "):") ++ codes " global net connecting:")) (10 ∷ []) (10 ∷ [])
-    ∙ ap (λ t. number ++ (codes " (" ++ t)) (three name (codes "):") (codes " global net connecting:") (codes "\n\n"))))
+    three number (codes " (" ++ ((name ++ end) ++ [])) (10 ∷ []) (10 ∷ [])
+    ∙ ap (λ t. number ++ (codes " (" ++ t)) (last name end (codes "\n\n"))))
 
 -- the lines of a net
 pub net_text : (heading : List (List ℕ)) (lines : List (List (List ℕ))) → text_of (heading ∷ [] ∷ []) ++ (text_of lines ++ 10 ∷ []) ≡ text_of (heading ∷ [] ∷ lines ++ [] ∷ [])
@@ -164,21 +158,15 @@ by_number f packed number found at = ap f (sym (get_or_from_slice_get (block_net
 abbrev heading_text : PackedCircuit → ℕ → BlockNet → List ℕ
 heading_text packed number net = text_of (net_heading number (net_name packed.circuit net.net) net.global ∷ [] ∷ [])
 
-pub global_heading_text : (packed : PackedCircuit) (number : ℕ) (found : BlockNet) (digits name : List ℕ)
-    → slice_get (block_nets packed) number ≡ Some found → found.global ≡ true → digits ≡ decimal number → name ≡ net_name packed.circuit found.net
-    → codes "Net " ++ (digits ++ (codes " (" ++ (name ++ codes "): global net connecting:\n\n"))) ≡ heading_text packed number (numbered_net packed number)
-global_heading_text packed number found digits name at is e f =
-    rw (e, f) (global_text (decimal number) (net_name packed.circuit found.net)
-    ∙ ap (λ global. text_of (net_heading number (net_name packed.circuit found.net) global ∷ [] ∷ [])) (sym is)
-    ∙ by_number (heading_text packed number) packed number found at)
+pub global_heading_text : (number : ℕ) (global : Bool) (digits name : List ℕ) → global ≡ true → digits ≡ decimal number
+    → codes "Net " ++ (digits ++ (codes " (" ++ (name ++ codes "): global net connecting:\n\n"))) ≡ text_of (net_heading number name global ∷ [] ∷ [])
+global_heading_text number global digits name is e =
+    rw e (first_text (decimal number) name (codes "): global net connecting:") ∙ ap (λ global. text_of (net_heading number name global ∷ [] ∷ [])) (sym is))
 
-pub local_heading_text : (packed : PackedCircuit) (number : ℕ) (found : BlockNet) (digits name : List ℕ)
-    → slice_get (block_nets packed) number ≡ Some found → found.global ≡ false → digits ≡ decimal number → name ≡ net_name packed.circuit found.net
-    → codes "Net " ++ (digits ++ (codes " (" ++ (name ++ codes ")\n\n"))) ≡ heading_text packed number (numbered_net packed number)
-local_heading_text packed number found digits name at is e f =
-    rw (e, f) (local_text (decimal number) (net_name packed.circuit found.net)
-    ∙ ap (λ global. text_of (net_heading number (net_name packed.circuit found.net) global ∷ [] ∷ [])) (sym is)
-    ∙ by_number (heading_text packed number) packed number found at)
+pub local_heading_text : (number : ℕ) (global : Bool) (digits name : List ℕ) → global ≡ false → digits ≡ decimal number
+    → codes "Net " ++ (digits ++ (codes " (" ++ (name ++ codes ")\n\n"))) ≡ text_of (net_heading number name global ∷ [] ∷ [])
+local_heading_text number global digits name is e =
+    rw e (first_text (decimal number) name (codes ")") ∙ ap (λ global. text_of (net_heading number name global ∷ [] ∷ [])) (sym is))
 
 -- what a net connects, by whether it is global
 choice_true : {X : Type 0} (global : Bool) (a b : X) → global ≡ true → a ≡ cond global a b
@@ -214,6 +202,10 @@ at_its_place line packed found places block place e at =
 pub headings_found : {strip found_strip : Strip} {packed found : PackedCircuit} → found_strip ≡ strip → found ≡ packed → text_of (place_headings found_strip found) ≡ text_of (place_headings strip packed)
 headings_found {strip = strip} {found = found} e f = ap (λ s. text_of (place_headings s found)) e ∙ ap (λ p. text_of (place_headings strip p)) f
 
--- the first line of a net, by the packing that is found
-pub heading_found : {packed found : PackedCircuit} (number : ℕ) → found ≡ packed → heading_text found number (numbered_net found number) ≡ heading_text packed number (numbered_net packed number)
-heading_found number e = ap (λ p. heading_text p number (numbered_net p number)) e
+-- the first line of a net, by the packing, the net and the name that are found
+pub heading_found : (packed found : PackedCircuit) (circuit : Circuit) (number : ℕ) (net : BlockNet) (name : List ℕ)
+    → found ≡ packed → slice_get (block_nets found) number ≡ Some net → circuit ≡ found.circuit → name ≡ net_name circuit net.net
+    → text_of (net_heading number name net.global ∷ [] ∷ []) ≡ heading_text packed number (numbered_net packed number)
+heading_found packed found circuit number net name e at is named =
+    ap (λ n. text_of (net_heading number n net.global ∷ [] ∷ [])) (named ∙ ap (λ (c : Circuit). net_name c net.net) (is ∙ ap (λ (p : PackedCircuit). p.circuit) e))
+    ∙ by_number (heading_text packed number) packed number net (ap (λ (p : PackedCircuit). slice_get (block_nets p) number) (sym e) ∙ at)

@@ -8,7 +8,7 @@ use Rattle.blif.specs.declared.circuit.Circuit.{Circuit}
 use Rattle.cluster.specs.Clusters.{PackedCircuit}
 use Rattle.cluster.specs.Blocks.{BlockNet, block_nets, net_name}
 use Rattle.vpr_files.specs.TextLines.{line_of, text_of}
-use Rattle.vpr_files.specs.NetFile.{global_lines, with_gap}
+use Rattle.vpr_files.specs.FileParts.{global_lines}
 
 -- the text, if it is told
 abbrev pub told : Bool → List ℕ → List ℕ
@@ -23,10 +23,6 @@ global_line circuit net = codes ".global" ∷ net_name circuit net.net ∷ []
 abbrev pub global_text : Circuit → BlockNet → List ℕ
 global_text circuit net = told net.global (line_of (global_line circuit net))
 
-has_some : {X : Type 0} → List X → Bool
-has_some [] = false
-has_some (x ∷ xs) = true
-
 flat_filter : {X : Type 0} (p : X → Bool) (f : X → List ℕ) (xs : List X) → flat_map (λ x. told (p x) (f x)) xs ≡ flat_map f (filter p xs)
 flat_filter p f [] = refl
 flat_filter p f (x ∷ xs) =
@@ -35,16 +31,10 @@ flat_filter p f (x ∷ xs) =
       | false ↦ flat_filter p f xs
     ]
 
-some_filter : {X Y : Type 0} (p : X → Bool) (f : X → Y) (xs : List X) → has_some (map f (filter p xs)) ≡ list_any p xs
-unfolding has_some
-some_filter p f [] = refl
-some_filter p f (x ∷ xs) =
-    elim (p x) as (λ b. has_some (map f (cond b (x ∷ filter p xs) (filter p xs))) ≡ (b || list_any p xs)) [ true ↦ refl | false ↦ some_filter p f xs ]
-
-gap_text : (lines : List (List (List ℕ))) → text_of lines ++ told (has_some lines) (10 ∷ []) ≡ text_of (with_gap lines)
-unfolding has_some
-gap_text [] = refl
-gap_text (line ∷ lines) = sym (flat_map-append line_of (line ∷ lines) ([] ∷ []))
+-- an empty line, if it is told
+gap_text : (b : Bool) → told b (10 ∷ []) ≡ text_of (cond b ([] ∷ []) [])
+gap_text true = refl
+gap_text false = refl
 
 -- the lines net by net, and an empty one if there was a global net
 pub globals_text : (packed : PackedCircuit) → flat_map (global_text packed.circuit) (block_nets packed) ++ told (list_any (λ net. net.global) (block_nets packed)) (10 ∷ []) ≡ text_of (global_lines packed)
@@ -53,8 +43,8 @@ globals_text packed =
     let line : BlockNet → List (List ℕ) = global_line packed.circuit in
     let nets = block_nets packed in
     ap (λ text. text ++ told (list_any is_global nets) (10 ∷ [])) (flat_filter is_global (λ net. line_of (line net)) nets ∙ sym (flat_map-map line_of line (filter is_global nets)))
-    ∙ ap (λ b. text_of (map line (filter is_global nets)) ++ told b (10 ∷ [])) (sym (some_filter is_global line nets))
-    ∙ gap_text (map line (filter is_global nets))
+    ∙ ap (λ gap. text_of (map line (filter is_global nets)) ++ gap) (gap_text (list_any is_global nets))
+    ∙ sym (flat_map-append line_of (map line (filter is_global nets)) (cond (list_any is_global nets) ([] ∷ []) []))
 
 -- the line of one, by the name that is found
 pub global_line_text : (circuit : Circuit) (name : List ℕ) (net : BlockNet) → name ≡ net_name circuit net.net → codes ".global " ++ (name ++ 10 ∷ []) ≡ line_of (global_line circuit net)

@@ -1,19 +1,19 @@
 -- Lines and blocks as they are written, part by part.
-use Rattle.std.proofs.Common.{◌≡◌, ℕ, List, [], ◌∷◌, ◌++◌, map, Option, refl, sym, ap, ◌∙◌, codes, slice_get, option_and_then, append_assoc, append-nil}
+use Rattle.std.proofs.Common.{◌≡◌, ℕ, List, [], ◌∷◌, ◌++◌, map, Option, refl, sym, ap, ◌∙◌, codes, decimal, slice_get, option_and_then, append_assoc, append-nil}
 use Rattle.std.specs.List.{flat_map, range_with_len}
 use Rattle.std.proofs.lemmas.Grind.{flat_map-append}
 use Rattle.std.proofs.lemmas.List.Folds.{flat_map-map}
 use Rattle.arch_file.specs.declared.arch.PinClass.TheVariants.{Output, Clock}
 use Rattle.cluster.specs.declared.block.Block.TheVariants.{InputPad, OutputPad, Cluster}
-use Rattle.cluster.specs.Bles.{LogicElement, bles_of, element_at}
+use Rattle.cluster.specs.Bles.{LogicElement}
 use Rattle.cluster.specs.Clusters.{PackedCircuit}
 use Rattle.cluster.specs.Blocks.{block_name, elements_in, net_name, pins_of}
 use Rattle.vpr_files.specs.TextLines.{line_of, spaced, text_of}
-use Rattle.vpr_files.specs.NetFile.{block_lines, element_line, input_word, net_word, pin_with, pin_word}
+use Rattle.vpr_files.specs.NetFile.{block_lines, element_line, input_word, or_open, pin_with}
 
 -- the words of the inputs of a BLE, each behind a space
 abbrev pub inputs_text : PackedCircuit → ℕ → List ℕ → List ℕ
-inputs_text packed cluster inputs = flat_map (λ place. spaced (input_word packed cluster (slice_get inputs place))) (range_with_len 0 packed.arch.lut_size)
+inputs_text packed cluster inputs = flat_map (λ place. spaced (or_open (input_word packed cluster) (slice_get inputs place))) (range_with_len 0 packed.arch.lut_size)
 
 -- the beginning of a BLE's line
 abbrev pub element_head : List ℕ → List ℕ
@@ -36,35 +36,33 @@ words_tail name words output clock =
 element_parts : (packed : PackedCircuit) (cluster : ℕ) (element : LogicElement)
     → element_head (net_name packed.circuit element.output)
     ++ (inputs_text packed cluster element.inputs
-    ++ (spaced (pin_word (pin_with packed cluster Output element.output))
-    ++ (spaced (pin_word (option_and_then (pin_with packed cluster Clock) element.clock)) ++ 10 ∷ [])))
+    ++ (spaced (or_open decimal (pin_with packed cluster Output element.output))
+    ++ (spaced (or_open decimal (option_and_then (pin_with packed cluster Clock) element.clock)) ++ 10 ∷ [])))
     ≡ line_of (element_line packed cluster element)
 element_parts packed cluster element =
-    let word = λ (place : ℕ). input_word packed cluster (slice_get element.inputs place) in
-    let output = pin_word (pin_with packed cluster Output element.output) in
-    let clock = pin_word (option_and_then (pin_with packed cluster Clock) element.clock) in
+    let word = λ (place : ℕ). or_open (input_word packed cluster) (slice_get element.inputs place) in
+    let output = or_open decimal (pin_with packed cluster Output element.output) in
+    let clock = or_open decimal (option_and_then (pin_with packed cluster Clock) element.clock) in
     let name = net_name packed.circuit element.output in
     ap (λ inputs. element_head name ++ (inputs ++ (spaced output ++ (spaced clock ++ 10 ∷ [])))) (sym (flat_map-map spaced word (range_with_len 0 packed.arch.lut_size)))
     ∙ ap (λ rest. codes "subblock: " ++ rest) (words_tail name (map word (range_with_len 0 packed.arch.lut_size)) output clock)
 
--- the line of the BLE of that number, by the parts that are found
-pub element_text : (packed : PackedCircuit) (cluster number : ℕ) (element : LogicElement) (name : List ℕ) (output clock : Option ℕ)
-    → element_at (bles_of packed.circuit) number ≡ element
+-- the line of a BLE, by the parts that are found
+pub element_text : (packed : PackedCircuit) (cluster : ℕ) (element : LogicElement) (name : List ℕ) (output clock : Option ℕ)
     → name ≡ net_name packed.circuit element.output
     → output ≡ pin_with packed cluster Output element.output
     → clock ≡ option_and_then (pin_with packed cluster Clock) element.clock
-    → element_head name ++ (inputs_text packed cluster element.inputs ++ (spaced (pin_word output) ++ (spaced (pin_word clock) ++ 10 ∷ [])))
-    ≡ line_of (element_line packed cluster (element_at (bles_of packed.circuit) number))
-element_text packed cluster number element name output clock is named at clocked =
-    ap (λ n. element_head n ++ (inputs_text packed cluster element.inputs ++ (spaced (pin_word output) ++ (spaced (pin_word clock) ++ 10 ∷ [])))) named
-    ∙ ap (λ o. element_head (net_name packed.circuit element.output) ++ (inputs_text packed cluster element.inputs ++ (spaced (pin_word o) ++ (spaced (pin_word clock) ++ 10 ∷ [])))) at
-    ∙ ap (λ k. element_head (net_name packed.circuit element.output) ++ (inputs_text packed cluster element.inputs ++ (spaced (pin_word (pin_with packed cluster Output element.output)) ++ (spaced (pin_word k) ++ 10 ∷ [])))) clocked
+    → element_head name ++ (inputs_text packed cluster element.inputs ++ (spaced (or_open decimal output) ++ (spaced (or_open decimal clock) ++ 10 ∷ [])))
+    ≡ line_of (element_line packed cluster element)
+element_text packed cluster element name output clock named at clocked =
+    ap (λ n. element_head n ++ (inputs_text packed cluster element.inputs ++ (spaced (or_open decimal output) ++ (spaced (or_open decimal clock) ++ 10 ∷ [])))) named
+    ∙ ap (λ o. element_head (net_name packed.circuit element.output) ++ (inputs_text packed cluster element.inputs ++ (spaced (or_open decimal o) ++ (spaced (or_open decimal clock) ++ 10 ∷ [])))) at
+    ∙ ap (λ k. element_head (net_name packed.circuit element.output) ++ (inputs_text packed cluster element.inputs ++ (spaced (or_open decimal (pin_with packed cluster Output element.output)) ++ (spaced (or_open decimal k) ++ 10 ∷ [])))) clocked
     ∙ element_parts packed cluster element
-    ∙ ap (λ e. line_of (element_line packed cluster e)) (sym is)
 
 -- the words of the pins of a cluster, each behind a space
 abbrev pub pins_text : PackedCircuit → ℕ → List ℕ
-pins_text packed cluster = flat_map spaced (map (net_word packed.circuit) (pins_of packed cluster))
+pins_text packed cluster = flat_map spaced (map (or_open (net_name packed.circuit)) (pins_of packed cluster))
 
 -- the lines of its BLEs
 abbrev pub elements_text : PackedCircuit → ℕ → List ℕ

@@ -3,5 +3,5 @@ pub mod NetFile
 pub mod PlaceFile
 pub mod NodeText
 pub mod RouteFile
-pub mod NetLines
+pub mod FileParts
 pub mod BlockClusters

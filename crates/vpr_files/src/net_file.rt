@@ -3,10 +3,10 @@ ghost use Rattle.std.specs.Prelude.{◌≡◌, ◌<◌, length, map};
 ghost use Rattle.std.specs.List.{flat_map};
 ghost use Rattle.cluster.specs.declared.block.Block.TheVariants.{Cluster};
 ghost use Rattle.cluster.specs.Blocks.{block_name, blocks_of, elements_in, net_name, pins_of};
-ghost use Rattle.cluster.specs.Packing.{IsPacked};
 ghost use Rattle.vpr_files.specs.BlockClusters.{HasCluster};
-ghost use Rattle.vpr_files.specs.NetFile.{block_lines, element_line, global_lines, net_text_of, net_word};
+ghost use Rattle.vpr_files.specs.NetFile.{block_lines, element_line, net_text_of, or_open};
 ghost use Rattle.vpr_files.specs.TextLines.{spaced, text_of};
+ghost use Rattle.vpr_files.specs.FileParts.{global_lines};
 ghost use Rattle.line_text.specs.Writing.{Writes};
 
 use crate::pin_words::write_element;
@@ -31,7 +31,8 @@ pub fn net_text<W: Sink>(packed: &Packed, sink: &mut W) -> Result<(), Failed>
 
 /// Writes the lines of the global nets.
 fn write_globals<W: Sink>(packed: &Packed, sink: &mut W) -> Result<(), Failed>
-    ensures { Writes W.contents W.has_failed sink.old sink.new (text_of (global_lines packed.now)) result }
+    ensures { Writes W.contents W.has_failed sink.old sink.new (text_of (global_lines packed.now))
+        result }
 {
     let mut some = false;
     for number in 0..packed.net_count() {
@@ -49,7 +50,8 @@ fn write_globals<W: Sink>(packed: &Packed, sink: &mut W) -> Result<(), Failed>
 
 /// Writes the blocks.
 fn write_blocks<W: Sink>(packed: &Packed, sink: &mut W) -> Result<(), Failed>
-    ensures { Writes W.contents W.has_failed sink.old sink.new (text_of (flat_map (block_lines packed.now) (blocks_of packed.now))) result }
+    ensures { Writes W.contents W.has_failed sink.old sink.new
+        (text_of (flat_map (block_lines packed.now) (blocks_of packed.now))) result }
 {
     for number in 0..packed.block_count() {
         write_block(packed, packed.block(number), sink)?;
@@ -60,7 +62,8 @@ fn write_blocks<W: Sink>(packed: &Packed, sink: &mut W) -> Result<(), Failed>
 /// Writes a block.
 fn write_block<W: Sink>(packed: &Packed, block: Block, sink: &mut W) -> Result<(), Failed>
     requires { HasCluster packed.now block }
-    ensures { Writes W.contents W.has_failed sink.old sink.new (text_of (block_lines packed.now block)) result }
+    ensures { Writes W.contents W.has_failed sink.old sink.new
+        (text_of (block_lines packed.now block)) result }
 {
     let circuit = packed.circuit();
     match block {
@@ -81,9 +84,9 @@ fn write_block<W: Sink>(packed: &Packed, block: Block, sink: &mut W) -> Result<(
 
 /// Writes a cluster.
 fn write_cluster<W: Sink>(packed: &Packed, cluster: usize, sink: &mut W) -> Result<(), Failed>
-    requires lawful { IsPacked packed.now }
-    requires cluster { cluster < length packed.now.clusters }
-    ensures { Writes W.contents W.has_failed sink.old sink.new (text_of (block_lines packed.now (Cluster cluster))) result }
+    requires { cluster < length packed.now.clusters }
+    ensures { Writes W.contents W.has_failed sink.old sink.new
+        (text_of (block_lines packed.now (Cluster cluster))) result }
 {
     write_parts(
         sink,
@@ -98,7 +101,9 @@ fn write_cluster<W: Sink>(packed: &Packed, cluster: usize, sink: &mut W) -> Resu
 /// Writes what each pin of the cluster carries.
 fn write_pins<W: Sink>(packed: &Packed, cluster: usize, sink: &mut W) -> Result<(), Failed>
     requires { cluster < length packed.now.clusters }
-    ensures { Writes W.contents W.has_failed sink.old sink.new (flat_map spaced (map (net_word packed.now.circuit) (pins_of packed.now cluster))) result }
+    ensures { Writes W.contents W.has_failed sink.old sink.new
+        (flat_map spaced (map (or_open (net_name packed.now.circuit)) (pins_of packed.now cluster)))
+        result }
 {
     for pin in 0..packed.arch().pins.as_slice().len() {
         write_word(sink, pin_name(packed.circuit(), packed.pin(cluster, pin)))?;
@@ -108,12 +113,14 @@ fn write_pins<W: Sink>(packed: &Packed, cluster: usize, sink: &mut W) -> Result<
 
 /// Writes the lines of the cluster's BLEs.
 fn write_elements<W: Sink>(packed: &Packed, cluster: usize, sink: &mut W) -> Result<(), Failed>
-    requires lawful { IsPacked packed.now }
-    requires cluster { cluster < length packed.now.clusters }
-    ensures { Writes W.contents W.has_failed sink.old sink.new (text_of (map (element_line packed.now cluster) (elements_in packed.now cluster))) result }
+    requires { cluster < length packed.now.clusters }
+    ensures { Writes W.contents W.has_failed sink.old sink.new
+        (text_of (map (element_line packed.now cluster) (elements_in packed.now cluster))) result }
 {
+    let _ = packed.circuit();
     for number in packed.cluster(cluster) {
-        write_element(packed, cluster, *number as usize, sink)?;
+        let ble = packed.ble(*number as usize);
+        write_element(packed, cluster, ble, sink)?;
     }
     Ok(())
 }
@@ -132,7 +139,7 @@ pub(crate) fn net_name(circuit: &Circuit, net: u32) -> &[u8]
 
 /// The name of the net that a pin carries, or `open`.
 fn pin_name(circuit: &Circuit, carried: Option<u32>) -> &[u8]
-    ensures { result.now ≡ net_word circuit.now carried }
+    ensures { result.now ≡ or_open (net_name circuit.now) carried }
 {
     match carried {
         Some(net) => net_name(circuit, net),

@@ -1,17 +1,15 @@
 //! The words that say by which pins the BLEs of a cluster are connected.
-ghost use Rattle.std.specs.Prelude.{◌≡◌, ◌<◌, length, option_and_then, slice_get, Some};
+ghost use Rattle.std.specs.Prelude.{◌≡◌, ◌<◌, decimal, length, option_and_then, slice_get, Some};
 ghost use Rattle.arch_file.specs.declared.arch.PinClass.TheVariants.{Clock};
-ghost use Rattle.cluster.specs.Bles.{bles_of, element_at};
 ghost use Rattle.std.specs.List.{flat_map, range_with_len};
 ghost use Rattle.vpr_files.specs.TextLines.{spaced, line_of};
-ghost use Rattle.cluster.specs.Packing.{IsPacked};
-ghost use Rattle.vpr_files.specs.NetFile.{driver_place, element_line, input_word, pin_with, pin_word};
+ghost use Rattle.vpr_files.specs.NetFile.{driver_place, element_line, input_word, or_open, pin_with};
 ghost use Rattle.line_text.specs.Writing.{Writes};
 
 use crate::net_file::net_name;
 use crate::writing::{end_line, write_number, write_word};
 use arch_file::PinClass;
-use cluster::Packed;
+use cluster::{Ble, Packed};
 use line_text::{Failed, Sink, write_parts};
 
 /// The number of the pin of that class that carries the net.
@@ -29,10 +27,10 @@ fn pin_with(packed: &Packed, cluster: usize, class: PinClass, net: u32) -> Optio
 
 /// The place in the cluster of the BLE that drives the net.
 fn driver_place(packed: &Packed, cluster: usize, net: u32) -> Option<usize>
-    requires lawful { IsPacked packed.now }
-    requires cluster { cluster < length packed.now.clusters }
+    requires { cluster < length packed.now.clusters }
     ensures { result ≡ driver_place packed.now cluster net }
 {
+    let _ = packed.circuit();
     for (place, number) in packed.cluster(cluster).iter().enumerate() {
         if packed.ble(*number as usize).output == net {
             return Some(place);
@@ -43,7 +41,8 @@ fn driver_place(packed: &Packed, cluster: usize, net: u32) -> Option<usize>
 
 /// Writes the number of a pin, or `open`.
 fn write_pin<W: Sink>(sink: &mut W, pin: Option<usize>) -> Result<(), Failed>
-    ensures { Writes W.contents W.has_failed sink.old sink.new (spaced (pin_word pin)) result }
+    ensures { Writes W.contents W.has_failed sink.old sink.new (spaced (or_open decimal pin))
+        result }
 {
     match pin {
         Some(number) => write_number(sink, b" ", number),
@@ -58,9 +57,9 @@ fn write_input<W: Sink>(
     input: Option<u32>,
     sink: &mut W,
 ) -> Result<(), Failed>
-    requires lawful { IsPacked packed.now }
-    requires cluster { cluster < length packed.now.clusters }
-    ensures { Writes W.contents W.has_failed sink.old sink.new (spaced (input_word packed.now cluster input)) result }
+    requires { cluster < length packed.now.clusters }
+    ensures { Writes W.contents W.has_failed sink.old sink.new
+        (spaced (or_open (input_word packed.now cluster) input)) result }
 {
     let Some(net) = input else {
         return write_word(sink, b"open");
@@ -86,7 +85,10 @@ fn write_inputs<W: Sink>(
     sink: &mut W,
 ) -> Result<(), Failed>
     requires { cluster < length packed.now.clusters }
-    ensures { Writes W.contents W.has_failed sink.old sink.new (flat_map (λ place. spaced (input_word packed.now cluster (slice_get inputs.now place))) (range_with_len 0 packed.now.arch.lut_size)) result }
+    ensures { Writes W.contents W.has_failed sink.old sink.new
+        (flat_map (λ place. spaced
+        (or_open (input_word packed.now cluster) (slice_get inputs.now place)))
+        (range_with_len 0 packed.now.arch.lut_size)) result }
 {
     for place in 0..packed.arch().lut_size as usize {
         write_input(packed, cluster, input_at(inputs, place), sink)?;
@@ -94,18 +96,22 @@ fn write_inputs<W: Sink>(
     Ok(())
 }
 
-/// Writes the line of the BLE of that number: its name, its inputs, its output and its clock.
+/// Writes the line of a BLE: its name, its inputs, its output and its clock.
 pub(crate) fn write_element<W: Sink>(
     packed: &Packed,
     cluster: usize,
-    number: usize,
+    ble: Ble<'_>,
     sink: &mut W,
 ) -> Result<(), Failed>
-    requires cluster { cluster < length packed.now.clusters }
-    requires number { number < length (bles_of packed.now.circuit) }
-    ensures { Writes W.contents W.has_failed sink.old sink.new (line_of (element_line packed.now cluster (element_at (bles_of packed.now.circuit) number))) result }
+    requires { cluster < length packed.now.clusters }
+    ensures { Writes W.contents W.has_failed sink.old sink.new
+        (line_of (element_line packed.now cluster
+        (record {
+          inputs = ble.entry.inputs.now;
+          output = ble.entry.output;
+          clock = ble.entry.clock;
+        }))) result }
 {
-    let ble = packed.ble(number);
     write_parts(
         sink,
         &[b"subblock: ", net_name(packed.circuit(), ble.output)],

@@ -2,8 +2,9 @@
 ghost use Rattle.std.specs.Prelude.{◌<◌, length};
 ghost use Rattle.cluster.specs.Blocks.{blocks_of};
 ghost use Rattle.strip_place.specs.Anneal.{places_by_block};
-ghost use Rattle.vpr_files.specs.PlaceFile.{place_headings, place_text_of, placed_line, placed_lines};
+ghost use Rattle.vpr_files.specs.PlaceFile.{place_text_of, placed_line};
 ghost use Rattle.vpr_files.specs.TextLines.{line_of, text_of};
+ghost use Rattle.vpr_files.specs.FileParts.{place_headings, placed_lines};
 ghost use Rattle.line_text.specs.Writing.{Writes};
 
 use crate::block_names::block_name;
@@ -20,7 +21,8 @@ use strip_place::Placing;
 /// - For each block, in order: its name, the column and row where it stands, the number of the pad among those of its end of
 ///   the column (0 for a logic block), and `#` with its own number.
 pub fn place_text<W: Sink>(placing: &Placing, sink: &mut W) -> Result<(), Failed>
-    ensures { Writes W.contents W.has_failed sink.old sink.new (place_text_of placing.now.strip placing.now.packed (places_by_block placing.now)) result }
+    ensures { Writes W.contents W.has_failed sink.old sink.new
+        (place_text_of placing.now.strip placing.now.packed (places_by_block placing.now)) result }
 {
     write_headings(placing.strip(), placing.packed(), sink)?;
     write_places(placing, sink)
@@ -28,7 +30,8 @@ pub fn place_text<W: Sink>(placing: &Placing, sink: &mut W) -> Result<(), Failed
 
 /// Writes the headings.
 fn write_headings<W: Sink>(strip: Strip, packed: &Packed, sink: &mut W) -> Result<(), Failed>
-    ensures { Writes W.contents W.has_failed sink.old sink.new (text_of (place_headings strip packed.now)) result }
+    ensures { Writes W.contents W.has_failed sink.old sink.new
+        (text_of (place_headings strip packed.now)) result }
 {
     let mut width = Buffer::new();
     let mut rows = Buffer::new();
@@ -48,7 +51,8 @@ fn write_headings<W: Sink>(strip: Strip, packed: &Packed, sink: &mut W) -> Resul
 
 /// Writes the lines of the blocks.
 fn write_places<W: Sink>(placing: &Placing, sink: &mut W) -> Result<(), Failed>
-    ensures { Writes W.contents W.has_failed sink.old sink.new (text_of (placed_lines placing.now.packed (places_by_block placing.now))) result }
+    ensures { Writes W.contents W.has_failed sink.old sink.new
+        (text_of (placed_lines placing.now.packed (places_by_block placing.now))) result }
 {
     for block in 0..placing.packed().block_count() {
         write_place(placing.packed(), block, placing.place_of(block), sink)?;
@@ -64,7 +68,8 @@ fn write_place<W: Sink>(
     sink: &mut W,
 ) -> Result<(), Failed>
     requires { block < length (blocks_of packed.now) }
-    ensures { Writes W.contents W.has_failed sink.old sink.new (line_of (placed_line packed.now block place)) result }
+    ensures { Writes W.contents W.has_failed sink.old sink.new
+        (line_of (placed_line packed.now block place)) result }
 {
     let name = block_name(packed, packed.block(block));
     let mut x = Buffer::new();

@@ -1,10 +1,10 @@
 //! The `.route` file: what the nets of a placed and routed circuit connect.
 ghost use Rattle.std.specs.Prelude.{◌≡◌, ◌<◌, ◌∷◌, [], All, length, map, slice_index_or};
 ghost use Rattle.std.specs.List.{flat_map};
-ghost use Rattle.cluster.specs.Blocks.{block_nets, blocks_of, net_name};
+ghost use Rattle.cluster.specs.Blocks.{block_nets, blocks_of};
 ghost use Rattle.strip_place.specs.Anneal.{places_by_block};
-ghost use Rattle.vpr_files.specs.RouteFile.{connected_line, connections, net_heading, net_lines, route_headings, route_text_of, routed_lines};
-ghost use Rattle.vpr_files.specs.NetLines.{connected_lines, node_line, numbered_net};
+ghost use Rattle.vpr_files.specs.RouteFile.{connected_line, net_lines, route_text_of};
+ghost use Rattle.vpr_files.specs.FileParts.{AreBlocks, IsRouted, connected_lines, connections, net_heading, node_line, numbered_net, route_headings, routed_lines};
 ghost use Rattle.vpr_files.specs.TextLines.{line_of, text_of};
 ghost use Rattle.line_text.specs.Writing.{Writes};
 
@@ -31,7 +31,9 @@ use strip_place::Placing;
 ///   `Block NAME (#NUMBER) at (X,Y).` for its driver, and one for each block that reads it, in order.
 pub fn route_text<W: Sink>(placing: &Placing, routes: &Routes, sink: &mut W) -> Result<(), Failed>
     requires nets { length routes.now ≡ length (block_nets placing.now.packed) }
-    ensures { Writes W.contents W.has_failed sink.old sink.new (route_text_of placing.now.strip placing.now.packed (places_by_block placing.now) routes.now) result }
+    ensures { Writes W.contents W.has_failed sink.old sink.new
+        (route_text_of placing.now.strip placing.now.packed (places_by_block placing.now)
+        routes.now) result }
 {
     write_headings(placing.strip(), sink)?;
     write_nets(placing, routes, sink)
@@ -39,7 +41,8 @@ pub fn route_text<W: Sink>(placing: &Placing, routes: &Routes, sink: &mut W) -> 
 
 /// Writes the headings.
 fn write_headings<W: Sink>(strip: Strip, sink: &mut W) -> Result<(), Failed>
-    ensures { Writes W.contents W.has_failed sink.old sink.new (text_of (route_headings strip)) result }
+    ensures { Writes W.contents W.has_failed sink.old sink.new (text_of (route_headings strip))
+        result }
 {
     let mut width = Buffer::new();
     let mut rows = Buffer::new();
@@ -58,7 +61,9 @@ fn write_headings<W: Sink>(strip: Strip, sink: &mut W) -> Result<(), Failed>
 /// Writes the nets.
 fn write_nets<W: Sink>(placing: &Placing, routes: &Routes, sink: &mut W) -> Result<(), Failed>
     requires { length routes.now ≡ length (block_nets placing.now.packed) }
-    ensures { Writes W.contents W.has_failed sink.old sink.new (text_of (routed_lines placing.now.strip placing.now.packed (places_by_block placing.now) routes.now)) result }
+    ensures { Writes W.contents W.has_failed sink.old sink.new
+        (text_of (routed_lines placing.now.strip placing.now.packed (places_by_block placing.now)
+        routes.now)) result }
 {
     for number in 0..placing.packed().net_count() {
         write_net(placing, routes, number, sink)?;
@@ -73,25 +78,33 @@ fn write_net<W: Sink>(
     number: usize,
     sink: &mut W,
 ) -> Result<(), Failed>
-    requires route { number < length routes.now }
-    requires net { number < length (block_nets placing.now.packed) }
-    ensures { Writes W.contents W.has_failed sink.old sink.new (text_of (net_lines placing.now.strip placing.now.packed (places_by_block placing.now) number (numbered_net placing.now.packed number) (slice_index_or routes.now number []))) result }
+    requires { IsRouted placing.now.packed routes.now number }
+    ensures { Writes W.contents W.has_failed sink.old sink.new
+        (text_of (net_lines placing.now.strip placing.now.packed (places_by_block placing.now)
+        number (numbered_net placing.now.packed number) (slice_index_or routes.now number [])))
+        result }
 {
-    write_net_heading(placing.packed(), number, sink)?;
+    let packed = placing.packed();
+    let net = packed.net(number);
+    let name = net_name(packed.circuit(), net.net);
+    write_net_heading(number, name, net.global, sink)?;
     write_connections(placing, routes, number, sink)?;
     end_line(sink)
 }
 
 /// Writes the first line of a net, and an empty one.
-fn write_net_heading<W: Sink>(packed: &Packed, number: usize, sink: &mut W) -> Result<(), Failed>
-    requires { number < length (block_nets packed.now) }
-    ensures { Writes W.contents W.has_failed sink.old sink.new (text_of (net_heading number (net_name packed.now.circuit (numbered_net packed.now number).net) (numbered_net packed.now number).global ∷ [] ∷ [])) result }
+fn write_net_heading<W: Sink>(
+    number: usize,
+    name: &[u8],
+    global: bool,
+    sink: &mut W,
+) -> Result<(), Failed>
+    ensures { Writes W.contents W.has_failed sink.old sink.new
+        (text_of (net_heading number name.now global ∷ [] ∷ [])) result }
 {
-    let net = packed.net(number);
-    let name = net_name(packed.circuit(), net.net);
     let mut buffer = Buffer::new();
     let digits = buffer.format(number).as_bytes();
-    if net.global {
+    if global {
         write_parts(
             sink,
             &[
@@ -114,9 +127,10 @@ fn write_connections<W: Sink>(
     number: usize,
     sink: &mut W,
 ) -> Result<(), Failed>
-    requires route { number < length routes.now }
-    requires net { number < length (block_nets placing.now.packed) }
-    ensures { Writes W.contents W.has_failed sink.old sink.new (text_of (connections placing.now.strip placing.now.packed (places_by_block placing.now) (numbered_net placing.now.packed number) (slice_index_or routes.now number []))) result }
+    requires { IsRouted placing.now.packed routes.now number }
+    ensures { Writes W.contents W.has_failed sink.old sink.new
+        (text_of (connections placing.now.strip placing.now.packed (places_by_block placing.now)
+        (numbered_net placing.now.packed number) (slice_index_or routes.now number []))) result }
 {
     laws_of_packing();
     let packed = placing.packed();
@@ -136,9 +150,10 @@ fn write_connected<W: Sink>(
     readers: &[u32],
     sink: &mut W,
 ) -> Result<(), Failed>
-    requires driver { driver < length (blocks_of placing.now.packed) }
-    requires readers { All (λ reader. reader < length (blocks_of placing.now.packed)) readers.now }
-    ensures { Writes W.contents W.has_failed sink.old sink.new (text_of (connected_lines placing.now.packed (places_by_block placing.now) (driver ∷ readers.now))) result }
+    requires { AreBlocks placing.now.packed driver readers.now }
+    ensures { Writes W.contents W.has_failed sink.old sink.new
+        (text_of (connected_lines placing.now.packed (places_by_block placing.now)
+        (driver ∷ readers.now))) result }
 {
     write_block(placing.packed(), driver, placing.place_of(driver), sink)?;
     write_readers(placing, readers, sink)
@@ -147,7 +162,9 @@ fn write_connected<W: Sink>(
 /// Writes the blocks that read a global net.
 fn write_readers<W: Sink>(placing: &Placing, readers: &[u32], sink: &mut W) -> Result<(), Failed>
     requires { All (λ reader. reader < length (blocks_of placing.now.packed)) readers.now }
-    ensures { Writes W.contents W.has_failed sink.old sink.new (text_of (connected_lines placing.now.packed (places_by_block placing.now) readers.now)) result }
+    ensures { Writes W.contents W.has_failed sink.old sink.new
+        (text_of (connected_lines placing.now.packed (places_by_block placing.now) readers.now))
+        result }
 {
     for reader in readers {
         let block = *reader as usize;
@@ -164,7 +181,8 @@ fn write_block<W: Sink>(
     sink: &mut W,
 ) -> Result<(), Failed>
     requires { block < length (blocks_of packed.now) }
-    ensures { Writes W.contents W.has_failed sink.old sink.new (line_of (connected_line packed.now block place)) result }
+    ensures { Writes W.contents W.has_failed sink.old sink.new
+        (line_of (connected_line packed.now block place)) result }
 {
     let name = block_name(packed, packed.block(block));
     let mut number = Buffer::new();
@@ -195,7 +213,8 @@ fn write_paths<W: Sink>(
     sink: &mut W,
 ) -> Result<(), Failed>
     requires { net < length routes.now }
-    ensures { Writes W.contents W.has_failed sink.old sink.new (text_of (flat_map (map (node_line strip)) (slice_index_or routes.now net []))) result }
+    ensures { Writes W.contents W.has_failed sink.old sink.new
+        (text_of (flat_map (map (node_line strip)) (slice_index_or routes.now net []))) result }
 {
     for number in 0..routes.path_count(net) {
         write_path(routes.path(net, number), strip, sink)?;
@@ -205,7 +224,8 @@ fn write_paths<W: Sink>(
 
 /// Writes the nodes of a path.
 fn write_path<W: Sink>(path: &[Node], strip: Strip, sink: &mut W) -> Result<(), Failed>
-    ensures { Writes W.contents W.has_failed sink.old sink.new (text_of (map (node_line strip) path.now)) result }
+    ensures { Writes W.contents W.has_failed sink.old sink.new
+        (text_of (map (node_line strip) path.now)) result }
 {
     for node in path {
         write_node_line(*node, strip, sink)?;
@@ -215,7 +235,8 @@ fn write_path<W: Sink>(path: &[Node], strip: Strip, sink: &mut W) -> Result<(), 
 
 /// Writes the line of a node.
 fn write_node_line<W: Sink>(node: Node, strip: Strip, sink: &mut W) -> Result<(), Failed>
-    ensures { Writes W.contents W.has_failed sink.old sink.new (line_of (node_line strip node)) result }
+    ensures { Writes W.contents W.has_failed sink.old sink.new (line_of (node_line strip node))
+        result }
 {
     write_node(node, strip.rows, sink)?;
     end_line(sink)

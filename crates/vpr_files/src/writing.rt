@@ -19,7 +19,8 @@ pub(crate) fn write_number<W: Sink>(
     before: &[u8],
     number: usize,
 ) -> Result<(), Failed>
-    ensures { Writes W.contents W.has_failed sink.old sink.new (before.now ++ decimal number) result }
+    ensures { Writes W.contents W.has_failed sink.old sink.new (before.now ++ decimal number)
+        result }
 {
     let mut buffer = Buffer::new();
     write_parts(sink, &[before, buffer.format(number).as_bytes()])

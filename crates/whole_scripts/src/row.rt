@@ -17,7 +17,8 @@ pub(crate) struct Row<'a> {
 
 /// The row of a line: a name, a status and words. The words may be none.
 pub(crate) fn row_in(line: &str) -> Option<Row<'_>>
-    ensures { MatchOption result (decimal_of 32 (ahead (behind line.now)) ≡ None) (λ row. IsRow line.now row) }
+    ensures { MatchOption result (decimal_of 32 (ahead (behind line.now)) ≡ None)
+        (λ row. IsRow line.now row) }
 {
     let (name, rest) = cut(line);
     let (status, words) = cut(rest);

@@ -16,7 +16,9 @@ pub(crate) struct Taken {
 
 /// Unmarks a number that was popped, and takes the next step of its tenancy's job. None where there is none to take.
 pub(crate) fn take<C: Begun, P: Ledger>(core: &mut Core<C, P>, slot: u32) -> Option<Taken>
-    ensures { MatchOption result (IfSome (holder_of core.old.slots.holders slot) (λ id. ready_number core.new id ≡ None)) (λ taken. holder_of core.old.slots.holders slot ≡ Some taken.job.step.id) }
+    ensures { MatchOption result (IfSome (holder_of core.old.slots.holders slot)
+        (λ id. ready_number core.new id ≡ None))
+        (λ taken. holder_of core.old.slots.holders slot ≡ Some taken.job.step.id) }
 {
     let id = core.popped(slot)?;
     let job = core.take(id)?;

@@ -28,7 +28,8 @@ pub(super) fn ahead_of<R: Roads>(
 ) -> Option<u16>
     requires within { node < (R.graph roads.now).count }
     requires goal { goal < (R.graph roads.now).count }
-    requires bound { label.epoch ≡ pass → IsLowerBound (R.graph roads.now) goal node (Some label.ahead) }
+    requires bound { label.epoch ≡ pass →
+        IsLowerBound (R.graph roads.now) goal node (Some label.ahead) }
     ensures { IsLowerBound (R.graph roads.now) goal node result }
 {
     if label.epoch == pass {

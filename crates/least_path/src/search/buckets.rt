@@ -1,7 +1,7 @@
 //! What waits near by, in a bucket for each distance.
 ghost use Rattle.std.specs.Prelude.{◌≡◌, ◌≢◌, ◌≤◌, ◌<◌, ◌∷◌, ◌++◌, [], ℕ, OnOk, OnErr, IfSome, IfNone, length, slice_index};
 ghost use Rattle.std.proofs.Common.{set};
-ghost use Rattle.least_path.specs.Queue.{bucket_at};
+ghost use Rattle.least_path.specs.Queue.{AreAllBut, bucket_at};
 
 use crate::search::Waiting;
 use std::alloc::{AllocError, Global};
@@ -56,9 +56,8 @@ fn first_top(tops: &[usize], from: usize, end: usize) -> usize
 
 /// Takes the tops away, of which those before and after some are 0 already, and makes all where there are none yet.
 fn forget(tops: &mut Vec<usize>, first: usize, end: usize) -> Result<(), AllocError>
-    requires within { end ≤ length tops.old.items }
-    requires low { (place : ℕ) → place < first → slice_index tops.old.items place ≡ 0 }
-    requires high { (place : ℕ) → end ≤ place → slice_index tops.old.items place ≡ 0 }
+    requires { AreAllBut (λ place. slice_index tops.old.items place ≡ 0) first end
+        (length tops.old.items) }
     ensures { (place : ℕ) → slice_index tops.new.items place ≡ 0 }
 {
     for place in first..end {
@@ -93,7 +92,8 @@ impl Buckets {
     #[inline(always)]
     pub(super) fn put(&mut self, place: usize, entry: Reverse<Waiting>) -> Result<(), AllocError>
         requires { place < length self.old }
-        ensures put { OnOk result (self.new ≡ set self.old place (bucket_at self.old place ++ entry ∷ [])) }
+        ensures put { OnOk result (self.new
+            ≡ set self.old place (bucket_at self.old place ++ entry ∷ [])) }
         ensures err { OnErr result (self.new ≡ self.old) }
     {
         let below = self.tops[place];
@@ -106,7 +106,8 @@ impl Buckets {
     #[inline(always)]
     pub(super) fn take(&mut self, place: usize) -> Option<Reverse<Waiting>>
         requires { place < length self.old }
-        ensures some { IfSome result (λ entry. (bucket_at self.old place ≡ bucket_at self.new place ++ entry ∷ [])
+        ensures some { IfSome result (λ entry.
+            (bucket_at self.old place ≡ bucket_at self.new place ++ entry ∷ [])
             × (self.new ≡ set self.old place (bucket_at self.new place))) }
         ensures none { IfNone result (bucket_at self.old place ≡ []) }
     {
@@ -123,7 +124,8 @@ impl Buckets {
     #[inline(always)]
     pub(super) fn first_from(&self, from: usize, end: usize) -> usize
         requires { end ≤ length self.now }
-        ensures empty { (place : ℕ) → from ≤ place → place < result → bucket_at self.now place ≡ [] }
+        ensures empty { (place : ℕ) → from ≤ place → place < result →
+            bucket_at self.now place ≡ [] }
         ensures full { result < end → bucket_at self.now result ≢ [] }
     {
         first_top(&self.tops, from, end)
@@ -131,9 +133,7 @@ impl Buckets {
 
     /// Empties all, of which those before and after some are empty already, and makes them where there are none yet.
     pub(super) fn empty(&mut self, first: usize, end: usize) -> Result<(), AllocError>
-        requires within { end ≤ length self.old }
-        requires low { (place : ℕ) → place < first → bucket_at self.old place ≡ [] }
-        requires high { (place : ℕ) → end ≤ place → bucket_at self.old place ≡ [] }
+        requires { AreAllBut (λ place. bucket_at self.old place ≡ []) first end (length self.old) }
         ensures { (place : ℕ) → bucket_at self.new place ≡ [] }
     {
         self.entries.clear();

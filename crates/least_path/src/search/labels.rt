@@ -1,6 +1,7 @@
 //! The labels of all nodes, in half the room that they take one by one.
 ghost use Rattle.std.specs.Prelude.{◌≡◌, ◌+◌, ◌*◌, ◌/◌, ◌^◌, ◌<◌, ◌≤◌, [], ℕ, All, OnOk, length, false, slice_index, slice_index_or};
 ghost use Rattle.std.proofs.Common.{set};
+ghost use Rattle.least_path.specs.Labels.{HasHalf};
 
 use crate::search::Label;
 use std::alloc::{AllocError, Global};
@@ -44,8 +45,7 @@ impl Model for Labels {
 /// The upper half of a cost.
 #[inline(always)]
 fn high_at(highs: &[u32], are_high: bool, node: usize) -> u32
-    requires within { node < length highs.now }
-    requires low { are_high ≡ false → slice_index highs.now node ≡ 0 }
+    requires { HasHalf highs.now are_high node }
     ensures { result ≡ slice_index highs.now node }
 {
     if are_high { highs[node] } else { 0 }
@@ -54,8 +54,7 @@ fn high_at(highs: &[u32], are_high: bool, node: usize) -> u32
 /// Writes the upper half of a cost, and tells whether any may be more than 0 then.
 #[inline(always)]
 fn write_high(highs: &mut Vec<u32>, are_high: bool, node: usize, high: u32) -> bool
-    requires within { node < length highs.old.items }
-    requires low { are_high ≡ false → (place : ℕ) → slice_index highs.old.items place ≡ 0 }
+    requires { HasHalf highs.old.items are_high node }
     ensures written { highs.new.items ≡ set highs.old.items node high }
     ensures low { result ≡ false → (place : ℕ) → slice_index highs.new.items place ≡ 0 }
 {
@@ -72,7 +71,8 @@ fn write_high(highs: &mut Vec<u32>, are_high: bool, node: usize, high: u32) -> b
 fn lengthen(highs: &mut Vec<u32>, count: usize) -> Result<(), AllocError>
     ensures long { OnOk result (count ≤ length highs.new.items) }
     ensures longer { length highs.old.items ≤ length highs.new.items }
-    ensures low { ((place : ℕ) → slice_index highs.old.items place ≡ 0) → (place : ℕ) → slice_index highs.new.items place ≡ 0 }
+    ensures low { ((place : ℕ) → slice_index highs.old.items place ≡ 0) → (place : ℕ) →
+        slice_index highs.new.items place ≡ 0 }
 {
     if count <= highs.len() {
         return Ok(());
@@ -103,7 +103,8 @@ impl Labels {
     pub(super) fn provide(&mut self, count: usize) -> Result<(), AllocError>
         ensures long { OnOk result (count ≤ length self.new) }
         ensures few { (most : ℕ) → count ≤ most → length self.old ≤ most → length self.new ≤ most }
-        ensures past { (epoch : ℕ) → All (λ label. label.epoch ≤ epoch) self.old → All (λ label. label.epoch ≤ epoch) self.new }
+        ensures past { (epoch : ℕ) → All (λ label. label.epoch ≤ epoch) self.old →
+            All (λ label. label.epoch ≤ epoch) self.new }
     {
         const NONE: Cell = Cell {
             low: 0,

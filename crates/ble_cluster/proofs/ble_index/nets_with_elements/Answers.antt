@@ -12,7 +12,7 @@ pub push_nets-requires : goal.push_nets-requires
 push_nets-requires c =
     let element : LogicElement = record { inputs = c.ble-ble.result.inputs.now; output = c.ble-ble.result.output; clock = c.ble-ble.result.clock } in
     let here = get_or_from_slice_get c.args.bles.now c.loop-number.number element element c.ble-ble.ensures in
-    inputs_once element (rw here at (c.requires.lawful.1 c.loop-number.number element (omega arith)))
+    inputs_once element (rw here at (c.requires.1.lawful c.loop-number.number element (omega arith)))
 
 pub loop-number-preserved : goal.loop-number-preserved
 loop-number-preserved c =

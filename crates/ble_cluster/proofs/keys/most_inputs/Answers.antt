@@ -10,7 +10,7 @@ loop-number-preserved c =
     let number = c.loop-number.number in
     let small : number < length bles = omega arith in
     let here = count_is bles number _ c.ble.ensures in
-    let few = inputs_few bles c.args.count number c.requires.few_nets c.requires.elements small in
+    let few = inputs_few bles c.args.count number c.requires.few c.requires.lawful small in
     elim c.if-most-inputs.branch [
       | then-most-inputs w ↦ record {
         most = below_more _ _ (λ other below. omega (arith, i.most other below)) (omega (arith, here));

@@ -6,14 +6,13 @@ use Rattle.blif.proofs.Named.{list_all-take}
 use Rattle.blif.proofs.NetNumbers.{front_numbers, last_number, table_with_names}
 use Rattle.blif.proofs.parts.add_table.Goals as goal
 
-pub first_undriven-requires-clause-named : goal.first_undriven-requires-clause-named
-first_undriven-requires-clause-named c =
-    rw c.front_of.ensures (list_all-take (has_name c.args.driven.now.nets) _ c.args.args.now.words c.requires.named)
-
-pub first_undriven-requires-clause-numbers : goal.first_undriven-requires-clause-numbers
-first_undriven-requires-clause-numbers c =
+pub first_undriven-requires : goal.first_undriven-requires
+first_undriven-requires c =
     let f = number_of c.args.driven.now.nets in
-    front_numbers f c.args.args.now.words c.args.nets.now c.requires.numbers ∙ ap (map f) (sym c.front_of.ensures)
+    record {
+      named = rw c.front_of.ensures (list_all-take (has_name c.args.driven.now.nets) _ c.args.args.now.words c.requires.named);
+      numbers = front_numbers f c.args.args.now.words c.args.nets.now c.requires.numbers ∙ ap (map f) (sym c.front_of.ensures);
+    }
 
 pub returns-clause-tables : goal.returns-clause-tables
 returns-clause-tables c =

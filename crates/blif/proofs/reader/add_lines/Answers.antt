@@ -9,7 +9,7 @@ use Rattle.blif.proofs.Building.{parts_at, undriven_at, no_undriven_at, fails_as
 use Rattle.blif.proofs.reader.add_lines.Goals as goal
 
 pub loop-place-init : goal.loop-place-init
-loop-place-init c = record { parts = c.requires.empty; rest = c.requires.numbers; faults_left = refl }
+loop-place-init c = record { parts = c.requires.empty; rest = c.requires.all.numbers; faults_left = refl }
 
 pub split_at-requires : goal.split_at-requires
 split_at-requires c =
@@ -17,18 +17,16 @@ split_at-requires c =
     enough_numbers (number_of c.args.driven.now.nets) c.args.lines.now c.loop-place.place line (omega arith) c.line-line.ensures c.loop-place.rest.now c.net_count.result c.loop-place.invariant.rest
     (c.net_count.ensures ∙ ap (λ k. length (names_in k line.words)) c.keyword_of-keyword.ensures)
 
-pub add_line-requires-clause-named : goal.add_line-requires-clause-named
-add_line-requires-clause-named c =
+pub add_line-requires : goal.add_line-requires
+add_line-requires c =
     let line : JoinedLine = c.line-line.result in
     let names = flat_map names_of c.args.lines.now in
-    rw (c.keyword_of-keyword.ensures, c.requires.nets) (list_all-part (has_name (with_names [] names)) names_of c.args.lines.now c.loop-place.place line (all_named [] names) c.line-line.ensures)
-
-pub add_line-requires-clause-numbers : goal.add_line-requires-clause-numbers
-add_line-requires-clause-numbers c =
-    let line : JoinedLine = c.line-line.result in
-    rw c.keyword_of-keyword.ensures
-    (own_numbers (number_of c.args.driven.now.nets) c.args.lines.now c.loop-place.place line (omega arith) c.line-line.ensures c.loop-place.rest.now c.net_count.result c.loop-place.invariant.rest
-    (c.net_count.ensures ∙ ap (λ k. length (names_in k line.words)) c.keyword_of-keyword.ensures) c.split_at.result.0.now c.split_at.ensures.front)
+    record {
+      named = rw (c.keyword_of-keyword.ensures, c.requires.all.nets) (list_all-part (has_name (with_names [] names)) names_of c.args.lines.now c.loop-place.place line (all_named [] names) c.line-line.ensures);
+      numbers = rw c.keyword_of-keyword.ensures
+          (own_numbers (number_of c.args.driven.now.nets) c.args.lines.now c.loop-place.place line (omega arith) c.line-line.ensures c.loop-place.rest.now c.net_count.result c.loop-place.invariant.rest
+          (c.net_count.ensures ∙ ap (λ k. length (names_in k line.words)) c.keyword_of-keyword.ensures) c.split_at.result.0.now c.split_at.ensures.front);
+    }
 
 pub returns-in-Some : goal.returns-in-Some
 returns-in-Some c =

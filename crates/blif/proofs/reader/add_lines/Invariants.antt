@@ -3,7 +3,7 @@ use Rattle.std.specs.List.{flat_map}
 use Rattle.blif.specs.Names.{number_of}
 use Rattle.blif.specs.FirstFaults.{first_fault}
 use Rattle.blif.specs.Sights.{names_of}
-use Rattle.blif.specs.Circuits.{parts_of}
+use Rattle.blif.specs.LineByLine.{parts_of}
 use Rattle.blif.specs.CircuitOf.{undriven_faults}
 use Rattle.blif.proofs.reader.add_lines.Given as goal
 

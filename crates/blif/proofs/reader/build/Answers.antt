@@ -15,16 +15,14 @@ returns-then-len-eq0 c =
     let empty : length c.args.lines.now ≡ 0 = omega arith in
     rw c.fault_at.ensures (ap (λ lines. first_fault (final_faults c.args.checker.declared lines)) (nil_from_length c.args.lines.now empty))
 
-pub build_driven-requires-clause-numbers : goal.build_driven-requires-clause-numbers
-build_driven-requires-clause-numbers c =
-    c.requires.numbers
-    ∙ ap (λ nets. map (number_of nets) (flat_map names_of c.args.lines.now)) (sym (ap (λ d. let driven : DrivenNets = d in driven.nets) c.in-Ok.ensures))
-
-pub build_driven-requires-clause-nets : goal.build_driven-requires-clause-nets
+pub build_driven-requires : goal.build_driven-requires
 unfolding sights_of
-build_driven-requires-clause-nets c =
-    ap (λ d. let driven : DrivenNets = d in driven.nets) c.in-Ok.ensures
-    ∙ ap (λ s. let sights : Sights = s in sights.nets) c.requires.sights
+build_driven-requires c =
+    let same = ap (λ d. let driven : DrivenNets = d in driven.nets) c.in-Ok.ensures in
+    record {
+      nets = same ∙ ap (λ s. let sights : Sights = s in sights.nets) c.requires.sights;
+      numbers = c.requires.numbers ∙ ap (λ nets. map (number_of nets) (flat_map names_of c.args.lines.now)) (sym same);
+    }
 
 pub returns-in-Ok : goal.returns-in-Ok
 returns-in-Ok c =

@@ -2,7 +2,7 @@ use Rattle.std.proofs.Common.{◌≡◌, [], drop}
 use Rattle.std.specs.List.{flat_map}
 use Rattle.blif.specs.Names.{with_names}
 use Rattle.blif.specs.Sights.{inputs_of}
-use Rattle.blif.specs.CircuitOf.{lines_to_end}
+use Rattle.blif.specs.LineByLine.{lines_to_end}
 use Rattle.blif.proofs.reader.declare_inputs.Given as goal
 
 -- what is left adds what all lines add

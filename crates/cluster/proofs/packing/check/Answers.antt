@@ -4,11 +4,8 @@ use Rattle.cluster.proofs.Members.{few_bles}
 use Rattle.cluster.proofs.Going.{unfit_is}
 use Rattle.cluster.proofs.packing.check.Goals as goal
 
-pub unfit-requires-clause-elements : goal.unfit-requires-clause-elements
-unfit-requires-clause-elements c = rw (c.in_ok-bles.ensures, c.len.ensures) (elements_lawful c.args.circuit.now c.requires.circuit)
-
-pub unfit-requires-clause-few : goal.unfit-requires-clause-few
-unfit-requires-clause-few c = rw c.in_ok-bles.ensures (few_bles c.args.circuit.now c.requires.circuit)
+pub unfit-requires-clause-bles : goal.unfit-requires-clause-bles
+unfit-requires-clause-bles c = rw (c.in_ok-bles.ensures, c.len.ensures) (record { few = few_bles c.args.circuit.now c.requires.circuit; elements = elements_lawful c.args.circuit.now c.requires.circuit })
 
 pub returns-in-None : goal.returns-in-None
 returns-in-None c = unfit_is c.args.circuit.now c.args.arch.now c.in_ok-bles.bles None c.in_ok-bles.ensures (sym c.in-None.is ∙ c.unfit.ensures)

@@ -1,5 +1,5 @@
 use Rattle.std.proofs.Common.{◌≡◌, ◌++◌, take}
-use Rattle.job_state.specs.RoutedCircuits.{on_path}
+use Rattle.job_state.specs.Gathered.{on_path}
 use Rattle.job_state.proofs.held.add_path.Given as goal
 
 abbrev pub invariant-loop-node : goal.invariant-loop-node

@@ -3,7 +3,8 @@ use Rattle.std.specs.List.Sorted.{IsPermutation}
 use Rattle.std.proofs.lemmas.List.Sorted.{list_any-IsPermutation}
 use Rattle.rr_graph.specs.declared.resource.Resource.{Resource}
 use Rattle.rr_graph.specs.Resources.{is_same}
-use Rattle.job_state.specs.RoutedCircuits.{ListsAll, on_trees}
+use Rattle.job_state.specs.RoutedCircuits.{ListsAll}
+use Rattle.job_state.specs.Gathered.{on_trees}
 use Rattle.job_state.proofs.Sorted.{in_order}
 use Rattle.job_state.proofs.held.list_of.Goals as goal
 

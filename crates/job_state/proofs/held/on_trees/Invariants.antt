@@ -1,5 +1,5 @@
 use Rattle.std.proofs.Common.{◌≡◌, take}
-use Rattle.job_state.specs.RoutedCircuits.{on_trees}
+use Rattle.job_state.specs.Gathered.{on_trees}
 use Rattle.job_state.proofs.held.on_trees.Given as goal
 
 abbrev pub invariant-loop-net : goal.invariant-loop-net

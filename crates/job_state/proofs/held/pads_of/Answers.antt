@@ -7,7 +7,8 @@ use Rattle.cluster.specs.Clusters.{PackedCircuit}
 use Rattle.grid.specs.Sizes.{IsStripSize}
 use Rattle.strip_place.specs.Anneal.{places_by_block}
 use Rattle.strip_place.specs.Placed.{block_at, place_of}
-use Rattle.job_state.specs.RoutedCircuits.{AreThere, pad_of, pads_below}
+use Rattle.job_state.specs.RoutedCircuits.{AreThere, pad_of}
+use Rattle.job_state.specs.Gathered.{pads_below}
 use Rattle.job_state.proofs.Gathered.{gathered_to}
 use Rattle.job_state.proofs.Pads.{pads_there}
 use Rattle.job_state.proofs.held.pads_of.Goals as goal

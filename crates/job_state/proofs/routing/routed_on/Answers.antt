@@ -1,4 +1,4 @@
-use Rattle.job_state.specs.RoutedCircuits.{on_trees}
+use Rattle.job_state.specs.Gathered.{on_trees}
 use Rattle.job_state.proofs.There.{both_there}
 use Rattle.job_state.proofs.routing.routed_on.Goals as goal
 use Rattle.std.proofs.Common.{refl}

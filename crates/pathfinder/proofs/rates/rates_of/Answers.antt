@@ -6,16 +6,12 @@ use Rattle.pathfinder.specs.Rates.{AreRatesBelow}
 use Rattle.pathfinder.proofs.NodeRates.{rates_more, narrow, capacity_few}
 use Rattle.pathfinder.proofs.rates.rates_of.Goals as goal
 
-pub new-requires-clause-place : goal.new-requires-clause-place
-new-requires-clause-place g c =
+pub new-requires : goal.new-requires
+new-requires g c =
     let basis = g.G.StripGraph.basis c.args.graph.now in
     let there = c.count-count.ensures.lawful.nodes c.loop-node.node (omega (arith, c.loop-node-test.true, c.requires.long)) in
-    narrow basis c.node-place.result c.count-count.ensures.basis (subst (λ (node : Node). is_node basis.arch basis.strip node ≡ true) (sym c.node-place.ensures) there)
-
-pub new-requires-clause-capacity : goal.new-requires-clause-capacity
-new-requires-clause-capacity g c =
-    let basis = g.G.StripGraph.basis c.args.graph.now in
-    subst (λ n. n < 2 ^ 8) (sym c.capacity.ensures) (capacity_few basis.arch basis.strip ((graph_of basis).node c.loop-node.node) c.count-count.ensures.basis.arch)
+    narrow basis c.node-place.result c.capacity.result c.count-count.ensures.basis (subst (λ (node : Node). is_node basis.arch basis.strip node ≡ true) (sym c.node-place.ensures) there)
+    (subst (λ n. n < 2 ^ 8) (sym c.capacity.ensures) (capacity_few basis.arch basis.strip ((graph_of basis).node c.loop-node.node) c.count-count.ensures.basis.arch))
 
 pub loop-node-preserved : goal.loop-node-preserved
 loop-node-preserved g c =

@@ -6,12 +6,12 @@ use Rattle.rr_graph.proofs.Tables.{filter_more, filter_less, filter_all}
 use Rattle.rr_graph.proofs.table.add_wires.Goals as goal
 use Rattle.rr_graph.proofs.table.add_wires.Goals.{then-is_wire+in_ok-push, else-is_wire}
 
-pub node-requires-clause-within : goal.node-requires-clause-within
-node-requires-clause-within c = c.requires.within c.loop-j.j-index 0 c.loop-j-test.true
+pub node-requires : goal.node-requires
+node-requires c = c.requires c.loop-j.j-index 0 c.loop-j-test.true
 
 pub loop-j-preserved : goal.loop-j-preserved
 loop-j-preserved c =
-    let test = is_wire_of c.args.nodes.now in
+    let test = is_wire_of c.args.nodes.now.numbering in
     let row = c.args.row.now in
     let kind = ap (λ (v : Node). is_wire v.kind) c.node.ensures in
     elim c.if-is_wire.branch [
@@ -24,4 +24,4 @@ loop-j-preserved c =
     ]
 
 pub returns : goal.returns
-returns c = filter_all (is_wire_of c.args.nodes.now) c.args.row.now c.loop-j.ends.items c.args.ends.now.items c.loop-j.j-index c.loop-j-test.false c.loop-j.invariant
+returns c = filter_all (is_wire_of c.args.nodes.now.numbering) c.args.row.now c.loop-j.ends.items c.args.ends.now.items c.loop-j.j-index c.loop-j-test.false c.loop-j.invariant

@@ -5,11 +5,11 @@ use Rattle.service_core.specs.Kept.{TakesUp}
 use Rattle.service_core.proofs.Booking.{claimed_held, free_held, stand_in}
 use Rattle.service_core.proofs.service.claim.Goals as goal
 
-pub claim-requires-clause-there : goal.claim-requires-clause-there
-claim-requires-clause-there c = stand_in c.args.book.now c.args.offset c.args.tenancy.now.arch c.args.tenancy.now.strip c.routed.result.now c.requires.there c.routed.ensures.there
-
-pub claim-requires-clause-free : goal.claim-requires-clause-free
-claim-requires-clause-free c = free_held c.args.book.now c.args.offset c.args.tenancy.now c.routed.result.now c.routed.ensures.exact (c.requires.free c.in-Finished.is)
+pub claim-requires : goal.claim-requires
+claim-requires c = record {
+  there = stand_in c.args.book.now c.args.offset c.args.tenancy.now.arch c.args.tenancy.now.strip c.routed.result.now c.requires.there c.routed.ensures.there;
+  free = free_held c.args.book.now c.args.offset c.args.tenancy.now c.routed.result.now c.routed.ensures.exact (c.requires.free c.in-Finished.is);
+}
 
 pub returns-in-Finished : goal.returns-in-Finished
 returns-in-Finished c =

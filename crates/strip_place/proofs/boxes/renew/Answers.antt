@@ -25,6 +25,14 @@ loop-number-preserved c =
     renewed_more c.args.points.now nets touched i number c.args.boxes.now c.loop-number.boxes c.loop-number.total _ c.renewed-found.result c.from-total.result lt refl inside (c.requires.lawful.some number within) found
     (c.from-total.ensures ∙ c.half_perimeter.ensures.value) small refl c.loop-number.invariant
 
+pub renewed-found-requires-clause-net : goal.renewed-found-requires-clause-net
+renewed-found-requires-clause-net c =
+    let nets = c.args.nets.now in
+    let number = get_or c.args.touched.now c.loop-number.number-index 0 in
+    let within : number < length nets = c.requires.touched.within c.loop-number.number-index c.loop-number-test.true in
+    let row : net_at nets number ≡ c.row.result.now = get_or_from_slice_get nets number c.row.result.now [] c.row.ensures in
+    record { some = rw row at (c.requires.lawful.some number within); within = rw row at (c.requires.lawful.within number within) }
+
 pub renewed-found-requires-clause-deep : goal.renewed-found-requires-clause-deep
 renewed-found-requires-clause-deep c =
     let nets = c.args.nets.now in

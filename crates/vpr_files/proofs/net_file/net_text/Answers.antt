@@ -3,7 +3,8 @@ use Rattle.std.specs.List.{flat_map}
 use Rattle.std.proofs.lemmas.Grind.{flat_map-append}
 use Rattle.cluster.specs.Blocks.{blocks_of}
 use Rattle.vpr_files.specs.TextLines.{line_of, text_of}
-use Rattle.vpr_files.specs.NetFile.{block_lines, global_lines, net_text_of}
+use Rattle.vpr_files.specs.NetFile.{block_lines, net_text_of}
+use Rattle.vpr_files.specs.FileParts.{global_lines}
 use Rattle.line_text.proofs.WritingLemmas.{part_first, part_same, writes_part, writes_same, writes_then}
 use Rattle.vpr_files.proofs.net_file.net_text.Goals as goal
 

@@ -1,11 +1,11 @@
-use Rattle.std.proofs.Common.{◌≡◌, ◌≤◌, length, get_or, sym, arith}
+use Rattle.std.proofs.Common.{◌≡◌, ◌∙◌, ◌≤◌, Some, ap, length, get_or, sym, arith}
 use Rattle.std.proofs.lemmas.List.Folds.{flat_map-map}
 use Rattle.std.proofs.lemmas.Option.{slice_get-get_or}
-use Rattle.cluster.specs.Bles.{bles_of, element_at}
+use Rattle.cluster.specs.Bles.{bles_of}
 use Rattle.cluster.specs.Blocks.{elements_in}
 use Rattle.vpr_files.specs.TextLines.{line_of}
 use Rattle.vpr_files.specs.NetFile.{element_line}
-use Rattle.vpr_files.proofs.ClusterLemmas.{element_count, element_in_at}
+use Rattle.vpr_files.proofs.ClusterLemmas.{element, element_count, element_in_at, element_is}
 use Rattle.line_text.proofs.WritingLemmas.{all_loop, all_loop_end, all_same, part_loop, part_same, writes_part}
 use Rattle.vpr_files.proofs.net_file.write_elements.Goals as goal
 
@@ -16,10 +16,11 @@ returns-in_err-write_element g c =
     let members = c.cluster-number-items.result.now in
     let place = c.loop-number.number-index in
     let number = get_or members place 0 in
+    let ble = element c.ble-ble.result.inputs.now c.ble-ble.result.output c.ble-ble.result.clock in
     writes_part c.from_residual.result c.from_residual.ensures.0
     (part_same
-    (part_loop (λ element. line_of (element_line packed cluster element)) (elements_in packed cluster) place (element_at (bles_of packed.circuit) number)
-    (element_in_at packed cluster members place number c.cluster-number-items.ensures (slice_get-get_or members place 0 c.loop-number-test.true))
+    (part_loop (λ element. line_of (element_line packed cluster element)) (elements_in packed cluster) place ble
+    (element_in_at packed cluster members place number c.cluster-number-items.ensures (slice_get-get_or members place 0 c.loop-number-test.true) ∙ ap Some (element_is (bles_of packed.circuit) number ble c.ble-ble.ensures))
     c.loop-number.invariant c.in_err-write_element.ensures)
     (sym (flat_map-map line_of (element_line packed cluster) (elements_in packed cluster))))
 
@@ -30,8 +31,9 @@ loop-number-preserved g c =
     let members = c.cluster-number-items.result.now in
     let place = c.loop-number.number-index in
     let number = get_or members place 0 in
-    all_loop (λ element. line_of (element_line packed cluster element)) (elements_in packed cluster) place (element_at (bles_of packed.circuit) number)
-    (element_in_at packed cluster members place number c.cluster-number-items.ensures (slice_get-get_or members place 0 c.loop-number-test.true))
+    let ble = element c.ble-ble.result.inputs.now c.ble-ble.result.output c.ble-ble.result.clock in
+    all_loop (λ element. line_of (element_line packed cluster element)) (elements_in packed cluster) place ble
+    (element_in_at packed cluster members place number c.cluster-number-items.ensures (slice_get-get_or members place 0 c.loop-number-test.true) ∙ ap Some (element_is (bles_of packed.circuit) number ble c.ble-ble.ensures))
     c.loop-number.invariant c.in_ok-write_element.ensures
 
 pub returns : goal.returns

@@ -15,7 +15,7 @@ pub ble-requires : goal.ble-requires
 ble-requires c =
     let members = c.cluster-number-items.result.now in
     let place = c.loop-place.place in
-    member_is_ble c.args.packed.now c.args.cluster members place (get_or members place 0) c.requires.lawful c.cluster-number-items.ensures
+    member_is_ble c.args.packed.now c.args.cluster members place (get_or members place 0) c.circuit.ensures.lawful c.cluster-number-items.ensures
     (slice_get-get_or members place 0 c.loop-place-test.true)
 
 pub returns-then-ble-net : goal.returns-then-ble-net

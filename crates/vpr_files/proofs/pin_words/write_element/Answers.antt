@@ -1,10 +1,9 @@
-use Rattle.std.proofs.Common.{◌∷◌, ◌++◌, [], refl, option_and_then}
+use Rattle.std.proofs.Common.{◌∷◌, ◌++◌, [], refl, decimal, option_and_then}
 use Rattle.arch_file.specs.declared.arch.PinClass.TheVariants.{Output, Clock}
-use Rattle.cluster.specs.Bles.{bles_of}
 use Rattle.cluster.specs.Blocks.{net_name}
 use Rattle.vpr_files.specs.TextLines.{spaced}
-use Rattle.vpr_files.specs.NetFile.{pin_word, pin_with}
-use Rattle.vpr_files.proofs.ClusterLemmas.{by_circuit, element, element_is}
+use Rattle.vpr_files.specs.NetFile.{or_open, pin_with}
+use Rattle.vpr_files.proofs.ClusterLemmas.{by_circuit, element}
 use Rattle.vpr_files.proofs.TextLemmas.{element_text, inputs_text}
 use Rattle.line_text.proofs.WritingLemmas.{part_first, part_same, part_then, writes_part, writes_same, writes_then}
 use Rattle.vpr_files.proofs.pin_words.write_element.Goals as goal
@@ -13,13 +12,12 @@ pub returns-in_err-write_parts : goal.returns-in_err-write_parts
 returns-in_err-write_parts g c =
     let packed = c.args.packed.now in
     let cluster = c.args.cluster in
-    let ble = element c.ble-ble.result.inputs.now c.ble-ble.result.output c.ble-ble.result.clock in
+    let ble = element c.args.ble.inputs.now c.args.ble.output c.args.ble.clock in
     let output = pin_with packed cluster Output ble.output in
     let clock = option_and_then (pin_with packed cluster Clock) ble.clock in
     writes_part c.from_residual.result c.from_residual.ensures.0
-    (part_same (part_first (inputs_text packed cluster ble.inputs ++ (spaced (pin_word output) ++ (spaced (pin_word clock) ++ 10 ∷ []))) c.in_err-write_parts.ensures)
-    (element_text packed cluster c.args.number ble c.net_name.result.now output clock
-    (element_is (bles_of packed.circuit) c.args.number ble c.ble-ble.ensures)
+    (part_same (part_first (inputs_text packed cluster ble.inputs ++ (spaced (or_open decimal output) ++ (spaced (or_open decimal clock) ++ 10 ∷ []))) c.in_err-write_parts.ensures)
+    (element_text packed cluster ble c.net_name.result.now output clock
     (by_circuit (λ circuit. net_name circuit ble.output) c.net_name.result.now c.circuit.result.now c.args.packed.now.circuit c.net_name.ensures c.circuit.ensures.value)
     refl refl))
 
@@ -27,13 +25,12 @@ pub returns-in_err-write_inputs : goal.returns-in_err-write_inputs
 returns-in_err-write_inputs g c =
     let packed = c.args.packed.now in
     let cluster = c.args.cluster in
-    let ble = element c.ble-ble.result.inputs.now c.ble-ble.result.output c.ble-ble.result.clock in
+    let ble = element c.args.ble.inputs.now c.args.ble.output c.args.ble.clock in
     let output = pin_with packed cluster Output ble.output in
     let clock = option_and_then (pin_with packed cluster Clock) ble.clock in
     writes_part c.from_residual-in_err-write_inputs.result c.from_residual-in_err-write_inputs.ensures.0
-    (part_same (part_then c.in_ok-write_parts.ensures (part_first (spaced (pin_word output) ++ (spaced (pin_word clock) ++ 10 ∷ [])) c.in_err-write_inputs.ensures))
-    (element_text packed cluster c.args.number ble c.net_name.result.now output clock
-    (element_is (bles_of packed.circuit) c.args.number ble c.ble-ble.ensures)
+    (part_same (part_then c.in_ok-write_parts.ensures (part_first (spaced (or_open decimal output) ++ (spaced (or_open decimal clock) ++ 10 ∷ [])) c.in_err-write_inputs.ensures))
+    (element_text packed cluster ble c.net_name.result.now output clock
     (by_circuit (λ circuit. net_name circuit ble.output) c.net_name.result.now c.circuit.result.now c.args.packed.now.circuit c.net_name.ensures c.circuit.ensures.value)
     refl refl))
 
@@ -41,13 +38,12 @@ pub returns-in_err-write_pin : goal.returns-in_err-write_pin
 returns-in_err-write_pin g c =
     let packed = c.args.packed.now in
     let cluster = c.args.cluster in
-    let ble = element c.ble-ble.result.inputs.now c.ble-ble.result.output c.ble-ble.result.clock in
+    let ble = element c.args.ble.inputs.now c.args.ble.output c.args.ble.clock in
     let output = c.pin_with.result in
     let clock = option_and_then (pin_with packed cluster Clock) ble.clock in
     writes_part c.from_residual-in_err-write_pin.result c.from_residual-in_err-write_pin.ensures.0
-    (part_same (part_then c.in_ok-write_parts.ensures (part_then c.in_ok-write_inputs.ensures (part_first (spaced (pin_word clock) ++ 10 ∷ []) c.in_err-write_pin.ensures)))
-    (element_text packed cluster c.args.number ble c.net_name.result.now output clock
-    (element_is (bles_of packed.circuit) c.args.number ble c.ble-ble.ensures)
+    (part_same (part_then c.in_ok-write_parts.ensures (part_then c.in_ok-write_inputs.ensures (part_first (spaced (or_open decimal clock) ++ 10 ∷ []) c.in_err-write_pin.ensures)))
+    (element_text packed cluster ble c.net_name.result.now output clock
     (by_circuit (λ circuit. net_name circuit ble.output) c.net_name.result.now c.circuit.result.now c.args.packed.now.circuit c.net_name.ensures c.circuit.ensures.value)
     c.pin_with.ensures refl))
 
@@ -55,13 +51,12 @@ pub returns-in_err-write_pin-2 : goal.returns-in_err-write_pin-2
 returns-in_err-write_pin-2 g c =
     let packed = c.args.packed.now in
     let cluster = c.args.cluster in
-    let ble = element c.ble-ble.result.inputs.now c.ble-ble.result.output c.ble-ble.result.clock in
+    let ble = element c.args.ble.inputs.now c.args.ble.output c.args.ble.clock in
     let output = c.pin_with.result in
     let clock = c.clock_pin.result in
     writes_part c.from_residual-in_err-write_pin-2.result c.from_residual-in_err-write_pin-2.ensures.0
     (part_same (part_then c.in_ok-write_parts.ensures (part_then c.in_ok-write_inputs.ensures (part_then c.in_ok-write_pin.ensures (part_first (10 ∷ []) c.in_err-write_pin-2.ensures))))
-    (element_text packed cluster c.args.number ble c.net_name.result.now output clock
-    (element_is (bles_of packed.circuit) c.args.number ble c.ble-ble.ensures)
+    (element_text packed cluster ble c.net_name.result.now output clock
     (by_circuit (λ circuit. net_name circuit ble.output) c.net_name.result.now c.circuit.result.now c.args.packed.now.circuit c.net_name.ensures c.circuit.ensures.value)
     c.pin_with.ensures c.clock_pin.ensures))
 
@@ -69,12 +64,11 @@ pub returns : goal.returns
 returns g c =
     let packed = c.args.packed.now in
     let cluster = c.args.cluster in
-    let ble = element c.ble-ble.result.inputs.now c.ble-ble.result.output c.ble-ble.result.clock in
+    let ble = element c.args.ble.inputs.now c.args.ble.output c.args.ble.clock in
     let output = c.pin_with.result in
     let clock = c.clock_pin.result in
     writes_same g.W.Sink.contents g.W.Sink.has_failed _ _ _ _ c.end_line.result
-    (element_text packed cluster c.args.number ble c.net_name.result.now output clock
-    (element_is (bles_of packed.circuit) c.args.number ble c.ble-ble.ensures)
+    (element_text packed cluster ble c.net_name.result.now output clock
     (by_circuit (λ circuit. net_name circuit ble.output) c.net_name.result.now c.circuit.result.now c.args.packed.now.circuit c.net_name.ensures c.circuit.ensures.value)
     c.pin_with.ensures c.clock_pin.ensures)
     (writes_then c.in_ok-write_parts.ensures _ _ c.end_line.result (writes_then c.in_ok-write_inputs.ensures _ _ c.end_line.result (writes_then c.in_ok-write_pin.ensures _ _ c.end_line.result (writes_then c.in_ok-write_pin-2.ensures c.end_line.new.sink (10 ∷ []) c.end_line.result c.end_line.ensures))))

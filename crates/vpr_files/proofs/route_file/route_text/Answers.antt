@@ -3,7 +3,8 @@ use Rattle.std.proofs.lemmas.Grind.{flat_map-append}
 use Rattle.grid.specs.declared.Strip.{Strip}
 use Rattle.strip_place.specs.Anneal.{places_by_block}
 use Rattle.vpr_files.specs.TextLines.{line_of, text_of}
-use Rattle.vpr_files.specs.RouteFile.{route_headings, route_text_of, routed_lines}
+use Rattle.vpr_files.specs.RouteFile.{route_text_of}
+use Rattle.vpr_files.specs.FileParts.{route_headings, routed_lines}
 use Rattle.line_text.proofs.WritingLemmas.{all_same, part_first, part_same, writes_part, writes_same, writes_then}
 use Rattle.vpr_files.proofs.route_file.route_text.Goals as goal
 

@@ -3,7 +3,7 @@ use Rattle.cluster.specs.Clusters.{PackedCircuit}
 use Rattle.grid.specs.declared.place.Place.{Place}
 use Rattle.strip_place.specs.Anneal.{places_by_block}
 use Rattle.vpr_files.specs.RouteFile.{connected_line}
-use Rattle.vpr_files.specs.NetLines.{connected_lines}
+use Rattle.vpr_files.specs.FileParts.{connected_lines}
 use Rattle.vpr_files.specs.TextLines.{line_of, text_of}
 use Rattle.vpr_files.proofs.FileTexts.{at_its_place}
 use Rattle.line_text.proofs.WritingLemmas.{all_same, part_first, part_same, writes_part, writes_then}

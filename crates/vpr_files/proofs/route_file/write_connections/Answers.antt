@@ -4,7 +4,7 @@ use Rattle.cluster.specs.Blocks.{block_nets}
 use Rattle.cluster.specs.Clusters.{PackedCircuit}
 use Rattle.grid.specs.declared.Strip.{Strip}
 use Rattle.strip_place.specs.Anneal.{places_by_block}
-use Rattle.vpr_files.specs.NetLines.{node_line}
+use Rattle.vpr_files.specs.FileParts.{node_line}
 use Rattle.vpr_files.specs.TextLines.{text_of}
 use Rattle.vpr_files.proofs.FileTexts.{global_connections, local_connections, net_value}
 use Rattle.line_text.proofs.WritingLemmas.{writes_same}

@@ -6,7 +6,7 @@ use Rattle.cluster.specs.Blocks.{BlockNet, block_nets}
 use Rattle.cluster.specs.Clusters.{PackedCircuit}
 use Rattle.rr_graph.specs.declared.node.Node.{Node}
 use Rattle.strip_place.specs.Anneal.{PlacingUnderWay, places_by_block}
-use Rattle.vpr_files.specs.NetLines.{numbered_net}
+use Rattle.vpr_files.specs.FileParts.{numbered_net}
 use Rattle.vpr_files.specs.RouteFile.{net_lines}
 use Rattle.vpr_files.specs.TextLines.{line_of, text_of}
 use Rattle.vpr_files.proofs.TextLemmas.{flat_map-flat_map}
@@ -23,6 +23,13 @@ net_at packed number within =
     slice_get-get_or (enumerate_from 0 (block_nets packed)) number (number, record { net = 0; driver = 0; readers = []; global = false }) (let long = length-enumerate_from 0 (block_nets packed) in omega arith)
     ∙ ap Some (get_or-enumerate_from 0 (block_nets packed) number (number, record { net = 0; driver = 0; readers = []; global = false }) within)
     ∙ ap (λ n. Some (n, numbered_net packed number)) (zero-add number)
+
+pub write_net-requires : goal.write_net-requires
+write_net-requires g c =
+    let placing = c.args.placing.now in
+    let count : c.net_count-number-end.result ≡ length (block_nets placing.packed) = c.net_count-number-end.ensures ∙ ap (λ (p : PackedCircuit). length (block_nets p)) c.packed.ensures in
+    let within : c.loop-number.number < length (block_nets placing.packed) = (let t = c.loop-number-test.true in omega (arith, t, count)) in
+    record { net = within; route = (let same = c.requires in omega (arith, within, same)) }
 
 pub returns-in_err-write_net : goal.returns-in_err-write_net
 returns-in_err-write_net g c =

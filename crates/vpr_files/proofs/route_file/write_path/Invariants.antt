@@ -1,6 +1,6 @@
 use Rattle.std.proofs.Common.{take}
 use Rattle.std.specs.List.{flat_map}
-use Rattle.vpr_files.specs.NetLines.{node_line}
+use Rattle.vpr_files.specs.FileParts.{node_line}
 use Rattle.vpr_files.specs.TextLines.{line_of}
 use Rattle.line_text.specs.Writing.{TakesAll}
 use Rattle.vpr_files.proofs.route_file.write_path.Given as goal

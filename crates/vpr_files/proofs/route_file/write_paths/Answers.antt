@@ -1,5 +1,5 @@
 use Rattle.std.proofs.Common.{◌≤◌, [], length, map, slice_index_or, sym, arith}
-use Rattle.vpr_files.specs.NetLines.{node_line}
+use Rattle.vpr_files.specs.FileParts.{node_line}
 use Rattle.vpr_files.specs.TextLines.{line_of, text_of}
 use Rattle.vpr_files.proofs.TextLemmas.{flat_map-flat_map}
 use Rattle.line_text.proofs.WritingLemmas.{all_loop, all_loop_end, all_same, part_loop, part_same, writes_part}

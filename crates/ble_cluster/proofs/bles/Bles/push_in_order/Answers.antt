@@ -3,8 +3,8 @@ use Rattle.ble_cluster.proofs.Within.{table_at_place}
 use Rattle.ble_cluster.proofs.LineOrder.{table_added}
 use Rattle.ble_cluster.proofs.bles.Bles.push_in_order.Goals as goal
 
-pub latch_behind-requires-clause-within : goal.latch_behind-requires-clause-within
-latch_behind-requires-clause-within c = (table_at_place c.args.circuit.now.tables c.loop-place.place _ _ (omega arith) c.table-table.ensures c.requires.circuit.tables).output
+pub latch_behind-requires : goal.latch_behind-requires
+latch_behind-requires c = record { are = c.requires; within = (table_at_place c.args.circuit.now.tables c.loop-place.place _ _ (omega arith) c.table-table.ensures c.requires.lawful.tables).output }
 
 pub loop-place-preserved : goal.loop-place-preserved
 loop-place-preserved c =

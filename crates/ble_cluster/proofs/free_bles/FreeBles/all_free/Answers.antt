@@ -27,9 +27,9 @@ invariant_of-result c =
     let lowest = subst (λ ts. IsLowest ts c.args.by_lack.keys.items c.lowest-seed.result) c.as_slice.ensures.value c.lowest-seed.ensures.first in (
       record {
         marks = marks;
-        few = c.requires.few;
+        few = c.len.ensures.all.count;
         members = rw c.in-Ok.ensures.members (All-nil _);
-        room = record { reads = room.0 ∙ sym c.requires.nets; drives = room.1 ∙ sym c.requires.nets; gains = room.2 ∙ c.len.ensures.count };
+        room = record { reads = room.0 ∙ c.nets.ensures; drives = room.1 ∙ c.nets.ensures; gains = room.2 ∙ c.len.ensures.count };
       },
       record {
         lacks = rw c.lowest-seed.ensures.keys c.requires.lacks;

@@ -1,13 +1,27 @@
 use Rattle.std.proofs.Common.{◌≡◌, ◌++◌, [], ◌∷◌, refl, sym, ap, ◌∙◌}
 use Rattle.ble_cluster.specs.declared.growing_cluster.GrowingCluster.{GrowingCluster}
 use Rattle.ble_cluster.specs.Bles.{LogicElement, element_at}
-use Rattle.ble_cluster.specs.Nets.{with_net, with_nets}
+use Rattle.ble_cluster.specs.Nets.{with_nets}
+use Rattle.ble_cluster.specs.NetSets.{with_net}
 use Rattle.ble_cluster.specs.GrowingCluster.{later_clock}
 use Rattle.ble_cluster.proofs.GrowingLemmas.{clock_is, element_is, growth_more, old_told}
 use Rattle.ble_cluster.proofs.growing_cluster.GrowingCluster.add.Goals as goal
 
-pub read_all-requires-clause-told : goal.read_all-requires-clause-told
-read_all-requires-clause-told c = old_told _ _ _ c.requires.growth
+pub read_all-requires : goal.read_all-requires
+read_all-requires c =
+    let g = c.requires.growth in
+    record {
+      within = c.ble-ble.ensures.lawful.inputs;
+      room = record { reads = g.reads_count; drives = g.drives_count; gains = g.gains_count };
+      told = old_told _ _ _ g;
+    }
+
+pub drive-requires : goal.drive-requires
+drive-requires c = record {
+  within = c.ble-ble.ensures.lawful.output;
+  room = c.read_all.ensures.room;
+  told = c.in_ok-read_all.ensures.told;
+}
 
 pub returns-clause-growth : goal.returns-clause-growth
 returns-clause-growth c =

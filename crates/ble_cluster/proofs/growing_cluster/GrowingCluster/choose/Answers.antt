@@ -9,18 +9,21 @@ use Rattle.ble_cluster.proofs.Fitting.{no_cluster}
 use Rattle.ble_cluster.proofs.growing_cluster.GrowingCluster.choose.Goals as goal
 
 pub overflow_cast-seed : goal.overflow_cast-seed
-overflow_cast-seed c = omega (arith, seed_within (input_count_at c.args.elements.now.elements) c.args.is_taken.now c.in-Some.seed (sym c.in-Some.is ∙ c.requires.seed), c.requires.taken, c.requires.few)
+overflow_cast-seed c = omega (arith, seed_within (input_count_at c.args.elements.now.elements) c.args.is_taken.now c.in-Some.seed (sym c.in-Some.is ∙ c.requires.seed), c.requires.by_outside.taken, c.requires.by_outside.few)
 
-pub add-requires-clause-number : goal.add-requires-clause-number
-add-requires-clause-number c = omega (arith, seed_within (input_count_at c.args.elements.now.elements) c.args.is_taken.now c.in-Some.seed (sym c.in-Some.is ∙ c.requires.seed), c.requires.taken)
-
-pub add-requires-clause-fits : goal.add-requires-clause-fits
-add-requires-clause-fits c =
-    rw c.clear.ensures.members (record {
-      arch = c.args.arch.now;
-      lawful = c.requires.arch;
-      fits = fits_alone c.args.arch.now c.args.elements.now.elements c.in-Some.seed c.requires.fit (omega (arith, seed_within (input_count_at c.args.elements.now.elements) c.args.is_taken.now c.in-Some.seed (sym c.in-Some.is ∙ c.requires.seed), c.requires.taken));
-    })
+pub add-requires : goal.add-requires
+add-requires c =
+    let elements = c.args.elements.now.elements in
+    let small : c.in-Some.seed < length elements = omega (arith, seed_within (input_count_at elements) c.args.is_taken.now c.in-Some.seed (sym c.in-Some.is ∙ c.requires.seed), c.requires.by_outside.taken) in
+    record {
+      growth = c.clear.ensures.growth;
+      number = small;
+      fits = rw c.clear.ensures.members (record {
+        arch = c.args.arch.now;
+        lawful = c.requires.fit.lawful;
+        fits = fits_alone c.args.arch.now elements c.in-Some.seed c.requires.fit.alone small;
+      });
+    }
 
 pub returns-in-None-clause-members : goal.returns-in-None-clause-members
 returns-in-None-clause-members c =
@@ -35,10 +38,10 @@ returns-in_ok-add-in-Some-clause-members c =
 pub returns-then-arch-eq1-clause-members : goal.returns-then-arch-eq1-clause-members
 returns-then-arch-eq1-clause-members c =
     subst (λ ms. IfOk c.fill.result (λ _. c.fill.new.self.members.items ≡ ms))
-    (alone c.args.arch.now c.args.elements.now.elements c.args.is_taken.now c.requires.taken c.clear.new.self.members.items c.in-Some.seed (sym c.in-Some.is ∙ c.requires.seed) c.clear.ensures.members (omega arith))
+    (alone c.args.arch.now c.args.elements.now.elements c.args.is_taken.now c.requires.by_outside.taken c.clear.new.self.members.items c.in-Some.seed (sym c.in-Some.is ∙ c.requires.seed) c.clear.ensures.members (omega arith))
     c.fill.ensures.added
 
 pub returns-then-arch-eq1-clause-within : goal.returns-then-arch-eq1-clause-within
 returns-then-arch-eq1-clause-within c =
     all_filled (λ number. number < length c.args.elements.now.elements) c.clear.new.self.members.items c.fill.new.self.members.items c.in-Some.seed (is_ok c.fill.result) c.fill.ensures.members c.clear.ensures.growth.members
-    (omega (arith, seed_within (input_count_at c.args.elements.now.elements) c.args.is_taken.now c.in-Some.seed (sym c.in-Some.is ∙ c.requires.seed), c.requires.taken))
+    (omega (arith, seed_within (input_count_at c.args.elements.now.elements) c.args.is_taken.now c.in-Some.seed (sym c.in-Some.is ∙ c.requires.seed), c.requires.by_outside.taken))

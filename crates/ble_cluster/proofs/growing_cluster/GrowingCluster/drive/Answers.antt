@@ -1,12 +1,8 @@
 use Rattle.std.proofs.Common.{◌≡◌, ◌++◌, ap, ◌∙◌}
-use Rattle.ble_cluster.specs.Nets.{with_net}
 use Rattle.ble_cluster.specs.declared.growing_cluster.GrowingCluster.{GrowingCluster}
-use Rattle.ble_cluster.specs.NetSets.{NetsAmong}
-use Rattle.ble_cluster.proofs.GrowingLemmas.{have_room, drives_has, told_more}
+use Rattle.ble_cluster.specs.NetSets.{NetsAmong, with_net}
+use Rattle.ble_cluster.proofs.GrowingLemmas.{drives_has, told_more}
 use Rattle.ble_cluster.proofs.growing_cluster.GrowingCluster.drive.Goals as goal
-
-pub enter-requires-clause-few : goal.enter-requires-clause-few
-enter-requires-clause-few c = have_room _ _ _ c.requires.lawful c.requires.room.gains c.requires.told
 
 pub returns-clause-told : goal.returns-clause-told
 returns-clause-told c =

@@ -3,7 +3,11 @@ use Rattle.std.specs.Result.{is_ok}
 use Rattle.ble_cluster.specs.FreeBles.{free_in}
 use Rattle.ble_cluster.proofs.Choosing.{grown_full}
 use Rattle.ble_cluster.proofs.Filling.{all_filled, filled}
+use Rattle.ble_cluster.proofs.FreeNumbers.{found_on}
 use Rattle.ble_cluster.proofs.growing_cluster.GrowingCluster.grow.Goals as goal
+
+pub next_member-requires : goal.next_member-requires
+next_member-requires c = found_on _ _ _ _ c.requires.by_outside c.loop-added.invariant.keys c.loop-added.invariant.free
 
 pub returns-in-None-clause-members : goal.returns-in-None-clause-members
 returns-in-None-clause-members c =
@@ -14,7 +18,7 @@ returns-in-None-clause-members c =
 pub returns-in-Some-clause-members : goal.returns-in-Some-clause-members
 returns-in-Some-clause-members c =
     subst (λ ms. IfOk c.fill.result (λ _. c.fill.new.self.members.items ≡ ms))
-    (filled c.args.arch.now c.args.elements.now.elements c.args.is_taken.now c.requires.taken c.args.self.now.members.items c.loop-added.self.members.items c.in-Some.number c.loop-added.added c.loop-added.invariant.members c.in-Some.ensures.next (omega arith) (omega arith))
+    (filled c.args.arch.now c.args.elements.now.elements c.args.is_taken.now c.requires.by_outside.taken c.args.self.now.members.items c.loop-added.self.members.items c.in-Some.number c.loop-added.added c.loop-added.invariant.members c.in-Some.ensures.next (omega arith) (omega arith))
     c.fill.ensures.added
 
 pub returns-in-Some-clause-within : goal.returns-in-Some-clause-within

@@ -9,12 +9,12 @@ overflow_add-outside c =
     let e = c.ble-ble.ensures.lawful in
     omega (arith, g.small, c.new_inputs.ensures, new_few _ _ _ g c.ble-ble.ensures.few c.ble-ble.result.output c.ble-ble.result.inputs.now (inputs_once _ e) e.inputs)
 
-pub is_outside-requires-clause-reads : goal.is_outside-requires-clause-reads
-is_outside-requires-clause-reads c = omega (arith, c.ble-ble.ensures.lawful.output, c.requires.growth.reads_count)
+pub new_inputs-requires : goal.new_inputs-requires
+new_inputs-requires c = λ place d small. omega (arith, c.ble-ble.ensures.lawful.inputs place d small, c.requires.growth.reads_count, c.requires.growth.drives_count)
 
-pub is_outside-requires-clause-drives : goal.is_outside-requires-clause-drives
-is_outside-requires-clause-drives c =
-    omega (arith, c.ble-ble.ensures.lawful.output, c.requires.growth.drives_count)
+pub is_outside-requires : goal.is_outside-requires
+is_outside-requires c =
+    omega (arith, c.ble-ble.ensures.lawful.output, c.requires.growth.reads_count, c.requires.growth.drives_count)
 
 pub overflow_sub-result : goal.overflow_sub-result
 overflow_sub-result c =

@@ -2,15 +2,15 @@ use Rattle.std.proofs.Common.{arith}
 use Rattle.ble_cluster.proofs.Raising.{once_before, raised_more}
 use Rattle.ble_cluster.proofs.shared_nets.SharedNets.raise.Goals as goal
 
-pub raise_one-requires-clause-room : goal.raise_one-requires-clause-room
-raise_one-requires-clause-room c =
+pub raise_one-requires : goal.raise_one-requires
+raise_one-requires c =
     let place = c.loop-number.number-index in
     let number = c.args.numbers.now in
     let inside = c.requires.within place 0 (omega arith) in
     let before = once_before c.args.numbers.now place (omega arith) c.requires.once in
     let raised = c.loop-number.invariant.raised _ inside in
     let room = c.requires.room _ 0 inside in
-    grind (arith, before, raised, room)
+    record { within = omega (arith, inside, c.loop-number.invariant.count); room = grind (arith, before, raised, room) }
 
 pub loop-number-preserved : goal.loop-number-preserved
 loop-number-preserved c =

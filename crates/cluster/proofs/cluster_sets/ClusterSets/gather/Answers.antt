@@ -1,8 +1,32 @@
-use Rattle.std.proofs.Common.{ap}
+use Rattle.std.proofs.Common.{ℕ, ◌≡◌, ◌∙◌, All, List, ap, subst, sym}
 use Rattle.ble_cluster.specs.NetSets.{NetsAmong}
+use Rattle.ble_cluster.specs.Bles.{LogicElement}
 use Rattle.ble_cluster.specs.Clusters.{elements_at}
+use Rattle.cluster.specs.ClusterPins.{IsElementWithin}
 use Rattle.cluster.proofs.NetLists.{inputs_gathered}
 use Rattle.cluster.proofs.cluster_sets.ClusterSets.gather.Goals as goal
+
+-- of as many nets as before
+among_as_many : (a b : ℕ) (elements : List LogicElement) → a ≡ b → All (IsElementWithin b) elements → All (IsElementWithin a) elements
+among_as_many a b elements same within = subst (λ count. All (IsElementWithin count) elements) (sym same) within
+
+pub add_outputs-requires : goal.add_outputs-requires
+add_outputs-requires c = record {
+  among = c.requires.among;
+  within = among_as_many _ _ c.args.bles.now (ap (λ (set : NetsAmong). set.count) c.clear.ensures ∙ c.requires.outputs_count) c.requires.within;
+}
+
+pub add_inputs-requires-clause-members : goal.add_inputs-requires-clause-members
+add_inputs-requires-clause-members c = record {
+  among = c.requires.among;
+  within = among_as_many _ _ c.args.bles.now (ap (λ (set : NetsAmong). set.count) c.clear-2.ensures) c.requires.within;
+}
+
+pub add_clocks-requires : goal.add_clocks-requires
+add_clocks-requires c = record {
+  among = c.requires.among;
+  within = among_as_many _ _ c.args.bles.now (ap (λ (set : NetsAmong). set.count) c.clear-3.ensures ∙ c.requires.clocks_count) c.requires.within;
+}
 
 pub returns-clause-inputs : goal.returns-clause-inputs
 returns-clause-inputs c =

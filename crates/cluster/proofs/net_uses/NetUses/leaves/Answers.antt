@@ -1,5 +1,4 @@
-use Rattle.std.proofs.Common.{◌∙◌, List, ap, eqb, not, sym, ℕ}
-use Rattle.cluster.specs.Blocks.{is_empty}
+use Rattle.std.proofs.Common.{◌∙◌, List, ap, eqb, length, nat_lt, not, sym, ℕ}
 use Rattle.cluster.specs.NetUses.{others}
 use Rattle.cluster.proofs.NetLaws.{second_test, some_left}
 use Rattle.cluster.proofs.net_uses.NetUses.leaves.Goals as goal
@@ -7,4 +6,4 @@ use Rattle.cluster.proofs.net_uses.NetUses.leaves.Goals as goal
 pub returns-else-is_global : goal.returns-else-is_global
 returns-else-is_global c =
     second_test _ _ _ (sym c.is_global.ensures ∙ c.if-is_global.false)
-    (c.has_other.ensures ∙ some_left (λ reader. not (eqb reader c.args.driver)) c.readers.result.now ∙ ap (λ (readers : List ℕ). not (is_empty (others c.args.driver readers))) c.readers.ensures)
+    (c.has_other.ensures ∙ some_left (λ reader. not (eqb reader c.args.driver)) c.readers.result.now ∙ ap (λ (readers : List ℕ). nat_lt 0 (length (others c.args.driver readers))) c.readers.ensures)

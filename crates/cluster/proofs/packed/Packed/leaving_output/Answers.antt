@@ -1,6 +1,6 @@
 use Rattle.std.proofs.Common.{◌≡◌, ◌∙◌, ◌+◌, ap, arith, length, sym}
 use Rattle.cluster.specs.Clusters.{PackedCircuit}
-use Rattle.cluster.specs.Blocks.{cluster_block}
+use Rattle.cluster.specs.ClusterPins.{cluster_block}
 use Rattle.cluster.proofs.FewBlocks.{few_blocks}
 use Rattle.cluster.proofs.PackedLaws.{output_leaves, output_stays}
 use Rattle.cluster.proofs.TableLaws.{ble_within, leaves_told}
@@ -20,11 +20,10 @@ overflow_cast-block c =
     let clusters = ap (λ (packed : PackedCircuit). length packed.clusters) c.self.view_is in
     omega (arith, few, pads, clusters, c.pad_count.ensures, c.requires)
 
-pub leaves-requires-clause-global : goal.leaves-requires-clause-global
-leaves-requires-clause-global c = (ble_within _ c.self.inside.bles c.self.inside.tables _ _ c.self.invariant c.ble-net.ensures).0
-
-pub leaves-requires-clause-reader : goal.leaves-requires-clause-reader
-leaves-requires-clause-reader c = (ble_within _ c.self.inside.bles c.self.inside.tables _ _ c.self.invariant c.ble-net.ensures).1
+pub leaves-requires : goal.leaves-requires
+leaves-requires c =
+    let within = ble_within _ c.self.inside.bles c.self.inside.tables _ _ c.self.invariant c.ble-net.ensures in
+    record { global = within.0; reader = within.1 }
 
 pub returns-then-leaves : goal.returns-then-leaves
 returns-then-leaves c =

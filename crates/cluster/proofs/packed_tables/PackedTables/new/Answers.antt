@@ -1,4 +1,4 @@
-use Rattle.std.proofs.Common.{All, List, subst, sym, length, refl, []}
+use Rattle.std.proofs.Common.{◌<◌, All, List, subst, sym, length, refl, []}
 use Rattle.ble_cluster.specs.Bles.{LogicElement}
 use Rattle.cluster.specs.ClusterPins.{IsElementWithin}
 use Rattle.cluster.specs.NetUses.{input_nets}
@@ -6,13 +6,14 @@ use Rattle.cluster.proofs.FewBlocks.{elements_within, few_blocks}
 use Rattle.cluster.proofs.TableLaws.{tables_made}
 use Rattle.cluster.proofs.packed_tables.PackedTables.new.Goals as goal
 
-pub new-requires-clause-elements : goal.new-requires-clause-elements
-new-requires-clause-elements c =
+pub new-requires-clause-clusters : goal.new-requires-clause-clusters
+new-requires-clause-clusters c =
     let circuit = c.args.circuit.now in
-    subst (λ (elements : List LogicElement). All (IsElementWithin (length circuit.nets)) elements) (sym c.requires.bles) (elements_within circuit c.requires.packed.circuit)
-
-pub new-requires-clause-few : goal.new-requires-clause-few
-new-requires-clause-few c = few_blocks _ c.requires.packed
+    record {
+      elements = subst (λ (elements : List LogicElement). All (IsElementWithin (length circuit.nets)) elements) (sym c.requires.bles) (elements_within circuit c.requires.packed.circuit);
+      members = subst (λ (elements : List LogicElement). All (λ cluster. All (λ number. number < length elements) cluster) c.args.clusters.now) (sym c.requires.bles) c.requires.packed.members;
+      few = few_blocks _ c.requires.packed;
+    }
 
 pub returns-in-Ok : goal.returns-in-Ok
 returns-in-Ok c =

@@ -6,11 +6,12 @@ use Rattle.cluster.proofs.Going.{begins}
 use Rattle.cluster.proofs.Members.{few_bles}
 use Rattle.cluster.proofs.packing.Packing.start.Goals as goal
 
-pub new-requires-2-clause-elements : goal.new-requires-2-clause-elements
-new-requires-2-clause-elements c = rw (c.in_ok-bles.ensures, c.len.ensures, c.circuit-2.ensures.value, c.circuit.ensures.value) (elements_lawful c.args.circuit.now c.circuit.ensures.lawful)
-
-pub new-requires-2-clause-few : goal.new-requires-2-clause-few
-new-requires-2-clause-few c = rw (c.in_ok-bles.ensures, c.circuit.ensures.value) (few_bles c.args.circuit.now c.circuit.ensures.lawful)
+pub new-requires-2 : goal.new-requires-2
+new-requires-2 c = rw (c.in_ok-bles.ensures, c.len.ensures, c.circuit-2.ensures.value, c.circuit.ensures.value) (record {
+  few = c.circuit.ensures.lawful.few;
+  count = few_bles c.args.circuit.now c.circuit.ensures.lawful;
+  lawful = elements_lawful c.args.circuit.now c.circuit.ensures.lawful;
+})
 
 pub invariant_of-result : goal.invariant_of-result
 invariant_of-result c =

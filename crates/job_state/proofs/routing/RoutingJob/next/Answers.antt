@@ -3,7 +3,8 @@ use Rattle.std.proofs.lemmas.Result.{IfErr-weaker, IfOk-weaker}
 use Rattle.pathfinder.specs.Routings.{IsDone}
 use Rattle.job_state.specs.declared.work.Work.TheVariants.{Routing, Routed, Unlisted}
 use Rattle.job_state.specs.JobValue.{routing_after}
-use Rattle.job_state.specs.RoutedCircuits.{AreThere, on_trees, on_strip}
+use Rattle.job_state.specs.RoutedCircuits.{AreThere, on_strip}
+use Rattle.job_state.specs.Gathered.{on_trees}
 use Rattle.job_state.specs.Stages.{state_at}
 use Rattle.job_state.specs.Steps.{IsLeft}
 use Rattle.job_state.specs.UnderWay.{RoutingUnderWay}

@@ -1,7 +1,7 @@
 use Rattle.std.proofs.Common.{refl, ap, sym, arith}
 use Rattle.least_path.specs.Frontier.{no_label}
 use Rattle.least_path.specs.declared.search.Label.{Label}
-use Rattle.least_path.proofs.Labels.{meets, expanding_none, expanding_more, expanded}
+use Rattle.least_path.proofs.Labels.{meets, offers_end, expanding_none, expanding_more, expanded}
 use Rattle.least_path.proofs.Edges.{past_listed}
 use Rattle.least_path.proofs.search.Search.expand.Goals as goal
 
@@ -15,22 +15,10 @@ overflow_add-end g c =
     let m = meets c.loop-end.invariant c.requires.lawful c.requires.within c.requires.frontier c.ends-ends.result.list.now c.ends-ends.result.base c.ends-ends.ensures c.loop-end-test.true in
     omega (arith, m.within, c.requires.lawful.few)
 
-pub offer_end-requires-clause-within : goal.offer_end-requires-clause-within
-offer_end-requires-clause-within g c =
-    (meets c.loop-end.invariant c.requires.lawful c.requires.within c.requires.frontier c.ends-ends.result.list.now c.ends-ends.result.base c.ends-ends.ensures c.loop-end-test.true).within
-
-pub offer_end-requires-clause-room : goal.offer_end-requires-clause-room
-offer_end-requires-clause-room g c =
+pub offer_end-requires : goal.offer_end-requires
+offer_end-requires g c =
     let m = meets c.loop-end.invariant c.requires.lawful c.requires.within c.requires.frontier c.ends-ends.result.list.now c.ends-ends.result.base c.ends-ends.ensures c.loop-end-test.true in
-    m.room
-
-pub offer_end-requires-clause-small : goal.offer_end-requires-clause-small
-offer_end-requires-clause-small g c =
-    (meets c.loop-end.invariant c.requires.lawful c.requires.within c.requires.frontier c.ends-ends.result.list.now c.ends-ends.result.base c.ends-ends.ensures c.loop-end-test.true).small
-
-pub offer_end-requires-clause-bound : goal.offer_end-requires-clause-bound
-offer_end-requires-clause-bound g c =
-    (meets c.loop-end.invariant c.requires.lawful c.requires.within c.requires.frontier c.ends-ends.result.list.now c.ends-ends.result.base c.ends-ends.ensures c.loop-end-test.true).bound
+    offers_end m c.requires.lawful c.requires.goal
 
 pub loop-end-preserved : goal.loop-end-preserved
 loop-end-preserved g c =

@@ -4,6 +4,12 @@ use Rattle.least_path.specs.declared.search.Label.{Label}
 use Rattle.least_path.proofs.Exact.{least_path-is, least_path-none, path_within}
 use Rattle.least_path.proofs.search.Search.least_into.Goals as goal
 
+pub settle-requires : goal.settle-requires
+settle-requires g c = record { lawful = c.count.ensures.lawful; starts = c.requires.starts; goal = c.requires.goal; begun = rw c.count.ensures.value at c.in_ok-begin.ensures }
+
+pub walk-requires : goal.walk-requires
+walk-requires g c = record { lawful = c.count.ensures.lawful; starts = c.requires.starts; goal = c.requires.goal; settled = c.in_ok-settle.ensures.found (cc) }
+
 pub returns-clause-exact : goal.returns-clause-exact
 returns-clause-exact g c = least_path-is _ _ _ _ c.count.ensures.lawful c.requires.starts c.in_ok-walk.ensures.least
 

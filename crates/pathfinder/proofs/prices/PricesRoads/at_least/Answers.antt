@@ -12,14 +12,8 @@ use Rattle.pathfinder.proofs.InRange.{tabled_lawful}
 use Rattle.pathfinder.proofs.Strips.{strip_wiring}
 use Rattle.pathfinder.proofs.prices.PricesRoads.at_least.Goals as goal
 
-pub from_node-requires-clause-sink : goal.from_node-requires-clause-sink
-from_node-requires-clause-sink g c =
-    let prices = c.args.self.now in
-    let basis = g.G.StripGraph.basis prices.graph.now in
-    subst (λ (node : Node). is_node basis.arch basis.strip node ≡ true) prices.aim.is (c.count-count.ensures.lawful.nodes prices.goal prices.aim.within)
-
-pub from_node-requires-clause-there : goal.from_node-requires-clause-there
-from_node-requires-clause-there g c =
+pub from_node-requires : goal.from_node-requires
+from_node-requires g c =
     let prices = c.args.self.now in
     let basis = g.G.StripGraph.basis prices.graph.now in
     let node = prices.rated.node c.args.node _ c.requires.node in

@@ -10,28 +10,44 @@ use Rattle.pathfinder.proofs.Lowerings.{lowered_few, are_lasts, wires_within}
 use Rattle.pathfinder.proofs.round.Round.last_prices.Goals as goal
 
 pub lowered-lasts-requires-clause-wires : goal.lowered-lasts-requires-clause-wires
-lowered-lasts-requires-clause-wires g c = λ node from to.
+lowered-lasts-requires-clause-wires g c =
     let basis = g.G.StripGraph.basis c.args.self.now.graph.now in
-    let within = wires_within basis c.count-count.ensures.lawful ChanX refl c.args.sink.x c.args.sink.y c.numbers_at-above.result.first c.numbers_at-above.result.end c.numbers_at-above.ensures node from to in
-    (within.0, omega (arith, within.1, c.in_ok-lasts.ensures.len, ap (λ (arch : Arch). arch.tracks) c.arch.ensures))
+    record {
+      within = λ node from to.
+          let within = wires_within basis c.count-count.ensures.lawful ChanX refl c.args.sink.x c.args.sink.y c.numbers_at-above.result.first c.numbers_at-above.result.end c.numbers_at-above.ensures node from to in
+          (within.0, omega (arith, within.1, c.in_ok-lasts.ensures.len, ap (λ (arch : Arch). arch.tracks) c.arch.ensures));
+      side = c.requires.ordered.top.1;
+    }
 
 pub lowered-lasts-requires-2-clause-wires : goal.lowered-lasts-requires-2-clause-wires
-lowered-lasts-requires-2-clause-wires g c = λ node from to.
+lowered-lasts-requires-2-clause-wires g c =
     let basis = g.G.StripGraph.basis c.args.self.now.graph.now in
-    let within = wires_within basis c.count-count.ensures.lawful ChanX refl c.args.sink.x c.saturating_sub.result c.numbers_at-under.result.first c.numbers_at-under.result.end c.numbers_at-under.ensures node from to in
-    (within.0, omega (arith, within.1, c.in_ok-lasts.ensures.len, ap (λ (arch : Arch). arch.tracks) c.arch.ensures, c.lowered-lasts.ensures.long))
+    record {
+      within = λ node from to.
+          let within = wires_within basis c.count-count.ensures.lawful ChanX refl c.args.sink.x c.saturating_sub.result c.numbers_at-under.result.first c.numbers_at-under.result.end c.numbers_at-under.ensures node from to in
+          (within.0, omega (arith, within.1, c.in_ok-lasts.ensures.len, ap (λ (arch : Arch). arch.tracks) c.arch.ensures, c.lowered-lasts.ensures.long));
+      side = c.requires.ordered.bottom.1;
+    }
 
 pub lowered-lasts-requires-3-clause-wires : goal.lowered-lasts-requires-3-clause-wires
-lowered-lasts-requires-3-clause-wires g c = λ node from to.
+lowered-lasts-requires-3-clause-wires g c =
     let basis = g.G.StripGraph.basis c.args.self.now.graph.now in
-    let within = wires_within basis c.count-count.ensures.lawful ChanY refl c.args.sink.x c.args.sink.y c.numbers_at-after.result.first c.numbers_at-after.result.end c.numbers_at-after.ensures node from to in
-    (within.0, omega (arith, within.1, c.in_ok-lasts.ensures.len, ap (λ (arch : Arch). arch.tracks) c.arch.ensures, c.lowered-lasts-2.ensures.long, c.lowered-lasts.ensures.long))
+    record {
+      within = λ node from to.
+          let within = wires_within basis c.count-count.ensures.lawful ChanY refl c.args.sink.x c.args.sink.y c.numbers_at-after.result.first c.numbers_at-after.result.end c.numbers_at-after.ensures node from to in
+          (within.0, omega (arith, within.1, c.in_ok-lasts.ensures.len, ap (λ (arch : Arch). arch.tracks) c.arch.ensures, c.lowered-lasts-2.ensures.long, c.lowered-lasts.ensures.long));
+      side = c.requires.ordered.right.1;
+    }
 
 pub lowered-requires-clause-wires : goal.lowered-requires-clause-wires
-lowered-requires-clause-wires g c = λ node from to.
+lowered-requires-clause-wires g c =
     let basis = g.G.StripGraph.basis c.args.self.now.graph.now in
-    let within = wires_within basis c.count-count.ensures.lawful ChanY refl c.saturating_sub-2.result c.args.sink.y c.numbers_at-before.result.first c.numbers_at-before.result.end c.numbers_at-before.ensures node from to in
-    (within.0, omega (arith, within.1, c.in_ok-lasts.ensures.len, ap (λ (arch : Arch). arch.tracks) c.arch.ensures, c.lowered-lasts-3.ensures.long, c.lowered-lasts-2.ensures.long, c.lowered-lasts.ensures.long))
+    record {
+      within = λ node from to.
+          let within = wires_within basis c.count-count.ensures.lawful ChanY refl c.saturating_sub-2.result c.args.sink.y c.numbers_at-before.result.first c.numbers_at-before.result.end c.numbers_at-before.ensures node from to in
+          (within.0, omega (arith, within.1, c.in_ok-lasts.ensures.len, ap (λ (arch : Arch). arch.tracks) c.arch.ensures, c.lowered-lasts-3.ensures.long, c.lowered-lasts-2.ensures.long, c.lowered-lasts.ensures.long));
+      side = c.requires.ordered.left.1;
+    }
 
 pub returns-clause-few : goal.returns-clause-few
 returns-clause-few g c =

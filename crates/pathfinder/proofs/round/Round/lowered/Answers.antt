@@ -13,17 +13,17 @@ loop-number-init g c =
     lowered_none basis (tabled (wiring_of basis) round.iterations round.history.now c.args.held.now) c.args.wires.first c.args.side c.args.lasts.items
 
 pub node-track-requires : goal.node-track-requires
-node-track-requires g c = (c.requires.wires c.loop-number.number c.loop-number.auto.number c.loop-number-test.true).0
+node-track-requires g c = (c.requires.wires.within c.loop-number.number c.loop-number.auto.number c.loop-number-test.true).0
 
 pub price-requires-clause-within : goal.price-requires-clause-within
-price-requires-clause-within g c = (c.requires.wires c.loop-number.number c.loop-number.auto.number c.loop-number-test.true).0
+price-requires-clause-within g c = (c.requires.wires.within c.loop-number.number c.loop-number.auto.number c.loop-number-test.true).0
 
 pub loop-number-preserved : goal.loop-number-preserved
 loop-number-preserved g c =
     let round = c.args.self.now in
     let basis = g.G.StripGraph.basis round.graph.now in
     let at_prices = tabled (wiring_of basis) round.iterations round.history.now c.args.held.now in
-    let wire = c.requires.wires c.loop-number.number c.loop-number.auto.number c.loop-number-test.true in
+    let wire = c.requires.wires.within c.loop-number.number c.loop-number.auto.number c.loop-number-test.true in
     let track = ap (λ (place : Node). place.n) c.node-track.ensures in
     let within : c.node-track.result.n < length c.loop-number.lasts.items = omega (arith, wire.1, track, c.loop-number.invariant.long) in
     let value : c.min.result ≡ min (get_or c.loop-number.lasts.items c.node-track.result.n 0) (at_prices.cost c.loop-number.number + c.args.side) =

@@ -22,4 +22,4 @@ returns-clause-few g c =
     let known = round.lawful in
     subst (λ price. price ≤ 2 ^ 36) (sym value)
     (to_most (slice_index round.history.now c.args.node) round.iterations (slice_index c.args.held.now c.args.node + 1 - w.capacity c.args.node) known.few
-    (index_low round.history.now (round.iterations * 8192) known.past_low c.args.node) (omega (arith, index_low c.args.held.now 8192 c.requires.low c.args.node)))
+    (index_low round.history.now (round.iterations * 8192) known.past_low c.args.node) (omega (arith, index_low c.args.held.now 8192 c.requires.held.low c.args.node)))

@@ -9,15 +9,10 @@ use Rattle.pathfinder.specs.Tables.{Tells}
 use Rattle.pathfinder.proofs.Overuses.{long_history, most_within, overuse_told}
 use Rattle.pathfinder.proofs.routing.Routing.overuse.Goals as goal
 
-pub count_overused-requires : goal.count_overused-requires
-count_overused-requires g c =
+pub invariant_of-counts : goal.invariant_of-counts
+invariant_of-counts g c =
     let basis = g.G.StripGraph.basis c.args.graph.now in
-    ap length c.as_slice-held.ensures.value ∙ c.self.invariant.long ∙ ap (λ (s : RoutingState). length s.history) c.self.view_is ∙ long_history (wiring_of basis) c.args.self.now c.requires
-
-pub most_overused-requires : goal.most_overused-requires
-most_overused-requires g c =
-    let basis = g.G.StripGraph.basis c.args.graph.now in
-    ap length c.as_slice-held.ensures.value ∙ c.self.invariant.long ∙ ap (λ (s : RoutingState). length s.history) c.self.view_is ∙ long_history (wiring_of basis) c.args.self.now c.requires
+    record { long = ap length c.as_slice-held.ensures.value ∙ c.self.invariant.long ∙ ap (λ (s : RoutingState). length s.history) c.self.view_is ∙ long_history (wiring_of basis) c.args.self.now c.requires }
 
 pub node_of-requires : goal.node_of-requires
 node_of-requires g c =
@@ -36,7 +31,7 @@ returns g c =
     let long : length held ≡ (graph_of basis).count = ap length c.as_slice-held.ensures.value ∙ c.self.invariant.long ∙ over_history in
     let tells : Tells (wiring_of basis) held c.args.self.now.trees =
     λ node l. ap (λ (xs : List ℕ). slice_index xs node) c.as_slice-held.ensures.value ∙ c.self.invariant.tells node (omega (arith, l, over_history)) ∙ ap (λ (s : RoutingState). occupancy s.trees node) seen in
-    overuse_told basis held c.args.self.now.trees (record { nodes = c.count_overused.result; most = c.node_of.result }) c.most_overused.result tells
-    (c.count_overused.ensures ∙ ap (count_over (over_in basis held)) long)
+    overuse_told basis held c.args.self.now.trees (record { nodes = c.overused.result; most = c.node_of.result }) c.most_overused.result tells
+    (c.overused.ensures ∙ ap (count_over (over_in basis held)) long)
     (subst (λ count. IsMost (over_in basis held) count c.most_overused.result) long c.most_overused.ensures)
     c.node_of.ensures

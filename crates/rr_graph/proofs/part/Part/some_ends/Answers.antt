@@ -9,29 +9,29 @@ use Rattle.rr_graph.proofs.part.Part.some_ends.Goals as goal
 
 pub row_from-requires-clause-column : goal.row_from-requires-clause-column
 row_from-requires-clause-column c =
-    ap (λ (place : Node). place.x) (sym (fabric_node (with_width c.self.inside.nodes.now c.self.inside.width) c.self.inside.table.now _ c.args.node c.self.invariant.kept.fabric c.self.view_is c.requires.node ∙ c.requires.place))
+    ap (λ (place : Node). place.x) (sym (fabric_node (with_width c.self.inside.nodes.now.numbering c.self.inside.width) c.self.inside.table.now _ c.args.node c.self.invariant.kept.fabric c.self.view_is c.requires.node ∙ c.requires.place))
 
 pub row_from-requires-clause-row : goal.row_from-requires-clause-row
 row_from-requires-clause-row c =
-    let nodes = with_width c.self.inside.nodes.now c.self.inside.width in
+    let nodes = with_width c.self.inside.nodes.now.numbering c.self.inside.width in
     let tables = c.self.inside.table.now in
     let fabric = c.self.invariant.kept.fabric in
     wires_place nodes tables c.self.inside.wires.now c.args.node fabric.lawful c.self.invariant.kept.wires_are (fabric_within nodes tables _ c.args.node fabric c.self.view_is c.requires.node)
 
 pub row_from-requires-else-is_passing-clause-column : goal.row_from-requires-else-is_passing-clause-column
 row_from-requires-else-is_passing-clause-column c =
-    ap (λ (place : Node). place.x) (sym (fabric_node (with_width c.self.inside.nodes.now c.self.inside.width) c.self.inside.table.now _ c.args.node c.self.invariant.kept.fabric c.self.view_is c.requires.node ∙ c.requires.place))
+    ap (λ (place : Node). place.x) (sym (fabric_node (with_width c.self.inside.nodes.now.numbering c.self.inside.width) c.self.inside.table.now _ c.args.node c.self.invariant.kept.fabric c.self.view_is c.requires.node ∙ c.requires.place))
 
 pub row_from-requires-else-is_passing-clause-row : goal.row_from-requires-else-is_passing-clause-row
 row_from-requires-else-is_passing-clause-row c =
-    let nodes = with_width c.self.inside.nodes.now c.self.inside.width in
+    let nodes = with_width c.self.inside.nodes.now.numbering c.self.inside.width in
     let tables = c.self.inside.table.now in
     let fabric = c.self.invariant.kept.fabric in
     row_place nodes tables c.args.node fabric (fabric_within nodes tables _ c.args.node fabric c.self.view_is c.requires.node)
 
 pub returns-then-is_passing : goal.returns-then-is_passing
 returns-then-is_passing c =
-    let nodes = with_width c.self.inside.nodes.now c.self.inside.width in
+    let nodes = with_width c.self.inside.nodes.now.numbering c.self.inside.width in
     let tables = c.self.inside.table.now in
     let fabric = c.self.invariant.kept.fabric in
     let g = graph_of c.args.self.now in
@@ -42,7 +42,7 @@ returns-then-is_passing c =
 
 pub returns-else-is_passing : goal.returns-else-is_passing
 returns-else-is_passing c =
-    let nodes = with_width c.self.inside.nodes.now c.self.inside.width in
+    let nodes = with_width c.self.inside.nodes.now.numbering c.self.inside.width in
     let tables = c.self.inside.table.now in
     let fabric = c.self.invariant.kept.fabric in
     let g = graph_of c.args.self.now in

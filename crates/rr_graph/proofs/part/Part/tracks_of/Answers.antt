@@ -3,18 +3,12 @@ use Rattle.rr_graph.specs.Geometry.{is_node}
 use Rattle.rr_graph.specs.Graph.{Basis}
 use Rattle.rr_graph.specs.Ways.{AreMet}
 use Rattle.rr_graph.specs.Fabric.{with_width}
-use Rattle.rr_graph.proofs.Graphs.{there_small}
 use Rattle.rr_graph.proofs.MetTables.{sink_row}
 use Rattle.rr_graph.proofs.part.Part.tracks_of.Goals as goal
 
-pub met_row-requires : goal.met_row-requires
-met_row-requires c =
-    (there_small (with_width c.self.inside.nodes.now c.self.inside.width) c.args.sink c.self.invariant.kept.fabric.lawful
-    (subst (λ g. is_node g.arch g.strip c.args.sink ≡ true) (sym c.self.view_is) c.requires)).1
-
 pub returns-clause-long : goal.returns-clause-long
 returns-clause-long c = λ kind.
-    let nodes = (with_width c.self.inside.nodes.now c.self.inside.width) in
+    let nodes = (with_width c.self.inside.nodes.now.numbering c.self.inside.width) in
     let sink = c.args.sink in
     let there = subst (λ g. is_node g.arch g.strip sink ≡ true) (sym c.self.view_is) c.requires in
     let row = sink_row nodes.arch nodes.strip sink kind there in
@@ -24,4 +18,4 @@ returns-clause-long c = λ kind.
 
 pub returns-clause-met : goal.returns-clause-met
 returns-clause-met c = subst (λ g. AreMet g.arch g.strip c.args.sink c.met_row.result.now) c.self.view_is
-    (c.met_row.ensures.met (with_width c.self.inside.nodes.now c.self.inside.width).arch c.self.invariant.kept.met_are)
+    (c.met_row.ensures.met (with_width c.self.inside.nodes.now.numbering c.self.inside.width).arch c.self.invariant.kept.met_are)

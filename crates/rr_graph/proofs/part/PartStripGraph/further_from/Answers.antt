@@ -10,13 +10,13 @@ is_met-met-requires-clause-table c = c.self.invariant.kept.met_are
 
 pub is_met-met-requires-clause-sink : goal.is_met-met-requires-clause-sink
 is_met-met-requires-clause-sink c =
-    (there_small (with_width c.self.inside.nodes.now c.self.inside.width) c.args.sink c.self.invariant.kept.fabric.lawful
+    (there_small (with_width c.self.inside.nodes.now.numbering c.self.inside.width) c.args.sink c.self.invariant.kept.fabric.lawful
     (subst (λ g. is_node g.arch g.strip c.args.sink ≡ true) (sym c.self.view_is) c.requires)).1
 
 pub returns : goal.returns
 returns c =
-    let arch = (with_width c.self.inside.nodes.now c.self.inside.width).arch in
-    let strip = (with_width c.self.inside.nodes.now c.self.inside.width).strip in
+    let arch = (with_width c.self.inside.nodes.now.numbering c.self.inside.width).arch in
+    let strip = (with_width c.self.inside.nodes.now.numbering c.self.inside.width).strip in
     let sink = c.args.sink in
     let place = c.args.node in
     c.further.ensures

@@ -8,16 +8,16 @@ use Rattle.rr_graph.proofs.Fabrics.{fabric_numbered, fabric_node}
 use Rattle.rr_graph.proofs.Widths.{node_of_all, number_of_width}
 use Rattle.rr_graph.proofs.part.PartStripGraph.number.Goals as goal
 
-pub number-requires-clause-there : goal.number-requires-clause-there
-number-requires-clause-there c =
-    let nodes = c.self.inside.nodes.now in
+pub number-requires : goal.number-requires
+number-requires c =
+    let nodes = c.self.inside.nodes.now.numbering in
     let is : is_node nodes.arch (with_width nodes c.self.inside.width).strip c.args.node ≡ true =
     subst (λ (s : Strip). is_node nodes.arch s c.args.node ≡ true) c.strip_of-strip.ensures (sym c.is_node.ensures ∙ c.if-not-is_node.false) in
     node_of_all nodes c.self.inside.width c.args.node c.self.invariant.few is
 
 pub returns-clause-value : goal.returns-clause-value
 returns-clause-value c =
-    let nodes = with_width c.self.inside.nodes.now c.self.inside.width in
+    let nodes = with_width c.self.inside.nodes.now.numbering c.self.inside.width in
     let fabric = c.self.invariant.kept.fabric in
     let node = c.args.node in
     let is : is_node nodes.arch nodes.strip node ≡ true = subst (λ (s : Strip). is_node nodes.arch s node ≡ true) c.strip_of-strip.ensures (sym c.is_node.ensures ∙ c.if-not-is_node.false) in

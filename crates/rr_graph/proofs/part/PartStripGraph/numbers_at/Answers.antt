@@ -6,9 +6,12 @@ use Rattle.rr_graph.specs.Fabric.{with_width}
 use Rattle.rr_graph.proofs.Fabrics.{fabric_within, fabric_numbered, fabric_node, fabric_count}
 use Rattle.rr_graph.proofs.part.PartStripGraph.numbers_at.Goals as goal
 
+pub numbers_at-requires : goal.numbers_at-requires
+numbers_at-requires c = (c.self.invariant.kept.fabric.lawful.strip.width.0, c.self.invariant.few)
+
 pub returns : goal.returns
 returns c =
-    let nodes = (with_width c.self.inside.nodes.now c.self.inside.width) in
+    let nodes = (with_width c.self.inside.nodes.now.numbering c.self.inside.width) in
     let table = c.self.inside.table.now in
     let basis = c.args.self.now in
     let fabric = c.self.invariant.kept.fabric in

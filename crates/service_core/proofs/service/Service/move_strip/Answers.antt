@@ -1,38 +1,33 @@
-use Rattle.std.proofs.Common.{◌≡◌, ◌-◌, ◌∙◌, get_or, rules, sym, subst}
+use Rattle.std.proofs.Common.{◌≡◌, ◌-◌, ◌∙◌, List, get_or, rules, sym, subst}
+use Rattle.strips.specs.declared.placed_strip.PlacedStrip.{PlacedStrip}
 use Rattle.strips.specs.Plan.{IsParted, Plan, with_moved}
 use Rattle.tenant_slot.specs.RoutedSet.{routed_set}
+use Rattle.service_core.specs.declared.device.Device.{Device}
 use Rattle.service_core.specs.History.{History, state_of}
 use Rattle.service_core.specs.Kept.{IsLiveIn, IsPlaceOf, IsSound}
 use Rattle.service_core.proofs.Booking.{in_book_there, stand_in}
+use Rattle.service_core.proofs.Keeps.{live_is}
 use Rattle.service_core.proofs.Moving.{moved_there, no_one_elses, owns_held, shifted_held, sound_moved, stands_moved}
 use Rattle.service_core.proofs.service.Service.move_strip.Goals as goal
 
-pub shift-requires-clause-taken : goal.shift-requires-clause-taken
-shift-requires-clause-taken c =
+pub shift-requires : goal.shift-requires
+shift-requires c =
     let old : History = c.index-tenancy.result.now in
-    let live : IsLiveIn c.self.inside.tenancies.items c.args.id = search rules in
-    let is : old ≡ get_or c.self.inside.tenancies.items (c.args.id - 1) old = search rules in
-    let place : IsPlaceOf (record { device = record { arch = c.self.inside.arch; columns = c.self.inside.layout.columns; rows = c.self.inside.rows }; plan = c.self.inside.layout; histories = c.self.inside.tenancies.items }) c.args.id c.place_of-from.result = rw (← c.self.view_is) at c.place_of-from.ensures in
+    let device : Device = record { arch = c.self.inside.arch; columns = c.self.inside.layout.columns; rows = c.self.inside.rows } in
+    let strips : List PlacedStrip = c.self.inside.layout.strips in
+    let hs : List History = c.self.inside.tenancies.items in
+    let live : IsLiveIn hs c.args.id = search rules in
+    let is : old ≡ get_or hs (c.args.id - 1) old = search rules in
+    let place : IsPlaceOf (record { device = device; plan = c.self.inside.layout; histories = hs }) c.args.id c.place_of-from.result = rw (← c.self.view_is) at c.place_of-from.ensures in
     let moves : IsParted (with_moved c.self.inside.layout c.args.id c.args.offset) × (c.move_to.new.self ≡ with_moved c.self.inside.layout c.args.id c.args.offset) = moved_there c.self.inside.layout c.args.id c.args.offset c.move_to.result c.move_to.new.self c.move_to.ensures (sym c.is_err.ensures.value ∙ c.if-is_err.false) in
-    stand_in c.self.inside.book c.args.offset old.arch old.strip c.routed.result.now (in_book_there c.self.inside.book (record { arch = c.self.inside.arch; columns = c.self.inside.layout.columns; rows = c.self.inside.rows }) c.args.offset old c.self.invariant.book.extent (stands_moved c.self.inside.book (record { arch = c.self.inside.arch; columns = c.self.inside.layout.columns; rows = c.self.inside.rows }) c.self.inside.layout.strips c.self.inside.tenancies.items c.args.id c.place_of-from.result c.args.offset old c.self.invariant live is place.at moves.0)) c.routed.ensures.there
-
-pub shift-requires-clause-owned : goal.shift-requires-clause-owned
-shift-requires-clause-owned c =
-    let old : History = c.index-tenancy.result.now in
-    let live : IsLiveIn c.self.inside.tenancies.items c.args.id = search rules in
-    let is : old ≡ get_or c.self.inside.tenancies.items (c.args.id - 1) old = search rules in
-    let place : IsPlaceOf (record { device = record { arch = c.self.inside.arch; columns = c.self.inside.layout.columns; rows = c.self.inside.rows }; plan = c.self.inside.layout; histories = c.self.inside.tenancies.items }) c.args.id c.place_of-from.result = rw (← c.self.view_is) at c.place_of-from.ensures in
-    let moves : IsParted (with_moved c.self.inside.layout c.args.id c.args.offset) × (c.move_to.new.self ≡ with_moved c.self.inside.layout c.args.id c.args.offset) = moved_there c.self.inside.layout c.args.id c.args.offset c.move_to.result c.move_to.new.self c.move_to.ensures (sym c.is_err.ensures.value ∙ c.if-is_err.false) in
-    owns_held c.self.inside.book (record { arch = c.self.inside.arch; columns = c.self.inside.layout.columns; rows = c.self.inside.rows }) c.self.inside.layout.strips c.self.inside.tenancies.items c.args.id c.place_of-from.result c.args.offset old c.self.invariant live is place.at moves.0 c.routed.result.now c.routed.ensures.exact
-
-pub shift-requires-clause-free : goal.shift-requires-clause-free
-shift-requires-clause-free c =
-    let old : History = c.index-tenancy.result.now in
-    let live : IsLiveIn c.self.inside.tenancies.items c.args.id = search rules in
-    let is : old ≡ get_or c.self.inside.tenancies.items (c.args.id - 1) old = search rules in
-    let place : IsPlaceOf (record { device = record { arch = c.self.inside.arch; columns = c.self.inside.layout.columns; rows = c.self.inside.rows }; plan = c.self.inside.layout; histories = c.self.inside.tenancies.items }) c.args.id c.place_of-from.result = rw (← c.self.view_is) at c.place_of-from.ensures in
-    let moves : IsParted (with_moved c.self.inside.layout c.args.id c.args.offset) × (c.move_to.new.self ≡ with_moved c.self.inside.layout c.args.id c.args.offset) = moved_there c.self.inside.layout c.args.id c.args.offset c.move_to.result c.move_to.new.self c.move_to.ensures (sym c.is_err.ensures.value ∙ c.if-is_err.false) in
-    no_one_elses c.self.inside.book (record { arch = c.self.inside.arch; columns = c.self.inside.layout.columns; rows = c.self.inside.rows }) c.self.inside.layout.strips c.self.inside.tenancies.items c.args.id c.place_of-from.result c.args.offset old c.self.invariant live is place.at moves.0 c.routed.result.now c.routed.ensures.exact
+    let stands_now = in_book_there c.self.inside.book device c.place_of-from.result old c.self.invariant.book.extent (place.stands old (live_is hs c.args.id old live is)) in
+    let stands_then = in_book_there c.self.inside.book device c.args.offset old c.self.invariant.book.extent (stands_moved c.self.inside.book device strips hs c.args.id c.place_of-from.result c.args.offset old c.self.invariant live is place.at moves.0) in
+    record {
+      left = stand_in c.self.inside.book c.place_of-from.result old.arch old.strip c.routed.result.now stands_now c.routed.ensures.there;
+      taken = stand_in c.self.inside.book c.args.offset old.arch old.strip c.routed.result.now stands_then c.routed.ensures.there;
+      owned = owns_held c.self.inside.book device strips hs c.args.id c.place_of-from.result c.args.offset old c.self.invariant live is place.at moves.0 c.routed.result.now c.routed.ensures.exact;
+      free = no_one_elses c.self.inside.book device strips hs c.args.id c.place_of-from.result c.args.offset old c.self.invariant live is place.at moves.0 c.routed.result.now c.routed.ensures.exact;
+    }
 
 pub invariant_of-self-2 : goal.invariant_of-self-2
 invariant_of-self-2 c =

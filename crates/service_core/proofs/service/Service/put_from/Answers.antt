@@ -37,7 +37,7 @@ claim-requires c =
     subst (λ (h : History). StandsIn (extent_of c.self.inside.arch c.self.inside.layout.columns c.self.inside.rows) c.place_of-offset.result h.arch h.strip) (sym put.2) (place.stands old (live_is _ c.id-id.result old live is)) in
     record {
       live = put_live old c.args.done c.in-Ok.reply c.put.new.self put ∙ flag;
-      id = omega (arith, live.within, c.self.invariant.kept.few);
+      few = omega (arith, live.within, c.self.invariant.kept.few);
       there = in_book_there c.self.inside.book (record { arch = c.self.inside.arch; columns = c.self.inside.layout.columns; rows = c.self.inside.rows }) c.place_of-offset.result c.put.new.self c.self.invariant.book.extent stand;
       free = put_free c.self.inside.book (record { arch = c.self.inside.arch; columns = c.self.inside.layout.columns; rows = c.self.inside.rows }) c.self.inside.layout.strips c.self.inside.tenancies.items c.id-id.result c.place_of-offset.result old c.args.done c.in-Ok.reply c.put.new.self c.self.invariant place.parted live is place.at put;
     }

@@ -1,9 +1,11 @@
-use Rattle.std.proofs.Common.{◌≡◌, ◌-◌, get_or, rules}
+use Rattle.std.proofs.Common.{◌≡◌, ◌-◌, get_or, rules, subst}
 use Rattle.service_core.specs.History.{History}
 use Rattle.service_core.specs.Kept.{IsLiveIn}
 use Rattle.service_core.proofs.Keeps.{history-live}
 use Rattle.service_core.proofs.Booking.{sound_taken}
-use Rattle.service_core.proofs.Serving.{IsTaken-live}
+use Rattle.service_core.specs.Calls.{IsTaken}
+use Rattle.service_core.specs.Service.{ServiceState}
+use Rattle.service_core.proofs.Serving.{IsTaken-live, written}
 use Rattle.service_core.proofs.service.Service.take.Goals as goal
 
 pub invariant_of-self : goal.invariant_of-self
@@ -18,4 +20,6 @@ returns c =
     let live : IsLiveIn c.self.inside.tenancies.items c.args.id = search rules in
     let is : old ≡ get_or c.self.inside.tenancies.items (c.args.id - 1) old = search rules in
     let its : old.id ≡ c.args.id = c.self.invariant.kept.ids c.args.id old (history-live _ _ _ live is) in
-    rw (← c.self.view_is) (IsTaken-live _ c.args.id old c.take.result c.take.new.self live is its c.take.ensures)
+    let state : ServiceState = record { device = record { arch = c.self.inside.arch; columns = c.self.inside.layout.columns; rows = c.self.inside.rows }; plan = c.self.inside.layout; histories = c.self.inside.tenancies.items } in
+    let P : ServiceState → Type 0 = λ s. IsTaken s c.args.id c.take.result (written state c.args.id c.take.new.self) in
+    subst P c.self.view_is (IsTaken-live state c.args.id old c.take.result c.take.new.self live is its c.take.ensures)

@@ -24,22 +24,10 @@ weigh-one-requires-clause-touched c =
     let two = c.row-second.result.now in
     let first : get_or w.touching c.args.block [] ≡ one = get_or_from_slice_get w.touching c.args.block one [] c.row-first.ensures in
     let second : get_or w.touching c.args.other [] ≡ two = get_or_from_slice_get w.touching c.args.other two [] c.row-second.ensures in
-    rw (c.as_slice.ensures.value, c.self.invariant.exact.long) (few_first w.nets w.touching points w.boxes.items c.args.block c.args.other c.args.there one two c.self.invariant within inside c.requires.differs stood first second)
-
-pub weigh-one-requires-clause-boxes : goal.weigh-one-requires-clause-boxes
-weigh-one-requires-clause-boxes c =
-    let w = c.self.inside in
-    let points = w.points.items in
-    let view : wiring_of w.nets points ≡ c.args.self.now = c.self.view_is in
-    let same : points ≡ c.args.self.now.points = ap (λ (v : Wiring). v.points) view in
-    let within : c.args.block < length points = rw same c.requires.block in
-    let inside : c.args.other < length points = rw same c.requires.other in
-    let stood : (point_at points c.args.other ≡ c.args.there) ⊎ IsOnNone w.nets c.args.other = subst (λ (v : Wiring). (point_at v.points c.args.other ≡ c.args.there) ⊎ IsOnNone v.nets c.args.other) (sym view) c.requires.stood in
-    let one = c.row-first.result.now in
-    let two = c.row-second.result.now in
-    let first : get_or w.touching c.args.block [] ≡ one = get_or_from_slice_get w.touching c.args.block one [] c.row-first.ensures in
-    let second : get_or w.touching c.args.other [] ≡ two = get_or_from_slice_get w.touching c.args.other two [] c.row-second.ensures in
-    sums_small w.nets w.touching points w.boxes.items c.args.block c.args.other c.args.there one two c.self.invariant within inside c.requires.differs stood first second c.as_slice.result.now c.as_slice.ensures.value
+    record {
+      touched = rw (c.as_slice.ensures.value, c.self.invariant.exact.long) (few_first w.nets w.touching points w.boxes.items c.args.block c.args.other c.args.there one two c.self.invariant within inside c.requires.differs stood first second);
+      boxes = sums_small w.nets w.touching points w.boxes.items c.args.block c.args.other c.args.there one two c.self.invariant within inside c.requires.differs stood first second c.as_slice.result.now c.as_slice.ensures.value;
+    }
 
 pub weigh-two-requires-clause-touched : goal.weigh-two-requires-clause-touched
 weigh-two-requires-clause-touched c =
@@ -54,22 +42,10 @@ weigh-two-requires-clause-touched c =
     let two = c.row-second.result.now in
     let first : get_or w.touching c.args.block [] ≡ one = get_or_from_slice_get w.touching c.args.block one [] c.row-first.ensures in
     let second : get_or w.touching c.args.other [] ≡ two = get_or_from_slice_get w.touching c.args.other two [] c.row-second.ensures in
-    rw (c.as_slice-2.ensures.value, c.self.invariant.exact.long) (few_second w.nets w.touching points w.boxes.items c.args.block c.args.other c.args.there one two c.self.invariant within inside c.requires.differs stood first second)
-
-pub weigh-two-requires-clause-boxes : goal.weigh-two-requires-clause-boxes
-weigh-two-requires-clause-boxes c =
-    let w = c.self.inside in
-    let points = w.points.items in
-    let view : wiring_of w.nets points ≡ c.args.self.now = c.self.view_is in
-    let same : points ≡ c.args.self.now.points = ap (λ (v : Wiring). v.points) view in
-    let within : c.args.block < length points = rw same c.requires.block in
-    let inside : c.args.other < length points = rw same c.requires.other in
-    let stood : (point_at points c.args.other ≡ c.args.there) ⊎ IsOnNone w.nets c.args.other = subst (λ (v : Wiring). (point_at v.points c.args.other ≡ c.args.there) ⊎ IsOnNone v.nets c.args.other) (sym view) c.requires.stood in
-    let one = c.row-first.result.now in
-    let two = c.row-second.result.now in
-    let first : get_or w.touching c.args.block [] ≡ one = get_or_from_slice_get w.touching c.args.block one [] c.row-first.ensures in
-    let second : get_or w.touching c.args.other [] ≡ two = get_or_from_slice_get w.touching c.args.other two [] c.row-second.ensures in
-    sums_small w.nets w.touching points w.boxes.items c.args.block c.args.other c.args.there one two c.self.invariant within inside c.requires.differs stood first second c.as_slice-2.result.now c.as_slice-2.ensures.value
+    record {
+      touched = rw (c.as_slice-2.ensures.value, c.self.invariant.exact.long) (few_second w.nets w.touching points w.boxes.items c.args.block c.args.other c.args.there one two c.self.invariant within inside c.requires.differs stood first second);
+      boxes = sums_small w.nets w.touching points w.boxes.items c.args.block c.args.other c.args.there one two c.self.invariant within inside c.requires.differs stood first second c.as_slice-2.result.now c.as_slice-2.ensures.value;
+    }
 
 pub overflow_add-limit : goal.overflow_add-limit
 overflow_add-limit c =
@@ -152,38 +128,8 @@ returns-then-limit-one-clause-fits c =
     grown_is w.nets w.touching points w.boxes.items c.args.block c.args.other c.args.there one two c.self.invariant within inside c.requires.differs stood first second c.args.allowance _ _ before least c.if-limit-one.true
     ∙ ap (λ (v : Wiring). nat_le (length_of (wiring_after v c.args.block c.args.other c.args.there)) (length_of v + c.args.allowance)) view
 
-pub renew_both-requires-clause-first : goal.renew_both-requires-clause-first
-renew_both-requires-clause-first c =
-    let w = c.self.inside in
-    let points = w.points.items in
-    let view : wiring_of w.nets points ≡ c.args.self.now = c.self.view_is in
-    let same : points ≡ c.args.self.now.points = ap (λ (v : Wiring). v.points) view in
-    let within : c.args.block < length points = rw same c.requires.block in
-    let inside : c.args.other < length points = rw same c.requires.other in
-    let stood : (point_at points c.args.other ≡ c.args.there) ⊎ IsOnNone w.nets c.args.other = subst (λ (v : Wiring). (point_at v.points c.args.other ≡ c.args.there) ⊎ IsOnNone v.nets c.args.other) (sym view) c.requires.stood in
-    let one = c.row-first.result.now in
-    let two = c.row-second.result.now in
-    let first : get_or w.touching c.args.block [] ≡ one = get_or_from_slice_get w.touching c.args.block one [] c.row-first.ensures in
-    let second : get_or w.touching c.args.other [] ≡ two = get_or_from_slice_get w.touching c.args.other two [] c.row-second.ensures in
-    few_first w.nets w.touching points w.boxes.items c.args.block c.args.other c.args.there one two c.self.invariant within inside c.requires.differs stood first second
-
-pub renew_both-requires-clause-second : goal.renew_both-requires-clause-second
-renew_both-requires-clause-second c =
-    let w = c.self.inside in
-    let points = w.points.items in
-    let view : wiring_of w.nets points ≡ c.args.self.now = c.self.view_is in
-    let same : points ≡ c.args.self.now.points = ap (λ (v : Wiring). v.points) view in
-    let within : c.args.block < length points = rw same c.requires.block in
-    let inside : c.args.other < length points = rw same c.requires.other in
-    let stood : (point_at points c.args.other ≡ c.args.there) ⊎ IsOnNone w.nets c.args.other = subst (λ (v : Wiring). (point_at v.points c.args.other ≡ c.args.there) ⊎ IsOnNone v.nets c.args.other) (sym view) c.requires.stood in
-    let one = c.row-first.result.now in
-    let two = c.row-second.result.now in
-    let first : get_or w.touching c.args.block [] ≡ one = get_or_from_slice_get w.touching c.args.block one [] c.row-first.ensures in
-    let second : get_or w.touching c.args.other [] ≡ two = get_or_from_slice_get w.touching c.args.other two [] c.row-second.ensures in
-    few_second w.nets w.touching points w.boxes.items c.args.block c.args.other c.args.there one two c.self.invariant within inside c.requires.differs stood first second
-
-pub renew_both-requires-clause-deep : goal.renew_both-requires-clause-deep
-renew_both-requires-clause-deep c =
+pub renew_both-requires-clause-touched : goal.renew_both-requires-clause-touched
+renew_both-requires-clause-touched c =
     let w = c.self.inside in
     let points = w.points.items in
     let view : wiring_of w.nets points ≡ c.args.self.now = c.self.view_is in
@@ -200,8 +146,11 @@ renew_both-requires-clause-deep c =
     let here_x : (point_at points c.args.block).x ≤ 65535 = subst (λ (p : Point). p.x ≤ 65535) back c.of-from.ensures.x in
     let here_y : (point_at points c.args.block).y ≤ 65535 = subst (λ (p : Point). p.y ≤ 65535) back c.of-from.ensures.y in
     let given : c.as_slice-3.result.now ≡ points_after points c.args.block c.args.other c.args.there = c.as_slice-3.ensures.value ∙ ap (λ (p : Point). set (set points c.args.block c.args.there) c.args.other p) back in
-    rw (given, c.as_mut_slice.ensures.value, from, c.of-to.ensures.value)
-    (deep_after_exchange w.nets w.touching points w.boxes.items c.args.block c.args.other c.args.there one two c.self.invariant within inside c.requires.differs stood first second here_x here_y c.of-to.ensures.x c.of-to.ensures.y)
+    record {
+      first = few_first w.nets w.touching points w.boxes.items c.args.block c.args.other c.args.there one two c.self.invariant within inside c.requires.differs stood first second;
+      second = few_second w.nets w.touching points w.boxes.items c.args.block c.args.other c.args.there one two c.self.invariant within inside c.requires.differs stood first second;
+      deep = rw (given, c.as_mut_slice.ensures.value, from, c.of-to.ensures.value) (deep_after_exchange w.nets w.touching points w.boxes.items c.args.block c.args.other c.args.there one two c.self.invariant within inside c.requires.differs stood first second here_x here_y c.of-to.ensures.x c.of-to.ensures.y);
+    }
 
 pub invariant_of-self : goal.invariant_of-self
 invariant_of-self c =
@@ -248,38 +197,8 @@ returns-then-renew_both-limit-clause-fits c =
     kept_is w.nets w.touching points w.boxes.items c.args.block c.args.other c.args.there one two c.self.invariant within inside c.requires.differs stood first second c.args.allowance _ c.renew_both.result before renewed.total_is c.if-renew_both-limit.true
     ∙ ap (λ (v : Wiring). nat_le (length_of (wiring_after v c.args.block c.args.other c.args.there)) (length_of v + c.args.allowance)) view
 
-pub renew_both-requires-2-clause-first : goal.renew_both-requires-2-clause-first
-renew_both-requires-2-clause-first c =
-    let w = c.self.inside in
-    let points = w.points.items in
-    let view : wiring_of w.nets points ≡ c.args.self.now = c.self.view_is in
-    let same : points ≡ c.args.self.now.points = ap (λ (v : Wiring). v.points) view in
-    let within : c.args.block < length points = rw same c.requires.block in
-    let inside : c.args.other < length points = rw same c.requires.other in
-    let stood : (point_at points c.args.other ≡ c.args.there) ⊎ IsOnNone w.nets c.args.other = subst (λ (v : Wiring). (point_at v.points c.args.other ≡ c.args.there) ⊎ IsOnNone v.nets c.args.other) (sym view) c.requires.stood in
-    let one = c.row-first.result.now in
-    let two = c.row-second.result.now in
-    let first : get_or w.touching c.args.block [] ≡ one = get_or_from_slice_get w.touching c.args.block one [] c.row-first.ensures in
-    let second : get_or w.touching c.args.other [] ≡ two = get_or_from_slice_get w.touching c.args.other two [] c.row-second.ensures in
-    few_first w.nets w.touching points w.boxes.items c.args.block c.args.other c.args.there one two c.self.invariant within inside c.requires.differs stood first second
-
-pub renew_both-requires-2-clause-second : goal.renew_both-requires-2-clause-second
-renew_both-requires-2-clause-second c =
-    let w = c.self.inside in
-    let points = w.points.items in
-    let view : wiring_of w.nets points ≡ c.args.self.now = c.self.view_is in
-    let same : points ≡ c.args.self.now.points = ap (λ (v : Wiring). v.points) view in
-    let within : c.args.block < length points = rw same c.requires.block in
-    let inside : c.args.other < length points = rw same c.requires.other in
-    let stood : (point_at points c.args.other ≡ c.args.there) ⊎ IsOnNone w.nets c.args.other = subst (λ (v : Wiring). (point_at v.points c.args.other ≡ c.args.there) ⊎ IsOnNone v.nets c.args.other) (sym view) c.requires.stood in
-    let one = c.row-first.result.now in
-    let two = c.row-second.result.now in
-    let first : get_or w.touching c.args.block [] ≡ one = get_or_from_slice_get w.touching c.args.block one [] c.row-first.ensures in
-    let second : get_or w.touching c.args.other [] ≡ two = get_or_from_slice_get w.touching c.args.other two [] c.row-second.ensures in
-    few_second w.nets w.touching points w.boxes.items c.args.block c.args.other c.args.there one two c.self.invariant within inside c.requires.differs stood first second
-
-pub renew_both-requires-2-clause-deep : goal.renew_both-requires-2-clause-deep
-renew_both-requires-2-clause-deep c =
+pub renew_both-requires-2-clause-touched : goal.renew_both-requires-2-clause-touched
+renew_both-requires-2-clause-touched c =
     let w = c.self.inside in
     let points = w.points.items in
     let view : wiring_of w.nets points ≡ c.args.self.now = c.self.view_is in
@@ -304,8 +223,11 @@ renew_both-requires-2-clause-deep c =
     let stands : c.index-stood.result.now ≡ point_at points c.args.other = get_or_read points c.args.other c.index-stood.result.now inside c.index-stood.ensures nowhere in
     let here : set (set (set (set points c.args.block c.args.there) c.args.other c.index-back.result.now) c.args.block c.index-back.result.now) c.args.other c.index-stood.result.now ≡ points = rw (stands, back) (points_back points c.args.block c.args.other c.args.there c.requires.differs) in
     let lent : c.as_mut_slice-2.result.now ≡ c.renew_both.new.boxes = c.as_mut_slice-2.ensures.value ∙ whole in
-    rw (c.as_slice-4.ensures.value ∙ here, lent, from, c.of-to.ensures.value)
-    (deep_back w.nets w.touching points w.boxes.items c.args.block c.args.other c.args.there one two c.self.invariant within inside c.requires.differs stood first second here_x here_y c.of-to.ensures.x c.of-to.ensures.y c.renew_both.new.boxes c.renew_both.result renewed)
+    record {
+      first = few_first w.nets w.touching points w.boxes.items c.args.block c.args.other c.args.there one two c.self.invariant within inside c.requires.differs stood first second;
+      second = few_second w.nets w.touching points w.boxes.items c.args.block c.args.other c.args.there one two c.self.invariant within inside c.requires.differs stood first second;
+      deep = rw (c.as_slice-4.ensures.value ∙ here, lent, from, c.of-to.ensures.value) (deep_back w.nets w.touching points w.boxes.items c.args.block c.args.other c.args.there one two c.self.invariant within inside c.requires.differs stood first second here_x here_y c.of-to.ensures.x c.of-to.ensures.y c.renew_both.new.boxes c.renew_both.result renewed);
+    }
 
 pub invariant_of-self-2 : goal.invariant_of-self-2
 invariant_of-self-2 c =

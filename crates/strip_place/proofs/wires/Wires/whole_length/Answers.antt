@@ -1,12 +1,15 @@
-use Rattle.std.proofs.Common.{ap, ◌∙◌}
+use Rattle.std.proofs.Common.{length, ap, arith, ◌∙◌}
 use Rattle.strip_place.specs.Wiring.{length_of}
 use Rattle.strip_place.proofs.Lengths.{boxes_length, small_boxes}
 use Rattle.strip_place.proofs.wires.Wires.whole_length.Goals as goal
 
-pub whole_length-requires-clause-boxes : goal.whole_length-requires-clause-boxes
-whole_length-requires-clause-boxes c =
+pub whole_length-requires : goal.whole_length-requires
+whole_length-requires c =
     let w = c.self.inside in
-    small_boxes w.points.items w.nets w.boxes.items c.as_slice.result.now c.self.invariant.exact c.as_slice.ensures.value
+    record {
+      few = omega (arith, ap length c.as_slice.ensures.value, c.self.invariant.exact.long, c.self.invariant.lawful.few);
+      boxes = small_boxes w.points.items w.nets w.boxes.items c.as_slice.result.now c.self.invariant.exact c.as_slice.ensures.value;
+    }
 
 pub returns : goal.returns
 returns c =

@@ -12,13 +12,13 @@ use Rattle.tenant_slot.proofs.slot.Slot.put_from.Goals as goal
 left : (c : goal.After-put-reply) → IsPut c.self.inside.id c.self.inside.arch c.self.inside.strip c.self.inside.standing c.self.inside.entries c.args.done c.written-made.result c.is_next-counts.result c.is_last-last.result
 left c =
     put_of c.self.inside.id c.self.inside.arch c.self.inside.strip c.self.inside.standing c.self.inside.entries c.args.self.now c.args.done c.written-made.result c.is_next-counts.result c.is_last-last.result
-    c.self.view_is c.self.invariant c.requires.room c.requires.id c.written-made.ensures c.is_next-counts.ensures c.is_last-last.ensures
+    c.self.view_is c.self.invariant c.requires.can.room c.requires.can.id c.written-made.ensures c.is_next-counts.ensures c.is_last-last.ensures
 
 -- a last step is of the job that began there
 pub put-reply-requires-clause-begun : goal.put-reply-requires-clause-begun
 put-reply-requires-clause-begun c =
     rw c.park.ensures (put_of c.self.inside.id c.self.inside.arch c.self.inside.strip c.self.inside.standing c.self.inside.entries c.args.self.now c.args.done c.written-made.result c.is_next-counts.result c.is_last-last.result
-    c.self.view_is c.self.invariant c.requires.room c.requires.id c.written-made.ensures c.is_next-counts.ensures c.is_last-last.ensures).begun
+    c.self.view_is c.self.invariant c.requires.can.room c.requires.can.id c.written-made.ensures c.is_next-counts.ensures c.is_last-last.ensures).begun
 
 pub invariant_of-self : goal.invariant_of-self
 invariant_of-self c = rw (c.put-reply.ensures.standing, c.park.ensures) (left c).lawful

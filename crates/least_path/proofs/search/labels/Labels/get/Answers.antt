@@ -11,11 +11,11 @@ index-requires c =
     let within : c.args.node < length old.cells.items = omega (arith, rw (← c.self.view_is) at c.requires, labels_len old.cells.items old.highs.items) in
     omega (arith, within, old.cells.ok.0)
 
-pub high_at-high-requires-clause-within : goal.high_at-high-requires-clause-within
-high_at-high-requires-clause-within c =
+pub high_at-high-requires : goal.high_at-high-requires
+high_at-high-requires c =
     let old = c.self.inside in
     let within : c.args.node < length old.cells.items = omega (arith, rw (← c.self.view_is) at c.requires, labels_len old.cells.items old.highs.items) in
-    rw c.deref.ensures.value (omega (arith, within, c.self.invariant.long))
+    rw c.deref.ensures.value (record { within = omega (arith, within, c.self.invariant.long); low = c.self.invariant.low })
 
 pub returns : goal.returns
 returns c = λ d.

@@ -6,10 +6,13 @@ use Rattle.least_path.specs.declared.search.labels.Cell.{Cell}
 use Rattle.least_path.proofs.Halves.{labels_len, labels_set}
 use Rattle.least_path.proofs.search.labels.Labels.set.Goals as goal
 
-pub write_high-self-inside-requires-clause-within : goal.write_high-self-inside-requires-clause-within
-write_high-self-inside-requires-clause-within c =
+pub write_high-self-inside-requires : goal.write_high-self-inside-requires
+write_high-self-inside-requires c =
     let old = c.self.inside in
-    omega (arith, rw (← c.self.view_is) at c.requires, labels_len old.cells.items old.highs.items, c.self.invariant.long)
+    record {
+      within = omega (arith, rw (← c.self.view_is) at c.requires, labels_len old.cells.items old.highs.items, c.self.invariant.long);
+      low = c.self.invariant.low;
+    }
 
 pub index_mut-requires : goal.index_mut-requires
 index_mut-requires c =

@@ -1,0 +1,7 @@
+use Rattle.std.proofs.Common.{◌+◌, ◌*◌}
+use Rattle.rr_graph.specs.Node.{rank_of}
+use Rattle.rr_graph.specs.Table.{IsRowAt}
+use Rattle.rr_graph.proofs.targets.Targets.add_track.Given as goal
+
+abbrev pub invariant-loop-y : goal.invariant-loop-y
+invariant-loop-y l = IsRowAt l.self.nodes.now.numbering l.self.a l.row.items l.self.x (rank_of l.self.kind * 65536 + l.y * 256)

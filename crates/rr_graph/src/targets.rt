@@ -1,0 +1,180 @@
+//! The ends of a node's edges, found where they can be: in columns and rows next to its own.
+ghost use Rattle.std.specs.Prelude.{◌≡◌, ◌+◌, ◌*◌, ◌<◌, ◌≤◌, OnOk, []};
+ghost use Rattle.arch_file.specs.Arch.{IsWithin};
+ghost use Rattle.rr_graph.specs.Node.{rank_of};
+ghost use Rattle.rr_graph.specs.Numbering.{column_count};
+ghost use Rattle.rr_graph.specs.Table.{IsSmall, AreWires, IsSpan, may_lead, IsRowBelow, IsRowAt};
+
+use crate::geometry::is_slot;
+use crate::joins::joins;
+use crate::node::{Node, NodeKind};
+use crate::numbering::Nodes;
+use crate::ways::is_wire;
+use std::alloc::AllocError;
+
+/// The nodes of one kind in a column, among which the ends of the edges of a node `a` are looked for.
+#[derive(Clone, Copy)]
+struct Targets<'a> {
+    nodes: &'a Nodes,
+    a: Node,
+    x: u32,
+    kind: NodeKind,
+    ghost small: { IsSmall a },
+    ghost few: { x ≤ 256 },
+    // In column 0 there is only a vertical channel.
+    ghost there: { (x ≡ 0) → rank_of kind ≡ 5 },
+}
+
+impl Targets<'_> {
+    /// Adds the ends in a part of the column.
+    fn add_part(&self, row: &mut Vec<u32>, from: usize, to: usize) -> Result<(), AllocError>
+        requires span { IsSpan self.now.nodes.now.numbering self.now.x from to }
+        requires row { IsRowBelow self.now.nodes.now.numbering self.now.a row.old.items
+            (self.now.x * column_count self.now.nodes.now.numbering + from) }
+        ensures { OnOk result (IsRowBelow self.now.nodes.now.numbering self.now.a row.new.items
+            (self.now.x * column_count self.now.nodes.now.numbering + to)) }
+    {
+        let numbering = &self.nodes.numbering;
+        let start = self.x as usize * numbering.members.len();
+        for r in from..to {
+            let member = numbering.members[r];
+            let b = Node {
+                x: self.x,
+                kind: member.kind,
+                y: member.y,
+                n: member.n,
+            };
+            if joins(&numbering.arch, numbering.strip, self.a, b) {
+                row.push((start + r - numbering.before) as u32)?;
+            }
+        }
+        Ok(())
+    }
+
+    /// Adds the wire in a row to which an edge of the wire `a` leads, if there is one: it is of a's own track.
+    fn add_wire(&self, row: &mut Vec<u32>, y: u32) -> Result<(), AllocError>
+        requires y { y < 68 }
+        requires wires { AreWires self.now.a.kind self.now.kind }
+        requires row { IsRowAt self.now.nodes.now.numbering self.now.a row.old.items self.now.x
+            (rank_of self.now.kind * 65536 + y * 256) }
+        ensures { OnOk result (IsRowAt self.now.nodes.now.numbering self.now.a row.new.items
+            self.now.x (rank_of self.now.kind * 65536 + (y + 1) * 256)) }
+    {
+        let numbering = &self.nodes.numbering;
+        let (a, x, kind) = (self.a, self.x, self.kind);
+        let b = Node { x, kind, y, n: a.n };
+        if is_slot(&numbering.arch, numbering.strip, kind, y, a.n)
+            && joins(&numbering.arch, numbering.strip, a, b)
+        {
+            let index = self.nodes.first(kind, y) + a.n as usize;
+            row.push((x as usize * numbering.members.len() + index - numbering.before) as u32)?;
+            Ok(())
+        } else {
+            Ok(())
+        }
+    }
+
+    /// Adds the wires to which edges of the wire `a` lead. They stand in rows next to its own.
+    fn add_track(&self, row: &mut Vec<u32>) -> Result<(), AllocError>
+        requires wires { AreWires self.now.a.kind self.now.kind }
+        requires row { IsRowAt self.now.nodes.now.numbering self.now.a row.old.items self.now.x
+            (rank_of self.now.kind * 65536) }
+        ensures { OnOk result (IsRowAt self.now.nodes.now.numbering self.now.a row.new.items
+            self.now.x ((rank_of self.now.kind + 1) * 65536)) }
+    {
+        for y in self.a.y.saturating_sub(1)..self.a.y + 2 {
+            self.add_wire(row, y)?;
+        }
+        Ok(())
+    }
+
+    /// Adds the ends, looked for among all nodes in rows next to a's own.
+    fn add_rows(&self, row: &mut Vec<u32>) -> Result<(), AllocError>
+        requires { IsRowAt self.now.nodes.now.numbering self.now.a row.old.items self.now.x
+            (rank_of self.now.kind * 65536) }
+        ensures { OnOk result (IsRowAt self.now.nodes.now.numbering self.now.a row.new.items
+            self.now.x ((rank_of self.now.kind + 1) * 65536)) }
+    {
+        let from = self.nodes.first(self.kind, self.a.y.saturating_sub(1));
+        let to = self.nodes.first(self.kind, self.a.y + 2);
+        self.add_part(row, from, to)
+    }
+
+    /// Adds the ends.
+    fn add_kind(&self, row: &mut Vec<u32>) -> Result<(), AllocError>
+        requires { IsRowAt self.now.nodes.now.numbering self.now.a row.old.items self.now.x
+            (rank_of self.now.kind * 65536) }
+        ensures { OnOk result (IsRowAt self.now.nodes.now.numbering self.now.a row.new.items
+            self.now.x ((rank_of self.now.kind + 1) * 65536)) }
+    {
+        if may_lead(self.a.kind, self.kind) {
+            if is_wire(self.a.kind) && is_wire(self.kind) {
+                self.add_track(row)
+            } else {
+                self.add_rows(row)
+            }
+        } else {
+            Ok(())
+        }
+    }
+}
+
+/// Whether edges lead from nodes of one kind to nodes of another.
+fn may_lead(from: NodeKind, to: NodeKind) -> bool
+    ensures { result ≡ may_lead from to }
+{
+    match (from, to) {
+        (NodeKind::Source, NodeKind::Opin) => true,
+        (NodeKind::Opin, _) => is_wire(to),
+        (NodeKind::Ipin, NodeKind::Sink) => true,
+        (NodeKind::ChanX, NodeKind::Ipin) => true,
+        (NodeKind::ChanX, _) => is_wire(to),
+        (NodeKind::ChanY, NodeKind::Ipin) => true,
+        (NodeKind::ChanY, _) => is_wire(to),
+        _ => false,
+    }
+}
+
+/// Adds the nodes of a column to which edges of `a` lead.
+fn add_column(row: &mut Vec<u32>, nodes: &Nodes, a: Node, x: u32) -> Result<(), AllocError>
+    requires small { IsSmall a }
+    requires x { x ≤ 256 }
+    requires row { IsRowBelow nodes.now.numbering a row.old.items
+        (x * column_count nodes.now.numbering) }
+    ensures { OnOk result (IsRowBelow nodes.now.numbering a row.new.items
+        ((x + 1) * column_count nodes.now.numbering)) }
+{
+    if x > 0 {
+        let kind = NodeKind::Source;
+        Targets { nodes, a, x, kind }.add_kind(row)?;
+        let kind = NodeKind::Sink;
+        Targets { nodes, a, x, kind }.add_kind(row)?;
+        let kind = NodeKind::Opin;
+        Targets { nodes, a, x, kind }.add_kind(row)?;
+        let kind = NodeKind::Ipin;
+        Targets { nodes, a, x, kind }.add_kind(row)?;
+        let kind = NodeKind::ChanX;
+        Targets { nodes, a, x, kind }.add_kind(row)?;
+    }
+    let kind = NodeKind::ChanY;
+    Targets { nodes, a, x, kind }.add_kind(row)
+}
+
+/// Adds the nodes of the columns up to the last to which edges of `a` lead. They stand in columns next to its own.
+pub(crate) fn add_row(
+    row: &mut Vec<u32>,
+    nodes: &Nodes,
+    a: Node,
+    last: u32,
+) -> Result<(), AllocError>
+    requires last { IsWithin a.x last 256 }
+    requires small { IsSmall a }
+    requires row { row.old.items ≡ [] }
+    ensures { OnOk result (IsRowBelow nodes.now.numbering a row.new.items
+        ((last + 1) * column_count nodes.now.numbering)) }
+{
+    for x in a.x.saturating_sub(1)..(a.x + 1).min(last) + 1 {
+        add_column(row, nodes, a, x)?;
+    }
+    Ok(())
+}

@@ -1,0 +1,195 @@
+//! What each command is answered.
+ghost use Rattle.std.specs.Prelude.{◌≡◌, option_and_then, IfOk};
+ghost use Rattle.strip_place.specs.Keeping.{AreKeptOn};
+ghost use Rattle.tenant_slot.specs.Answer.{Answers, IsAsked};
+ghost use Rattle.tenant_slot.specs.Results.{ending_told};
+ghost use Rattle.tenant_slot.specs.SingleUser.{circuit_in, keeping};
+
+use crate::answer::Answer;
+use crate::beginning::Beginning;
+use crate::command::Command;
+use crate::content::Content;
+use crate::ending::told_ending;
+use crate::not_served::NotServed;
+use crate::reply::{Ending, Reply, StateName, Status};
+use crate::slot::Slot;
+use crate::standing::Change;
+use job_state::{RoutingEnd, SharedText};
+use std::alloc::AllocError;
+use strip_place::Kept;
+
+impl Slot {
+    /// The answer to a lawful command.
+    pub(super) fn serve(&self, command: &Command) -> Result<Answer, NotServed>
+        requires { IsAsked self.now command.now }
+        ensures { Answers self.now command.now result }
+    {
+        let lut_size = self.arch.arch().lut_size;
+        match command {
+            Command::Upload(text) => Answer::load(self.alloc, lut_size, text, None),
+            Command::Change(text) => self.change(text),
+            Command::Pack => self.pack(),
+            Command::Place { seed, effort } => self.place(*seed, *effort),
+            Command::Route => self.route(),
+            Command::Cancel => {
+                let reply = Reply::Accepted(self.standing.content.name());
+                Ok(Answer::changing(lut_size, Change::Stop, reply))
+            }
+            Command::Withdraw => {
+                let reply = Reply::Accepted(StateName::Empty);
+                Ok(Answer::changing(lut_size, Change::Empty, reply))
+            }
+            Command::Status => self.status(),
+            Command::Net => self.net(),
+            Command::PlaceFile => self.place_file(),
+            Command::RouteFile => self.route_file(),
+        }
+    }
+
+    /// The answer to `change`.
+    fn change(&self, text: &SharedText) -> Result<Answer, NotServed>
+        requires { IsAsked self.now (Command.Change text.now) }
+        ensures { Answers self.now (Command.Change text.now) result }
+    {
+        let lut_size = self.arch.arch().lut_size;
+        let kept = self.kept_next()?;
+        Answer::load(self.alloc, lut_size, text, Some(kept))
+    }
+
+    /// The places that a change keeps: those at this moment, and where there are none those that were kept before.
+    fn kept_next(&self) -> Result<Kept, AllocError>
+        ensures exact { IfOk result (λ kept. kept ≡ (keeping self.now.state).kept) }
+        ensures lawful { IfOk result (λ kept. AreKeptOn self.now.state.strip kept) }
+    {
+        match &self.standing.content {
+            Content::Placed(_, _, placing) => placing.placing().kept(self.alloc),
+            Content::Routed(_, _, placing, _) => placing.placing().kept(self.alloc),
+            Content::Unrouted(_, _, placing, _) => placing.placing().kept(self.alloc),
+            Content::Empty | Content::Loaded(_) | Content::Packed(..) => self.standing.kept.clone(),
+        }
+    }
+
+    /// The answer to `pack`.
+    fn pack(&self) -> Result<Answer, NotServed>
+        requires { IsAsked self.now Command.Pack }
+        ensures { Answers self.now Command.Pack result }
+    {
+        let job = Beginning {
+            alloc: self.alloc,
+            id: self.id,
+            generation: self.standing.generation + 1,
+            arch: &self.arch,
+            strip: self.strip,
+            netlist: self.standing.content.netlist(),
+            kept: &self.standing.kept,
+        };
+        Answer::pack(&job)
+    }
+
+    /// The answer to `place`.
+    fn place(&self, seed: u64, effort: u32) -> Result<Answer, NotServed>
+        requires { IsAsked self.now (Command.Place seed effort) }
+        ensures { Answers self.now (Command.Place seed effort) result }
+    {
+        let job = Beginning {
+            alloc: self.alloc,
+            id: self.id,
+            generation: self.standing.generation + 1,
+            arch: &self.arch,
+            strip: self.strip,
+            netlist: self.standing.content.netlist(),
+            kept: &self.standing.kept,
+        };
+        let packing = self.standing.content.packing();
+        Answer::place(&job, packing, seed, effort)
+    }
+
+    /// The answer to `route`.
+    fn route(&self) -> Result<Answer, NotServed>
+        requires { IsAsked self.now Command.Route }
+        ensures { Answers self.now Command.Route result }
+    {
+        let job = Beginning {
+            alloc: self.alloc,
+            id: self.id,
+            generation: self.standing.generation + 1,
+            arch: &self.arch,
+            strip: self.strip,
+            netlist: self.standing.content.netlist(),
+            kept: &self.standing.kept,
+        };
+        let placing = self.standing.content.placing();
+        let (seed, effort) = (self.standing.seed, self.standing.effort);
+        Answer::route(&job, placing, seed, effort)
+    }
+
+    /// The answer to `status`.
+    fn status(&self) -> Result<Answer, NotServed>
+        requires { IsAsked self.now Command.Status }
+        ensures { Answers self.now Command.Status result }
+    {
+        let lut_size = self.arch.arch().lut_size;
+        let state = self.state();
+        let steps = self.standing.steps;
+        let ending = self.ending()?;
+        let reply = Reply::Status(Status {
+            state,
+            steps,
+            ending,
+        });
+        Ok(Answer::unchanged(lut_size, reply))
+    }
+
+    /// How a routing ended without routes.
+    fn ending(&self) -> Result<Option<Ending>, AllocError>
+        ensures { IfOk result (λ ending.
+            ending ≡ option_and_then (ending_told (circuit_in self.now.state) self.now.state.arch)
+            self.now.state.ending) }
+    {
+        let content = &self.standing.content;
+        match content.failure() {
+            Some(failure) => {
+                let packed = content.packing().packed();
+                Ok(Some(told_ending(self.alloc, packed, failure)?))
+            }
+            None => Ok(None),
+        }
+    }
+
+    /// The answer to `net`.
+    fn net(&self) -> Result<Answer, NotServed>
+        requires { IsAsked self.now Command.Net }
+        ensures { Answers self.now Command.Net result }
+    {
+        let lut_size = self.arch.arch().lut_size;
+        let packing = self.standing.content.packing();
+        Answer::net(self.alloc, lut_size, packing.packed())
+    }
+
+    /// The answer to `placefile`.
+    fn place_file(&self) -> Result<Answer, NotServed>
+        requires { IsAsked self.now Command.PlaceFile }
+        ensures { Answers self.now Command.PlaceFile result }
+    {
+        let lut_size = self.arch.arch().lut_size;
+        let placing = self.standing.content.placing();
+        Answer::place_file(self.alloc, lut_size, placing.placing())
+    }
+
+    /// The answer to `routefile`.
+    fn route_file(&self) -> Result<Answer, NotServed>
+        requires { IsAsked self.now Command.RouteFile }
+        ensures { Answers self.now Command.RouteFile result }
+    {
+        let lut_size = self.arch.arch().lut_size;
+        match &self.standing.content {
+            Content::Routed(_, _, placing, routing) => match routing.routing_end() {
+                RoutingEnd::Routed(routes) => {
+                    Answer::route_file(self.alloc, lut_size, placing.placing(), routes)
+                }
+                RoutingEnd::GaveUp | RoutingEnd::NoPath(_) => unreachable!(),
+            },
+            _ => unreachable!(),
+        }
+    }
+}
