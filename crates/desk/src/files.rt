@@ -3,6 +3,7 @@ ghost use Rattle.std.specs.Prelude.{◌+◌, ◌<◌, ◌^◌, length};
 
 use crate::outcome::Outcome;
 use crate::paths::{FileRole, make_folder, read_file, write_file};
+use crate::words::FOLDER;
 use line_text::{NameSet, ReadError as ReadFailure, Sink, Source, read_all};
 use option_words::{Given, OptionWord, Program, Takes};
 use printed_replies::{ReadError, Replies};
@@ -37,13 +38,7 @@ Example: fpgad --arch my.arch --tracks 8 --columns 10 < my.script | fpgad_desk f
             takes: Takes::Alone,
             default: None,
         },
-        OptionWord {
-            name: "folder",
-            value_name: "FOLDER",
-            help: "Where the files are written; it is made where it isn't there",
-            takes: Takes::Alone,
-            default: None,
-        },
+        FOLDER,
     ],
 };
 

@@ -4,7 +4,7 @@ ghost use Rattle.std.specs.Prelude.{◌≤◌};
 use crate::outcome::Outcome;
 use crate::paths::{FileRole, make_folder, read_file, write_file};
 use crate::silence::Silence;
-use crate::words::{COLUMNS, EFFORT, NO_DEVICE, ROWS, SEED};
+use crate::words::{COLUMNS, EFFORT, FOLDER, NO_DEVICE, ROWS, SEED};
 use arch_file::ArchError;
 use line_text::{
     Failed, MAX_TEXT, MemorySink, Sink, Text, TextError, split_line, write_all, write_parts,
@@ -76,13 +76,7 @@ Example: fpgad_desk route --arch my.arch --tracks 8 --columns 10 --rows 10 --eff
             takes: Takes::Alone,
             default: None,
         },
-        OptionWord {
-            name: "folder",
-            value_name: "FOLDER",
-            help: "Where the files are written; it is made where it isn't there",
-            takes: Takes::Alone,
-            default: None,
-        },
+        FOLDER,
     ],
 };
 
@@ -169,8 +163,8 @@ pub(crate) fn run<H: Files + AllocGlobal, W: Sink, E: Sink>(
     drop(arch);
     drop(netlist);
     match least {
-        Ok(Least::Routed { tracks, run }) => ended(rt, wishes, tracks, run, writer, teller),
-        Ok(Least::Refused(run)) => ended(rt, wishes, 0, run, writer, teller),
+        Ok(Least::Routed { run, .. }) => ended(rt, wishes, run, writer, teller),
+        Ok(Least::Refused(run)) => ended(rt, wishes, run, writer, teller),
         Ok(Least::Unrouted) => Err(Outcome::Unrouted),
         Err(TextError::NoMemory) => Err(Outcome::NoMemory),
         Err(TextError::Fault(fault)) => Err(Outcome::ArchRefused(fault)),
@@ -209,7 +203,6 @@ fn searched<E: Sink>(
 fn ended<H: Files + AllocGlobal, W: Sink, E: Sink>(
     rt: &H,
     wishes: Wishes<'_>,
-    tracks: u32,
     run: Run,
     writer: &mut W,
     teller: &mut E,
@@ -221,16 +214,16 @@ fn ended<H: Files + AllocGlobal, W: Sink, E: Sink>(
         End::Refused(refusal) => return Err(told_refused(rt.alloc(), refusal, teller)),
     }
     match figures {
-        Some(figures) => print(writer, tracks, &figures).or(Err(Outcome::OutputFailed)),
+        Some(figures) => print(writer, &figures).or(Err(Outcome::OutputFailed)),
         None => Ok(()),
     }
 }
 
 /// Prints with how many tracks it was routed, and what it uses.
-fn print<W: Sink>(writer: &mut W, tracks: u32, figures: &Figures) -> Result<(), Failed> {
+fn print<W: Sink>(writer: &mut W, figures: &Figures) -> Result<(), Failed> {
     let parts = [
         Part::Text("tracks "),
-        Part::Number(tracks),
+        Part::Number(figures.tracks),
         Part::Text("\n"),
     ];
     text_parts::write_parts(writer, parts.as_slice())?;

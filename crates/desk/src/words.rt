@@ -35,3 +35,11 @@ pub(crate) const EFFORT: OptionWord = OptionWord {
     takes: Takes::Number(0, 100),
     default: Some("50"),
 };
+
+pub(crate) const FOLDER: OptionWord = OptionWord {
+    name: "folder",
+    value_name: "FOLDER",
+    help: "Where the files are written; it is made where it isn't there",
+    takes: Takes::Alone,
+    default: None,
+};

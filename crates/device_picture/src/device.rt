@@ -34,7 +34,8 @@ impl<'t> Device<'t> {
 
     /// The tenancy of that id.
     pub(crate) fn tenancy(&self, id: u32) -> Option<&Tenancy<'t>>
-        ensures { IfSome result (λ tenancy. Contains self.now.tenancies.items tenancy.now × (tenancy.now.id ≡ id)) }
+        ensures { IfSome result (λ tenancy. Contains self.now.tenancies.items tenancy.now
+            × (tenancy.now.id ≡ id)) }
     {
         self.tenancies.iter().find(|tenancy| tenancy.id == id)
     }

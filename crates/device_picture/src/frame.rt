@@ -4,6 +4,7 @@ ghost use Rattle.std.specs.Prelude.{◌≤◌};
 use crate::device::Device;
 use crate::geometry::Geometry;
 use line_text::{Failed, Sink};
+use picture_lines::{Sheet, begin_group, end_group, write_numbers, write_rows};
 use text_parts::{Part, write_parts};
 
 /// The styles: tracks, blocks and pads, wires, owned pads, output pins, input pins, strips, guard columns.
@@ -98,26 +99,13 @@ impl Frame {
 
     /// Writes the beginning, up to the heading.
     pub(crate) fn write_head<K: Sink>(&self, sink: &mut K) -> Result<(), Failed> {
-        let dots = self.dots();
-        let height = self.height();
-        write_parts(
-            sink,
-            &[
-                Part::Text("<svg xmlns=\"http://www.w3.org/2000/svg\" width=\""),
-                Part::Number(dots),
-                Part::Text("\" height=\""),
-                Part::Number(height * dots / self.width),
-                Part::Text("\" viewBox=\"0 0 "),
-                Part::Number(self.width),
-                Part::Text(" "),
-                Part::Number(height),
-                Part::Text("\" font-size=\""),
-                Part::Number(self.font),
-                Part::Text("\">\n"),
-                Part::Text(STYLES),
-                Part::Text("<rect width=\"100%\" height=\"100%\" fill=\"#fff\"/>\n"),
-            ],
-        )?;
+        let sheet = Sheet {
+            width: self.width,
+            height: self.height(),
+            dots: self.dots(),
+            font: self.font,
+        };
+        sheet.write_head(sink, STYLES)?;
         self.write_hatching(sink)
     }
 
@@ -169,93 +157,55 @@ impl Frame {
 
     /// Begins the group in which heights count upwards, and column 0 begins at 0.
     pub(crate) fn begin_device<K: Sink>(&self, sink: &mut K) -> Result<(), Failed> {
-        self.begin_group(sink, self.left(), self.ground() + self.geometry.bottom())?;
-        write_parts(sink, &[Part::Text(" scale(1 -1)\">\n")])
-    }
-
-    /// Begins a group whose column 0 begins so far from the left, less the length of a block, and so far from above.
-    fn begin_group<K: Sink>(&self, sink: &mut K, x: u32, y: u32) -> Result<(), Failed> {
-        write_parts(
+        let base = self.ground() + self.geometry.bottom();
+        begin_group(
             sink,
-            &[
-                Part::Text("<g transform=\"translate("),
-                Part::Number(x),
-                Part::Text(" "),
-                Part::Number(y),
-                Part::Text(") translate(-"),
-                Part::Number(self.geometry.lattice.block),
-                Part::Text(" 0)"),
-            ],
+            self.geometry.lattice,
+            self.left(),
+            base,
+            " scale(1 -1)\">\n",
         )
-    }
-
-    /// Ends a group.
-    pub(crate) fn end_group<K: Sink>(&self, sink: &mut K) -> Result<(), Failed> {
-        write_parts(sink, &[Part::Text("</g>\n")])
     }
 
     /// Writes the numbers of columns below the device.
     pub(crate) fn write_columns<K: Sink>(&self, sink: &mut K) -> Result<(), Failed> {
-        let geometry = self.geometry;
-        let step = self.step();
-        self.begin_group(sink, self.left(), self.ground() + 2 * self.font)?;
-        write_parts(sink, &[Part::Text("\" text-anchor=\"middle\">\n")])?;
-        for column in 1..=geometry.columns {
-            if column % step == 0 {
-                let x = geometry.lattice.start(column) + geometry.lattice.block / 2;
-                write_number(sink, "<text x=\"", x, column)?;
-            }
-        }
-        self.end_group(sink)
+        let lattice = self.geometry.lattice;
+        let base = self.ground() + 2 * self.font;
+        begin_group(
+            sink,
+            lattice,
+            self.left(),
+            base,
+            "\" text-anchor=\"middle\">\n",
+        )?;
+        write_numbers(
+            sink,
+            lattice,
+            "<text x=\"",
+            self.geometry.columns,
+            self.step(),
+        )?;
+        end_group(sink)
     }
 
     /// Writes the numbers of rows left of the device.
     pub(crate) fn write_rows<K: Sink>(&self, sink: &mut K) -> Result<(), Failed> {
-        let geometry = self.geometry;
-        let step = self.step();
-        let base = self.ground() + geometry.bottom();
-        write_parts(
+        let lattice = self.geometry.lattice;
+        let base = self.ground() + self.geometry.bottom();
+        write_rows(
             sink,
-            &[
-                Part::Text("<g transform=\"translate("),
-                Part::Number(2 * self.font),
-                Part::Text(" "),
-                Part::Number(base),
-                Part::Text(")\" text-anchor=\"end\">\n"),
-            ],
-        )?;
-        for row in 1..=geometry.rows {
-            if row % step == 0 {
-                let y = geometry.lattice.start(row) + geometry.lattice.block / 2;
-                write_number(sink, "<text dy=\".35em\" y=\"-", y, row)?;
-            }
-        }
-        self.end_group(sink)
+            lattice,
+            2 * self.font,
+            base,
+            self.geometry.rows,
+            self.step(),
+        )
     }
 
     /// Of so many columns, or rows, one has its number beside it.
     fn step(&self) -> u32
         ensures { 1 ≤ result }
     {
-        for step in [1, 2, 5, 10, 20, 50].iter() {
-            if *step * self.geometry.lattice.pitch() >= 3 * self.font {
-                return *step;
-            }
-        }
-        100
+        self.geometry.lattice.step(3 * self.font)
     }
-}
-
-/// Writes a number at a place.
-fn write_number<K: Sink>(sink: &mut K, start: &str, place: u32, number: u32) -> Result<(), Failed> {
-    write_parts(
-        sink,
-        &[
-            Part::Text(start),
-            Part::Number(place),
-            Part::Text("\">"),
-            Part::Number(number),
-            Part::Text("</text>\n"),
-        ],
-    )
 }

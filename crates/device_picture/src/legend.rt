@@ -5,6 +5,7 @@ use crate::device::Device;
 use crate::frame::Frame;
 use crate::tenancy::Tenancy;
 use line_text::{Failed, Sink};
+use picture_lines::write_swatch;
 use text_parts::{Part, write_parts};
 
 /// What the marks mean: the class of each, and its words.
@@ -26,7 +27,7 @@ pub(crate) fn write_legend<K: Sink>(
     }
     for (key, (class, words)) in KEYS.iter().enumerate() {
         let place = device.tenancies.len().saturating_add(key);
-        write_swatch(sink, frame, place, class)?;
+        write_entry(sink, frame, place, class)?;
         write_parts(sink, &[Part::Text(words), Part::Text("</text>\n</g>\n")])?;
     }
     Ok(())
@@ -42,7 +43,7 @@ fn write_tenancy<K: Sink>(
     write_parts(sink, &[Part::Text("<g color=\"")])?;
     write_colour(sink, place)?;
     write_parts(sink, &[Part::Text("\">")])?;
-    write_swatch(sink, frame, place, "o")?;
+    write_entry(sink, frame, place, "o")?;
     write_parts(
         sink,
         &[
@@ -59,7 +60,7 @@ fn write_tenancy<K: Sink>(
 }
 
 /// Writes a square of a class at a place of the legend, and begins the text beside it.
-fn write_swatch<K: Sink>(
+fn write_entry<K: Sink>(
     sink: &mut K,
     frame: Frame,
     place: usize,
@@ -69,22 +70,5 @@ fn write_swatch<K: Sink>(
     let font = frame.font;
     let x = font + place % frame.side * frame.entry;
     let y = frame.legend() + place / frame.side * 2 * font;
-    write_parts(
-        sink,
-        &[
-            Part::Text("<g transform=\"translate("),
-            Part::Number(x),
-            Part::Text(" "),
-            Part::Number(y),
-            Part::Text(")\"><rect class=\""),
-            Part::Text(class),
-            Part::Text("\" style=\"stroke-width:.12em\" width=\""),
-            Part::Number(font),
-            Part::Text("\" height=\""),
-            Part::Number(font),
-            Part::Text("\"/><text x=\""),
-            Part::Number(2 * font),
-            Part::Text("\" dy=\".85em\">"),
-        ],
-    )
+    write_swatch(sink, x, y, font, class)
 }

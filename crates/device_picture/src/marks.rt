@@ -4,7 +4,7 @@ ghost use Rattle.std.specs.Prelude.{◌≤◌};
 use crate::device::Owned;
 use crate::geometry::Geometry;
 use line_text::{Failed, Sink};
-use rr_graph::{Resource, ResourceKind};
+use rr_graph::ResourceKind;
 use text_parts::{Part, write_parts};
 
 /// How many nodes one path draws at most.
@@ -82,22 +82,20 @@ fn mark_of(geometry: Geometry, owned: Owned) -> Mark {
     let node = owned.node;
     let is_pad = node.y == 0 || node.y > geometry.rows;
     if !is_pad {
-        return pin_mark(geometry, node);
+        return pin_mark(geometry, owned);
     }
     if node.kind == ResourceKind::Pad {
-        pad_mark(geometry, node, geometry.pad_height)
+        pad_mark(geometry, owned, geometry.pad_height)
     } else {
-        pad_mark(geometry, node, geometry.pad_height / 2)
+        pad_mark(geometry, owned, geometry.pad_height / 2)
     }
 }
 
 /// The part of a pad that is so high, on the side of the channel.
-fn pad_mark(geometry: Geometry, node: Resource, height: u32) -> Mark
-    requires column { node.x ≤ 256 }
-    requires row { node.y ≤ 65 }
-    requires number { node.n ≤ 144 }
-    requires height { height ≤ geometry.pad_height }
+fn pad_mark(geometry: Geometry, owned: Owned, height: u32) -> Mark
+    requires { height ≤ geometry.pad_height }
 {
+    let node = owned.node;
     Mark {
         x: geometry.lattice.start(node.x) + node.n * geometry.pad,
         y: if node.y == 0 {
@@ -111,11 +109,8 @@ fn pad_mark(geometry: Geometry, node: Resource, height: u32) -> Mark
 }
 
 /// The place of a pin in its block: they stand side by side from the lower left corner on.
-fn pin_mark(geometry: Geometry, node: Resource) -> Mark
-    requires column { node.x ≤ 256 }
-    requires row { node.y ≤ 65 }
-    requires number { node.n ≤ 144 }
-{
+fn pin_mark(geometry: Geometry, owned: Owned) -> Mark {
+    let node = owned.node;
     let length = geometry.pin - geometry.pin / 4;
     Mark {
         x: geometry.lattice.start(node.x) + geometry.inset + node.n % geometry.side * geometry.pin,

@@ -10,7 +10,7 @@ use crate::runs::Runs;
 use crate::tenancy::Tenancy;
 use crate::wires::write_wires;
 use line_text::{Failed, Sink};
-use picture_lines::{Direction, DrawError};
+use picture_lines::{Direction, DrawError, end_group};
 use rr_graph::ResourceKind;
 use std::alloc::Global;
 use text_parts::{Part, write_parts};
@@ -34,7 +34,7 @@ pub fn draw<K: Sink>(alloc: Global, device: &Device<'_>, sink: &mut K) -> Result
     frame.begin_device(sink)?;
     write_ground(sink, frame.geometry, device)?;
     write_tenancies(sink, frame.geometry, device, &mut runs)?;
-    frame.end_group(sink)?;
+    end_group(sink)?;
     frame.write_columns(sink)?;
     frame.write_rows(sink)?;
     write_legend(sink, frame, device)?;

@@ -61,7 +61,8 @@ impl<'t> Tenancy<'t> {
 
     /// Whether a column is one of its strip's.
     pub(crate) fn has_column(&self, column: u32) -> bool
-        ensures { result ≡ true → (self.now.offset < column) × (column ≤ self.now.offset + self.now.width) }
+        ensures { result ≡ true → (self.now.offset < column)
+            × (column ≤ self.now.offset + self.now.width) }
     {
         self.offset < column && column <= self.offset + self.width
     }

@@ -34,7 +34,8 @@ pub(crate) fn fullest(
     size: DeviceSize,
     owned: &[Owned],
 ) -> Result<Vec<ChannelUse>, AllocError>
-    ensures { IfOk result (λ shown. AreFullest (channels_in size.columns size.rows owned.now) shown.items) }
+    ensures { IfOk result (λ shown.
+        AreFullest (channels_in size.columns size.rows owned.now) shown.items) }
 {
     let mut channels = channels_in(alloc, size, owned)?;
     channels.sort_by(|a, b| b.wires.cmp(&a.wires))?;
@@ -48,7 +49,8 @@ fn channels_in(
     size: DeviceSize,
     owned: &[Owned],
 ) -> Result<Vec<ChannelUse>, AllocError>
-    ensures { IfOk result (λ channels. channels.items ≡ channels_in size.columns size.rows owned.now) }
+    ensures { IfOk result (λ channels.
+        channels.items ≡ channels_in size.columns size.rows owned.now) }
 {
     let count = (size.columns + 1) * (2 * (size.rows + 1));
     (0..count)

@@ -19,5 +19,5 @@ pub use channels::{ChannelUse, Direction, MAX_SHOWN};
 pub use columns::ColumnUse;
 pub use report::Report;
 pub use tenancies::{Share, TenancyUse};
-pub use text::write_report;
+pub use text::{write_channel, write_report};
 pub use widest::Room;

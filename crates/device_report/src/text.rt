@@ -24,7 +24,8 @@ pub fn write_report<K: Sink>(sink: &mut K, report: &Report<'_>) -> Result<(), Fa
 
 /// Writes the lines of the tenancies.
 fn write_tenancies<K: Sink>(sink: &mut K, tenancies: &[TenancyUse<'_>]) -> Result<(), Failed>
-    ensures { Writes K.contents K.has_failed sink.old sink.new (flat_map tenancy_line tenancies.now) result }
+    ensures { Writes K.contents K.has_failed sink.old sink.new (flat_map tenancy_line tenancies.now)
+        result }
 {
     for uses in tenancies {
         write_tenancy(sink, uses)?;
@@ -34,7 +35,8 @@ fn write_tenancies<K: Sink>(sink: &mut K, tenancies: &[TenancyUse<'_>]) -> Resul
 
 /// Writes the lines of the fullest channels.
 fn write_channels<K: Sink>(sink: &mut K, channels: &[ChannelUse], tracks: u32) -> Result<(), Failed>
-    ensures { Writes K.contents K.has_failed sink.old sink.new (flat_map (channel_line tracks) channels.now) result }
+    ensures { Writes K.contents K.has_failed sink.old sink.new
+        (flat_map (channel_line tracks) channels.now) result }
 {
     for channel in channels {
         write_channel(sink, *channel, tracks)?;
@@ -82,7 +84,8 @@ fn write_tenancy<K: Sink>(sink: &mut K, uses: &TenancyUse<'_>) -> Result<(), Fai
 
 /// Writes the line of columns.
 fn write_columns<K: Sink>(sink: &mut K, columns: u32, counts: ColumnUse) -> Result<(), Failed>
-    ensures { Writes K.contents K.has_failed sink.old sink.new (columns_line columns counts) result }
+    ensures { Writes K.contents K.has_failed sink.old sink.new (columns_line columns counts)
+        result }
 {
     write_parts(
         sink,
@@ -119,9 +122,10 @@ fn write_widest<K: Sink>(sink: &mut K, widest: Option<Room>) -> Result<(), Faile
     }
 }
 
-/// Writes the line of a channel.
-fn write_channel<K: Sink>(sink: &mut K, channel: ChannelUse, tracks: u32) -> Result<(), Failed>
-    ensures { Writes K.contents K.has_failed sink.old sink.new (channel_line tracks channel) result }
+/// Writes the line of a channel of so many tracks: its place, and how many of its tracks are used.
+pub fn write_channel<K: Sink>(sink: &mut K, channel: ChannelUse, tracks: u32) -> Result<(), Failed>
+    ensures { Writes K.contents K.has_failed sink.old sink.new (channel_line tracks channel)
+        result }
 {
     write_parts(
         sink,

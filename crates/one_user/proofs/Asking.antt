@@ -11,7 +11,7 @@ use Rattle.grid.specs.declared.Strip.{Strip}
 use Rattle.job_state.specs.JobValue.{end_value}
 use Rattle.job_state.specs.declared.sources.JobKind.TheVariants.{Packing as PackingJob, Placing as PlacingJob, Routing as RoutingJob}
 use Rattle.tenant_slot.specs.Results.{failure_of}
-use Rattle.tenant_slot.specs.SingleUser.{State, answer_to, begun, begun_placing, finished, loaded, misfit_of, pack_unless, place, place_unless, routed_unless, start, with_circuit}
+use Rattle.tenant_slot.specs.SingleUser.{State, answer_to, finished, loaded, misfit_of, pack_unless, place, place_unless, routed_unless, start, with_circuit}
 use Rattle.tenant_slot.specs.Slot.{SlotState, after_event}
 use Rattle.tenant_slot.specs.declared.command.Command.TheVariants.{Upload, Pack, Place, Route}
 use Rattle.tenant_slot.specs.declared.event.Event.TheVariants.{Command as Asked}
@@ -22,6 +22,7 @@ use Rattle.tenant_slot.specs.declared.reply.Refusal.TheVariants.{BadBlif, BadEff
 use Rattle.tenant_slot.specs.declared.reply.Reply.{Reply}
 use Rattle.tenant_slot.specs.declared.reply.Reply.TheVariants.{Accepted, Refused as RefusedReply}
 use Rattle.tenant_slot.specs.declared.reply.StateName.TheVariants.{Empty, Loaded, Packing, Packed, Placing, Placed, Routing, Routed, Unrouted}
+use Rattle.tenant_slot.proofs.Leading.{begun, begun_placing}
 use Rattle.one_user.specs.Outcomes.{Task, by_fit, by_netlist, by_packing, outcome_of}
 use Rattle.one_user.specs.Steps.{IsLoaded, IsPacked, IsPlaced, refusal_in, slot_in, state_at}
 use Rattle.one_user.specs.declared.outcome.Outcome.{Outcome}

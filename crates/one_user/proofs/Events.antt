@@ -5,8 +5,8 @@ use Rattle.job_state.specs.declared.sources.JobKind.{JobKind}
 use Rattle.job_state.specs.declared.sources.Sources.{Sources}
 use Rattle.job_state.specs.declared.step.JobStep.{JobStep}
 use Rattle.job_state.specs.JobValue.{is_last}
-use Rattle.tenant_slot.specs.SingleUser.{State, advance, advanced, after, answer_to, finished, go_on, is_next, running, sources_of, step}
-use Rattle.tenant_slot.specs.Slot.{IsAdvanceOf, Puts, SlotState, after_event, here_after, next_job, running_sources}
+use Rattle.tenant_slot.specs.SingleUser.{State, advance, after, answer_to, finished, go_on, is_next, running, sources_of, step}
+use Rattle.tenant_slot.specs.Slot.{IsAdvanceOf, Puts, SlotState, after_event, next_job, running_sources}
 use Rattle.tenant_slot.specs.declared.event.Advance.{Advance}
 use Rattle.tenant_slot.specs.declared.event.Event.{Event}
 use Rattle.tenant_slot.specs.declared.event.Event.TheVariants.{Advance as Stepped}
@@ -15,6 +15,7 @@ use Rattle.tenant_slot.specs.declared.reply.Reply.TheVariants.{Step}
 use Rattle.tenant_slot.specs.declared.reply.StepReply.{StepReply}
 use Rattle.tenant_slot.specs.declared.reply.StepReply.TheVariants.{Advanced, Finished, Stale}
 use Rattle.tenant_slot.proofs.Runs.{step-room}
+use Rattle.tenant_slot.proofs.Leading.{advanced}
 use Rattle.one_user.specs.Steps.{Goes, slot_in}
 
 -- the state and the reply where the journal isn't full

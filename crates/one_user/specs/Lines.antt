@@ -2,8 +2,7 @@
 use Rattle.std.specs.Prelude.{ℕ, ◌+◌, ◌-◌, ◌^◌, min, List, [], ◌∷◌, ◌++◌, codes, decimal, Option, Some, None}
 use Rattle.std.specs.List.{concat}
 use Rattle.device_report.specs.declared.channels.ChannelUse.{ChannelUse}
-use Rattle.device_report.specs.declared.channels.Direction.{Direction}
-use Rattle.device_report.specs.declared.channels.Direction.TheVariants.{Across, Up}
+use Rattle.device_report.specs.Text.{channel_line}
 use Rattle.grid.specs.declared.Strip.{Strip}
 use Rattle.job_state.specs.JobValue.{pass_count}
 use Rattle.job_state.specs.declared.progress.Progress.{Progress}
@@ -62,22 +61,15 @@ step_line strip number Routed = iteration_line number (codes "no node overused")
 step_line strip number GaveUp = iteration_line number (codes "given up")
 step_line strip number NoPath = iteration_line number (codes "a net has no path")
 
--- the word for a channel
-abbrev pub channel_word : Direction → List ℕ
-channel_word Across = codes "CHANX"
-channel_word Up = codes "CHANY"
-
 -- the line of the fullest channel, which has so many tracks
-abbrev pub channel_line : ℕ → ChannelUse → List ℕ
-channel_line tracks channel = concat (
-    codes "fullest channel " ∷ channel_word channel.direction ∷ codes " (" ∷ decimal channel.x ∷ codes "," ∷ decimal channel.y ∷ codes ") "
-    ∷ decimal channel.wires ∷ codes "/" ∷ decimal tracks ∷ codes "\n" ∷ [])
+abbrev pub named_line : ℕ → ChannelUse → List ℕ
+named_line tracks channel = concat (codes "fullest channel " ∷ []) ++ channel_line tracks channel
 
 abbrev pub none_line : List ℕ
 none_line = concat (codes "fullest channel none\n" ∷ [])
 
 abbrev pub fullest_line : ℕ → Option ChannelUse → List ℕ
-fullest_line tracks (Some channel) = channel_line tracks channel
+fullest_line tracks (Some channel) = named_line tracks channel
 fullest_line tracks None = none_line
 
 -- the lines of all other figures

@@ -1,5 +1,5 @@
 -- Private: what the stages of a run go on from, and what a job's steps come to.
-use Rattle.std.specs.Prelude.{ℕ, ◌≡◌, ◌+◌, ◌≤◌, List, [], true, false, Option, Some, None, Ok, length}
+use Rattle.std.specs.Prelude.{ℕ, ◌≡◌, ◌+◌, ◌<◌, ◌≤◌, List, [], true, false, Option, Some, None, IsSome, Ok, length}
 use Rattle.blif.specs.CircuitOf.{circuit_of}
 use Rattle.blif.specs.declared.circuit.Circuit.{Circuit}
 use Rattle.cluster.specs.Blocks.{block_nets}
@@ -12,13 +12,14 @@ use Rattle.job_state.specs.declared.sources.JobKind.{JobKind}
 use Rattle.job_state.specs.declared.sources.Sources.{Sources}
 use Rattle.job_state.specs.declared.work.Work.{Work}
 use Rattle.rr_graph.specs.Graph.{Basis}
-use Rattle.tenant_slot.specs.SingleUser.{State, finished, misfit_of, running, sources_of}
+use Rattle.tenant_slot.specs.SingleUser.{State, finished, misfit_of, running, sources_of, start}
 use Rattle.tenant_slot.specs.Slot.{SlotState}
 use Rattle.tenant_slot.specs.declared.reply.Ending.{Ending}
 use Rattle.tenant_slot.specs.declared.reply.Refusal.{Refusal}
 use Rattle.tenant_slot.specs.declared.reply.Reply.{Reply}
 use Rattle.tenant_slot.specs.declared.reply.Reply.TheVariants.{Accepted, Status, File, Refused, Step}
 use Rattle.tenant_slot.specs.declared.reply.StateName.{StateName}
+use Rattle.tenant_slot.specs.declared.reply.StateName.TheVariants.{Loaded, Packed, Placed, Routed}
 use Rattle.tenant_slot.specs.declared.reply.StepReply.{StepReply}
 use Rattle.tenant_slot.specs.declared.reply.StepReply.TheVariants.{Advanced, Finished, Stale}
 use Rattle.one_user.specs.Outcomes.{Task}
@@ -130,3 +131,53 @@ pub record Finishes (kind : JobKind) (old : SlotState) (made : StepMade) (new : 
   pub last : is_last (sources_of old.state kind) made.number ≡ true
   pub count : made.number ≡ step_count (sources_of old.state kind)
   pub after : new ≡ slot_in old.id (record (finished old.state kind) { entries = old.state.entries + made.number })
+
+-- a running job's next step can be made, over the slot's own device
+pub record CanStep (slot : SlotState) (device : Basis) : Type 0 where
+  pub runs : IsSome (running slot.state.name)
+  pub here : slot.here ≡ Some false
+  pub room : slot.state.entries < 65536
+  pub window : device ≡ device_of slot.state
+
+-- so can all its steps, of which none was made
+pub record CanFinish (slot : SlotState) (device : Basis) : Type 0 where
+  pub runs : IsSome (running slot.state.name)
+  pub first : slot.state.steps ≡ 0
+  pub here : slot.here ≡ Some false
+  pub room : slot.state.entries + 8192 < 65536
+  pub window : device ≡ device_of slot.state
+
+-- a fresh slot is ready for a netlist, over its own device, which is to be placed with such an effort
+pub record CanUpload (now : SlotState) (device : Basis) (tries : ℕ) : Type 0 where
+  pub slot : now ≡ slot_in now.id (start now.state.arch now.state.strip)
+  pub window : device ≡ device_of now.state
+  pub effort : tries ≤ 100
+
+-- it has loaded the netlist of the task
+pub record CanPack (task : Task) (now : SlotState) (device : Basis) : Type 0 where
+  pub slot : IsAt task Loaded 0 0 1 now
+  pub window : device ≡ device_of now.state
+  pub effort : task.effort ≤ 100
+  pub loaded : IsLoaded task
+
+-- it has packed it, and these are the counts
+pub record CanPlace (task : Task) (now : SlotState) (device : Basis) (told : PackedCounts) : Type 0 where
+  pub slot : IsAt task Packed 0 0 8194 now
+  pub window : device ≡ device_of now.state
+  pub effort : task.effort ≤ 100
+  pub packed : IsPacked task
+  pub counts : AreCounts task told
+
+-- it has placed it
+pub record CanRoute (task : Task) (now : SlotState) (device : Basis) (told : PackedCounts) : Type 0 where
+  pub slot : IsAt task Placed task.seed task.effort 16387 now
+  pub window : device ≡ device_of now.state
+  pub placed : IsPlaced task
+  pub counts : AreCounts task told
+
+-- it has routed it, and there is room for the commands that ask for the files
+pub record HasFiles (state : State) : Type 0 where
+  pub room : state.entries < 65536
+  pub routed : state.name ≡ Routed
+  pub loaded : IsLoaded (task_in state state.seed state.effort)
+  pub kept : state.kept ≡ []

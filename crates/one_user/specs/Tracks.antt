@@ -1,6 +1,6 @@
 -- The least number of tracks with which a netlist is routed.
 use Rattle.std.specs.Prelude.{ℕ, ◌≡◌, ◌+◌, ◌<◌, ◌≤◌, List, Result, Ok, Err, Option, Some, None}
-use Rattle.arch_file.specs.Arch.{arch_of}
+use Rattle.arch_file.specs.Arch.{IsWithin, arch_of}
 use Rattle.arch_file.specs.declared.arch.Arch.{Arch}
 use Rattle.arch_file.specs.declared.fault.ArchFault.{ArchFault}
 use Rattle.strips.specs.Windows.{device_strip}
@@ -14,6 +14,12 @@ use Rattle.one_user.specs.declared.least.Least.TheVariants.{Routed, Refused, Unr
 use Rattle.one_user.specs.declared.least.TheConstants.{MAX_TRACKS}
 use Rattle.one_user.specs.declared.outcome.Outcome.{Outcome}
 use Rattle.one_user.specs.declared.outcome.Outcome.TheVariants as outcome
+
+-- the device has 1 to 256 columns and 1 to 64 rows, and the effort is 100 at most
+pub record IsLawful (plan : DevicePlan) (request : Request) : Type 0 where
+  pub columns : IsWithin 1 plan.columns 256
+  pub rows : IsWithin 1 plan.rows 64
+  pub effort : request.effort ≤ 100
 
 -- a request for a device of that architecture
 abbrev pub task_for : DevicePlan → Arch → Request → Task

@@ -44,7 +44,8 @@ impl Model for OwnDevice {
 
     ghost view = { λ d. record { arch = d.arch; strip = d.strip } };
 
-    ghost invariant = { λ d. (d.graph ≡ record { arch = d.arch; strip = d.strip }) × IsStripSize d.strip };
+    ghost invariant = { λ d. (d.graph ≡ record { arch = d.arch; strip = d.strip })
+        × IsStripSize d.strip };
 }
 
 impl OwnDevice {
@@ -52,7 +53,8 @@ impl OwnDevice {
     pub fn new(alloc: Global, arch: Arch, columns: u32, rows: u32) -> Result<Self, AllocError>
         requires arch { IsArch arch }
         requires size { IsStripSize (device_strip arch columns rows) }
-        ensures { IfOk result (λ device. device ≡ record { arch = arch; strip = device_strip arch columns rows }) }
+        ensures { IfOk result (λ device.
+            device ≡ record { arch = arch; strip = device_strip arch columns rows }) }
     {
         let strip = Strip {
             width: columns,
@@ -78,8 +80,12 @@ impl OwnDevice {
     /// Has a netlist packed, placed and routed, and tells a line a step. A line that can't be told is left out, and changes nothing.
     pub fn run<W: Sink>(&self, request: Request<'_>, teller: &mut W) -> Result<Run, AllocError>
         requires { request.effort ≤ 100 }
-        ensures outcome { IfOk result (λ run. run.outcome ≡ outcome_of (task_on self.now request.entry.netlist.now request.entry.seed request.entry.effort)) }
-        ensures figures { IfOk result (λ run. IfSome run.figures (HasFigures (task_on self.now request.entry.netlist.now request.entry.seed request.entry.effort))) }
+        ensures outcome { IfOk result (λ run.
+            run.outcome ≡ outcome_of
+            (task_on self.now request.entry.netlist.now request.entry.seed request.entry.effort)) }
+        ensures figures { IfOk result (λ run.
+            IfSome run.figures (HasFigures
+            (task_on self.now request.entry.netlist.now request.entry.seed request.entry.effort))) }
     {
         let Some(window) = Window::new(&self.graph, 0, self.strip) else {
             unreachable!()

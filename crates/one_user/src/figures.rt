@@ -60,10 +60,19 @@ pub(crate) fn figures_of(
     held: &[Resource],
     iterations: u32,
 ) -> Figures
-    ensures blocks { result.blocks ≡ record { used = packed.clusters; there = product window.now.strip.width window.now.strip.rows 1 } }
-    ensures pads { result.pads ≡ record { used = packed.pads; there = product window.now.strip.width 2 window.now.strip.io_rat } }
+    ensures blocks { result.blocks ≡ record {
+      used = packed.clusters;
+      there = product window.now.strip.width window.now.strip.rows 1;
+    } }
+    ensures pads { result.pads ≡ record {
+      used = packed.pads;
+      there = product window.now.strip.width 2 window.now.strip.io_rat;
+    } }
     ensures nets { result.nets ≡ packed.nets }
-    ensures wires { result.wires ≡ record { used = wires_in held.now; there = wires_there window.now } }
+    ensures wires { result.wires ≡ record {
+      used = wires_in held.now;
+      there = wires_there window.now;
+    } }
     ensures tracks { result.tracks ≡ window.now.arch.tracks }
     ensures iterations { result.iterations ≡ iterations }
 {

@@ -8,5 +8,6 @@ ghost use Rattle.one_user.specs.Service.{AreTold, HasRouted};
 
 /// Whoever has the netlist routed as it is here, is told the same files.
 pub fn same_files()
-    ensures { (task : Task) (files : Files) (state : State) → outcome_of task ≡ Routed files → HasRouted task state → AreTold files state }
+    ensures { (task : Task) (files : Files) (state : State) → outcome_of task ≡ Routed files →
+        HasRouted task state → AreTold files state }
 {}

@@ -1,8 +1,8 @@
 //! The least number of tracks with which a netlist is routed.
-ghost use Rattle.std.specs.Prelude.{◌≡◌, ◌≤◌, ℕ, IfErr, IfOk, IfSome};
+ghost use Rattle.std.specs.Prelude.{◌≡◌, ℕ, IfErr, IfOk, IfSome};
 ghost use Rattle.arch_file.specs.Arch.{IsWithin, arch_of};
 ghost use Rattle.line_text.specs.TextErrors.{Fails};
-ghost use Rattle.one_user.specs.Tracks.{ComesTo, HasFiguresWith, IsLeast, fault_of};
+ghost use Rattle.one_user.specs.Tracks.{ComesTo, HasFiguresWith, IsLawful, IsLeast, fault_of};
 
 use crate::device::{OwnDevice, Request};
 use crate::outcome::{Outcome, Run};
@@ -43,11 +43,10 @@ pub fn least_tracks<W: Sink>(
     request: Request<'_>,
     teller: &mut W,
 ) -> Result<Least, ArchError>
-    requires columns { IsWithin 1 plan.columns 256 }
-    requires rows { IsWithin 1 plan.rows 64 }
-    requires effort { request.effort ≤ 100 }
+    requires { IsLawful plan request }
     ensures least { IfOk result (IsLeast plan.entry request.entry) }
-    ensures fault { IfErr result (λ error. (tracks : ℕ) × Fails (fault_of (arch_of plan.entry.text.now tracks)) error) }
+    ensures fault { IfErr result (λ error. (tracks : ℕ)
+        × Fails (fault_of (arch_of plan.entry.text.now tracks)) error) }
 {
     for tracks in 1..MAX_TRACKS + 1 {
         let _told = tell_tracks(teller, tracks);
@@ -81,12 +80,11 @@ pub fn run_with<W: Sink>(
     request: Request<'_>,
     teller: &mut W,
 ) -> Result<Run, ArchError>
-    requires columns { IsWithin 1 plan.columns 256 }
-    requires rows { IsWithin 1 plan.rows 64 }
+    requires lawful { IsLawful plan request }
     requires tracks { IsWithin 1 tracks 64 }
-    requires effort { request.effort ≤ 100 }
     ensures outcome { IfOk result (λ run. ComesTo plan.entry request.entry tracks run.outcome) }
-    ensures figures { IfOk result (λ run. IfSome run.figures (HasFiguresWith plan.entry request.entry tracks)) }
+    ensures figures { IfOk result (λ run.
+        IfSome run.figures (HasFiguresWith plan.entry request.entry tracks)) }
     ensures fault { IfErr result (Fails (fault_of (arch_of plan.entry.text.now tracks))) }
 {
     let arch = read_arch(alloc, plan.text, tracks)?;

@@ -1,14 +1,13 @@
 //! The stages of a run, each of which goes on with the next.
-ghost use Rattle.std.specs.Prelude.{◌≡◌, ◌≤◌, ◌<◌, [], IfOk, IfSome, IsSome, None, OnOk, Some};
+ghost use Rattle.std.specs.Prelude.{◌≡◌, ◌<◌, IfOk, IfSome, IsSome, None, OnOk, Some};
 ghost use Rattle.tenant_slot.specs.declared.command.Command.{Command};
 ghost use Rattle.tenant_slot.specs.declared.event.Event.TheVariants.{Command as Asked};
-ghost use Rattle.tenant_slot.specs.declared.reply.StateName.{StateName};
-ghost use Rattle.tenant_slot.specs.SingleUser.{answer_to, circuit_in, start};
+ghost use Rattle.tenant_slot.specs.SingleUser.{answer_to, circuit_in};
 ghost use Rattle.tenant_slot.specs.Slot.{after_event};
 ghost use Rattle.one_user.specs.declared.outcome.Outcome.{Outcome};
 ghost use Rattle.one_user.specs.Figures.{HasFigures};
 ghost use Rattle.one_user.specs.Outcomes.{files_of, outcome_of, task_on};
-ghost use Rattle.one_user.specs.Steps.{AreCounts, IsAt, IsLoaded, IsPacked, IsPlaced, device_of, ending_in, refusal_in, slot_in, task_in, text_in};
+ghost use Rattle.one_user.specs.Steps.{CanPack, CanPlace, CanRoute, CanUpload, HasFiles, ending_in, refusal_in, task_in, text_in};
 
 use crate::device::Request;
 use crate::figures::{PackedCounts, figures_of, packed_counts};
@@ -28,11 +27,13 @@ pub(crate) fn upload<W: Sink>(
     request: Request<'_>,
     teller: &mut W,
 ) -> Result<Run, AllocError>
-    requires slot { slot.old ≡ slot_in slot.old.id (start slot.old.state.arch slot.old.state.strip) }
-    requires window { window.now ≡ device_of slot.old.state }
-    requires effort { request.effort ≤ 100 }
-    ensures outcome { IfOk result (λ run. run.outcome ≡ outcome_of (task_on window.now request.entry.netlist.now request.entry.seed request.entry.effort)) }
-    ensures figures { IfOk result (λ run. IfSome run.figures (HasFigures (task_on window.now request.entry.netlist.now request.entry.seed request.entry.effort))) }
+    requires { CanUpload slot.old window.now request.effort }
+    ensures outcome { IfOk result (λ run.
+        run.outcome ≡ outcome_of
+        (task_on window.now request.entry.netlist.now request.entry.seed request.entry.effort)) }
+    ensures figures { IfOk result (λ run.
+        IfSome run.figures (HasFigures
+        (task_on window.now request.entry.netlist.now request.entry.seed request.entry.effort))) }
 {
     let netlist = request.netlist.clone()?;
     match ask(slot, Command::Upload(netlist))? {
@@ -49,12 +50,12 @@ fn pack<W: Sink>(
     request: Request<'_>,
     teller: &mut W,
 ) -> Result<Run, AllocError>
-    requires slot { IsAt (task_in slot.old.state request.seed request.effort) StateName.Loaded 0 0 1 slot.old }
-    requires window { window.now ≡ device_of slot.old.state }
-    requires effort { request.effort ≤ 100 }
-    requires loaded { IsLoaded (task_in slot.old.state request.seed request.effort) }
-    ensures outcome { IfOk result (λ run. run.outcome ≡ outcome_of (task_in slot.old.state request.entry.seed request.entry.effort)) }
-    ensures figures { IfOk result (λ run. IfSome run.figures (HasFigures (task_in slot.old.state request.entry.seed request.entry.effort))) }
+    requires { CanPack (task_in slot.old.state request.seed request.effort) slot.old window.now }
+    ensures outcome { IfOk result (λ run.
+        run.outcome ≡ outcome_of (task_in slot.old.state request.entry.seed request.entry.effort)) }
+    ensures figures { IfOk result (λ run.
+        IfSome run.figures (HasFigures
+        (task_in slot.old.state request.entry.seed request.entry.effort))) }
 {
     match ask(slot, Command::Pack)? {
         Some(refusal) => return Ok(refused(refusal)),
@@ -72,13 +73,13 @@ fn place<W: Sink>(
     packed: PackedCounts,
     teller: &mut W,
 ) -> Result<Run, AllocError>
-    requires slot { IsAt (task_in slot.old.state request.seed request.effort) StateName.Packed 0 0 8194 slot.old }
-    requires window { window.now ≡ device_of slot.old.state }
-    requires effort { request.effort ≤ 100 }
-    requires packed { IsPacked (task_in slot.old.state request.seed request.effort) }
-    requires counts { AreCounts (task_in slot.old.state request.seed request.effort) packed }
-    ensures outcome { IfOk result (λ run. run.outcome ≡ outcome_of (task_in slot.old.state request.entry.seed request.entry.effort)) }
-    ensures figures { IfOk result (λ run. IfSome run.figures (HasFigures (task_in slot.old.state request.entry.seed request.entry.effort))) }
+    requires { CanPlace (task_in slot.old.state request.seed request.effort) slot.old window.now
+        packed }
+    ensures outcome { IfOk result (λ run.
+        run.outcome ≡ outcome_of (task_in slot.old.state request.entry.seed request.entry.effort)) }
+    ensures figures { IfOk result (λ run.
+        IfSome run.figures (HasFigures
+        (task_in slot.old.state request.entry.seed request.entry.effort))) }
 {
     let command = Command::Place {
         seed: request.seed,
@@ -99,12 +100,14 @@ fn route<W: Sink>(
     packed: PackedCounts,
     teller: &mut W,
 ) -> Result<Run, AllocError>
-    requires slot { IsAt (task_in slot.old.state slot.old.state.seed slot.old.state.effort) StateName.Placed slot.old.state.seed slot.old.state.effort 16387 slot.old }
-    requires window { window.now ≡ device_of slot.old.state }
-    requires placed { IsPlaced (task_in slot.old.state slot.old.state.seed slot.old.state.effort) }
-    requires counts { AreCounts (task_in slot.old.state slot.old.state.seed slot.old.state.effort) packed }
-    ensures outcome { IfOk result (λ run. run.outcome ≡ outcome_of (task_in slot.old.state slot.old.state.seed slot.old.state.effort)) }
-    ensures figures { IfOk result (λ run. IfSome run.figures (HasFigures (task_in slot.old.state slot.old.state.seed slot.old.state.effort))) }
+    requires { CanRoute (task_in slot.old.state slot.old.state.seed slot.old.state.effort) slot.old
+        window.now packed }
+    ensures outcome { IfOk result (λ run.
+        run.outcome ≡ outcome_of
+        (task_in slot.old.state slot.old.state.seed slot.old.state.effort)) }
+    ensures figures { IfOk result (λ run.
+        IfSome run.figures (HasFigures
+        (task_in slot.old.state slot.old.state.seed slot.old.state.effort))) }
 {
     match ask(slot, Command::Route)? {
         Some(refusal) => return Ok(refused(refusal)),
@@ -139,7 +142,8 @@ fn refused(refusal: Refusal) -> Run
 /// Has a command served, and tells why it is refused, if it is.
 fn ask(slot: &mut Slot, command: Command) -> Result<Option<Refusal>, AllocError>
     requires { slot.old.state.entries < 65536 }
-    ensures reply { IfOk result (λ refusal. refusal ≡ refusal_in (answer_to slot.old.state (Asked command)).1) }
+    ensures reply { IfOk result (λ refusal.
+        refusal ≡ refusal_in (answer_to slot.old.state (Asked command)).1) }
     ensures slot { OnOk result (slot.new ≡ after_event slot.old (Asked command)) }
 {
     let reply = slot.command(&command);
@@ -154,11 +158,11 @@ fn ask(slot: &mut Slot, command: Command) -> Result<Option<Refusal>, AllocError>
 
 /// The files of the routed netlist.
 fn files_of(slot: &Slot) -> Result<Files, AllocError>
-    requires room { slot.now.state.entries < 65536 }
-    requires routed { slot.now.state.name ≡ StateName.Routed }
-    requires loaded { IsLoaded (task_in slot.now.state slot.now.state.seed slot.now.state.effort) }
-    requires kept { slot.now.state.kept ≡ [] }
-    ensures { IfOk result (λ files. IfOk (circuit_in slot.now.state) (λ circuit. files ≡ files_of (task_in slot.now.state slot.now.state.seed slot.now.state.effort) circuit)) }
+    requires { HasFiles slot.now.state }
+    ensures { IfOk result (λ files.
+        IfOk (circuit_in slot.now.state)
+        (λ circuit. files ≡ files_of
+        (task_in slot.now.state slot.now.state.seed slot.now.state.effort) circuit)) }
 {
     Ok(Files {
         net: file_of(slot, Command::Net)?,
@@ -171,7 +175,8 @@ fn files_of(slot: &Slot) -> Result<Files, AllocError>
 fn file_of(slot: &Slot, command: Command) -> Result<SharedText, AllocError>
     requires room { slot.now.state.entries < 65536 }
     requires file { IsSome (text_in (answer_to slot.now.state (Asked command)).1) }
-    ensures { IfOk result (λ text. text_in (answer_to slot.now.state (Asked command)).1 ≡ Some text) }
+    ensures { IfOk result (λ text. text_in (answer_to slot.now.state (Asked command)).1
+        ≡ Some text) }
 {
     let answer = slot.answer(&command);
     drop(command);
@@ -201,7 +206,8 @@ fn text_in(reply: &Reply) -> Result<SharedText, AllocError>
 fn ending_of(slot: &Slot) -> Result<Ending, AllocError>
     requires room { slot.now.state.entries < 65536 }
     requires ending { IsSome (ending_in (answer_to slot.now.state (Asked Command.Status)).1) }
-    ensures { IfOk result (λ ending. ending_in (answer_to slot.now.state (Asked Command.Status)).1 ≡ Some ending) }
+    ensures { IfOk result (λ ending.
+        ending_in (answer_to slot.now.state (Asked Command.Status)).1 ≡ Some ending) }
 {
     let command = Command::Status;
     let answer = slot.answer(&command);

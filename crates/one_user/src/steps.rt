@@ -1,8 +1,8 @@
 //! The steps of a job, one after another.
-ghost use Rattle.std.specs.Prelude.{◌≡◌, ◌+◌, ◌<◌, IfOk, IsSome, Some, false};
+ghost use Rattle.std.specs.Prelude.{◌≡◌, IfOk, Some};
 ghost use Rattle.job_state.specs.declared.sources.JobKind.{JobKind};
 ghost use Rattle.tenant_slot.specs.SingleUser.{running};
-ghost use Rattle.one_user.specs.Steps.{Finishes, MakesStep, device_of};
+ghost use Rattle.one_user.specs.Steps.{CanFinish, CanStep, Finishes, MakesStep};
 
 use crate::telling::tell_step;
 use job_state::Progress;
@@ -29,12 +29,9 @@ pub(crate) fn make_steps<W: Sink>(
     window: &Window<'_>,
     teller: &mut W,
 ) -> Result<StepMade, AllocError>
-    requires runs { IsSome (running slot.old.state.name) }
-    requires first { slot.old.state.steps ≡ 0 }
-    requires here { slot.old.here ≡ Some false }
-    requires room { slot.old.state.entries + 8192 < 65536 }
-    requires window { window.now ≡ device_of slot.old.state }
-    ensures { IfOk result (λ made. (kind : JobKind) → running slot.old.state.name ≡ Some kind → Finishes kind slot.old made slot.new) }
+    requires { CanFinish slot.old window.now }
+    ensures { IfOk result (λ made. (kind : JobKind) → running slot.old.state.name ≡ Some kind →
+        Finishes kind slot.old made slot.new) }
 {
     for _step in 0..MAX_STEPS + 1 {
         let made = make_step(slot, window)?;
@@ -49,11 +46,9 @@ pub(crate) fn make_steps<W: Sink>(
 
 /// Makes the next step of the running job. Without memory nothing changes.
 fn make_step(slot: &mut Slot, window: &Window<'_>) -> Result<StepMade, AllocError>
-    requires runs { IsSome (running slot.old.state.name) }
-    requires here { slot.old.here ≡ Some false }
-    requires room { slot.old.state.entries < 65536 }
-    requires window { window.now ≡ device_of slot.old.state }
-    ensures { IfOk result (λ made. (kind : JobKind) → running slot.old.state.name ≡ Some kind → MakesStep kind slot.old made slot.new) }
+    requires { CanStep slot.old window.now }
+    ensures { IfOk result (λ made. (kind : JobKind) → running slot.old.state.name ≡ Some kind →
+        MakesStep kind slot.old made slot.new) }
 {
     let Some(job) = slot.take() else {
         unreachable!()

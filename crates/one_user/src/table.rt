@@ -1,10 +1,10 @@
 //! The figures as a text.
 ghost use Rattle.std.specs.Prelude.{◌≡◌};
 ghost use Rattle.line_text.specs.Writing.{Writes};
-ghost use Rattle.one_user.specs.Lines.{channel_line, channel_word, counts_text, figures_text, fullest_line, none_line};
+ghost use Rattle.one_user.specs.Lines.{counts_text, figures_text, fullest_line, named_line, none_line};
 
 use crate::figures::Figures;
-use device_report::{ChannelUse, Direction};
+use device_report::{ChannelUse, write_channel};
 use line_text::{Failed, Sink};
 use text_parts::{Part, write_parts};
 
@@ -50,34 +50,21 @@ fn write_fullest<W: Sink>(
     fullest: Option<ChannelUse>,
     tracks: u32,
 ) -> Result<(), Failed>
-    ensures { Writes W.contents W.has_failed sink.old sink.new (fullest_line tracks fullest) result }
+    ensures { Writes W.contents W.has_failed sink.old sink.new (fullest_line tracks fullest)
+        result }
 {
     match fullest {
-        Some(channel) => write_channel(sink, channel, tracks),
+        Some(channel) => write_named(sink, channel, tracks),
         None => write_none(sink),
     }
 }
 
 /// Writes the line of that channel.
-fn write_channel<W: Sink>(sink: &mut W, channel: ChannelUse, tracks: u32) -> Result<(), Failed>
-    ensures { Writes W.contents W.has_failed sink.old sink.new (channel_line tracks channel) result }
+fn write_named<W: Sink>(sink: &mut W, channel: ChannelUse, tracks: u32) -> Result<(), Failed>
+    ensures { Writes W.contents W.has_failed sink.old sink.new (named_line tracks channel) result }
 {
-    write_parts(
-        sink,
-        &[
-            Part::Text("fullest channel "),
-            Part::Text(channel_word(channel.direction)),
-            Part::Text(" ("),
-            Part::Number(channel.x),
-            Part::Text(","),
-            Part::Number(channel.y),
-            Part::Text(") "),
-            Part::Long(channel.wires as u64),
-            Part::Text("/"),
-            Part::Number(tracks),
-            Part::Text("\n"),
-        ],
-    )
+    write_parts(sink, &[Part::Text("fullest channel ")])?;
+    write_channel(sink, channel, tracks)
 }
 
 /// Writes that there is none.
@@ -85,14 +72,4 @@ fn write_none<W: Sink>(sink: &mut W) -> Result<(), Failed>
     ensures { Writes W.contents W.has_failed sink.old sink.new none_line result }
 {
     write_parts(sink, &[Part::Text("fullest channel none\n")])
-}
-
-/// The word for a channel.
-fn channel_word(direction: Direction) -> &'static str
-    ensures { result.now ≡ channel_word direction }
-{
-    match direction {
-        Direction::Across => "CHANX",
-        Direction::Up => "CHANY",
-    }
 }

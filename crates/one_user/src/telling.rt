@@ -20,7 +20,8 @@ pub(crate) fn tell_step<W: Sink>(
     window: &Window<'_>,
     made: StepMade,
 ) -> Result<(), Failed>
-    ensures { Writes W.contents W.has_failed sink.old sink.new (step_line window.now.strip made.number made.progress) result }
+    ensures { Writes W.contents W.has_failed sink.old sink.new
+        (step_line window.now.strip made.number made.progress) result }
 {
     match made.progress {
         Progress::Packing { tables, latches } => {
@@ -62,7 +63,8 @@ fn tell_packed<W: Sink>(
     pads: usize,
     nets: usize,
 ) -> Result<(), Failed>
-    ensures { Writes W.contents W.has_failed sink.old sink.new (packed_line clusters pads nets) result }
+    ensures { Writes W.contents W.has_failed sink.old sink.new (packed_line clusters pads nets)
+        result }
 {
     write_parts(
         sink,
@@ -85,7 +87,9 @@ fn tell_pass<W: Sink>(
     number: u32,
     cost: u64,
 ) -> Result<(), Failed>
-    ensures { Writes W.contents W.has_failed sink.old sink.new (pass_line number (pass_count window.now.strip) (temperature_at window.now.strip (number - 1)) cost) result }
+    ensures { Writes W.contents W.has_failed sink.old sink.new
+        (pass_line number (pass_count window.now.strip)
+        (temperature_at window.now.strip (number - 1)) cost) result }
 {
     let _count = window.count();
     let strip = window.strip();
@@ -102,7 +106,8 @@ fn tell_pass_of<W: Sink>(
     temperature: u32,
     cost: u64,
 ) -> Result<(), Failed>
-    ensures { Writes W.contents W.has_failed sink.old sink.new (pass_line number passes temperature cost) result }
+    ensures { Writes W.contents W.has_failed sink.old sink.new
+        (pass_line number passes temperature cost) result }
 {
     write_parts(
         sink,
@@ -122,7 +127,8 @@ fn tell_pass_of<W: Sink>(
 
 /// Writes the line of an iteration that ends so.
 fn tell_iteration<W: Sink>(sink: &mut W, number: u32, end: &str) -> Result<(), Failed>
-    ensures { Writes W.contents W.has_failed sink.old sink.new (iteration_line number end.now) result }
+    ensures { Writes W.contents W.has_failed sink.old sink.new (iteration_line number end.now)
+        result }
 {
     write_parts(
         sink,
@@ -138,7 +144,8 @@ fn tell_iteration<W: Sink>(sink: &mut W, number: u32, end: &str) -> Result<(), F
 
 /// Writes the line of an iteration after which nodes are overused.
 fn tell_overuse<W: Sink>(sink: &mut W, number: u32, overuse: Overuse) -> Result<(), Failed>
-    ensures { Writes W.contents W.has_failed sink.old sink.new (overuse_line number overuse.nodes overuse.most) result }
+    ensures { Writes W.contents W.has_failed sink.old sink.new
+        (overuse_line number overuse.nodes overuse.most) result }
 {
     match overuse.most {
         Some(most) => tell_most(sink, number, overuse.nodes, most),
@@ -148,7 +155,8 @@ fn tell_overuse<W: Sink>(sink: &mut W, number: u32, overuse: Overuse) -> Result<
 
 /// Writes the line of an iteration after which so many nodes are overused, and that one most.
 fn tell_most<W: Sink>(sink: &mut W, number: u32, nodes: usize, most: Node) -> Result<(), Failed>
-    ensures { Writes W.contents W.has_failed sink.old sink.new (most_line number nodes most) result }
+    ensures { Writes W.contents W.has_failed sink.old sink.new (most_line number nodes most)
+        result }
 {
     write_parts(
         sink,

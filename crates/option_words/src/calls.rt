@@ -54,7 +54,8 @@ fn call_of<'a>(
     toolbox: &Toolbox,
     matches: &ArgMatches<'a>,
 ) -> Result<Option<Call<'a>>, Error>
-    ensures { IfOk result (λ called. IfSome called (λ call. Contains toolbox.now.tools.now call.tool)) }
+    ensures { IfOk result (λ called.
+        IfSome called (λ call. Contains toolbox.now.tools.now call.tool)) }
 {
     let Some((name, matches)) = matches.subcommand() else {
         return Ok(None);

@@ -55,4 +55,15 @@ impl Lattice {
     {
         count * self.pitch()
     }
+    /// Of so many columns, or rows, one has its number beside it, so that numbers stand so far apart at least.
+    pub fn step(&self, apart: u32) -> u32
+        ensures { 1 ≤ result }
+    {
+        for step in [1, 2, 5, 10, 20, 50].iter() {
+            if *step * self.pitch() >= apart {
+                return *step;
+            }
+        }
+        100
+    }
 }

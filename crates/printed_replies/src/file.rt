@@ -8,7 +8,8 @@ use crate::length::{line_length, told_file};
 
 /// The file of that kind that the reply to a line of that name tells.
 pub(crate) fn file_told<'p>(name: &[u8], kind: &[u8], line: &Answered<'_, 'p>) -> Option<&'p [u8]>
-    ensures { option_map (λ file. file.now) result ≡ file_told name.now kind.now (answered_line line.now) }
+    ensures { option_map (λ file. file.now) result
+        ≡ file_told name.now kind.now (answered_line line.now) }
 {
     if is_of(Some(name), line.asked.name) {
         file_in(kind, line.reply)

@@ -89,7 +89,8 @@ fn add_unanswered<'t>(
     asked: &[Asked<'t>],
 ) -> Result<(), AllocError>
     requires { lines.old.items ≡ [] }
-    ensures { OnOk result (answered_lines lines.new.items ≡ map unanswered (map asked_line asked.now)) }
+    ensures { OnOk result (answered_lines lines.new.items
+        ≡ map unanswered (map asked_line asked.now)) }
 {
     for one in asked {
         lines.push(Answered {
@@ -106,7 +107,8 @@ fn read_sections<'p>(
     names: &NameSet<'_>,
     printed: &'p [u8],
 ) -> Result<(), Left>
-    ensures { IsRead (λ _. answered_lines lines.new.items) (read_from names.now (answered_lines lines.old.items) printed.now) result }
+    ensures { IsRead (λ _. answered_lines lines.new.items)
+        (read_from names.now (answered_lines lines.old.items) printed.now) result }
 {
     let mut rest = read_section(None, lines, printed)?.rest;
     let mut number = 0;
@@ -130,7 +132,9 @@ fn read_section<'p>(
     lines: &mut Vec<Answered<'_, 'p>>,
     printed: &'p [u8],
 ) -> Result<Place<'p>, Left>
-    ensures { IsRead (λ place. (answered_lines lines.new.items, rest_at place)) (section_read (speaker_of speaker.entry) (answered_lines lines.old.items) printed.now) result }
+    ensures { IsRead (λ place. (answered_lines lines.new.items, rest_at place))
+        (section_read (speaker_of speaker.entry) (answered_lines lines.old.items) printed.now)
+        result }
 {
     let mut place = behind_heading(speaker, printed)?;
     let mut number = 0;
@@ -161,7 +165,8 @@ fn behind_heading<'p>(speaker: Option<&[u8]>, printed: &'p [u8]) -> Result<Place
 
 /// What stands behind a line `== NAME`.
 fn behind_words<'p>(name: &[u8], printed: &'p [u8]) -> Option<&'p [u8]>
-    ensures { option_map (λ rest. rest.now) result ≡ behind (codes "== " ++ name.now ++ 10 ∷ []) printed.now }
+    ensures { option_map (λ rest. rest.now) result
+        ≡ behind (codes "== " ++ name.now ++ 10 ∷ []) printed.now }
 {
     behind(b"\n", behind(name, behind(b"== ", printed)?)?)
 }
@@ -173,7 +178,9 @@ fn read_line<'t, 'p>(
     line: Answered<'t, 'p>,
 ) -> Result<(Answered<'t, 'p>, Place<'p>), Left>
     requires { place.live + 1 < 2 ^ 64 }
-    ensures read { IsRead (λ read. (answered_line read.0, rest_at read.1)) (line_read (speaker_of speaker.entry) (rest_at place.entry) (answered_line line.entry)) result }
+    ensures read { IsRead (λ read. (answered_line read.0, rest_at read.1))
+        (line_read (speaker_of speaker.entry) (rest_at place.entry) (answered_line line.entry))
+        result }
     ensures live { IfOk result (λ read. read.1.live ≤ place.entry.live + 1) }
 {
     if !is_of(speaker, line.asked.name) {

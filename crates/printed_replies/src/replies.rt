@@ -47,7 +47,8 @@ impl<'t, 'p> Replies<'t, 'p> {
 
 /// The last file of that kind that the name's session was told.
 fn last_file<'p>(lines: &[Answered<'_, 'p>], name: &[u8], kind: &[u8]) -> Option<&'p [u8]>
-    ensures { option_map (λ file. file.now) result ≡ file_of name.now kind.now (answered_lines lines.now) }
+    ensures { option_map (λ file. file.now) result
+        ≡ file_of name.now kind.now (answered_lines lines.now) }
 {
     let mut last = None;
     for line in lines {

@@ -27,6 +27,16 @@ pub struct Wishes {
     pub until: Phase,
 }
 
+/// Wishes within their limits.
+#[derive(Clone, Copy)]
+struct Checked {
+    wishes: Wishes,
+    ghost tables_lawful: { (1 ≤ wishes.tables) × (wishes.tables ≤ 7_500) },
+    ghost tenancies_lawful: { (1 ≤ wishes.tenancies) × (wishes.tenancies ≤ 64) },
+    ghost inputs_lawful: { (1 ≤ wishes.inputs) × (wishes.inputs ≤ 8) },
+    ghost cluster_lawful: { (1 ≤ wishes.cluster) × (wishes.cluster ≤ 16) },
+}
+
 /// A script's circuits and its device.
 #[derive(Clone, Copy)]
 pub struct Plan {
@@ -62,22 +72,20 @@ impl Plan {
         let clusters = wishes.tables.div_ceil(wishes.cluster);
         let places = clusters + clusters / 4 + 1;
         let square = side_of(places, 64);
-        if let Some(plan) = Plan::with_rows(wishes, places, square) {
+        let checked = Checked { wishes };
+        if let Some(plan) = Plan::with_rows(checked, places, square) {
             return Some(plan);
         }
-        Plan::with_rows(wishes, places, 64)
+        Plan::with_rows(checked, places, 64)
     }
 
     /// A plan for strips with so many logic places in so many rows, if all strips have room.
-    fn with_rows(wishes: Wishes, places: u32, rows: u32) -> Option<Self>
-        requires tables { (1 ≤ wishes.tables) × (wishes.tables ≤ 7_500) }
-        requires tenancies { (1 ≤ wishes.tenancies) × (wishes.tenancies ≤ 64) }
-        requires inputs { (1 ≤ wishes.inputs) × (wishes.inputs ≤ 8) }
-        requires cluster { (1 ≤ wishes.cluster) × (wishes.cluster ≤ 16) }
+    fn with_rows(checked: Checked, places: u32, rows: u32) -> Option<Self>
         requires places { (1 ≤ places) × (places ≤ 10_000) }
         requires rows { (1 ≤ rows) × (rows ≤ 64) }
-        ensures { IfSome result (λ plan. plan.wishes ≡ wishes) }
+        ensures { IfSome result (λ plan. plan.wishes ≡ checked.wishes) }
     {
+        let wishes = checked.wishes;
         let width = places.div_ceil(rows);
         if width > 256 || wishes.tenancies * (width + 1) > 257 {
             return None;
@@ -86,7 +94,7 @@ impl Plan {
             wishes,
             width,
             rows,
-            tracks: tracks_for(wishes),
+            tracks: tracks_for(checked),
         })
     }
 
@@ -140,12 +148,10 @@ pub(crate) fn side_of(places: u32, largest: u32) -> u32
 }
 
 /// Tracks for circuits of that kind: more for larger circuits, for more inputs and for larger clusters.
-fn tracks_for(wishes: Wishes) -> u32
-    requires tables { wishes.tables ≤ 7_500 }
-    requires inputs { wishes.inputs ≤ 8 }
-    requires cluster { (1 ≤ wishes.cluster) × (wishes.cluster ≤ 16) }
+fn tracks_for(checked: Checked) -> u32
     ensures { (1 ≤ result) × (result ≤ 64) }
 {
+    let wishes = checked.wishes;
     let spread = 4 + side_of(wishes.tables, 87) * 3 / 10;
     let clusters = 9 + 5 * (wishes.cluster - 1).min(2) + wishes.cluster;
     let more = spread * (2 + wishes.inputs) * clusters / 60;

@@ -10,9 +10,9 @@ use Rattle.service_core.specs.declared.not_served.NotServed.TheVariants.{Journal
 use Rattle.service_core.specs.declared.op_refusal.OpRefusal.{OpRefusal}
 use Rattle.service_core.specs.declared.op_refusal.OpRefusal.TheVariants as Op
 use Rattle.service_core.specs.declared.put_reply.PutReply.TheVariants.{Recorded as PutRecorded, Full as PutFull, Gone as PutGone}
-use Rattle.service_core.specs.Calls.{IsGivenBackTo, IsMoved}
+use Rattle.service_core.specs.Calls.{IsMoved}
 use Rattle.service_core.specs.History.{History, state_of}
-use Rattle.service_core.specs.Run.{Call, Happens, Run}
+use Rattle.service_core.specs.Run.{Call, Happens, Run, IsGivenBackTo}
 use Rattle.service_core.specs.Run.Call.{Admit, Evict, Move, Tenant, Take, Put, GiveBack, Owners}
 use Rattle.service_core.specs.Service.{ServiceState, history_of, live_of, modified}
 use Rattle.strips.specs.Plan.{offset_of}

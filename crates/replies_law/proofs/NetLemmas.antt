@@ -2,11 +2,13 @@
 use Rattle.std.proofs.Common.{◌≡◌, ℕ, ◌+◌, ◌-◌, Bool, true, false, not, cond, List, [], ◌∷◌, ◌++◌, length, take, drop, Result, Ok, Err, Option, Some, None, codes, refl, subst}
 use Rattle.std.specs.Prelude.{◌&&◌, ◌||◌, IfSome, flat_map, nat_lt, option_map}
 use Rattle.std.specs.List.{enumerate_from}
-use Rattle.std.specs.Option.{option_to_list}
+use Rattle.std.specs.Option.{option_map_or, option_to_list}
+use Rattle.std.specs.Result.{result_flatten, result_map_both}
 use Rattle.std.specs.Str.{bytes_eq}
 use Rattle.line_text.specs.declared.lines.TheConstants.{MAX_TEXT}
-use Rattle.line_text.specs.LeastFault.{Found, earlier_by, least_by, least_fault, precedes}
+use Rattle.line_text.specs.LeastFault.{Found, least_by, least_fault, precedes}
 use Rattle.line_text.specs.Lines.{JoinedLine, lines_of}
+use Rattle.line_text.proofs.InOrder.{earlier_by}
 use Rattle.line_text.specs.declared.fault.LineFault.{LineFault}
 use Rattle.line_text.specs.declared.fault.LineFault.TheVariants.{NotAscii as LineNotAscii, LineTooLong as LineLineTooLong}
 use Rattle.blif.specs.declared.circuit.Circuit.{Circuit}
@@ -18,7 +20,7 @@ use Rattle.blif.specs.declared.fault.BlifFaultKind.TheVariants.{Unknown, BadCove
 use Rattle.blif.specs.declared.keyword.Keyword.{Keyword}
 use Rattle.blif.specs.declared.keyword.Keyword.TheVariants.{Model, Inputs, Outputs, Clock, Names, Latch, End, Skipped, Other, Row}
 use Rattle.blif.specs.BlifFaults.{WordFault, at_words, driven, driver_faults, fault_where, faults_in, is_model, kind_faults, of_line, row_faults, table_faults}
-use Rattle.blif.specs.CircuitOf.{all_faults, at_line, circuit_of, circuit_of_lines, circuit_of_read, declared_in, final_faults, line_faults, undriven_faults, unless_fault}
+use Rattle.blif.specs.CircuitOf.{all_faults, at_line, circuit_of, circuit_of_lines, declared_in, final_faults, line_faults, undriven_faults}
 use Rattle.blif.specs.Circuits.{circuit_from}
 use Rattle.blif.specs.Covers.{is_mixed, is_row}
 use Rattle.blif.specs.Faults.{fault_of_lines, net_of, number_of}
@@ -186,11 +188,11 @@ least_other (found ∷ all) each = by_least (least_by precedes all) (least_other
     by_least None is = each.0
     by_least (Some other) is = by_test (precedes found other) other is
 
-fault_other : (o : Option (Found BlifFault)) (circuit : Circuit) (fault : BlifFault) → IfSome o FoundOther → unless_fault (option_map (λ found. found.fault) o) circuit ≡ Err fault → NamesOther fault.kind
+fault_other : (o : Option (Found BlifFault)) (circuit : Circuit) (fault : BlifFault) → IfSome o FoundOther → option_map_or Err (option_map (λ found. found.fault) o) (Ok circuit) ≡ Err fault → NamesOther fault.kind
 fault_other None circuit fault is e = cc
 fault_other (Some found) circuit fault is e = let same : found.fault ≡ fault = cc in let P : BlifFault → Type 0 = λ f. NamesOther f.kind in subst P same is
 
-no_fault : (o : Option BlifFault) (circuit other : Circuit) → unless_fault o circuit ≡ Ok other → circuit ≡ other
+no_fault : (o : Option BlifFault) (circuit other : Circuit) → option_map_or Err o (Ok circuit) ≡ Ok other → circuit ≡ other
 no_fault None circuit other e = cc
 no_fault (Some fault) circuit other e = cc
 
@@ -239,6 +241,10 @@ of_lines_nets lut_size lines circuit each e =
 line_fault_other : (fault : LineFault) → NamesOther (fault_of_lines fault).kind
 line_fault_other (LineNotAscii number) = tt
 line_fault_other (LineLineTooLong number) = tt
+
+-- what a text says that has these lines
+abbrev circuit_of_read : ℕ → Result (List JoinedLine) LineFault → Result Circuit BlifFault
+circuit_of_read lut_size read = result_flatten (result_map_both (circuit_of_lines lut_size) fault_of_lines read)
 
 read_fault : (lut_size : ℕ) (r : Result (List JoinedLine) LineFault) (fault : BlifFault) → ((lines : List JoinedLine) → r ≡ Ok lines → Each HasWords lines) → circuit_of_read lut_size r ≡ Err fault → NamesOther fault.kind
 read_fault lut_size (Ok lines) fault words e = of_lines_fault lut_size lines fault (words lines refl) e

@@ -5,11 +5,11 @@ use Rattle.service_core.specs.declared.not_served.NotServed.{NotServed}
 use Rattle.service_core.specs.declared.not_served.NotServed.TheVariants.{JournalFull, NoMemory as NotServedNoMemory, NoSuchTenancy}
 use Rattle.service_core.specs.declared.op_refusal.OpRefusal.{OpRefusal}
 use Rattle.service_core.specs.declared.op_refusal.OpRefusal.TheVariants as Op
-use Rattle.service_core.specs.Calls.{IsReceipt, IsServed as CoreServed}
+use Rattle.service_core.specs.Calls.{IsServed as CoreServed}
 use Rattle.service_core.specs.History.{History, state_of}
 use Rattle.service_core.specs.Names.{op_refusal_number, op_refusal_text}
 use Rattle.service_core.specs.Receipt.{Receipted}
-use Rattle.service_core.specs.Run.{Call, Run}
+use Rattle.service_core.specs.Run.{Call, Run, IsReceipt}
 use Rattle.service_core.specs.Service.{ServiceState, live_of}
 use Rattle.tenant_slot.specs.declared.command.Command.{Command as TenantCommand}
 use Rattle.tenant_slot.specs.declared.command.Command.TheVariants.{Status}

@@ -1,10 +1,11 @@
 -- The words of a netlist hold no line feed.
-use Rattle.std.proofs.Common.{◌≡◌, ℕ, zero, suc, ◌+◌, ◌-◌, Bool, true, false, not, cond, eqb, List, [], ◌∷◌, ◌++◌, length, take, map, Ok, refl, ap, subst}
-use Rattle.std.specs.Prelude.{filter}
+use Rattle.std.proofs.Common.{◌≡◌, ℕ, zero, suc, ◌+◌, ◌-◌, Bool, true, false, not, cond, eqb, List, [], ◌∷◌, ◌++◌, length, take, map, Ok, Err, refl, ap, subst}
+use Rattle.std.specs.Prelude.{filter, slice_get}
 use Rattle.std.specs.List.{enumerate_from, filter_map, list_all, onto_first, position_or_len, slice_split, suffix_len}
 use Rattle.std.proofs.lemmas.Bool.{and_from, and_parts}
+use Rattle.std.specs.Option.{option_map_or}
 use Rattle.line_text.specs.declared.fault.LineFault.{LineFault}
-use Rattle.line_text.specs.Lines.{JoinedLine, ends_in_backslash, fault_of, is_continued, joined, joined_bytes, kept, lines_of, physical_lines, runs, trimmed, unless_fault, without_comment, without_last}
+use Rattle.line_text.specs.Lines.{JoinedLine, ends_in_backslash, fault_of, is_continued, joined, joined_bytes, kept, lines_of, physical_lines, runs, trimmed, without_comment, without_last}
 use Rattle.line_text.specs.Words.{is_blank, is_filled}
 use Rattle.printed_replies.specs.Lengths.{is_line_feed}
 use Rattle.replies_law.specs.ReadBack.{NoFeed, is_other}
@@ -81,7 +82,7 @@ HasWords line = Each NoFeed line.words
 joined_other : (run : List (ℕ × List ℕ)) → Each IsNumbered run → HasWords (joined run)
 joined_other run each = each-filter NoFeed is_filled (slice_split is_blank (joined_bytes run)) (split_other (joined_bytes run) (bytes_other run each))
 
-unless_other : (faults : List LineFault) (lines read : List JoinedLine) → unless_fault faults lines ≡ Ok read → Each HasWords lines → Each HasWords read
+unless_other : (faults : List LineFault) (lines read : List JoinedLine) → option_map_or Err (slice_get faults 0) (Ok lines) ≡ Ok read → Each HasWords lines → Each HasWords read
 unless_other [] lines read is each = let e : lines ≡ read = cc in subst (Each HasWords) e each
 unless_other (fault ∷ faults) lines read is each = cc
 

@@ -55,7 +55,8 @@ fn asked_of<'t>(act: &Act<&'t [u8]>) -> Asked<'t>
 
 /// The acts as they were asked.
 fn asked_lines<'t>(alloc: Global, acts: &[Act<&'t [u8]>]) -> Result<Vec<Asked<'t>>, AllocError>
-    ensures { IfOk result (λ asked. map asked_line asked.items ≡ map asked_of (map named_act acts.now)) }
+    ensures { IfOk result (λ asked.
+        map asked_line asked.items ≡ map asked_of (map named_act acts.now)) }
 {
     let mut asked = Vec::new(alloc);
     for act in acts {

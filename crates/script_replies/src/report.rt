@@ -61,7 +61,8 @@ fn words_for<'a>(is_operator: bool, reply: &[u8]) -> Option<&'a str> {
 /// Writes the lines, each with its number and, below it, the first line of its reply and what may be done. Where the sink fails, it has
 /// taken a beginning of them.
 pub fn write_told<K: Sink>(sink: &mut K, told: &[ToldLine<'_>]) -> Result<(), Failed>
-    ensures { Writes K.contents K.has_failed sink.old sink.new (flat_map told_text told.now) result }
+    ensures { Writes K.contents K.has_failed sink.old sink.new (flat_map told_text told.now)
+        result }
 {
     for line in told {
         write_line(sink, line)?;

@@ -28,7 +28,9 @@ pub(crate) enum Counted {
 
 /// Takes the word for a kind off, up to the column. None where the line does not begin with one.
 pub(crate) fn take_kind(scanner: &mut Scanner<'_>) -> Option<NodeKind>
-    ensures { MatchOption result ((is_node_line scanner.old ≡ false) × (scanner.new ≡ scanner.old)) (λ kind. (is_node_line scanner.old ≡ true) × (scanner.old ≡ kind_start kind ++ scanner.new)) }
+    ensures { MatchOption result ((is_node_line scanner.old ≡ false) × (scanner.new ≡ scanner.old))
+        (λ kind. (is_node_line scanner.old ≡ true)
+        × (scanner.old ≡ kind_start kind ++ scanner.new)) }
 {
     if scanner.takes("SOURCE (") {
         return Some(NodeKind::Source);

@@ -114,7 +114,8 @@ fn read_all<'t>(
     routed: &mut Routed<'t>,
 ) -> Result<StripSize, TextError<FileFault>>
     requires { length routed.old.nodes.items ≡ 0 }
-    ensures { IfOk result (λ size. AreTold (node_lines texts.entry.route.now) routed.new.nodes.items) }
+    ensures { IfOk result (λ size. AreTold (node_lines texts.entry.route.now)
+        routed.new.nodes.items) }
 {
     listed.read(texts.net)?;
     let size = placed.read(texts.place, &listed.blocks)?;

@@ -102,7 +102,9 @@ impl<'t> Routed<'t> {
         kind: NodeKind,
         tail: Scanner<'_>,
     ) -> Result<(), TextError<Fault>>
-        ensures { OnOk result ((read : RouteNode) × (self.new.nodes.items ≡ self.old.nodes.items ++ read ∷ []) × (read.node.kind ≡ kind) × IsTailOf tail.entry read.node) }
+        ensures { OnOk result ((read : RouteNode)
+            × (self.new.nodes.items ≡ self.old.nodes.items ++ read ∷ []) × (read.node.kind ≡ kind)
+            × IsTailOf tail.entry read.node) }
     {
         if self.nets.is_empty() {
             return Err(TextError::Fault(Fault::UnknownLine));

@@ -35,8 +35,10 @@ pub struct Channels {
 
 /// How many tracks of each channel of a strip the routes of its nets use. A track that is used twice, by one net or by two, is one.
 pub fn channels_of(alloc: Global, strip: &RoutedStrip<'_>) -> Result<Channels, AllocError>
-    ensures across { IfOk result (λ channels. channels.across.items ≡ across_uses strip.now.size strip.now.nodes.items) }
-    ensures up { IfOk result (λ channels. channels.up.items ≡ up_uses strip.now.size strip.now.nodes.items) }
+    ensures across { IfOk result (λ channels.
+        channels.across.items ≡ across_uses strip.now.size strip.now.nodes.items) }
+    ensures up { IfOk result (λ channels.
+        channels.up.items ≡ up_uses strip.now.size strip.now.nodes.items) }
 {
     let used = used_tracks(alloc, &strip.nodes)?;
     let across = across_channels(alloc, strip.size, &used)?;
@@ -66,7 +68,8 @@ fn no_tracks(alloc: Global, channels: usize) -> Result<Vec<u64>, AllocError>
 /// The used tracks with that of a node, if it is a wire.
 fn marked(used: Vec<u64>, read: RouteNode) -> Vec<u64>
     requires { length used.items ≡ CHANNELS }
-    ensures { (nodes : List RouteNode) → HasTracks nodes used.items → HasTracks (nodes ++ read ∷ []) result.items }
+    ensures { (nodes : List RouteNode) → HasTracks nodes used.items →
+        HasTracks (nodes ++ read ∷ []) result.items }
 {
     match channel_of(read) {
         Some(number) => with_track(used, number, read.node.n),
@@ -78,7 +81,8 @@ fn marked(used: Vec<u64>, read: RouteNode) -> Vec<u64>
 fn with_track(mut used: Vec<u64>, number: usize, track: u32) -> Vec<u64>
     requires channel { number < length used.items }
     requires track { track < MOST_TRACKS }
-    ensures { result.items ≡ set used.items number (bit_or (slice_index used.items number) (1 * 2 ^ track % 2 ^ 64)) }
+    ensures { result.items ≡ set used.items number
+        (bit_or (slice_index used.items number) (1 * 2 ^ track % 2 ^ 64)) }
 {
     used[number] |= 1 << track;
     used
@@ -117,7 +121,8 @@ fn tracks_in(used: &[u64], direction: Direction, x: u32, y: u32) -> usize
     requires used { length used.now ≡ CHANNELS }
     requires column { x ≤ 256 }
     requires row { y ≤ 64 }
-    ensures { (nodes : List RouteNode) → HasTracks nodes used.now → result ≡ tracks_in direction x y nodes }
+    ensures { (nodes : List RouteNode) → HasTracks nodes used.now →
+        result ≡ tracks_in direction x y nodes }
 {
     bits_set(used[channel_number(direction, x, y)], MOST_TRACKS)
 }
@@ -125,7 +130,8 @@ fn tracks_in(used: &[u64], direction: Direction, x: u32, y: u32) -> usize
 /// How many of the first so many bits are set.
 fn bits_set(bits: u64, count: u32) -> usize
     requires { count ≤ 64 }
-    ensures { result ≡ count_by (λ track. bit_and (bits / 2 ^ track) 1 == 1) (range_with_len 0 count) }
+    ensures { result ≡ count_by (λ track. bit_and (bits / 2 ^ track) 1 == 1)
+        (range_with_len 0 count) }
 {
     (0..count).filter(|track| bits >> *track & 1 == 1).count()
 }
@@ -137,7 +143,8 @@ fn across_channels(
     used: &[u64],
 ) -> Result<Vec<ChannelUse>, AllocError>
     requires { length used.now ≡ CHANNELS }
-    ensures { IfOk result (λ channels. (nodes : List RouteNode) → HasTracks nodes used.now → channels.items ≡ across_uses size nodes) }
+    ensures { IfOk result (λ channels. (nodes : List RouteNode) → HasTracks nodes used.now →
+        channels.items ≡ across_uses size nodes) }
 {
     let rows = size.rows + 1;
     let mut channels = Vec::new(alloc);
@@ -159,7 +166,8 @@ fn across_channels(
 /// The channels right of columns.
 fn up_channels(alloc: Global, size: StripSize, used: &[u64]) -> Result<Vec<ChannelUse>, AllocError>
     requires { length used.now ≡ CHANNELS }
-    ensures { IfOk result (λ channels. (nodes : List RouteNode) → HasTracks nodes used.now → channels.items ≡ up_uses size nodes) }
+    ensures { IfOk result (λ channels. (nodes : List RouteNode) → HasTracks nodes used.now →
+        channels.items ≡ up_uses size nodes) }
 {
     let rows = size.rows;
     let mut channels = Vec::new(alloc);

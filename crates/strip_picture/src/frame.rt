@@ -3,6 +3,7 @@ ghost use Rattle.std.specs.Prelude.{◌≤◌};
 
 use crate::plan::Plan;
 use line_text::{Failed, Sink};
+use picture_lines::{Sheet, begin_group, end_group, write_numbers, write_rows, write_swatch};
 use text_parts::{Part, write_parts};
 
 /// The styles: letters, names, numbers of channels, empty places, clusters, input and output pads, wires and pins of nets, a picked net, its
@@ -73,26 +74,13 @@ impl Frame {
 
     /// Writes the beginning: the size, the styles, and the ground.
     pub(crate) fn write_head<K: Sink>(&self, sink: &mut K) -> Result<(), Failed> {
-        let dots = self.dots();
-        let height = self.height();
-        write_parts(
-            sink,
-            &[
-                Part::Text("<svg xmlns=\"http://www.w3.org/2000/svg\" width=\""),
-                Part::Number(dots),
-                Part::Text("\" height=\""),
-                Part::Number(height * dots / self.width),
-                Part::Text("\" viewBox=\"0 0 "),
-                Part::Number(self.width),
-                Part::Text(" "),
-                Part::Number(height),
-                Part::Text("\" font-size=\""),
-                Part::Number(self.plan.font),
-                Part::Text("\">\n"),
-                Part::Text(STYLES),
-                Part::Text("<rect width=\"100%\" height=\"100%\" fill=\"#fff\"/>\n"),
-            ],
-        )
+        let sheet = Sheet {
+            width: self.width,
+            height: self.height(),
+            dots: self.dots(),
+            font: self.plan.font,
+        };
+        sheet.write_head(sink, STYLES)
     }
 
     /// Begins a heading: the first or the second.
@@ -144,73 +132,41 @@ impl Frame {
 
     /// Begins a group with its point 0 where column 0 and row 0 begin, and what is done with it then.
     fn begin_group<K: Sink>(&self, sink: &mut K, turn: &str) -> Result<(), Failed> {
-        write_parts(
-            sink,
-            &[
-                Part::Text("<g transform=\"translate("),
-                Part::Number(self.left()),
-                Part::Text(" "),
-                Part::Number(self.ground()),
-                Part::Text(") translate(-"),
-                Part::Number(self.plan.lattice.block),
-                Part::Text(" 0)"),
-                Part::Text(turn),
-            ],
-        )
-    }
-
-    /// Ends a group.
-    pub(crate) fn end_group<K: Sink>(&self, sink: &mut K) -> Result<(), Failed> {
-        write_parts(sink, &[Part::Text("</g>\n")])
+        begin_group(sink, self.plan.lattice, self.left(), self.ground(), turn)
     }
 
     /// Writes the numbers of columns below the strip.
     pub(crate) fn write_columns<K: Sink>(&self, sink: &mut K) -> Result<(), Failed> {
-        let lattice = self.plan.lattice;
-        let step = self.step();
+        let plan = self.plan;
         self.begin_group(sink, "\" text-anchor=\"middle\">\n")?;
-        for column in 1..=self.plan.size.columns {
-            if column % step == 0 {
-                let x = lattice.start(column) + lattice.block / 2;
-                write_place(sink, "<text dy=\"1.2em\" x=\"", x, column)?;
-            }
-        }
-        self.end_group(sink)
+        write_numbers(
+            sink,
+            plan.lattice,
+            "<text dy=\"1.2em\" x=\"",
+            plan.size.columns,
+            self.step(),
+        )?;
+        end_group(sink)
     }
 
     /// Writes the numbers of rows left of the strip.
     pub(crate) fn write_rows<K: Sink>(&self, sink: &mut K) -> Result<(), Failed> {
-        let lattice = self.plan.lattice;
-        let step = self.step();
-        write_parts(
+        let plan = self.plan;
+        write_rows(
             sink,
-            &[
-                Part::Text("<g transform=\"translate("),
-                Part::Number(3 * self.plan.font),
-                Part::Text(" "),
-                Part::Number(self.ground()),
-                Part::Text(")\" text-anchor=\"end\">\n"),
-            ],
-        )?;
-        for row in 1..=self.plan.size.rows {
-            if row % step == 0 {
-                let y = lattice.start(row) + lattice.block / 2;
-                write_place(sink, "<text dy=\".35em\" y=\"-", y, row)?;
-            }
-        }
-        self.end_group(sink)
+            plan.lattice,
+            3 * plan.font,
+            self.ground(),
+            plan.size.rows,
+            self.step(),
+        )
     }
 
     /// Of so many columns, or rows, one has its number beside it.
     fn step(&self) -> u32
         ensures { 1 ≤ result }
     {
-        for step in [1, 2, 5, 10, 20, 50].iter() {
-            if *step * self.plan.lattice.pitch() >= 2 * self.plan.font {
-                return *step;
-            }
-        }
-        100
+        self.plan.lattice.step(2 * self.plan.font)
     }
 
     /// Writes an entry of the legend: a square of a class, and words.
@@ -224,39 +180,13 @@ impl Frame {
         requires { entry ≤ 8 }
     {
         let font = self.plan.font;
-        write_parts(
+        write_swatch(
             sink,
-            &[
-                Part::Text("<g transform=\"translate("),
-                Part::Number(font + entry * 9 * font),
-                Part::Text(" "),
-                Part::Number(self.ground() + 4 * font),
-                Part::Text(")\"><rect class=\""),
-                Part::Text(class),
-                Part::Text("\" style=\"stroke-width:.12em\" width=\""),
-                Part::Number(font),
-                Part::Text("\" height=\""),
-                Part::Number(font),
-                Part::Text("\"/><text x=\""),
-                Part::Number(2 * font),
-                Part::Text("\" dy=\".85em\">"),
-                Part::Text(words),
-                Part::Text("</text></g>\n"),
-            ],
-        )
+            font + entry * 9 * font,
+            self.ground() + 4 * font,
+            font,
+            class,
+        )?;
+        write_parts(sink, &[Part::Text(words), Part::Text("</text></g>\n")])
     }
-}
-
-/// Writes a number at a place.
-fn write_place<K: Sink>(sink: &mut K, start: &str, place: u32, number: u32) -> Result<(), Failed> {
-    write_parts(
-        sink,
-        &[
-            Part::Text(start),
-            Part::Number(place),
-            Part::Text("\">"),
-            Part::Number(number),
-            Part::Text("</text>\n"),
-        ],
-    )
 }

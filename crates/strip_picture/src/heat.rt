@@ -78,7 +78,8 @@ pub(crate) fn write_numbers<K: Sink>(
     lattice: Lattice,
     channels: &[ChannelUse],
 ) -> Result<(), Failed>
-    ensures { Writes K.contents K.has_failed sink.old sink.new (flat_map (number_text lattice) channels.now) result }
+    ensures { Writes K.contents K.has_failed sink.old sink.new
+        (flat_map (number_text lattice) channels.now) result }
 {
     for channel in channels {
         write_number(sink, lattice, *channel)?;
@@ -92,7 +93,8 @@ pub fn write_number<K: Sink>(
     lattice: Lattice,
     channel: ChannelUse,
 ) -> Result<(), Failed>
-    ensures { Writes K.contents K.has_failed sink.old sink.new (number_text lattice channel) result }
+    ensures { Writes K.contents K.has_failed sink.old sink.new (number_text lattice channel)
+        result }
 {
     let x = middle(lattice, channel.x, goes_up(channel.direction));
     let y = middle(lattice, channel.y, goes_across(channel.direction));

@@ -7,7 +7,7 @@ use crate::names::write_beginning;
 use crate::plan::Plan;
 use crate::routes::{Detail, TOLD_LETTERS, write_routes};
 use line_text::{Failed, Sink};
-use picture_lines::DrawError;
+use picture_lines::{DrawError, end_group};
 use rr_graph::NodeKind;
 use std::alloc::Global;
 use strip_files::RoutedStrip;
@@ -116,7 +116,7 @@ fn write_sheet<K: Sink>(sink: &mut K, sheet: Sheet<'_, '_>) -> Result<(), Failed
     write_second_heading(sink, &sheet)?;
     frame.begin_shapes(sink)?;
     write_shapes(sink, &sheet)?;
-    frame.end_group(sink)?;
+    end_group(sink)?;
     write_texts(sink, &sheet)?;
     frame.write_columns(sink)?;
     frame.write_rows(sink)?;
@@ -207,15 +207,15 @@ fn write_texts<K: Sink>(sink: &mut K, sheet: &Sheet<'_, '_>) -> Result<(), Faile
     let plan = frame.plan;
     frame.begin_texts(sink, "m", plan.name_font, "")?;
     write_cluster_names(sink, plan, sheet.strip)?;
-    frame.end_group(sink)?;
+    end_group(sink)?;
     frame.begin_texts(sink, "m", plan.pad_font, " rotate(-90)")?;
     write_pad_names(sink, plan, sheet.strip)?;
-    frame.end_group(sink)?;
+    end_group(sink)?;
     if sheet.view == View::Channels {
         frame.begin_texts(sink, "n", 5 * plan.lattice.channel, "")?;
         write_numbers(sink, plan.lattice, &sheet.channels.across)?;
         write_numbers(sink, plan.lattice, &sheet.channels.up)?;
-        frame.end_group(sink)?;
+        end_group(sink)?;
     }
     Ok(())
 }

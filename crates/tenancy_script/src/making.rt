@@ -10,7 +10,8 @@ impl<'a> TenancyScript<'a> {
     /// The script of a tenancy of that name with that text, or why there is none.
     pub fn new(wishes: Wishes<'a>, text: &'a [u8]) -> Result<Self, Fault>
         requires { length text.now < 2 ^ 63 }
-        ensures refused { IfErr result (λ fault. refusal_of wishes.entry.name.now text.now ≡ Some fault) }
+        ensures refused { IfErr result (λ fault.
+            refusal_of wishes.entry.name.now text.now ≡ Some fault) }
         ensures told { IfOk result (λ script. refusal_of wishes.entry.name.now text.now ≡ None) }
         ensures of { IfOk result (λ script. IsOf wishes.entry text.now script) }
     {

@@ -13,8 +13,11 @@ impl TenancyScript<'_> {
     /// Prints it. Put behind any script that is whole, it adds to what that says just the tenancy's own: its admission if it has a
     /// width, one upload of the text, and the commands.
     pub fn write<K: Sink>(&self, sink: &mut K) -> Result<(), Failed>
-        ensures written { Writes K.contents K.has_failed sink.old sink.new (printed self.now) result }
-        ensures says { (number : ℕ) (before : List ℕ) → IsWhole before → script_of number (before ++ printed self.now) ≡ followed_by (script_of number before) (acts_of self.now) }
+        ensures written { Writes K.contents K.has_failed sink.old sink.new (printed self.now)
+            result }
+        ensures says { (number : ℕ) (before : List ℕ) → IsWhole before →
+            script_of number (before ++ printed self.now)
+            ≡ followed_by (script_of number before) (acts_of self.now) }
         ensures whole { (before : List ℕ) → IsWhole before → IsWhole (before ++ printed self.now) }
     {
         self.laws();
@@ -25,7 +28,9 @@ impl TenancyScript<'_> {
 
     /// What it says, behind whatever script.
     fn laws(&self)
-        ensures says { (number : ℕ) (before : List ℕ) → IsWhole before → script_of number (before ++ printed self.now) ≡ followed_by (script_of number before) (acts_of self.now) }
+        ensures says { (number : ℕ) (before : List ℕ) → IsWhole before →
+            script_of number (before ++ printed self.now)
+            ≡ followed_by (script_of number before) (acts_of self.now) }
         ensures whole { (before : List ℕ) → IsWhole before → IsWhole (before ++ printed self.now) }
     {
         match self.width {
@@ -36,7 +41,8 @@ impl TenancyScript<'_> {
 
     /// Prints the operator's line.
     fn write_admission<K: Sink>(&self, sink: &mut K) -> Result<(), Failed>
-        ensures { Writes K.contents K.has_failed sink.old sink.new (printed_admission self.now.width self.now.name.now) result }
+        ensures { Writes K.contents K.has_failed sink.old sink.new
+            (printed_admission self.now.width self.now.name.now) result }
     {
         match self.width {
             Some(width) => write_parts(
@@ -55,7 +61,8 @@ impl TenancyScript<'_> {
 
     /// Prints the upload.
     fn write_upload<K: Sink>(&self, sink: &mut K) -> Result<(), Failed>
-        ensures { Writes K.contents K.has_failed sink.old sink.new (printed_upload self.now.name.now self.now.text.now) result }
+        ensures { Writes K.contents K.has_failed sink.old sink.new
+            (printed_upload self.now.name.now self.now.text.now) result }
     {
         write_parts(
             sink,
@@ -72,7 +79,8 @@ impl TenancyScript<'_> {
 
     /// Prints the commands behind it.
     fn write_commands<K: Sink>(&self, sink: &mut K) -> Result<(), Failed>
-        ensures { Writes K.contents K.has_failed sink.old sink.new (printed_commands self.now.name.now self.now.seed self.now.effort) result }
+        ensures { Writes K.contents K.has_failed sink.old sink.new
+            (printed_commands self.now.name.now self.now.seed self.now.effort) result }
     {
         let name = Part::Bytes(self.name);
         write_parts(

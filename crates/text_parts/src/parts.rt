@@ -17,7 +17,8 @@ pub enum Part<'a> {
 
 /// Writes the parts, one behind the other. At a failure the sink has taken a beginning of them.
 pub fn write_parts<K: Sink>(sink: &mut K, parts: &[Part<'_>]) -> Result<(), Failed>
-    ensures { Writes K.contents K.has_failed sink.old sink.new (flat_map bytes_of_part parts.now) result }
+    ensures { Writes K.contents K.has_failed sink.old sink.new (flat_map bytes_of_part parts.now)
+        result }
 {
     for part in parts {
         write_part(sink, part)?;

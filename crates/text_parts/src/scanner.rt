@@ -57,7 +57,8 @@ impl<'t> Scanner<'t> {
 
     /// Takes a decimal of 32 bits off. None where there is none.
     pub fn number(&mut self) -> Option<u32>
-        ensures { IfSome result (λ number. (digits : List ℕ) × (decimal_of 32 digits ≡ Some number) × (self.old ≡ digits ++ self.new)) }
+        ensures { IfSome result (λ number. (digits : List ℕ) × (decimal_of 32 digits ≡ Some number)
+            × (self.old ≡ digits ++ self.new)) }
     {
         let end = self.rest.iter().position(|byte| !byte.is_ascii_digit());
         decimal_u32(self.split(end))

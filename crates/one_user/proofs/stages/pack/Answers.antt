@@ -20,8 +20,8 @@ packed_counts-requires g c =
     let done = packing_done task (old.state.generation + 1) (old.state.entries + 1) c.ask.new.slot.id c.ask.new.slot new c.in_ok-last.last went.0 went.1 (omega (arith, c.requires.slot.few)) c.in_ok-last.ensures in
     done.1
 
-pub place-requires-clause-slot : goal.place-requires-clause-slot
-place-requires-clause-slot g c =
+pub place-requires : goal.place-requires
+place-requires g c =
     let old = c.args.slot.now in
     let task = task_in old.state c.args.request.seed c.args.request.effort in
     let new = c.make_steps.new.slot in
@@ -29,40 +29,13 @@ place-requires-clause-slot g c =
     let went = subst (Leads task IsPacked (state_at task Packing 0 0 (old.state.generation + 1) (old.state.entries + 1)) c.ask.new.slot) c.in-None.is leads in
     let done = packing_done task (old.state.generation + 1) (old.state.entries + 1) c.ask.new.slot.id c.ask.new.slot new c.in_ok-last.last went.0 went.1 (omega (arith, c.requires.slot.few)) c.in_ok-last.ensures in
     let own : task_in new.state task.seed task.effort ≡ task = task_own task Packed 0 0 8194 new done.0 in
-    subst (λ (t : Task). IsAt t Packed 0 0 8194 new) (sym own) done.0
-
-pub place-requires-clause-window : goal.place-requires-clause-window
-place-requires-clause-window g c =
-    let old = c.args.slot.now in
-    let task = task_in old.state c.args.request.seed c.args.request.effort in
-    let new = c.make_steps.new.slot in
-    let leads = pack_leads task old c.requires.slot c.requires.loaded c.ask.new.slot c.in_ok-refusal.field-0 c.in_ok-refusal.ensures.reply c.in_ok-refusal.ensures.slot in
-    let went = subst (Leads task IsPacked (state_at task Packing 0 0 (old.state.generation + 1) (old.state.entries + 1)) c.ask.new.slot) c.in-None.is leads in
-    let done = packing_done task (old.state.generation + 1) (old.state.entries + 1) c.ask.new.slot.id c.ask.new.slot new c.in_ok-last.last went.0 went.1 (omega (arith, c.requires.slot.few)) c.in_ok-last.ensures in
-    let own : task_in new.state task.seed task.effort ≡ task = task_own task Packed 0 0 8194 new done.0 in
-    c.requires.window ∙ sym (ap (λ (t : Task). let b : Basis = record { arch = t.arch; strip = t.strip } in b) own)
-
-pub place-requires-clause-packed : goal.place-requires-clause-packed
-place-requires-clause-packed g c =
-    let old = c.args.slot.now in
-    let task = task_in old.state c.args.request.seed c.args.request.effort in
-    let new = c.make_steps.new.slot in
-    let leads = pack_leads task old c.requires.slot c.requires.loaded c.ask.new.slot c.in_ok-refusal.field-0 c.in_ok-refusal.ensures.reply c.in_ok-refusal.ensures.slot in
-    let went = subst (Leads task IsPacked (state_at task Packing 0 0 (old.state.generation + 1) (old.state.entries + 1)) c.ask.new.slot) c.in-None.is leads in
-    let done = packing_done task (old.state.generation + 1) (old.state.entries + 1) c.ask.new.slot.id c.ask.new.slot new c.in_ok-last.last went.0 went.1 (omega (arith, c.requires.slot.few)) c.in_ok-last.ensures in
-    let own : task_in new.state task.seed task.effort ≡ task = task_own task Packed 0 0 8194 new done.0 in
-    subst IsPacked (sym own) went.0
-
-pub place-requires-clause-counts : goal.place-requires-clause-counts
-place-requires-clause-counts g c =
-    let old = c.args.slot.now in
-    let task = task_in old.state c.args.request.seed c.args.request.effort in
-    let new = c.make_steps.new.slot in
-    let leads = pack_leads task old c.requires.slot c.requires.loaded c.ask.new.slot c.in_ok-refusal.field-0 c.in_ok-refusal.ensures.reply c.in_ok-refusal.ensures.slot in
-    let went = subst (Leads task IsPacked (state_at task Packing 0 0 (old.state.generation + 1) (old.state.entries + 1)) c.ask.new.slot) c.in-None.is leads in
-    let done = packing_done task (old.state.generation + 1) (old.state.entries + 1) c.ask.new.slot.id c.ask.new.slot new c.in_ok-last.last went.0 went.1 (omega (arith, c.requires.slot.few)) c.in_ok-last.ensures in
-    let own : task_in new.state task.seed task.effort ≡ task = task_own task Packed 0 0 8194 new done.0 in
-    subst (λ (t : Task). AreCounts t c.packed_counts.result) (sym own) (done.2 c.packed_counts.result c.packed_counts.ensures)
+    record {
+      effort = c.requires.effort;
+      slot = subst (λ (t : Task). IsAt t Packed 0 0 8194 new) (sym own) done.0;
+      window = c.requires.window ∙ sym (ap (λ (t : Task). let b : Basis = record { arch = t.arch; strip = t.strip } in b) own);
+      packed = subst IsPacked (sym own) went.0;
+      counts = subst (λ (t : Task). AreCounts t c.packed_counts.result) (sym own) (done.2 c.packed_counts.result c.packed_counts.ensures);
+    }
 
 pub returns-clause-outcome : goal.returns-clause-outcome
 returns-clause-outcome g c =

@@ -18,20 +18,8 @@ use Rattle.one_user.proofs.Courses.{route_leads, routing_done}
 use Rattle.one_user.proofs.Routings.{ending_is, has_routed, none_failed, routed_files, routed_held, routed_loaded, same_ending, share_of, some_ending}
 use Rattle.one_user.proofs.stages.route.Goals as goal
 
-pub files_of-requires-clause-room : goal.files_of-requires-clause-room
-files_of-requires-clause-room g c =
-    let old = c.args.slot.now in
-    let task = task_in old.state old.state.seed old.state.effort in
-    let placed = c.requires.placed in
-    let new = c.make_steps.new.slot in
-    let went = route_leads task old c.requires.slot c.ask.new.slot c.in_ok-refusal.field-0 c.in_ok-refusal.ensures.reply c.in_ok-refusal.ensures.slot in
-    let done = routing_done task placed (old.state.generation + 1) (old.state.entries + 1) c.ask.new.slot.id c.ask.new.slot new c.in_ok-last.last went.1 c.in_ok-last.ensures in
-    let failure = failure_of (end_value (routing_of task)) in
-    let count = old.state.entries + 1 + c.in_ok-last.last.number in
-    omega (arith, ap (λ (s : SlotState). s.state.entries) done.0, c.requires.slot.few, done.2)
-
-pub files_of-requires-clause-loaded : goal.files_of-requires-clause-loaded
-files_of-requires-clause-loaded g c =
+pub files_of-requires : goal.files_of-requires
+files_of-requires g c =
     let old = c.args.slot.now in
     let task = task_in old.state old.state.seed old.state.effort in
     let placed = c.requires.placed in
@@ -42,21 +30,12 @@ files_of-requires-clause-loaded g c =
     let count = old.state.entries + 1 + c.in_ok-last.last.number in
     let none : failure ≡ None = none_failed task placed (old.state.generation + 1) (old.state.entries + 1) count failure (sym (ap (λ (s : SlotState). s.state.name) done.0) ∙ (sym c.state.ensures ∙ c.in-Routed.is)) in
     let routed : HasRouted task new.state = subst (λ (s : SlotState). HasRouted task s.state) (sym done.0) (has_routed task placed (old.state.generation + 1) (old.state.entries + 1) count failure none) in
-    routed_loaded task placed new.state routed
-
-pub files_of-requires-clause-kept : goal.files_of-requires-clause-kept
-files_of-requires-clause-kept g c =
-    let old = c.args.slot.now in
-    let task = task_in old.state old.state.seed old.state.effort in
-    let placed = c.requires.placed in
-    let new = c.make_steps.new.slot in
-    let went = route_leads task old c.requires.slot c.ask.new.slot c.in_ok-refusal.field-0 c.in_ok-refusal.ensures.reply c.in_ok-refusal.ensures.slot in
-    let done = routing_done task placed (old.state.generation + 1) (old.state.entries + 1) c.ask.new.slot.id c.ask.new.slot new c.in_ok-last.last went.1 c.in_ok-last.ensures in
-    let failure = failure_of (end_value (routing_of task)) in
-    let count = old.state.entries + 1 + c.in_ok-last.last.number in
-    let none : failure ≡ None = none_failed task placed (old.state.generation + 1) (old.state.entries + 1) count failure (sym (ap (λ (s : SlotState). s.state.name) done.0) ∙ (sym c.state.ensures ∙ c.in-Routed.is)) in
-    let routed : HasRouted task new.state = subst (λ (s : SlotState). HasRouted task s.state) (sym done.0) (has_routed task placed (old.state.generation + 1) (old.state.entries + 1) count failure none) in
-    routed.kept
+    record {
+      routed = sym c.state.ensures ∙ c.in-Routed.is;
+      room = omega (arith, ap (λ (s : SlotState). s.state.entries) done.0, c.requires.slot.few, done.2);
+      loaded = routed_loaded task placed new.state routed;
+      kept = routed.kept;
+    }
 
 pub returns-in_ok-files_of-in-Routed-clause-outcome : goal.returns-in_ok-files_of-in-Routed-clause-outcome
 returns-in_ok-files_of-in-Routed-clause-outcome g c =

@@ -9,17 +9,14 @@ use Rattle.one_user.proofs.steps.make_steps.Goals as goal
 pub loop-step-init : goal.loop-step-init
 loop-step-init g c = record { is = first_state c.args.slot.now c.requires.here c.requires.first; few = omega arith }
 
-pub make_step-requires-clause-runs : goal.make_step-requires-clause-runs
-make_step-requires-clause-runs g c = subst (λ (s : SlotState). IsSome (running s.state.name)) (sym c.loop-step.invariant.is) c.requires.runs
-
-pub make_step-requires-clause-here : goal.make_step-requires-clause-here
-make_step-requires-clause-here g c = ap (λ (s : SlotState). s.here) c.loop-step.invariant.is
-
-pub make_step-requires-clause-room : goal.make_step-requires-clause-room
-make_step-requires-clause-room g c = omega (arith, ap (λ (s : SlotState). s.state.entries) c.loop-step.invariant.is, c.loop-step.invariant.few, c.requires.room)
-
-pub make_step-requires-clause-window : goal.make_step-requires-clause-window
-make_step-requires-clause-window g c = c.requires.window ∙ ap (λ (s : SlotState). device_of s.state) (sym c.loop-step.invariant.is)
+pub make_step-requires : goal.make_step-requires
+make_step-requires g c =
+    record {
+      runs = subst (λ (s : SlotState). IsSome (running s.state.name)) (sym c.loop-step.invariant.is) c.requires.runs;
+      here = ap (λ (s : SlotState). s.here) c.loop-step.invariant.is;
+      room = omega (arith, ap (λ (s : SlotState). s.state.entries) c.loop-step.invariant.is, c.loop-step.invariant.few, c.requires.room);
+      window = c.requires.window ∙ ap (λ (s : SlotState). device_of s.state) (sym c.loop-step.invariant.is);
+    }
 
 pub returns-in-Finished : goal.returns-in-Finished
 returns-in-Finished g c =
