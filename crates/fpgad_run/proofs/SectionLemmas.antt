@@ -73,29 +73,20 @@ length-found (n ∷ names) name h =
       | false ↦ λ e. let later = number_of-later n names name e in ap length (with_name-later n names name e) ∙ ap suc (length-found names name (omega (arith, h, later)))
     ] refl
 
--- the next section
-pub zipped-drop : (names : List (List ℕ)) (texts : List Text) (n : ℕ) (name : List ℕ) (v : Text) → length texts ≡ length names → n < length texts → slice_get names n ≡ Some name →
-    zipped (drop n names) (drop n texts) ≡ section name (held (get_or texts n v)) ∷ zipped (drop (n + 1) names) (drop (n + 1) texts)
-zipped-drop names [] n name v same within at = absurd (omega arith)
-zipped-drop [] (t ∷ texts) n name v same within at = absurd (omega arith)
-zipped-drop (m ∷ names) (t ∷ texts) zero name v same within at = let e : m ≡ name = cc in ap (λ k. section k (held t) ∷ zipped names texts) e
-zipped-drop (m ∷ names) (t ∷ texts) (suc n) name v same within at =
-    zipped-drop names texts n name v (omega arith) (omega arith) at ∙ ap (λ k. section name (held (get_or texts n v)) ∷ zipped (drop k names) (drop k texts)) (add-one n)
-    ∙ ap (λ k. section name (held (get_or texts n v)) ∷ zipped (drop k (m ∷ names)) (drop k (t ∷ texts))) (sym (add-one (suc n)))
+-- the section at a place
+pub section-at : (names : List (List ℕ)) (texts : List Text) (n : ℕ) (name : List ℕ) (v : Text) → length texts ≡ length names → n < length texts → slice_get names n ≡ Some name → v ≡ get_or texts n v →
+    slice_get (zipped names texts) n ≡ Some (section name (held v))
+section-at names [] n name v same within at is = absurd (omega arith)
+section-at [] (t ∷ texts) n name v same within at is = absurd (omega arith)
+section-at (m ∷ names) (t ∷ texts) zero name v same within at is = let e : m ≡ name = cc in ap (λ k. Some (section k (held t))) e ∙ ap (λ w. Some (section name (held w))) (sym is)
+section-at (m ∷ names) (t ∷ texts) (suc n) name v same within at is = section-at names texts n name v (omega arith) (omega arith) at is
 
-pub on_ok_if : {E P : Type 0} (r : Result (Unit {0}) E) (new old more : List ℕ) → new ≡ (if is_ok r then old ++ more else old) → (new ≡ old ++ more → P) → OnOk r P
-on_ok_if (Ok u) new old more e f = f e
-on_ok_if (Err e) new old more is f = tt
-
--- one section more is told
-pub section-told : (out next : List ℕ) (names : List (List ℕ)) (texts : List Text) (n : ℕ) (name : List ℕ) (v : Text) (whole : List ℕ) → length texts ≡ length names → n < length texts → slice_get names n ≡ Some name →
-    v ≡ get_or texts n v → next ≡ out ++ (heading name ++ held v) →
-    out ++ flat_map section_text (zipped (drop n names) (drop n texts)) ≡ whole → next ++ flat_map section_text (zipped (drop (n + 1) names) (drop (n + 1) texts)) ≡ whole
-section-told out next names texts n name v whole same within at is told so_far =
-    ap (λ t. t ++ flat_map section_text (zipped (drop (n + 1) names) (drop (n + 1) texts))) told
-    ∙ append_assoc out (heading name ++ held v) _
-    ∙ ap (λ (w : Text). out ++ ((heading name ++ held w) ++ flat_map section_text (zipped (drop (n + 1) names) (drop (n + 1) texts)))) is
-    ∙ ap (λ ss. out ++ flat_map section_text ss) (sym (zipped-drop names texts n name v same within at)) ∙ so_far
+-- there are as many sections as texts
+pub length-zipped : (names : List (List ℕ)) (texts : List Text) → length texts ≡ length names → length (zipped names texts) ≡ length texts
+length-zipped [] [] same = refl
+length-zipped [] (t ∷ texts) same = absurd (omega arith)
+length-zipped (n ∷ names) [] same = refl
+length-zipped (n ∷ names) (t ∷ texts) same = ap suc (length-zipped names texts (omega arith))
 
 -- the answer is written where the sink had the memory
 pub on_told : {P : Type 0} (r : Result (Unit {0}) AllocError) (w : Result (Unit {0}) Failed) (old new : MemorySink) (text : List ℕ) → is_ok r ≡ is_ok w →

@@ -3,6 +3,7 @@ use Rattle.std.specs.Prelude.{ℕ, ◌≡◌, ◌≢◌, List, take, Bool, true,
 use Rattle.std.specs.declared.vec.Vec.{Vec}
 use Rattle.std.specs.declared.alloc.Global.{Global}
 use Rattle.std.specs.Io.KnownBytes.{Appends}
+use Rattle.line_text.specs.declared.source.Failed.{Failed}
 use Rattle.fpgad_run.specs.declared.inputs.Architecture.{Architecture}
 use Rattle.fpgad_run.specs.declared.inputs.Architecture.TheVariants.{Unreadable}
 use Rattle.fpgad_run.specs.declared.outcome.Outcome.{Outcome}
@@ -17,9 +18,9 @@ IsInput architecture remaining (Err InputFailed) failed = (architecture ≢ Unre
 IsInput architecture remaining (Err NoMemory) failed = architecture ≢ Unreadable
 IsInput architecture remaining (Err outcome) failed = ⊥
 
--- a script with that start may be answered so, its replies being of that kind
-abbrev pub Replies : {A : Type 0} → (List ℕ → Type 0) → Start A → Result (Vec ℕ Global) Outcome → Type 0
-Replies IsReply start (Ok output) = IsReply output.items
+-- a script with that start may be answered so, what it was told being of that kind
+abbrev pub Replies : {A B : Type 0} → (B → Type 0) → Start A → Result B Outcome → Type 0
+Replies IsReply start (Ok told) = IsReply told
 Replies IsReply start (Err ArchUnreadable) = start ≡ Err ArchUnreadable
 Replies IsReply start (Err (ArchRefused fault)) = start ≡ Err (ArchRefused fault)
 Replies IsReply start (Err (ScriptFault line)) = start ≡ Err (ScriptFault line)
@@ -27,9 +28,14 @@ Replies IsReply start (Err NoMemory) = ⊤
 Replies IsReply start (Err NotSettled) = IsOk start
 Replies IsReply start (Err outcome) = ⊥
 
--- the replies are written, or the first of them, or nothing where there are none
-abbrev pub EndsWith : Result (Vec ℕ Global) Outcome → Outcome → Option (List ℕ) → Option (List ℕ) → Bool → Type 0
-EndsWith (Ok output) Done old new failed = Appends old new output.items
-EndsWith (Ok output) OutputFailed old new failed = ((n : ℕ) × Appends old new (take n output.items)) × (failed ≡ true)
-EndsWith (Ok output) outcome old new failed = ⊥
-EndsWith (Err refusal) outcome old new failed = (outcome ≡ refusal) × (new ≡ old)
+-- what was told is written, or the first of it, or nothing where nothing was
+abbrev pub EndsWith : {B : Type 0} → (B → List ℕ) → Result B Outcome → Outcome → Option (List ℕ) → Option (List ℕ) → Bool → Type 0
+EndsWith text_of (Ok told) Done old new failed = Appends old new (text_of told)
+EndsWith text_of (Ok told) OutputFailed old new failed = ((n : ℕ) × Appends old new (take n (text_of told))) × (failed ≡ true)
+EndsWith text_of (Ok told) outcome old new failed = ⊥
+EndsWith text_of (Err refusal) outcome old new failed = (outcome ≡ refusal) × (new ≡ old)
+
+-- how a run ends that is written so
+abbrev pub ending : Result (Unit {0}) Failed → Outcome
+ending (Ok u) = Done
+ending (Err failed) = OutputFailed

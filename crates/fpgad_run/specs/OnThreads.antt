@@ -22,6 +22,10 @@ threaded_start_of tracks architecture input = start_by said_in tracks architectu
 abbrev pub section_of : Answer → Section
 section_of s = record { name = s.name.now; text = s.text.items }
 
+-- what is written of it
+abbrev pub answered_text : Answered → List ℕ
+answered_text answered = output_of answered.operator.items (map section_of answered.sections.items)
+
 -- the bytes are what the script is answered on threads, section by section
 pub record AreThreadedReplies (options : Options) (start : Start Parts) (output : List ℕ) : Type 0 where
   pub arch : Arch
@@ -29,4 +33,4 @@ pub record AreThreadedReplies (options : Options) (start : Start Parts) (output 
   pub begins : start ≡ Ok (arch, parts)
   pub answered : Answered
   pub served : IsServedOnThreads (device_of options arch) parts answered
-  pub output_is : output ≡ output_of answered.operator.items (map section_of answered.sections.items)
+  pub output_is : output ≡ answered_text answered

@@ -9,6 +9,7 @@ use Rattle.sessions.specs.Fitting.{own_graph}
 use Rattle.sessions.specs.SessionAnswer.{IsAnswer, LeavesNone}
 use Rattle.sessions.specs.SessionText.{answer_text}
 use Rattle.fpgad_run.specs.declared.in_order.Running.{Running}
+use Rattle.fpgad_run.specs.declared.told.Told.{Told}
 use Rattle.fpgad_run.specs.declared.sections.Sections.{Sections}
 use Rattle.operator.specs.Held.{held}
 use Rattle.script_text.specs.declared.act.Act.{Act}
@@ -33,6 +34,10 @@ pub record IsEven (running : Running) : Type 0 where
 -- what would be written now
 abbrev pub told_so_far : Running → List ℕ
 told_so_far running = output_of (held running.operator_text) (sections_of running)
+
+-- what is written of what was told
+abbrev pub told_text : Told → List ℕ
+told_text told = output_of (held told.operator) (sections_in told.sections)
 
 -- nothing is told yet
 pub record Begins (graph : Basis) (core : ServiceState) (running : Running) : Type 0 where

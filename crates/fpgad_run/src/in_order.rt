@@ -4,13 +4,16 @@ ghost use Rattle.arch_file.specs.Arch.{IsArch};
 ghost use Rattle.script_text.specs.Script.{named_act};
 ghost use Rattle.fpgad_run.specs.Ends.{Replies};
 ghost use Rattle.fpgad_run.specs.Program.{IsReplies, start_of};
+ghost use Rattle.fpgad_run.specs.Told.{told_text};
+ghost use Rattle.line_text.specs.Writing.{Writes};
 
 use crate::inputs::{Architecture, Texts};
 use crate::options::Options;
 use crate::outcome::Outcome;
-use crate::sections::{Sections, push_section};
+use crate::sections::{Sections, write_section};
+use crate::told::Told;
 use arch_file::{Arch, read_arch};
-use line_text::MemorySink;
+use line_text::{Failed, MemorySink, Sink};
 use operator::{HeldJobs, Operator};
 use script_text::{Act, Script, read_script};
 use service_core::{Service, headline};
@@ -18,17 +21,17 @@ use sessions::{device_graph, end_to_end};
 use std::alloc::{AllocError, Global};
 use strips::DeviceGraph;
 
-/// The bytes that the run of a script writes, or why it writes none.
-pub(crate) fn replies(
+/// What the run of a script tells, or why it tells nothing.
+pub(crate) fn replies<'t>(
     alloc: Global,
     options: &Options,
-    architecture: Architecture<'_>,
-    input: &[u8],
-) -> Result<Vec<u8>, Outcome>
+    architecture: Architecture<'t>,
+    input: &'t [u8],
+) -> Result<Told<'t>, Outcome>
     requires { length input.now < 2 ^ 63 }
     ensures settled { IfErr result (λ outcome. outcome ≡ Outcome.NotSettled → ⊥) }
-    ensures replies { Replies (λ output. IsReplies options.now
-        (start_of options.now.tracks architecture.entry input.now) output)
+    ensures replies { Replies (λ told. IsReplies options.now
+        (start_of options.now.tracks architecture.entry input.now) (told_text told))
         (start_of options.now.tracks architecture.entry input.now) result }
 {
     let Some(texts) = Texts::new(architecture, input) else {
@@ -40,22 +43,34 @@ pub(crate) fn replies(
 }
 
 /// Serves a script in order, from an empty device.
-fn serve(
+fn serve<'t>(
     alloc: Global,
     options: &Options,
     arch: Arch,
-    script: Script<'_>,
-) -> Result<Vec<u8>, AllocError>
+    script: Script<'t>,
+) -> Result<Told<'t>, AllocError>
     requires { IsArch arch }
-    ensures { IfOk result (λ output. IsReplies options.now (Ok (arch, script.entry)) output.items) }
+    ensures { IfOk result (λ told.
+        IsReplies options.now (Ok (arch, script.entry)) (told_text told)) }
 {
     let device = options.device(arch);
     let graph = device_graph(alloc, &device)?;
     let core = Service::new(alloc, device)?;
     let mut running = Running::new(alloc, &graph, core);
-    let output = running.serve_all(alloc, script);
-    running.end();
-    output
+    let served = running.serve_all(script);
+    let (operator, sections) = running.end();
+    served?;
+    Ok(Told { operator, sections })
+}
+
+impl Told<'_> {
+    /// Writes it, section by section.
+    pub(crate) fn write_to<W: Sink>(&self, writer: &mut W) -> Result<(), Failed>
+        ensures { Writes W.contents W.has_failed writer.old writer.new (told_text self.now) result }
+    {
+        write_section(writer, b"op", self.operator.as_bytes())?;
+        self.sections.write_to(writer)
+    }
 }
 
 /// A script that runs: the device's graph, the core, the operator's names and jobs, and what was told so far.
@@ -90,24 +105,27 @@ impl<'t, 'g> Running<'t, 'g> {
         }
     }
 
-    /// Serves a script in order, and gives all that was told.
-    fn serve_all(&mut self, alloc: Global, script: Script<'t>) -> Result<Vec<u8>, AllocError>
+    /// Serves a script in order.
+    fn serve_all(&mut self, script: Script<'t>) -> Result<(), AllocError>
         requires { Begins self.old.graph.now self.old.core self.old }
-        ensures { (options : Options) (arch : Arch) →
+        ensures told { (options : Options) (arch : Arch) →
             self.old.core ≡ empty (device_of options arch) →
             self.old.graph.now ≡ own_graph (device_of options arch) →
-            IfOk result (λ output. IsReplies options (Ok (arch, script.entry)) output.items) }
+            OnOk result (IsReplies options (Ok (arch, script.entry)) (told_so_far self.new)) }
+        ensures even { OnOk result (IsEven self.new) }
     {
         for act in script.into_acts() {
             self.serve(act)?;
         }
         headline();
         end_to_end();
-        self.output(alloc)
+        Ok(())
     }
 
-    /// Ends the service: jobs that are still held are given back.
-    fn end(self) {
+    /// Ends the service, and gives what was told: the operator, and each session. Jobs that are still held are given back.
+    fn end(self) -> (MemorySink, Sections<'t>)
+        ensures { (result.0 ≡ self.entry.operator_text) × (result.1 ≡ self.entry.sections) }
+    {
         let Running {
             graph: _,
             mut core,
@@ -119,8 +137,7 @@ impl<'t, 'g> Running<'t, 'g> {
         jobs.give_back(&mut core);
         drop(core);
         drop(operator);
-        drop(operator_text);
-        drop(sections);
+        (operator_text, sections)
     }
 
     /// Serves one act.
@@ -144,16 +161,5 @@ impl<'t, 'g> Running<'t, 'g> {
                     .answer(&mut self.core, self.graph, name, id, line)
             }
         }
-    }
-
-    /// All that was told: the operator's replies, and each name's.
-    fn output(&self, alloc: Global) -> Result<Vec<u8>, AllocError>
-        requires { IsEven self.now }
-        ensures { IfOk result (λ output. output.items ≡ told_so_far self.now) }
-    {
-        let mut out = Vec::new(alloc);
-        push_section(&mut out, b"op", self.operator_text.as_bytes())?;
-        self.sections.append_to(&mut out)?;
-        Ok(out)
     }
 }

@@ -16,6 +16,7 @@ mod options;
 mod outcome;
 mod program;
 mod sections;
+mod told;
 
 pub use command::{run_line, run_words};
 pub use inputs::Architecture;

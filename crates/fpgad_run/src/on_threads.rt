@@ -1,33 +1,36 @@
 //! A script that is served on threads, beside workers.
-ghost use Rattle.std.specs.Prelude.{◌≡◌, ◌++◌, ◌≤◌, ◌<◌, ◌^◌, length, map, IfOk, OnOk};
+ghost use Rattle.std.specs.Prelude.{◌≤◌, ◌<◌, ◌^◌, length, map};
 ghost use Rattle.std.specs.List.{flat_map};
 ghost use Rattle.fpgad_run.specs.Ends.{Replies};
-ghost use Rattle.fpgad_run.specs.OnThreads.{AreThreadedReplies, section_of, threaded_start_of};
-ghost use Rattle.fpgad_run.specs.Run.{output_of, section_text};
+ghost use Rattle.fpgad_run.specs.OnThreads.{AreThreadedReplies, answered_text, section_of, threaded_start_of};
+ghost use Rattle.fpgad_run.specs.Run.{section_text};
+ghost use Rattle.line_text.specs.Writing.{Writes};
 
 use crate::inputs::{Architecture, Texts};
 use crate::options::Options;
 use crate::outcome::Outcome;
-use crate::sections::push_section;
+use crate::sections::write_section;
 use arch_file::read_arch;
+use line_text::{Failed, Sink};
 use script_text::read_threaded;
 use script_threads::{Answered, Section, serve_on_threads};
-use std::alloc::{AllocError, AllocGlobal, Global};
+use std::alloc::AllocGlobal;
 use std::sync::Wait;
 use std::thread::Threads;
 use std::time::Clock;
 
-/// The bytes that the run of a script writes beside so many workers as the options say, at least one, or why it writes none.
-pub(crate) fn replies<H: Threads + Wait + Clock + AllocGlobal + Sync>(
+/// What a script is answered beside so many workers as the options say, at least one, or why it is answered nothing.
+pub(crate) fn replies<'t, H: Threads + Wait + Clock + AllocGlobal + Sync>(
     rt: &H,
     options: &Options,
-    architecture: Architecture<'_>,
-    input: &[u8],
-) -> Result<Vec<u8>, Outcome>
+    architecture: Architecture<'t>,
+    input: &'t [u8],
+) -> Result<Answered<'t>, Outcome>
     requires input { length input.now < 2 ^ 63 }
     requires workers { 1 ≤ options.now.workers }
-    ensures { Replies (λ output. AreThreadedReplies options.now
-        (threaded_start_of options.now.tracks architecture.entry input.now) output)
+    ensures { Replies (λ answered. AreThreadedReplies options.now
+        (threaded_start_of options.now.tracks architecture.entry input.now)
+        (answered_text answered))
         (threaded_start_of options.now.tracks architecture.entry input.now) result }
 {
     let alloc = rt.alloc();
@@ -37,28 +40,25 @@ pub(crate) fn replies<H: Threads + Wait + Clock + AllocGlobal + Sync>(
     let arch = read_arch(alloc, texts.architecture, options.tracks)?;
     let script = read_threaded(alloc, texts.script, texts.number)?;
     let answered = serve_on_threads(rt, options.workers, options.device(arch), script)?;
-    Ok(output(alloc, &answered)?)
+    Ok(answered)
 }
 
-/// What was told, section by section.
-fn output(alloc: Global, answered: &Answered<'_>) -> Result<Vec<u8>, AllocError>
-    ensures { IfOk result (λ output.
-        output.items ≡ output_of answered.now.operator.items
-        (map section_of answered.now.sections.items)) }
+/// Writes what was answered, section by section.
+pub(crate) fn write_answered<W: Sink>(writer: &mut W, answered: &Answered<'_>) -> Result<(), Failed>
+    ensures { Writes W.contents W.has_failed writer.old writer.new
+        (answered_text answered.now) result }
 {
-    let mut out = Vec::new(alloc);
-    push_section(&mut out, b"op", answered.operator.as_slice())?;
-    push_sections(&mut out, answered.sections.as_slice())?;
-    Ok(out)
+    write_section(writer, b"op", answered.operator.as_slice())?;
+    write_sections(writer, answered.sections.as_slice())
 }
 
-/// Appends sections, one after another.
-fn push_sections(out: &mut Vec<u8>, sections: &[Section<'_>]) -> Result<(), AllocError>
-    ensures { OnOk result (out.new.items
-        ≡ out.old.items ++ flat_map section_text (map section_of sections.now)) }
+/// Writes sections, one after another.
+fn write_sections<W: Sink>(writer: &mut W, sections: &[Section<'_>]) -> Result<(), Failed>
+    ensures { Writes W.contents W.has_failed writer.old writer.new
+        (flat_map section_text (map section_of sections.now)) result }
 {
     for section in sections {
-        push_section(out, section.name, section.text.as_slice())?;
+        write_section(writer, section.name, section.text.as_slice())?;
     }
     Ok(())
 }

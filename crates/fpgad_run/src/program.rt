@@ -1,14 +1,19 @@
 //! The program over a reader and a writer.
 ghost use Rattle.std.specs.Prelude.{◌≡◌, ◌≤◌, true, IfSome};
 ghost use Rattle.fpgad_run.specs.Commands.{RunsInOrder, RunsOnThreads};
-ghost use Rattle.fpgad_run.specs.Ends.{EndsWith, IsInput};
+ghost use Rattle.fpgad_run.specs.Ends.{EndsWith, IsInput, ending};
+ghost use Rattle.fpgad_run.specs.OnThreads.{answered_text};
 ghost use Rattle.fpgad_run.specs.Program.{Decides, Writes, start_of};
+ghost use Rattle.fpgad_run.specs.Told.{told_text};
 
+use crate::in_order;
 use crate::inputs::Architecture;
+use crate::on_threads::{self, write_answered};
 use crate::options::Options;
 use crate::outcome::Outcome;
-use crate::{in_order, on_threads};
-use line_text::{ReadError, Sink, Source, read_all, write_all};
+use crate::told::Told;
+use line_text::{Failed, ReadError, Sink, Source, read_all};
+use script_threads::Answered;
 use std::alloc::{AllocGlobal, Global};
 use std::sync::Wait;
 use std::thread::Threads;
@@ -37,8 +42,8 @@ pub fn run_script<R: Source, W: Sink>(
 {
     match read_input(alloc, architecture, reader) {
         Ok(input) => {
-            let replies = in_order::replies(alloc, options, architecture, input.as_slice());
-            write_replies(writer, replies)
+            let told = in_order::replies(alloc, options, architecture, input.as_slice());
+            end_in_order(writer, told)
         }
         Err(outcome) => outcome,
     }
@@ -68,8 +73,8 @@ pub fn run<H: Threads + Wait + Clock + AllocGlobal + Sync, R: Source, W: Sink>(
     }
     match read_input(rt.alloc(), architecture, reader) {
         Ok(input) => {
-            let replies = on_threads::replies(rt, options, architecture, input.as_slice());
-            write_replies(writer, replies)
+            let answered = on_threads::replies(rt, options, architecture, input.as_slice());
+            end_on_threads(writer, answered)
         }
         Err(outcome) => outcome,
     }
@@ -93,16 +98,34 @@ fn read_input<R: Source>(
     }
 }
 
-/// Writes the replies, where there are some.
-fn write_replies<W: Sink>(writer: &mut W, replies: Result<Vec<u8>, Outcome>) -> Outcome
-    ensures { EndsWith replies result (W.contents writer.old) (W.contents writer.new)
+/// Writes what a script was told in order, where it was told something.
+fn end_in_order<W: Sink>(writer: &mut W, told: Result<Told<'_>, Outcome>) -> Outcome
+    ensures { EndsWith told_text told.entry result (W.contents writer.old) (W.contents writer.new)
         (W.has_failed writer.new) }
 {
-    match replies {
-        Ok(output) => match write_all(writer, output.as_slice()) {
-            Ok(()) => Outcome::Done,
-            Err(_) => Outcome::OutputFailed,
-        },
+    match told {
+        Ok(told) => end(told.write_to(writer)),
         Err(outcome) => outcome,
+    }
+}
+
+/// Writes what a script was answered on threads, where it was answered something.
+fn end_on_threads<W: Sink>(writer: &mut W, answered: Result<Answered<'_>, Outcome>) -> Outcome
+    ensures { EndsWith answered_text answered.entry result (W.contents writer.old)
+        (W.contents writer.new) (W.has_failed writer.new) }
+{
+    match answered {
+        Ok(answered) => end(write_answered(writer, &answered)),
+        Err(outcome) => outcome,
+    }
+}
+
+/// How a run ends that is written so.
+fn end(written: Result<(), Failed>) -> Outcome
+    ensures { result ≡ ending written }
+{
+    match written {
+        Ok(()) => Outcome::Done,
+        Err(_) => Outcome::OutputFailed,
     }
 }

@@ -1,9 +1,10 @@
 ghost use Rattle.std.specs.Prelude.{is_ok, ◌≡◌, ◌++◌, [], length, OnOk};
 ghost use Rattle.std.specs.List.{flat_map};
+ghost use Rattle.line_text.specs.Writing.{Writes};
 ghost use Rattle.fpgad_run.specs.Run.{heading, section_text};
 ghost use Rattle.fpgad_run.specs.Zipped.{zipped};
 
-use line_text::{Failed, MemorySink, NameSet};
+use line_text::{Failed, MemorySink, NameSet, Sink, write_parts};
 use service_core::Service;
 use sessions::{Answer, SessionLine, answer};
 use std::alloc::{AllocError, Global};
@@ -55,27 +56,25 @@ impl<'t> Sections<'t> {
         Ok(())
     }
 
-    /// Appends all sections, each under its name.
-    pub(crate) fn append_to(&self, out: &mut Vec<u8>) -> Result<(), AllocError>
+    /// Writes all sections, each under its name.
+    pub(crate) fn write_to<W: Sink>(&self, writer: &mut W) -> Result<(), Failed>
         requires { length self.now.texts.items ≡ length self.now.names }
-        ensures { OnOk result (out.new.items
-            ≡ out.old.items ++ flat_map section_text (zipped self.now.names self.now.texts.items)) }
+        ensures { Writes W.contents W.has_failed writer.old writer.new
+            (flat_map section_text (zipped self.now.names self.now.texts.items)) result }
     {
         for (number, text) in self.texts.iter().enumerate() {
-            push_section(out, self.names.name(number), text.as_bytes())?;
+            write_section(writer, self.names.name(number), text.as_bytes())?;
         }
         Ok(())
     }
 }
 
-/// Appends a section under its name.
-pub(crate) fn push_section(out: &mut Vec<u8>, name: &[u8], text: &[u8]) -> Result<(), AllocError>
-    ensures { OnOk result (out.new.items ≡ out.old.items ++ (heading name.now ++ text.now)) }
+/// Writes a section under its name.
+pub(crate) fn write_section<W: Sink>(writer: &mut W, name: &[u8], text: &[u8]) -> Result<(), Failed>
+    ensures { Writes W.contents W.has_failed writer.old writer.new
+        (heading name.now ++ text.now) result }
 {
-    out.extend_from_slice(b"== ")?;
-    out.extend_from_slice(name)?;
-    out.push(b'\n')?;
-    out.extend_from_slice(text)
+    write_parts(writer, &[b"== ", name, b"\n", text])
 }
 
 /// Whether what was answered is written.

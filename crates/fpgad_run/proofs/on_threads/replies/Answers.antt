@@ -1,4 +1,4 @@
-use Rattle.std.proofs.Common.{subst}
+use Rattle.std.proofs.Common.{refl, subst}
 use Rattle.service_core.specs.declared.device.Device.{Device}
 use Rattle.script_text.specs.Threaded.{parts_of}
 use Rattle.script_threads.specs.Served.{IsServedOnThreads}
@@ -15,5 +15,5 @@ returns g c =
       begins = start_read _ _ _ c.in_ok-arch.arch parts (c.in-Some.ensures.on_threads c.args.options.now.tracks) c.in_ok-arch.ensures.gives c.in_ok-script.ensures.gives;
       answered = c.in_ok-answered.answered;
       served = subst P c.device.ensures c.in_ok-answered.ensures.ok;
-      output_is = c.in_ok-output.ensures;
+      output_is = refl;
     }

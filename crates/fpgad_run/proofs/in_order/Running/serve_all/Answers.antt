@@ -1,4 +1,4 @@
-use Rattle.std.proofs.Common.{◌≡◌, ℕ, List, [], ◌∙◌, ap, sym, subst, rules}
+use Rattle.std.proofs.Common.{◌≡◌, ℕ, List, [], ◌∙◌, ap, refl, sym, subst, rules}
 use Rattle.std.specs.Prelude.{map}
 use Rattle.std.proofs.lemmas.Iterator.Adapters.{YieldsList-from_vec}
 use Rattle.std.proofs.lemmas.Iterator.Consumers.{YieldsList-end}
@@ -9,7 +9,8 @@ use Rattle.script_text.specs.declared.act.Act.{Act}
 use Rattle.operator.specs.Serving.{Stage}
 use Rattle.script_text.specs.Script.{named_act}
 use Rattle.fpgad_run.specs.Program.{device_of}
-use Rattle.fpgad_run.proofs.Telling.{Progress, progress_more, on_ok_value, replies_all}
+use Rattle.fpgad_run.specs.Told.{told_so_far}
+use Rattle.fpgad_run.proofs.Telling.{Progress, progress_more, replies_all}
 use Rattle.fpgad_run.proofs.in_order.Running.serve_all.Goals as goal
 
 pub loop-act-preserved : goal.loop-act-preserved
@@ -21,11 +22,14 @@ loop-act-preserved c =
     subst P (sym (map_push named_act c.loop-act.yielded c.in-Some.act)) more
 
 pub returns : goal.returns
-returns c = λ options arch starts own.
-    let end = YieldsList-end (YieldsList-from_vec {s = c.into_iter-act-iterator.result} c.into_acts-act-items.result.items (search rules) (search rules)) c.loop-act.yielded c.loop-act.act-iterator c.loop-act.yielded_by c.next.result c.next.new.self c.in-None.is c.next.ensures.steps in
-    let yielded : c.loop-act.yielded ≡ c.into_acts-act-items.result.items = sym (map-id c.loop-act.yielded) ∙ end.0 in
-    let all : map named_act c.loop-act.yielded ≡ c.args.script = ap (map named_act) yielded ∙ c.into_acts-act-items.ensures in
-    let P : ServiceState → Type 0 = λ s. Progress (record { names = []; jobs = []; service = s; graph = c.args.self.now.graph.now }) c.loop-act.self (map named_act c.loop-act.yielded) in
-    let Q : Basis → Type 0 = λ g. Progress (record { names = []; jobs = []; service = empty (device_of options arch); graph = g }) c.loop-act.self (map named_act c.loop-act.yielded) in
-    let progress = subst Q own (subst P starts c.loop-act.invariant) in
-    on_ok_value c.output.result (λ output is. replies_all options arch c.args.script c.loop-act.self (map named_act c.loop-act.yielded) output.items (record { alone = c.headline.ensures.alone; parted = c.headline.ensures.parted; journals = c.headline.ensures.journals; book = c.headline.ensures.book; exact = c.headline.ensures.exact; line = c.end_to_end.ensures }) progress all is) c.output.ensures
+returns c = record {
+  told = λ options arch starts own.
+      let end = YieldsList-end (YieldsList-from_vec {s = c.into_iter-act-iterator.result} c.into_acts-act-items.result.items (search rules) (search rules)) c.loop-act.yielded c.loop-act.act-iterator c.loop-act.yielded_by c.next.result c.next.new.self c.in-None.is c.next.ensures.steps in
+      let yielded : c.loop-act.yielded ≡ c.into_acts-act-items.result.items = sym (map-id c.loop-act.yielded) ∙ end.0 in
+      let all : map named_act c.loop-act.yielded ≡ c.args.script = ap (map named_act) yielded ∙ c.into_acts-act-items.ensures in
+      let P : ServiceState → Type 0 = λ s. Progress (record { names = []; jobs = []; service = s; graph = c.args.self.now.graph.now }) c.loop-act.self (map named_act c.loop-act.yielded) in
+      let Q : Basis → Type 0 = λ g. Progress (record { names = []; jobs = []; service = empty (device_of options arch); graph = g }) c.loop-act.self (map named_act c.loop-act.yielded) in
+      let progress = subst Q own (subst P starts c.loop-act.invariant) in
+      replies_all options arch c.args.script c.loop-act.self (map named_act c.loop-act.yielded) (told_so_far c.loop-act.self) (record { alone = c.headline.ensures.alone; parted = c.headline.ensures.parted; journals = c.headline.ensures.journals; book = c.headline.ensures.book; exact = c.headline.ensures.exact; line = c.end_to_end.ensures }) progress all refl;
+  even = c.loop-act.invariant.even;
+}

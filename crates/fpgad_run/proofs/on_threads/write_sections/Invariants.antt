@@ -1,0 +1,11 @@
+use Rattle.std.proofs.Common.{take}
+use Rattle.std.specs.List.{flat_map}
+use Rattle.line_text.specs.Writing.{TakesAll}
+use Rattle.fpgad_run.specs.OnThreads.{section_of}
+use Rattle.fpgad_run.specs.Run.{section_text}
+use Rattle.fpgad_run.proofs.on_threads.write_sections.Given as goal
+
+-- the sections before this one are written
+abbrev pub invariant-loop-section : goal.invariant-loop-section
+invariant-loop-section g l =
+    TakesAll g.W.Sink.contents g.W.Sink.has_failed l.initial.writer l.writer (flat_map (λ s. section_text (section_of s)) (take l.section-index l.sections))
