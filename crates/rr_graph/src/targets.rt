@@ -3,7 +3,7 @@ ghost use Rattle.std.specs.Prelude.{◌≡◌, ◌+◌, ◌*◌, ◌<◌, ◌≤
 ghost use Rattle.arch_file.specs.Arch.{IsWithin};
 ghost use Rattle.rr_graph.specs.Node.{rank_of};
 ghost use Rattle.rr_graph.specs.Numbering.{column_count};
-ghost use Rattle.rr_graph.specs.Table.{IsSmall, AreWires, IsSpan, may_lead, IsRowBelow, IsRowAt};
+ghost use Rattle.rr_graph.specs.Table.{HasSmallNumbers, AreWires, IsSpan, may_lead, IsRowBelow, IsRowAt};
 
 use crate::geometry::is_slot;
 use crate::joins::joins;
@@ -19,7 +19,7 @@ struct Targets<'a> {
     a: Node,
     x: u32,
     kind: NodeKind,
-    ghost small: { IsSmall a },
+    ghost small: { HasSmallNumbers a },
     ghost few: { x ≤ 256 },
     // In column 0 there is only a vertical channel.
     ghost there: { (x ≡ 0) → rank_of kind ≡ 5 },
@@ -137,7 +137,7 @@ fn may_lead(from: NodeKind, to: NodeKind) -> bool
 
 /// Adds the nodes of a column to which edges of `a` lead.
 fn add_column(row: &mut Vec<u32>, nodes: &Nodes, a: Node, x: u32) -> Result<(), AllocError>
-    requires small { IsSmall a }
+    requires small { HasSmallNumbers a }
     requires x { x ≤ 256 }
     requires row { IsRowBelow nodes.now.numbering a row.old.items
         (x * column_count nodes.now.numbering) }
@@ -168,7 +168,7 @@ pub(crate) fn add_row(
     last: u32,
 ) -> Result<(), AllocError>
     requires last { IsWithin a.x last 256 }
-    requires small { IsSmall a }
+    requires small { HasSmallNumbers a }
     requires row { row.old.items ≡ [] }
     ensures { OnOk result (IsRowBelow nodes.now.numbering a row.new.items
         ((last + 1) * column_count nodes.now.numbering)) }
