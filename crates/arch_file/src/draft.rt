@@ -14,7 +14,7 @@ use crate::fault::{ArchError, ArchFault, ArchFaultKind, Keyword};
 use crate::pin_line::pin_in;
 use crate::segment::check_segment;
 use crate::values::{self, FcType};
-use crate::words::{REQUIRED, is_unread, keyword_of};
+use crate::words::{is_unread, keyword_of, required};
 use line_text::{Line, TextError};
 use std::alloc::{AllocError, Global};
 
@@ -243,7 +243,10 @@ impl Draft {
             ≡ find (λ keyword. not (slice_index_or self.now.stands (rank_of keyword) false))
             required }
     {
-        REQUIRED.iter().copied().find(|keyword| !self.has(*keyword))
+        required()
+            .iter()
+            .copied()
+            .find(|keyword| !self.has(*keyword))
     }
 
     /// How many outputs there are.

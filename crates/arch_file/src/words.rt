@@ -1,28 +1,12 @@
 //! The keywords of the architecture file.
 ghost use Rattle.std.specs.Prelude.{◌≡◌, ◌<◌, option_map};
 ghost use Rattle.arch_file.specs.Ranks.{rank_of};
-ghost use Rattle.arch_file.specs.Words.{is_pin_keyword, is_unread, keyword_of, lone, same_keyword, text_of};
+ghost use Rattle.arch_file.specs.Words.{is_pin_keyword, is_unread, keyword_of, lone, required, same_keyword, text_of};
 
 use crate::fault::Keyword;
 use line_text::{Line, is_word};
 
-/// The keywords that must stand, in the order in which a missing one is told.
-pub(crate) const REQUIRED: [Keyword; 12] = [
-    Keyword::IoRat,
-    Keyword::ChanWidthIo,
-    Keyword::ChanWidthX,
-    Keyword::ChanWidthY,
-    Keyword::SubblocksPerClb,
-    Keyword::SubblockLutSize,
-    Keyword::FcType,
-    Keyword::FcOutput,
-    Keyword::FcInput,
-    Keyword::FcPad,
-    Keyword::SwitchBlockType,
-    Keyword::Segment,
-];
-
-/// All keywords.
+/// All keywords: the two of pins, and those that must stand, in the order in which a missing one is told.
 const KEYWORDS: [Keyword; 14] = [
     Keyword::Inpin,
     Keyword::Outpin,
@@ -99,6 +83,13 @@ impl Keyword {
     {
         matches!(self, Keyword::Segment)
     }
+}
+
+/// The keywords that must stand, in the order in which a missing one is told.
+pub(crate) fn required() -> &'static [Keyword]
+    ensures { result.now ≡ required }
+{
+    &KEYWORDS[2..]
 }
 
 /// The keyword that the word is.

@@ -24,7 +24,7 @@ beats gains number None = true
 beats gains number (Some best) = nat_lt (gain_at gains best) (gain_at gains number) || (gain_at gains number == gain_at gains best && nat_lt number best)
 
 -- the number of a BLE, and that of the best so far, if there is one
-pub record AreNumbers (count number : ℕ) (best : Option ℕ) : Type 0 where
+pub record AreCompared (count number : ℕ) (best : Option ℕ) : Type 0 where
   pub small : number < count
   pub best_small : ForSome best (λ other. other < count)
 

@@ -2,7 +2,7 @@
 ghost use Rattle.std.specs.Prelude.{◌≡◌, ◌<◌, ◌++◌, [], ◌∷◌, length, ◌&&◌, IfSome, IsTrue, None};
 ghost use Rattle.arch_file.specs.Arch.{input_count};
 ghost use Rattle.ble_cluster.specs.Clusters.{elements_at, fits_in_cluster, may_join, next_member};
-ghost use Rattle.ble_cluster.specs.Choosing.{AreNumbers, beats};
+ghost use Rattle.ble_cluster.specs.Choosing.{AreCompared, beats};
 ghost use Rattle.ble_cluster.specs.FirstFree.{AreByOutside, IsFirstFree};
 ghost use Rattle.ble_cluster.specs.FreeBles.{free_in};
 ghost use Rattle.ble_cluster.specs.GrowingCluster.{IsGrowingCluster};
@@ -59,7 +59,7 @@ impl Candidates<'_> {
 
     /// Whether the BLE shares more nets with the members than the best so far, or as many and is lesser.
     fn beats(&self, number: u32, best: Option<u32>) -> bool
-        requires { AreNumbers (length self.now.growth.now.gains) number best }
+        requires { AreCompared (length self.now.growth.now.gains) number best }
         ensures { result ≡ beats self.now.growth.now.gains number best }
     {
         match best {
@@ -74,7 +74,7 @@ impl Candidates<'_> {
 
     /// Whether the BLE is to be taken rather than the best so far.
     fn prefers(&self, number: u32, best: Option<u32>) -> bool
-        requires { AreNumbers (length self.now.elements.now.elements) number best }
+        requires { AreCompared (length self.now.elements.now.elements) number best }
         ensures { result ≡ (beats self.now.growth.now.gains number best
             && may_take self.now number) }
     {

@@ -5,7 +5,8 @@ use crate::outcome::Outcome;
 use crate::words::{EFFORT, SEED};
 use line_text::Sink;
 use option_words::{Given, OptionWord, Program, Takes};
-use tenancy_script::{TenancyScript, Wishes, is_name};
+use script_text::is_name;
+use tenancy_script::{TenancyScript, Wishes};
 
 const NO_NAME: &str = "a name is 1 to 32 letters, digits and `_`";
 

@@ -85,7 +85,7 @@ pub record ListsOwners (book : Owners) (list : List Owned) : Type 0 where
   pub exact : (owned : Owned) → Contains list owned ↔ (owner_of book owned.resource ≡ Some owned.id)
 
 -- a device of that architecture is no wider and no higher
-pub record IsSmall (arch : Arch) (columns rows : ℕ) : Type 0 where
+pub record KeepsLimits (arch : Arch) (columns rows : ℕ) : Type 0 where
   pub lawful : IsArch arch
   pub wide : columns ≤ 256
   pub high : rows ≤ 64

@@ -1,7 +1,7 @@
 //! The book of owners.
 ghost use Rattle.std.specs.Prelude.{◌≡◌, ◌+◌, ◌<◌, ◌≤◌, ◌*◌, IfOk, None, Some, length, map, max, true};
 ghost use Rattle.arch_file.specs.Arch.{IsArch};
-ghost use Rattle.device_book.specs.Owners.{AreOwned, CanClaim, CanShift, CanWrite, Claims, HasPlace, IsBook, IsExtent, IsPlace, IsSmall, ListsOwners, Releases, Shifts, StandIn, extent_of, in_book, nobody, number_of, owner_of, size_of};
+ghost use Rattle.device_book.specs.Owners.{AreOwned, CanClaim, CanShift, CanWrite, Claims, HasPlace, IsBook, IsExtent, IsPlace, KeepsLimits, ListsOwners, Releases, Shifts, StandIn, extent_of, in_book, nobody, number_of, owner_of, size_of};
 ghost use Rattle.rr_graph.specs.Resources.{moved_resource, resource_rank};
 
 use arch_file::Arch;
@@ -40,7 +40,7 @@ impl Model for Book {
 impl Book {
     /// The book of a device that nobody uses.
     pub fn new(alloc: Global, arch: &Arch, columns: u32, rows: u32) -> Result<Self, AllocError>
-        requires { IsSmall arch.now columns rows }
+        requires { KeepsLimits arch.now columns rows }
         ensures { IfOk result (λ book. book ≡ nobody (extent_of arch.now columns rows)) }
     {
         let numbers = numbers(arch);

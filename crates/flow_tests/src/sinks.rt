@@ -2,50 +2,10 @@
 use crate::circuits::{packed, placed_anew};
 use crate::graphs::NARROW;
 use cluster::SharedPacked;
-use fixtures::{AND, ROUTED_AND};
-use line_text::{Failed, Sink};
+use fixtures::{AND, ROUTED_AND, ShortSink};
 use std::alloc::Global;
 use strip_place::Placing;
 use vpr_files::{net_text, place_text};
-
-/// A device that takes so many bytes and then fails.
-#[derive(Drop)]
-struct Narrow {
-    bytes: Vec<u8>,
-    room: usize,
-    failed: bool,
-}
-
-impl Sink for Narrow {
-    ghost use Rattle.std.specs.Prelude.{Some};
-
-    ghost contents = { λ s. Some s.bytes.items };
-
-    ghost has_failed = { λ s. s.failed };
-
-    fn write(&mut self, bytes: &[u8]) -> Result<usize, Failed> {
-        let count = bytes.len().min(self.room);
-        if self.failed || (count == 0 && !bytes.is_empty()) {
-            self.failed = true;
-            return Err(Failed);
-        }
-        if self.bytes.extend_from_slice(&bytes[..count]).is_err() {
-            self.failed = true;
-            return Err(Failed);
-        }
-        self.room -= count;
-        Ok(count)
-    }
-}
-
-/// A device with so much room.
-fn with_room(alloc: Global, room: usize) -> Narrow {
-    Narrow {
-        bytes: Vec::new(alloc),
-        room,
-        failed: false,
-    }
-}
 
 /// Room for so many bytes, and whether a file goes in whole.
 const NET_ROOMS: [(usize, bool); 4] = [(0, false), (60, false), (118, false), (119, true)];
@@ -53,15 +13,15 @@ const NET_ROOMS: [(usize, bool); 4] = [(0, false), (60, false), (118, false), (1
 const PLACE_ROOMS: [(usize, bool); 4] = [(0, false), (100, false), (202, false), (203, true)];
 
 /// Whether a sink took so much of a file, and failed where it has no room for all.
-fn took(sink: &Narrow, file: &str, room: usize, whole: bool) -> bool {
-    sink.bytes.len() == room
-        && file.as_bytes().starts_with(sink.bytes.as_slice())
-        && sink.failed != whole
+fn took(sink: &ShortSink, file: &str, room: usize, whole: bool) -> bool {
+    sink.as_bytes().len() == room
+        && file.as_bytes().starts_with(sink.as_bytes())
+        && sink.has_failed() != whole
 }
 
 /// Whether the `.net` file goes so far.
 fn net_goes(alloc: Global, placing: &Placing, room: usize, whole: bool) -> bool {
-    let mut sink = with_room(alloc, room);
+    let mut sink = ShortSink::new(alloc, room);
     let is_written = net_text(placing.packed(), &mut sink).is_ok();
     let is_so = is_written == whole && took(&sink, ROUTED_AND.net, room, whole);
     drop(sink);
@@ -70,7 +30,7 @@ fn net_goes(alloc: Global, placing: &Placing, room: usize, whole: bool) -> bool 
 
 /// Whether the `.place` file goes so far.
 fn places_go(alloc: Global, placing: &Placing, room: usize, whole: bool) -> bool {
-    let mut sink = with_room(alloc, room);
+    let mut sink = ShortSink::new(alloc, room);
     let is_written = place_text(placing, &mut sink).is_ok();
     let is_so = is_written == whole && took(&sink, ROUTED_AND.places, room, whole);
     drop(sink);

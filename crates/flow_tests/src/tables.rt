@@ -1,7 +1,7 @@
 //! Least paths over graphs of a few nodes, which a table or a rule gives.
 ghost use Rattle.std.specs.Prelude.{◌≡◌, ◌+◌, ◌*◌, ◌^◌, ◌<◌, ◌≤◌, [], ◌∷◌, All, IfOk, length, map, take, drop, slice_index, nat_lt, if◌then◌else◌};
 
-use least_path::{Ends, Path, Roads, Search, least};
+use least_path::{Ends, Path, Roads, Search};
 use std::alloc::{AllocError, Global};
 
 /// A graph whose edges stand in a table: two from each node.
@@ -102,7 +102,7 @@ fn finds_the_least_of_ties(alloc: Global, pairs: &Pairs, search: &mut Search) ->
 {
     is(search.least(alloc, pairs, &[0], 6), 4, &[0, 1, 3, 4, 6])
         && is(search.least(alloc, pairs, &[0], 6), 4, &[0, 1, 3, 4, 6])
-        && is(least(alloc, pairs, &[2, 1, 2], 3), 1, &[1, 3])
+        && is(search.least(alloc, pairs, &[2, 1, 2], 3), 1, &[1, 3])
         && is(search.least(alloc, pairs, &[4, 3], 3), 0, &[3])
 }
 

@@ -3,7 +3,7 @@ ghost use Rattle.rr_graph.specs.Graph.{graph_of};
 
 use crate::graphs::{NARROW, fabric_of, node};
 use fixtures::{ARCHITECTURE, ONE_TRACK_A_PIN};
-use least_path::{Ends, Path, Roads, least};
+use least_path::{Ends, Path, Roads, Search};
 use rr_graph::{Fabric, Node, NodeKind, StripGraph};
 use std::alloc::Global;
 
@@ -51,7 +51,7 @@ fn path_between(alloc: Global, fabric: &Fabric, from: Node, to: Node) -> Found {
     let (Some(start), Some(goal)) = (fabric.number(from), fabric.number(to)) else {
         return Found::Unknown;
     };
-    match least(alloc, &UnitRoads { fabric }, &[start], goal) {
+    match Search::new(alloc).least(alloc, &UnitRoads { fabric }, &[start], goal) {
         Ok(Some(path)) => Found::Path(path),
         Ok(None) => Found::NoPath,
         Err(_) => Found::Unknown,

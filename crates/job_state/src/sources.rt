@@ -88,15 +88,9 @@ impl Sources {
         ensures { IfOk result (λ sources.
             sources ≡ routing_sources arch.now strip text.now kept.now seed effort) }
     {
-        Ok(Sources {
-            kind: JobKind::Routing,
-            arch: arch.clone()?,
-            strip,
-            text: text.clone()?,
-            kept: kept.clone()?,
-            seed,
-            effort,
-        })
+        let mut sources = Sources::placing(arch, strip, text, kept, seed, effort)?;
+        sources.kind = JobKind::Routing;
+        Ok(sources)
     }
 
     /// Whether both are the same, by value.

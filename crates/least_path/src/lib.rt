@@ -2,9 +2,9 @@
 //!
 //! [`Roads`] is a graph: how many nodes it has, the edges of each, what each costs, and, where it
 //! can tell, at least how much the way from a node to a goal costs. Among all paths from some
-//! starts to a goal, [`least`] finds the one that is least by the sum of its costs without the
-//! start's, and then by its nodes, as a dictionary orders words. A [`Search`] does so again and
-//! again in the same room: 12 bytes for each node of the largest graph, a queue and a stack.
+//! starts to a goal, a [`Search`] finds the one that is least by the sum of its costs without the
+//! start's, and then by its nodes, as a dictionary orders words, again and again in the same room:
+//! 12 bytes for each node of the largest graph, a queue and a stack.
 //!
 //! A search has two passes. The first labels nodes with what the cheapest path to them costs, the
 //! nearest first by that cost and the bound on the rest (A*, and Dijkstra's algorithm where the
@@ -17,6 +17,6 @@ mod path;
 mod roads;
 mod search;
 
-pub use path::{Path, least, least_path_law};
+pub use path::{Path, least_path_law};
 pub use roads::{Ends, Roads, lower_bound_law};
 pub use search::Search;

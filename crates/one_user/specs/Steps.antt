@@ -148,20 +148,20 @@ pub record CanFinish (slot : SlotState) (device : Basis) : Type 0 where
   pub window : device ≡ device_of slot.state
 
 -- a fresh slot is ready for a netlist, over its own device, which is to be placed with such an effort
-pub record CanUpload (now : SlotState) (device : Basis) (tries : ℕ) : Type 0 where
+pub record IsReadyToUpload (now : SlotState) (device : Basis) (tries : ℕ) : Type 0 where
   pub slot : now ≡ slot_in now.id (start now.state.arch now.state.strip)
   pub window : device ≡ device_of now.state
   pub effort : tries ≤ 100
 
 -- it has loaded the netlist of the task
-pub record CanPack (task : Task) (now : SlotState) (device : Basis) : Type 0 where
+pub record IsReadyToPack (task : Task) (now : SlotState) (device : Basis) : Type 0 where
   pub slot : IsAt task Loaded 0 0 1 now
   pub window : device ≡ device_of now.state
   pub effort : task.effort ≤ 100
   pub loaded : IsLoaded task
 
 -- it has packed it, and these are the counts
-pub record CanPlace (task : Task) (now : SlotState) (device : Basis) (told : PackedCounts) : Type 0 where
+pub record IsReadyToPlace (task : Task) (now : SlotState) (device : Basis) (told : PackedCounts) : Type 0 where
   pub slot : IsAt task Packed 0 0 8194 now
   pub window : device ≡ device_of now.state
   pub effort : task.effort ≤ 100
@@ -169,7 +169,7 @@ pub record CanPlace (task : Task) (now : SlotState) (device : Basis) (told : Pac
   pub counts : AreCounts task told
 
 -- it has placed it
-pub record CanRoute (task : Task) (now : SlotState) (device : Basis) (told : PackedCounts) : Type 0 where
+pub record IsReadyToRoute (task : Task) (now : SlotState) (device : Basis) (told : PackedCounts) : Type 0 where
   pub slot : IsAt task Placed task.seed task.effort 16387 now
   pub window : device ≡ device_of now.state
   pub placed : IsPlaced task

@@ -7,7 +7,7 @@ ghost use Rattle.tenant_slot.specs.Slot.{after_event};
 ghost use Rattle.one_user.specs.declared.outcome.Outcome.{Outcome};
 ghost use Rattle.one_user.specs.Figures.{HasFigures};
 ghost use Rattle.one_user.specs.Outcomes.{files_of, outcome_of, task_on};
-ghost use Rattle.one_user.specs.Steps.{CanPack, CanPlace, CanRoute, CanUpload, HasFiles, ending_in, refusal_in, task_in, text_in};
+ghost use Rattle.one_user.specs.Steps.{IsReadyToPack, IsReadyToPlace, IsReadyToRoute, IsReadyToUpload, HasFiles, ending_in, refusal_in, task_in, text_in};
 
 use crate::device::Request;
 use crate::figures::{PackedCounts, figures_of, packed_counts};
@@ -27,7 +27,7 @@ pub(crate) fn upload<W: Sink>(
     request: Request<'_>,
     teller: &mut W,
 ) -> Result<Run, AllocError>
-    requires { CanUpload slot.old window.now request.effort }
+    requires { IsReadyToUpload slot.old window.now request.effort }
     ensures outcome { IfOk result (λ run.
         run.outcome ≡ outcome_of
         (task_on window.now request.entry.netlist.now request.entry.seed request.entry.effort)) }
@@ -50,7 +50,7 @@ fn pack<W: Sink>(
     request: Request<'_>,
     teller: &mut W,
 ) -> Result<Run, AllocError>
-    requires { CanPack (task_in slot.old.state request.seed request.effort) slot.old window.now }
+    requires { IsReadyToPack (task_in slot.old.state request.seed request.effort) slot.old window.now }
     ensures outcome { IfOk result (λ run.
         run.outcome ≡ outcome_of (task_in slot.old.state request.entry.seed request.entry.effort)) }
     ensures figures { IfOk result (λ run.
@@ -73,7 +73,7 @@ fn place<W: Sink>(
     packed: PackedCounts,
     teller: &mut W,
 ) -> Result<Run, AllocError>
-    requires { CanPlace (task_in slot.old.state request.seed request.effort) slot.old window.now
+    requires { IsReadyToPlace (task_in slot.old.state request.seed request.effort) slot.old window.now
         packed }
     ensures outcome { IfOk result (λ run.
         run.outcome ≡ outcome_of (task_in slot.old.state request.entry.seed request.entry.effort)) }
@@ -100,7 +100,7 @@ fn route<W: Sink>(
     packed: PackedCounts,
     teller: &mut W,
 ) -> Result<Run, AllocError>
-    requires { CanRoute (task_in slot.old.state slot.old.state.seed slot.old.state.effort) slot.old
+    requires { IsReadyToRoute (task_in slot.old.state slot.old.state.seed slot.old.state.effort) slot.old
         window.now packed }
     ensures outcome { IfOk result (λ run.
         run.outcome ≡ outcome_of

@@ -2,8 +2,8 @@ ghost use Rattle.std.specs.Prelude.{◌≡◌};
 ghost use Rattle.std.specs.List.{list_all};
 ghost use Rattle.script_text.specs.Script.{is_name, is_name_byte};
 
-/// Whether the bytes may be a name.
-pub(crate) fn is_name(name: &[u8]) -> bool
+/// Whether the bytes may be a tenancy's name: 1 to 32 letters, digits and `_`.
+pub fn is_name(name: &[u8]) -> bool
     ensures { result ≡ is_name name.now }
 {
     !name.is_empty() && name.len() <= 32 && are_name_bytes(name)

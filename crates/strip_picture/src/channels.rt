@@ -2,7 +2,7 @@
 ghost use Rattle.std.specs.Prelude.{◌≡◌, ◌≤◌, ◌<◌, ◌++◌, ◌∷◌, ◌*◌, ◌/◌, ◌%◌, ◌^◌, ◌==◌, [], List, bit_and, bit_or, count_by, length, slice_index, slice_set as set, IfOk, MatchOption};
 ghost use Rattle.std.specs.List.{range_with_len};
 ghost use Rattle.strip_files.specs.declared.route_node.RouteNode.{RouteNode};
-ghost use Rattle.strip_picture.specs.Channels.{HasTracks, IsNoWire, IsWireOf, across_uses, channel_number, tracks_in, up_uses};
+ghost use Rattle.strip_picture.specs.Channels.{HasTracks, IsNoWire, IsWireOf, across_uses, channel_number, tracks_in, up_uses, use_of};
 
 use picture_lines::Direction;
 use rr_graph::{Node, NodeKind};
@@ -127,6 +127,23 @@ fn tracks_in(used: &[u64], direction: Direction, x: u32, y: u32) -> usize
     bits_set(used[channel_number(direction, x, y)], MOST_TRACKS)
 }
 
+/// A channel, and how many of its tracks are used.
+fn use_of(used: &[u64], direction: Direction, x: u32, y: u32) -> ChannelUse
+    requires used { length used.now ≡ CHANNELS }
+    requires column { x ≤ 256 }
+    requires row { y ≤ 64 }
+    ensures { (nodes : List RouteNode) → HasTracks nodes used.now →
+        result ≡ use_of nodes direction x y }
+{
+    let tracks = tracks_in(used, direction, x, y);
+    ChannelUse {
+        direction,
+        x,
+        y,
+        tracks,
+    }
+}
+
 /// How many of the first so many bits are set.
 fn bits_set(bits: u64, count: u32) -> usize
     requires { count ≤ 64 }
@@ -149,16 +166,8 @@ fn across_channels(
     let rows = size.rows + 1;
     let mut channels = Vec::new(alloc);
     for number in 0..size.columns * rows {
-        let x = number / rows + 1;
-        let y = number % rows;
-        let direction = Direction::Across;
-        let tracks = tracks_in(used, direction, x, y);
-        channels.push(ChannelUse {
-            direction,
-            x,
-            y,
-            tracks,
-        })?;
+        let channel = use_of(used, Direction::Across, number / rows + 1, number % rows);
+        channels.push(channel)?;
     }
     Ok(channels)
 }
@@ -172,16 +181,8 @@ fn up_channels(alloc: Global, size: StripSize, used: &[u64]) -> Result<Vec<Chann
     let rows = size.rows;
     let mut channels = Vec::new(alloc);
     for number in 0..(size.columns + 1) * rows {
-        let x = number / rows;
-        let y = number % rows + 1;
-        let direction = Direction::Up;
-        let tracks = tracks_in(used, direction, x, y);
-        channels.push(ChannelUse {
-            direction,
-            x,
-            y,
-            tracks,
-        })?;
+        let channel = use_of(used, Direction::Up, number / rows, number % rows + 1);
+        channels.push(channel)?;
     }
     Ok(channels)
 }

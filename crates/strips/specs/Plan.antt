@@ -52,7 +52,7 @@ pub record IsLaidOut (plan : Plan) : Type 0 where
   pub distinct : AllPairs (λ s t. s.id ≢ t.id) plan.strips
 
 -- one strip more fits, and its id is new
-pub record CanPlace (plan : Plan) (strip : PlacedStrip) : Type 0 where
+pub record HasRoomFor (plan : Plan) (strip : PlacedStrip) : Type 0 where
   pub few : length plan.strips < MAX_STRIPS
   pub fits : FitsAt plan strip.width strip.offset
   pub new : offset_of plan.strips strip.id ≡ None

@@ -1,7 +1,7 @@
 //! The strips on a device.
 
 ghost use Rattle.std.specs.Prelude.{◌≡◌, ◌↔◌, ◌<◌, ◌≤◌, ◌+◌, ◌==◌, ◌⊎◌, [], length, map, option_map, All, IsSome, IsTrue, None, Some};
-ghost use Rattle.strips.specs.Plan.{AreApart, AreNear, CanPlace, IsFirstFit, IsLaidOut, Moves, is_bad_width, moved_strip, offset_of, strip_of, with_strip, without};
+ghost use Rattle.strips.specs.Plan.{AreApart, AreNear, HasRoomFor, IsFirstFit, IsLaidOut, Moves, is_bad_width, moved_strip, offset_of, strip_of, with_strip, without};
 
 use crate::placed_strip::PlacedStrip;
 use arrayvec::ArrayVec;
@@ -90,7 +90,7 @@ impl Layout {
 
     /// Places a strip of a new id where it fits, as at the offset of [`Layout::first_fit`].
     pub fn place(&mut self, strip: PlacedStrip)
-        requires { CanPlace self.old strip }
+        requires { HasRoomFor self.old strip }
         ensures { self.new ≡ with_strip self.old strip }
     {
         self.strips.push(strip);

@@ -1,15 +1,10 @@
 //! Names and texts that no script can tell.
 ghost use Rattle.std.specs.Prelude.{◌≡◌, ◌<◌, ◌^◌, length};
-ghost use Rattle.std.specs.List.{list_all};
-ghost use Rattle.script_text.specs.Script.{is_name, is_name_byte};
 ghost use Rattle.tenancy_script.specs.Faults.{text_fault};
 
-use line_text::split_line;
+use line_text::{MAX_TEXT, split_line};
 use sessions::{is_point, without_cr};
 use std::fmt;
-
-/// The most bytes of a text that the service takes.
-const MAX_TEXT: usize = 1_048_576;
 
 /// Why a tenancy has no script. Lines are counted from 1.
 #[derive(Clone, Copy, Debug, PartialEq, Eq)]
@@ -59,23 +54,4 @@ pub(crate) fn text_fault(text: &[u8]) -> Option<Fault>
         rest = after;
     }
     None
-}
-
-/// Whether the bytes may be a name.
-pub fn is_name(name: &[u8]) -> bool
-    ensures { result ≡ is_name name.now }
-{
-    !name.is_empty() && name.len() <= 32 && are_name_bytes(name)
-}
-
-fn are_name_bytes(name: &[u8]) -> bool
-    ensures { result ≡ list_all is_name_byte name.now }
-{
-    name.iter().all(|b| is_name_byte(*b))
-}
-
-fn is_name_byte(b: u8) -> bool
-    ensures { result ≡ is_name_byte b }
-{
-    b.is_ascii_alphanumeric() || b == b'_'
 }

@@ -12,5 +12,5 @@ mod making;
 mod printing;
 mod script;
 
-pub use fault::{Fault, is_name};
+pub use fault::Fault;
 pub use script::{TenancyScript, Wishes};

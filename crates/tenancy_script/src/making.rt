@@ -3,8 +3,9 @@ ghost use Rattle.std.specs.Prelude.{◌≡◌, ◌<◌, ◌^◌, Some, None, len
 ghost use Rattle.tenancy_script.specs.Faults.{refusal_of};
 ghost use Rattle.tenancy_script.specs.Says.{IsOf};
 
-use crate::fault::{Fault, is_name, text_fault};
+use crate::fault::{Fault, text_fault};
 use crate::script::{TenancyScript, Wishes};
+use script_text::is_name;
 
 impl<'a> TenancyScript<'a> {
     /// The script of a tenancy of that name with that text, or why there is none.

@@ -2,9 +2,8 @@
 ghost use Rattle.std.specs.Prelude.{◌≡◌, ◌≤◌, All, false};
 
 use crate::seats::{Speaker, a_speaker};
-use fixtures::AND;
+use fixtures::{AND, STRIDE, ShortSink, ShortSource};
 use job_queue::{Pass, Ready};
-use line_text::{Failed, Sink, Source};
 use session_threads::run_session;
 use shared_core::{Begun, Core};
 use std::alloc::{AllocGlobal, Global};
@@ -13,67 +12,6 @@ use std::sync::ledger::Ledger;
 use tenant_slot::StateName;
 use transcripts::End;
 use worker_pool::Shared;
-
-/// Gives at most seven bytes a read, and fails at the last of its reads.
-#[derive(Drop)]
-struct ShortSource<'a> {
-    bytes: &'a [u8],
-    reads: u64,
-}
-
-impl Source for ShortSource<'_> {
-    ghost use Rattle.std.specs.Prelude.{Some, ◌==◌};
-    ghost use Rattle.std.proofs.Common.{eq-eqb};
-
-    ghost remaining = { λ s. Some s.bytes.now };
-
-    ghost has_failed = { λ s. s.reads == 0 };
-
-    ghost reads_left = { λ s. s.reads };
-
-    ghost spent = { λ s none. eq-eqb s.reads 0 none };
-
-    fn read(&mut self, buffer: &mut [u8]) -> Result<usize, Failed> {
-        self.reads = self.reads.saturating_sub(1);
-        if self.reads == 0 {
-            return Err(Failed);
-        }
-        let count = self.bytes.len().min(buffer.len()).min(STRIDE);
-        let (front, rest) = self.bytes.split_at(count);
-        buffer[..count].copy_from_slice(front);
-        self.bytes = rest;
-        Ok(count)
-    }
-}
-
-/// Takes at most seven bytes a write, and fails when it is full.
-#[derive(Drop)]
-struct ShortSink {
-    bytes: Vec<u8>,
-    room: usize,
-    failed: bool,
-}
-
-impl Sink for ShortSink {
-    ghost use Rattle.std.specs.Prelude.{Some};
-
-    ghost contents = { λ s. Some s.bytes.items };
-
-    ghost has_failed = { λ s. s.failed };
-
-    fn write(&mut self, bytes: &[u8]) -> Result<usize, Failed> {
-        let count = bytes.len().min(self.room).min(STRIDE);
-        if self.failed || self.room == 0 || self.bytes.extend_from_slice(&bytes[..count]).is_err() {
-            self.failed = true;
-            return Err(Failed);
-        }
-        self.room -= count;
-        Ok(count)
-    }
-}
-
-/// The bytes of a read and of a write.
-const STRIDE: usize = 7;
 
 /// What the session is told.
 const TOLD: &[u8] = b"ok Loaded\nok Packing\n";
@@ -173,21 +111,14 @@ fn run<C: Begun, P: Ledger, R: Wait + AllocGlobal>(
         Failing::Read(reads) => (reads, TOLD.len()),
         Failing::Write(room) => (1 << 32, room),
     };
-    let mut reader = ShortSource {
-        bytes: input.as_bytes(),
-        reads,
-    };
-    let mut writer = ShortSink {
-        bytes: Vec::new(rt.alloc()),
-        room,
-        failed: false,
-    };
+    let mut reader = ShortSource::new(input.as_bytes(), reads);
+    let mut writer = ShortSink::new(rt.alloc(), room);
     let transcript = run_session(rt, shared, ready, pass, lease, &mut reader, &mut writer);
-    let written = writer.bytes.len();
+    let written = writer.as_bytes().len();
     let ended = Ended {
         end: transcript.end(),
         items: transcript.items().len(),
-        written: if Some(writer.bytes.as_slice()) == TOLD.get(..written) {
+        written: if Some(writer.as_bytes()) == TOLD.get(..written) {
             Some(written)
         } else {
             None

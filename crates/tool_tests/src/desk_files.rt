@@ -51,62 +51,52 @@ fn begins(rt: &HostRuntime, words: &[&str], input: &[u8], status: u8, start: &st
     is_so && is_written
 }
 
+/// Routes the netlist of a table with two inputs.
+const ROUTE: [&str; 10] = [
+    "fpgad_desk",
+    "route",
+    "--arch=desk_route/my.arch",
+    "--tracks=2",
+    "--columns=1",
+    "--rows=1",
+    "--seed=5",
+    "--effort=0",
+    "desk_route/and.blif",
+    "desk_route/results",
+];
+
+/// Draws its files.
+const STRIP: [&str; 5] = [
+    "fpgad_desk",
+    "strip",
+    "desk_route/results/and.net",
+    "desk_route/results/and.place",
+    "desk_route/results/and.route",
+];
+
+/// The same with a file in another's place.
+const SWAPPED: [&str; 5] = [
+    "fpgad_desk",
+    "strip",
+    "desk_route/results/and.net",
+    "desk_route/results/and.net",
+    "desk_route/results/and.route",
+];
+
 #[test]
 fn a_netlist_that_is_routed_and_drawn(rt: HostRuntime) {
+    let told = "tracks 2\nlogic blocks 1/1\n";
+    let net = ROUTED_AND.net.as_bytes();
+    let places = ROUTED_AND.places.as_bytes();
+    let routes = ROUTED_AND.routes.as_bytes();
     assert!(rt; is_there(&rt, "desk_route", "desk_route/my.arch", ARCHITECTURE));
     assert!(rt; is_there(&rt, "desk_route", "desk_route/and.blif", AND));
-    let route = [
-        "fpgad_desk",
-        "route",
-        "--arch=desk_route/my.arch",
-        "--tracks=2",
-        "--columns=1",
-        "--rows=1",
-        "--seed=5",
-        "--effort=0",
-        "desk_route/and.blif",
-        "desk_route/results",
-    ];
-    assert!(rt;
-        begins(
-            &rt,
-            route.as_slice(),
-            b"",
-            0,
-            "tracks 2\nlogic blocks 1/1\n"
-        )
-    );
-    assert!(rt; holds(&rt, "desk_route/results/and.net", ROUTED_AND.net.as_bytes()));
-    assert!(rt;
-        holds(
-            &rt,
-            "desk_route/results/and.place",
-            ROUTED_AND.places.as_bytes()
-        )
-    );
-    assert!(rt;
-        holds(
-            &rt,
-            "desk_route/results/and.route",
-            ROUTED_AND.routes.as_bytes()
-        )
-    );
-    let strip = [
-        "fpgad_desk",
-        "strip",
-        "desk_route/results/and.net",
-        "desk_route/results/and.place",
-        "desk_route/results/and.route",
-    ];
-    assert!(rt; begins(&rt, strip.as_slice(), b"", 0, "<svg"));
-    let swapped = [
-        "fpgad_desk",
-        "strip",
-        "desk_route/results/and.net",
-        "desk_route/results/and.net",
-        "desk_route/results/and.route",
-    ];
-    assert!(rt; ends(&rt, swapped.as_slice(), b"", 3, b""));
+    assert!(rt; begins(&rt, ROUTE.as_slice(), b"", 0, told));
+    assert!(rt; holds(&rt, "desk_route/results/and.net", net));
+    assert!(rt; holds(&rt, "desk_route/results/and.place", places));
+    assert!(rt; holds(&rt, "desk_route/results/and.route", routes));
+    assert!(rt; begins(&rt, STRIP.as_slice(), b"", 0, "<svg"));
+    assert!(rt; ends(&rt, SWAPPED.as_slice(), b"", 3, b""));
 }
 
 #[test]

@@ -1,5 +1,5 @@
 //! What one user is told of a netlist on a device of its own.
-ghost use Rattle.std.specs.Prelude.{◌≤◌};
+ghost use Rattle.std.specs.Prelude.{◌≡◌, ◌≤◌};
 
 use fixtures::{AND, ARCHITECTURE, ROUTED_AND, THREE_INPUT_TABLES};
 use line_text::{MemorySink, Text};
@@ -33,7 +33,18 @@ fn shared(alloc: Global, netlist: &str) -> Option<SharedText> {
     SharedText::new(alloc, text).ok()
 }
 
-/// What comes of a netlist on a device of one column and one row, with seed 5 and effort 0.
+/// A device of one column and one row of that architecture.
+fn plan(arch: &str) -> DevicePlan<'_>
+    ensures { (result.columns ≡ 1) × (result.rows ≡ 1) }
+{
+    DevicePlan {
+        text: arch.as_bytes(),
+        columns: 1,
+        rows: 1,
+    }
+}
+
+/// What comes of a netlist on such a device, with seed 5 and effort 0.
 fn run(
     alloc: Global,
     arch: &str,
@@ -44,17 +55,12 @@ fn run(
     requires { (1 ≤ tracks) × (tracks ≤ 64) }
 {
     let shared = shared(alloc, netlist)?;
-    let plan = DevicePlan {
-        text: arch.as_bytes(),
-        columns: 1,
-        rows: 1,
-    };
     let request = Request {
         netlist: &shared,
         seed: 5,
         effort: 0,
     };
-    let run = run_with(alloc, plan, tracks, request, teller);
+    let run = run_with(alloc, plan(arch), tracks, request, teller);
     drop(shared);
     run.ok()
 }
@@ -146,17 +152,12 @@ fn netlists_that_are_refused(rt: HostRuntime) {
 fn least(alloc: Global, netlist: &str) -> Option<u32> {
     let shared = shared(alloc, netlist)?;
     let mut steps = MemorySink::new(alloc);
-    let plan = DevicePlan {
-        text: ARCHITECTURE.as_bytes(),
-        columns: 1,
-        rows: 1,
-    };
     let request = Request {
         netlist: &shared,
         seed: 5,
         effort: 0,
     };
-    let least = least_tracks(alloc, plan, request, &mut steps);
+    let least = least_tracks(alloc, plan(ARCHITECTURE), request, &mut steps);
     drop(shared);
     drop(steps);
     let tracks = match &least {

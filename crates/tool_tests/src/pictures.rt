@@ -2,7 +2,8 @@
 //! that columns and rows stand 7 apart; a pad is 1 long and 2 high, with its pins in the half at the channel, and stands 2 behind the one before.
 
 use device_picture::{DeviceSize, DrawError, draw, read_device};
-use line_text::{Failed, MemorySink, Sink};
+use fixtures::ShortSink;
+use line_text::MemorySink;
 use std::alloc::Global;
 use std::test::Fail;
 
@@ -119,33 +120,6 @@ fn whole_pictures(rt: HostRuntime) -> Result<(), Fail> {
     Ok(())
 }
 
-/// A device that takes so many bytes and then fails.
-#[derive(Drop)]
-struct Narrow {
-    taken: usize,
-    room: usize,
-    failed: bool,
-}
-
-impl Sink for Narrow {
-    ghost use Rattle.std.specs.Prelude.{None};
-
-    ghost contents = { λ _. None };
-
-    ghost has_failed = { λ s. s.failed };
-
-    fn write(&mut self, bytes: &[u8]) -> Result<usize, Failed> {
-        let count = bytes.len().min(self.room);
-        if self.failed || (count == 0 && !bytes.is_empty()) {
-            self.failed = true;
-            return Err(Failed);
-        }
-        self.taken = self.taken.saturating_add(count);
-        self.room -= count;
-        Ok(count)
-    }
-}
-
 #[test]
 fn sink_that_fails_in_the_middle(rt: HostRuntime) -> Result<(), Fail> {
     let Some(size) = DeviceSize::new(3, 1, 2, 2) else {
@@ -155,16 +129,13 @@ fn sink_that_fails_in_the_middle(rt: HostRuntime) -> Result<(), Fail> {
         return Err("the input is refused".into());
     };
     for room in [0, 100, 2000] {
-        let mut sink = Narrow {
-            taken: 0,
-            room,
-            failed: false,
-        };
+        let mut sink = ShortSink::new(rt.alloc(), room);
         assert_eq!(rt;
             draw(rt.alloc(), &device, &mut sink),
             Err(DrawError::Failed)
         );
-        assert_eq!(rt; sink.taken, room);
+        assert_eq!(rt; sink.as_bytes().len(), room);
+        drop(sink);
     }
     drop(device);
     Ok(())

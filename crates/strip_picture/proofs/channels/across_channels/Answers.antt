@@ -12,10 +12,9 @@ loop-number-preserved c nodes h =
     let size : StripSize = c.args.size in
     let n : ℕ = c.loop-number.number in
     let f : ℕ → ChannelUse = λ number. use_of nodes Across (number / (size.rows + 1) + 1) (number % (size.rows + 1)) in
-    let one : ℕ → ChannelUse = λ tracks. record { direction = Across; x = n / (size.rows + 1) + 1; y = n % (size.rows + 1); tracks = tracks } in
     c.in_ok-push.ensures.items
-    ∙ (ap (λ (told : List ChannelUse). told ++ one c.tracks_in-tracks.result ∷ []) (c.loop-number.invariant nodes h)
-    ∙ (ap (λ tracks. map f (range_with_len 0 n) ++ one tracks ∷ []) (c.tracks_in-tracks.ensures nodes h) ∙ sym (map-range_with_len_more f 0 n n (zero-add n))))
+    ∙ (ap (λ (told : List ChannelUse). told ++ c.use_of-channel.result ∷ []) (c.loop-number.invariant nodes h)
+    ∙ (ap (λ one. map f (range_with_len 0 n) ++ one ∷ []) (c.use_of-channel.ensures nodes h) ∙ sym (map-range_with_len_more f 0 n n (zero-add n))))
 
 pub returns : goal.returns
 returns c nodes h =
