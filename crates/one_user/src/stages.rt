@@ -50,7 +50,8 @@ fn pack<W: Sink>(
     request: Request<'_>,
     teller: &mut W,
 ) -> Result<Run, AllocError>
-    requires { IsReadyToPack (task_in slot.old.state request.seed request.effort) slot.old window.now }
+    requires { IsReadyToPack (task_in slot.old.state request.seed request.effort) slot.old
+        window.now }
     ensures outcome { IfOk result (λ run.
         run.outcome ≡ outcome_of (task_in slot.old.state request.entry.seed request.entry.effort)) }
     ensures figures { IfOk result (λ run.
@@ -73,8 +74,8 @@ fn place<W: Sink>(
     packed: PackedCounts,
     teller: &mut W,
 ) -> Result<Run, AllocError>
-    requires { IsReadyToPlace (task_in slot.old.state request.seed request.effort) slot.old window.now
-        packed }
+    requires { IsReadyToPlace (task_in slot.old.state request.seed request.effort) slot.old
+        window.now packed }
     ensures outcome { IfOk result (λ run.
         run.outcome ≡ outcome_of (task_in slot.old.state request.entry.seed request.entry.effort)) }
     ensures figures { IfOk result (λ run.
@@ -100,8 +101,8 @@ fn route<W: Sink>(
     packed: PackedCounts,
     teller: &mut W,
 ) -> Result<Run, AllocError>
-    requires { IsReadyToRoute (task_in slot.old.state slot.old.state.seed slot.old.state.effort) slot.old
-        window.now packed }
+    requires { IsReadyToRoute (task_in slot.old.state slot.old.state.seed slot.old.state.effort)
+        slot.old window.now packed }
     ensures outcome { IfOk result (λ run.
         run.outcome ≡ outcome_of
         (task_in slot.old.state slot.old.state.seed slot.old.state.effort)) }

@@ -100,21 +100,24 @@ impl Plan {
 
     /// Columns of the device: a strip for each tenancy, and a column between two strips.
     pub fn columns(&self) -> u32
-        ensures { result ≤ 256 }
+        ensures value { result + 1 ≡ self.now.wishes.tenancies * (self.now.width + 1) }
+        ensures few { result ≤ 256 }
     {
         self.wishes.tenancies * (self.width + 1) - 1
     }
 
     /// Rows of the device.
     pub fn rows(&self) -> u32
-        ensures { (1 ≤ result) × (result ≤ 64) }
+        ensures value { result ≡ self.now.rows }
+        ensures few { (1 ≤ result) × (result ≤ 64) }
     {
         self.rows
     }
 
     /// Tracks of each channel. That they are enough is only tested.
     pub fn tracks(&self) -> u32
-        ensures { (1 ≤ result) × (result ≤ 64) }
+        ensures value { result ≡ self.now.tracks }
+        ensures few { (1 ≤ result) × (result ≤ 64) }
     {
         self.tracks
     }
