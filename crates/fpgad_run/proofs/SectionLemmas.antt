@@ -1,12 +1,11 @@
 -- Sections, kept as names and texts.
-use Rattle.std.proofs.Common.{◌≡◌, ℕ, ◌+◌, ◌<◌, ◌≤◌, List, [], ◌∷◌, ◌++◌, true, false, if◌then◌else◌, Some, Result, Ok, Err, append_assoc, length-append, suc, zero, add-one, length, get_or, drop, refl, sym, ap, ◌∙◌, arith}
+use Rattle.std.proofs.Common.{◌≡◌, ℕ, ◌<◌, ◌≤◌, List, [], ◌∷◌, ◌++◌, true, false, if◌then◌else◌, Some, Result, Ok, Err, length-append, suc, zero, add-one, length, get_or, refl, sym, ap, ◌∙◌, arith}
 use Rattle.std.specs.Prelude.{slice_get, is_ok, OnOk}
-use Rattle.std.specs.List.{flat_map}
 use Rattle.std.specs.Str.{bytes_eq}
 use Rattle.std.proofs.Math.ListN.{set}
 use Rattle.line_text.specs.Names.{has_name, number_of, with_name}
 use Rattle.line_text.proofs.NameLemmas.{number_of-first, number_of-later, with_name-first, with_name-later}
-use Rattle.fpgad_run.specs.Run.{Section, heading, section_text, with_text}
+use Rattle.fpgad_run.specs.Run.{Section, with_text}
 use Rattle.line_text.specs.declared.memory_sink.MemorySink.{MemorySink}
 use Rattle.std.specs.declared.alloc.AllocError.{AllocError}
 use Rattle.std.proofs.lemmas.Bool.{false≢true}

@@ -1,6 +1,6 @@
 -- The acts of a script that runs, told one after another.
-use Rattle.std.proofs.Common.{◌≡◌, ℕ, List, [], ◌∷◌, ◌++◌, length, Result, Ok, Err, refl, sym, ap, ◌∙◌, subst, append-nil}
-use Rattle.std.specs.Prelude.{map, IfOk, OnOk}
+use Rattle.std.proofs.Common.{◌≡◌, ℕ, List, [], ◌∷◌, ◌++◌, length, Ok, refl, sym, ap, ◌∙◌, subst, append-nil}
+use Rattle.std.specs.Prelude.{map}
 use Rattle.std.specs.List.{flat_map}
 use Rattle.std.proofs.lemmas.Grind.{flat_map-append}
 use Rattle.std.proofs.lemmas.List.{map_push}
@@ -97,14 +97,6 @@ session_answers names jobs graph old new name id line answer at is leaves =
 -- it admits and evicts no one
 pub lengths-answered : (old new : ServiceState) (id : ℕ) (line : SessionLine) (answer : Answer) → IsAnswer old id line answer new → length old.histories ≡ length new.histories
 lengths-answered old new id line answer is = lengths-run old new is.0 (steady_asks id line is.0 answer is.1) is.2
-
-pub on_ok_both : {E P Q R : Type 0} (r : Result (Unit {0}) E) → (P → Q → R) → OnOk r P → OnOk r Q → OnOk r R
-on_ok_both (Ok u) f p q = f p q
-on_ok_both (Err e) f p q = tt
-
-pub on_ok_value : {E A : Type 0} {P Q : A → Type 0} (r : Result A E) → ((a : A) → P a → Q a) → IfOk r P → IfOk r Q
-on_ok_value (Ok a) f p = f a p
-on_ok_value (Err e) f p = tt
 
 -- what the core's main theorem says of every run from an empty device
 pub record IsHeadline : Type 0 where

@@ -1,4 +1,4 @@
-use Rattle.std.proofs.Common.{◌≡◌, ◌∙◌, ◌++◌, ap, codes, append_assoc, rules}
+use Rattle.std.proofs.Common.{◌≡◌, ◌++◌, ap, codes, append_assoc, rules}
 use Rattle.std.specs.Prelude.{map}
 use Rattle.std.specs.List.{flat_map}
 use Rattle.line_text.proofs.WritingLemmas.{all_same, part_first, part_same, writes_part, writes_same, writes_then}
