@@ -1,7 +1,7 @@
 -- Wires of one track, and where they stand in a column.
 use Rattle.std.proofs.Common.{ℕ, zero, suc, ◌≡◌, ◌+◌, ◌-◌, ◌*◌, ◌<◌, ◌≤◌, List, [], ◌∷◌, ◌++◌, length, get_or, refl, sym, ap, ◌∙◌, subst, inl, inr, arith, true, false}
-use Rattle.std.specs.Prelude.{Contains, nat_lt, nat_le}
-use Rattle.std.proofs.lemmas.Bool.{cases_lt, and_parts, and_from, ltb-true, lt-ltb, false≢true}
+use Rattle.std.specs.Prelude.{Contains, nat_lt, nat_le, ◌&&◌}
+use Rattle.std.proofs.lemmas.Bool.{cases_lt, and_parts, and_from, ltb-true, le-leb, lt-ltb, false≢true}
 use Rattle.std.proofs.lemmas.Nat.{mul-le}
 use Rattle.std.proofs.lemmas.List.{get_or_append_left, get_or_push, length_push}
 use Rattle.arch_file.specs.declared.arch.Arch.{Arch}
@@ -15,11 +15,11 @@ use Rattle.rr_graph.specs.Geometry.{IsWire, is_wire, is_slot, is_block_row, join
 use Rattle.rr_graph.specs.Node.{rank_of}
 use Rattle.rr_graph.specs.Column.{Separates, member_key, IsRising, AreFirsts}
 use Rattle.rr_graph.specs.Numbering.{IsNumbering, member_at, in_column, column_count, no_member}
-use Rattle.rr_graph.specs.Table.{IsRowBelow, IsRowAt, may_lead}
+use Rattle.rr_graph.specs.Table.{IsRowBelow, IsRowAt, columns_right, may_lead, may_reach, rows_above}
 use Rattle.rr_graph.proofs.Columns.{member_of, member_found, same_kind, rank_few, separates_order, separates_some}
 use Rattle.rr_graph.proofs.GeometryLaws.{own_track}
 use Rattle.rr_graph.proofs.Numberings.{node_of_place, all_small}
-use Rattle.rr_graph.proofs.Rows.{leads, row_skip, part_push, kind_begins, kind_ends}
+use Rattle.rr_graph.proofs.Rows.{leads, leads_reached, row_skip, part_push, kind_begins, kind_ends}
 
 -- ---- the first index of each kind and row
 
@@ -254,7 +254,16 @@ led_kind arch strip ChanY Ipin a b h = refl
 led_kind arch strip ChanY ChanX a b h = refl
 led_kind arch strip ChanY ChanY a b h = refl
 
-pub kind_none : (nodes : Numbering) (a : Node) (row : List ℕ) (x : ℕ) (kind : NodeKind) → IsNumbering nodes → may_lead a.kind kind ≡ false →
+-- what an edge leads to may be reached
+reached : (nodes : Numbering) (a b : Node) → leads nodes a b ≡ true → may_reach a b.kind b.x ≡ true
+reached nodes a b led =
+    let is = leads_reached nodes a b led in
+    and_from (may_lead a.kind b.kind) (nat_le (a.x - columns_right b.kind a.kind) b.x && nat_le (b.x - columns_right a.kind b.kind) a.x)
+    (led_kind nodes.arch nodes.strip a.kind b.kind a b led)
+    (and_from (nat_le (a.x - columns_right b.kind a.kind) b.x) (nat_le (b.x - columns_right a.kind b.kind) a.x)
+    (le-leb (a.x - columns_right b.kind a.kind) b.x (omega (arith, is.left))) (le-leb (b.x - columns_right a.kind b.kind) a.x (omega (arith, is.right))))
+
+pub kind_none : (nodes : Numbering) (a : Node) (row : List ℕ) (x : ℕ) (kind : NodeKind) → IsNumbering nodes → may_reach a kind x ≡ false →
     IsRowAt nodes a row x (rank_of kind * 65536) → IsRowAt nodes a row x ((rank_of kind + 1) * 65536)
 kind_none nodes a row x kind lawful isn't old index at =
     let first = separates_some nodes.members.items (rank_of kind * 65536) lawful.column.all.rising in
@@ -268,16 +277,16 @@ kind_none nodes a row x kind lawful isn't old index at =
     let from : rank_of kind * 65536 ≤ member_key (member_at nodes r) = first.1.after r no_member (omega arith) here in
     let to : member_key (member_at nodes r) < (rank_of kind + 1) * 65536 = at.before r no_member (omega arith) in
     let same : (member_at nodes r).kind ≡ kind = same_kind (member_at nodes r).kind kind (omega (arith, small.0, small.1, from, to)) in
-    false≢true (sym isn't ∙ (ap (may_lead a.kind) (sym same) ∙ led_kind nodes.arch nodes.strip a.kind (member_at nodes r).kind a (in_column x (member_at nodes r)) led)))
+    false≢true (sym isn't ∙ (ap (λ k. may_reach a k x) (sym same) ∙ reached nodes a (in_column x (member_at nodes r)) led)))
 
--- the rows before those next to the node's own
-pub track_begins : (nodes : Numbering) (a : Node) (row : List ℕ) (x : ℕ) (kind : NodeKind) → IsNumbering nodes →
-    IsRowAt nodes a row x (rank_of kind * 65536) → IsRowAt nodes a row x (rank_of kind * 65536 + (a.y - 1) * 256)
-track_begins nodes a row x kind lawful old index at = kind_begins nodes a row x index kind lawful at old
+-- the rows before those in which the ends may stand
+pub track_begins : (nodes : Numbering) (a : Node) (row : List ℕ) (x : ℕ) (kind : NodeKind) → IsNumbering nodes → a.y < 66 →
+    IsRowAt nodes a row x (rank_of kind * 65536) → IsRowAt nodes a row x (rank_of kind * 65536 + (a.y - rows_above kind a.kind) * 256)
+track_begins nodes a row x kind lawful low old index at = kind_begins nodes a row x index kind lawful low at old
 
 -- and those after them
-pub track_ends : (nodes : Numbering) (a : Node) (row : List ℕ) (x : ℕ) (kind : NodeKind) → IsNumbering nodes → a.y < 66 →
-    IsRowAt nodes a row x (rank_of kind * 65536 + (a.y + 2) * 256) → IsRowAt nodes a row x ((rank_of kind + 1) * 65536)
-track_ends nodes a row x kind lawful low old =
-    let stop = separates_some nodes.members.items (rank_of kind * 65536 + (a.y + 2) * 256) lawful.column.all.rising in
-    kind_ends nodes a row x stop.0 kind lawful low stop.1 (old stop.0 stop.1)
+pub track_ends : (nodes : Numbering) (a : Node) (row : List ℕ) (x : ℕ) (kind : NodeKind) → IsNumbering nodes → a.y + rows_above a.kind kind + 1 < 68 →
+    IsRowAt nodes a row x (rank_of kind * 65536 + (a.y + rows_above a.kind kind + 1) * 256) → IsRowAt nodes a row x ((rank_of kind + 1) * 65536)
+track_ends nodes a row x kind lawful few old =
+    let stop = separates_some nodes.members.items (rank_of kind * 65536 + (a.y + rows_above a.kind kind + 1) * 256) lawful.column.all.rising in
+    kind_ends nodes a row x stop.0 kind lawful few stop.1 (old stop.0 stop.1)

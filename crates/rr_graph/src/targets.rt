@@ -1,9 +1,9 @@
-//! The ends of a node's edges, found where they can be: in columns and rows next to its own.
-ghost use Rattle.std.specs.Prelude.{◌≡◌, ◌+◌, ◌*◌, ◌<◌, ◌≤◌, OnOk, []};
+//! The ends of a node's edges, looked for where they can be: in a node's own column and row, or in the next one too.
+ghost use Rattle.std.specs.Prelude.{◌≡◌, ◌+◌, ◌-◌, ◌*◌, ◌<◌, ◌≤◌, OnOk, []};
 ghost use Rattle.arch_file.specs.Arch.{IsWithin};
 ghost use Rattle.rr_graph.specs.Node.{rank_of};
 ghost use Rattle.rr_graph.specs.Numbering.{column_count};
-ghost use Rattle.rr_graph.specs.Table.{HasSmallNumbers, AreWires, IsSpan, may_lead, IsRowBelow, IsRowAt};
+ghost use Rattle.rr_graph.specs.Table.{HasSmallNumbers, AreWires, IsSpan, may_lead, may_reach, rows_above, columns_right, IsRowBelow, IsRowAt};
 
 use crate::geometry::is_slot;
 use crate::joins::joins;
@@ -26,6 +26,33 @@ struct Targets<'a> {
 }
 
 impl Targets<'_> {
+    /// The first row in which ends may stand.
+    fn first_row(&self) -> u32
+        ensures { result ≡ self.now.a.y - rows_above self.now.kind self.now.a.kind }
+    {
+        self.a.y.saturating_sub(rows_above(self.kind, self.a.kind))
+    }
+
+    /// The row behind the last of them.
+    fn end_row(&self) -> u32
+        ensures value { result ≡ self.now.a.y + rows_above self.now.a.kind self.now.kind + 1 }
+        ensures few { result < 68 }
+    {
+        self.a.y + rows_above(self.a.kind, self.kind) + 1
+    }
+
+    /// Whether edges of `a` may lead to nodes of the kind in the column.
+    fn may_reach(&self) -> bool
+        ensures { result ≡ may_reach self.now.a self.now.kind self.now.x }
+    {
+        let first = self
+            .a
+            .x
+            .saturating_sub(columns_right(self.kind, self.a.kind));
+        let own = self.x.saturating_sub(columns_right(self.a.kind, self.kind));
+        may_lead(self.a.kind, self.kind) && first <= self.x && own <= self.a.x
+    }
+
     /// Adds the ends in a part of the column.
     fn add_part(&self, row: &mut Vec<u32>, from: usize, to: usize) -> Result<(), AllocError>
         requires span { IsSpan self.now.nodes.now.numbering self.now.x from to }
@@ -74,7 +101,7 @@ impl Targets<'_> {
         }
     }
 
-    /// Adds the wires to which edges of the wire `a` lead. They stand in rows next to its own.
+    /// Adds the wires to which edges of the wire `a` lead.
     fn add_track(&self, row: &mut Vec<u32>) -> Result<(), AllocError>
         requires wires { AreWires self.now.a.kind self.now.kind }
         requires row { IsRowAt self.now.nodes.now.numbering self.now.a row.old.items self.now.x
@@ -82,21 +109,21 @@ impl Targets<'_> {
         ensures { OnOk result (IsRowAt self.now.nodes.now.numbering self.now.a row.new.items
             self.now.x ((rank_of self.now.kind + 1) * 65536)) }
     {
-        for y in self.a.y.saturating_sub(1)..self.a.y + 2 {
+        for y in self.first_row()..self.end_row() {
             self.add_wire(row, y)?;
         }
         Ok(())
     }
 
-    /// Adds the ends, looked for among all nodes in rows next to a's own.
+    /// Adds the ends, looked for among all nodes of the rows in which they may stand.
     fn add_rows(&self, row: &mut Vec<u32>) -> Result<(), AllocError>
         requires { IsRowAt self.now.nodes.now.numbering self.now.a row.old.items self.now.x
             (rank_of self.now.kind * 65536) }
         ensures { OnOk result (IsRowAt self.now.nodes.now.numbering self.now.a row.new.items
             self.now.x ((rank_of self.now.kind + 1) * 65536)) }
     {
-        let from = self.nodes.first(self.kind, self.a.y.saturating_sub(1));
-        let to = self.nodes.first(self.kind, self.a.y + 2);
+        let from = self.nodes.first(self.kind, self.first_row());
+        let to = self.nodes.first(self.kind, self.end_row());
         self.add_part(row, from, to)
     }
 
@@ -107,7 +134,7 @@ impl Targets<'_> {
         ensures { OnOk result (IsRowAt self.now.nodes.now.numbering self.now.a row.new.items
             self.now.x ((rank_of self.now.kind + 1) * 65536)) }
     {
-        if may_lead(self.a.kind, self.kind) {
+        if self.may_reach() {
             if is_wire(self.a.kind) && is_wire(self.kind) {
                 self.add_track(row)
             } else {
@@ -132,6 +159,32 @@ fn may_lead(from: NodeKind, to: NodeKind) -> bool
         (NodeKind::ChanY, NodeKind::Ipin) => true,
         (NodeKind::ChanY, _) => is_wire(to),
         _ => false,
+    }
+}
+
+/// By how many rows an end of the second kind may stand above a node of the first: a horizontal channel lies between two
+/// rows, and a wire of a vertical channel meets the next one.
+fn rows_above(from: NodeKind, to: NodeKind) -> u32
+    ensures value { result ≡ rows_above from to }
+    ensures few { result ≤ 1 }
+{
+    match (from, to) {
+        (NodeKind::ChanX, NodeKind::ChanX) => 0,
+        (NodeKind::ChanX, _) => 1,
+        (NodeKind::ChanY, NodeKind::ChanY) => 1,
+        _ => 0,
+    }
+}
+
+/// By how many columns it may stand right of it.
+fn columns_right(from: NodeKind, to: NodeKind) -> u32
+    ensures { result ≡ columns_right from to }
+{
+    match (from, to) {
+        (NodeKind::ChanX, NodeKind::ChanX) => 1,
+        (NodeKind::ChanY, NodeKind::ChanY) => 0,
+        (NodeKind::ChanY, _) => 1,
+        _ => 0,
     }
 }
 
