@@ -1,4 +1,5 @@
 ghost use Rattle.std.specs.Prelude.{◌≡◌, ◌++◌, ◌∷◌, [], codes, decimal, length};
+ghost use Rattle.blif.specs.Faults.{number_of};
 ghost use Rattle.line_text.specs.Writing.{Writes};
 ghost use Rattle.sessions.specs.SessionText.{blank_word, cause_text, numbered_line, reply_text, session_refusal_text, step_text};
 ghost use Rattle.tenant_slot.specs.declared.reply.Reply.TheVariants.{Status as InState, Refused};
@@ -204,44 +205,45 @@ fn write_fault<W: Sink>(
     ensures { Writes W.contents W.has_failed sink.old sink.new
         (numbered_line (codes "refused") number name.now (cause_text (BadBlif fault.now))) result }
 {
+    match fault.net() {
+        Some(net) => write_fault_with(sink, number, name, fault, b" ", net.as_bytes()),
+        None => write_fault_with(sink, number, name, fault, b"", b""),
+    }
+}
+
+/// Writes the line of a refusal with the number and the line of a netlist's fault, and two more parts.
+fn write_fault_with<'t, W: Sink>(
+    sink: &mut W,
+    number: u32,
+    name: &'t str,
+    fault: &BlifFault,
+    more: &'t [u8],
+    last: &'t [u8],
+) -> Result<(), Failed>
+    ensures { Writes W.contents W.has_failed sink.old sink.new
+        (numbered_line (codes "refused") number name.now
+        (blank_word (decimal (number_of fault.now.kind)) ++ blank_word (decimal fault.now.line)
+        ++ (more.now ++ last.now))) result }
+{
     let (mut digits, mut kinds, mut lines) = (Buffer::new(), Buffer::new(), Buffer::new());
     let number = digits.format(number).as_bytes();
     let kind = kinds.format(fault.number()).as_bytes();
     let line = lines.format(fault.line).as_bytes();
     let name = name.as_bytes();
-    match fault.net() {
-        Some(net) => {
-            let net = net.as_bytes();
-            write_parts(
-                sink,
-                &[
-                    b"refused ",
-                    number,
-                    b" ",
-                    name,
-                    b" ",
-                    kind,
-                    b" ",
-                    line,
-                    b" ",
-                    net,
-                    b"\n",
-                ],
-            )
-        }
-        None => write_parts(
-            sink,
-            &[
-                b"refused ",
-                number,
-                b" ",
-                name,
-                b" ",
-                kind,
-                b" ",
-                line,
-                b"\n",
-            ],
-        ),
-    }
+    write_parts(
+        sink,
+        &[
+            b"refused ",
+            number,
+            b" ",
+            name,
+            b" ",
+            kind,
+            b" ",
+            line,
+            more,
+            last,
+            b"\n",
+        ],
+    )
 }
