@@ -10,7 +10,7 @@ use crate::part::{Part, evicted_part, run_part};
 use crate::seated::Seated;
 use crate::seats::{a_pass, a_seat};
 use job_queue::{Pass, Ready, Seat};
-use shared_core::{Begun, Share};
+use shared_core::{Begun, Share, Shared};
 use std::alloc::AllocGlobal;
 use std::snapshot::Snapshot;
 use std::sync::Wait;
@@ -19,7 +19,7 @@ use std::thread;
 use std::thread::{JoinHandle, Promise, PromisedHandle, Scope, Threads};
 use std::time::Clock;
 use strips::DeviceGraph;
-use worker_pool::{Open, Shared, run_worker};
+use worker_pool::{Open, run_worker};
 
 /// A worker's thread.
 type Worker<P> = JoinHandle<Share<P>>;

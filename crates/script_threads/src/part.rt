@@ -11,13 +11,12 @@ use line_text::{MemorySink, MemorySource};
 use script_text::SessionInput;
 use session_threads::run_session;
 use sessions::{SessionLine, SessionRefusal, read_items, write_session_refusal};
-use shared_core::{Begun, Lease};
+use shared_core::{Begun, Lease, Shared};
 use std::alloc::{AllocError, AllocGlobal, Global};
 use std::marker::Model;
 use std::sync::Wait;
 use std::sync::ledger::Ledger;
 use transcripts::{End, Transcript};
-use worker_pool::Shared;
 
 /// What a name's session was told, and the transcript of one that ran.
 #[derive(Drop)]

@@ -13,14 +13,13 @@ use job_queue::{Pass, Ready, Seat};
 use operator::Operator;
 use script_text::SessionInput;
 use service_core::Service;
-use shared_core::{Begun, Core, Share};
+use shared_core::{Begun, Core, Share, Shared};
 use std::alloc::{AllocError, AllocGlobal, Global};
 use std::sync::Wait;
 use std::sync::ledger::Ledger;
 use std::thread::Threads;
 use std::time::Clock;
 use strips::DeviceGraph;
-use worker_pool::Shared;
 
 /// Runs each name's session, and settles what they were told.
 pub(crate) fn run_sessions<

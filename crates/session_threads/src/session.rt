@@ -14,13 +14,12 @@ use crate::waiting::{Found, find};
 use job_queue::{Pass, Ready};
 use line_text::{Failed, Sink, Source};
 use sessions::SessionLine;
-use shared_core::{Begun, Lease};
+use shared_core::{Begun, Lease, Shared};
 use std::alloc::AllocGlobal;
 use std::sync::Wait;
 use std::sync::ledger::Ledger;
 use tenant_slot::{Command, Reply, StateName};
 use transcripts::{End, Place, Transcript};
-use worker_pool::Shared;
 
 /// Runs a session: reads its input, asks the core what each item asks, and writes what it is told. What each item was told is
 /// in the transcript, in order, or counted there where it found no memory; it was written, or a beginning of it where the

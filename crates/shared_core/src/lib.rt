@@ -7,11 +7,13 @@
 //!   parts are back ([`Core::close`]) the counts are those of the journals.
 //! - A live tenancy has one of 64 slot numbers, used again after its eviction. `mark_ready` and `popped` keep whether the number
 //!   stands in a queue, so that it stands there at most once.
-//! - Whoever finds a core under its lock knows which service it was put round ([`Begun`]), and that its service goes on from that one.
+//! - [`Shared`] is the core under its lock: whoever gets the lock finds a core that keeps what its type promises, knows which service
+//!   it was put round ([`Begun`]), and that its service goes on from that one.
 #![tactic(auto)]
 
 mod begun;
 mod lease_marks;
+mod locked;
 mod shared;
 mod slots;
 mod tokens;
@@ -19,5 +21,6 @@ mod wrapping;
 
 pub use begun::Begun;
 pub use lease_marks::LeaseMarks;
+pub use locked::Shared;
 pub use shared::{Core, MAX_SHARES};
 pub use tokens::{Lease, Share};

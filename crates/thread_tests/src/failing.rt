@@ -5,13 +5,12 @@ use crate::seats::{Speaker, a_speaker};
 use fixtures::{AND, STRIDE, ShortSink, ShortSource};
 use job_queue::{Pass, Ready};
 use session_threads::run_session;
-use shared_core::{Begun, Core};
+use shared_core::{Begun, Core, Shared};
 use std::alloc::{AllocGlobal, Global};
 use std::sync::Wait;
 use std::sync::ledger::Ledger;
 use tenant_slot::StateName;
 use transcripts::End;
-use worker_pool::Shared;
 
 /// What the session is told.
 const TOLD: &[u8] = b"ok Loaded\nok Packing\n";

@@ -4,8 +4,8 @@ ghost use Rattle.std.specs.Prelude.{◌≡◌, All, IfSome, false};
 use crate::cores::{begin_routing, is_served, text};
 use crate::gates::{Held, is_raised};
 use crate::seats::{Worker, a_pass, a_worker};
-use job_queue::{Pass, Ready, Seat};
-use shared_core::{Begun, Core, Share};
+use job_queue::{Pass, Ready};
+use shared_core::{Begun, Core, Share, Shared};
 use std::alloc::{AllocGlobal, Global};
 use std::sync::Wait;
 use std::sync::atomic::Ordering::SeqCst;
@@ -15,7 +15,7 @@ use std::thread::Threads;
 use std::time::Clock;
 use strips::DeviceGraph;
 use tenant_slot::{Command, Reply, StateName, StepReply};
-use worker_pool::{Shared, run_worker};
+use worker_pool::run_worker;
 
 /// What is done.
 #[derive(Clone, Copy)]
@@ -157,24 +157,29 @@ fn begins<C: Begun, P: Ledger, R: Wait + AllocGlobal>(
     }
 }
 
-/// A worker, in front of the queue.
+/// A closed queue with the number of the tenancy, which begins to route, and a worker in front of it.
 fn prepared<C: Begun, P: Ledger, R: Wait + AllocGlobal>(
     rt: &R,
     core: &mut Core<C, P>,
     graph: &DeviceGraph,
-    ready: &Ready,
-    seats: &mut Vec<Seat>,
-    passes: &mut Vec<Pass>,
-) -> Option<Worker<P>>
-    requires seats { All (λ s. s.of ≡ ready.now) seats.old.items }
-    requires passes { All (λ p. p.of ≡ ready.now) passes.old.items }
-    requires stay { C.stay ≡ false }
-    ensures { IfSome result (λ worker. worker.seat.of ≡ ready.now) }
+) -> Option<(Ready, Worker<P>)>
+    requires { C.stay ≡ false }
+    ensures { IfSome result (λ both. both.1.seat.of ≡ both.0) }
 {
-    if begins(rt, core, graph, ready, passes) {
-        a_worker(core, ready, seats)
+    let (ready, mut seats, mut passes) = Ready::new(rt.alloc(), 1, 1).ok()?;
+    let worker = if begins(rt, core, graph, &ready, &mut passes) {
+        a_worker(core, &ready, &mut seats)
     } else {
         None
+    };
+    drop(seats);
+    drop(passes);
+    match worker {
+        Some(worker) => Some((ready, worker)),
+        None => {
+            drop(ready);
+            None
+        }
     }
 }
 
@@ -187,17 +192,9 @@ pub(crate) fn acts_under_a_held_job<
     requires { C.stay ≡ false }
 {
     let mut core = core;
-    match Ready::new(rt.alloc(), 1, 1) {
-        Ok((ready, mut seats, mut passes)) => {
-            match prepared(rt, &mut core, graph, &ready, &mut seats, &mut passes) {
-                Some(worker) => is_left_so(rt, core, graph, &ready, worker, act),
-                None => {
-                    drop(core);
-                    false
-                }
-            }
-        }
-        Err(_) => {
+    match prepared(rt, &mut core, graph) {
+        Some((ready, worker)) => is_left_so(rt, core, graph, &ready, worker, act),
+        None => {
             drop(core);
             false
         }

@@ -9,7 +9,7 @@ use fixtures::{ROUTED_AND, ROUTED_EMPTY, ROUTED_LATCH_ALONE, ROUTED_LATCH_AND_OU
 use job_queue::{Pass, Ready, Seat};
 use service_core::Service;
 use settling::settle;
-use shared_core::{Begun, Core, Share};
+use shared_core::{Begun, Core, Share, Shared};
 use std::alloc::{AllocGlobal, Global};
 use std::sync::Wait;
 use std::sync::ledger::Ledger;
@@ -17,7 +17,6 @@ use std::thread::Threads;
 use std::time::Clock;
 use strips::DeviceGraph;
 use transcripts::{End, Transcript};
-use worker_pool::Shared;
 
 /// So many columns each of four tenancies has, and its circuit.
 const FOUR: [(u32, Routed); 4] = [

@@ -7,7 +7,7 @@ use crate::seats::{Speaker, Worker, a_speaker, a_worker};
 use crate::telling::{Told, run_over};
 use fixtures::AND;
 use job_queue::{Pass, Ready, Seat};
-use shared_core::{Begun, Core, Share};
+use shared_core::{Begun, Core, Share, Shared};
 use std::alloc::{AllocGlobal, Global};
 use std::sync::Wait;
 use std::sync::ledger::Ledger;
@@ -17,7 +17,7 @@ use std::time::Clock;
 use strips::DeviceGraph;
 use tenant_slot::StateName;
 use transcripts::End;
-use worker_pool::{Open, Shared, run_worker};
+use worker_pool::{Open, run_worker};
 
 /// What the session is told.
 const TOLD: &[u8] = b"ok Loaded\nok Packing\nrefused 1 NoMemory\nrefused 1 NoMemory\n";
@@ -63,6 +63,29 @@ fn a_pair<C: Begun, P: Ledger>(
     }
 }
 
+/// An open queue, and that pair in front of it.
+fn prepared<C: Begun, P: Ledger>(
+    alloc: Global,
+    core: &mut Core<C, P>,
+) -> Option<(Ready, Pair<C, P>)>
+    requires { C.stay ≡ false }
+    ensures speaker { IfSome result (λ all. (all.1.speaker.pass.of ≡ all.0)
+        × (all.1.speaker.lease.made ≡ 0)) }
+    ensures worker { IfSome result (λ all. all.1.worker.seat.of ≡ all.0) }
+{
+    let (ready, mut seats, mut passes) = Ready::new(alloc, 1, 1).ok()?;
+    let pair = a_pair(alloc, core, &ready, &mut seats, &mut passes);
+    drop(seats);
+    drop(passes);
+    match pair {
+        Some(pair) => Some((ready, pair)),
+        None => {
+            drop(ready);
+            None
+        }
+    }
+}
+
 /// Whether each `wait` is told that memory lacks, of a core without tenancies.
 pub(crate) fn wait_is_told<
     C: Begun + Send + Sync,
@@ -93,17 +116,9 @@ fn is_told_on<
     requires { C.stay ≡ false }
 {
     let mut core = core;
-    match Ready::new(rt.alloc(), 1, 1) {
-        Ok((ready, mut seats, mut passes)) => {
-            match a_pair(rt.alloc(), &mut core, &ready, &mut seats, &mut passes) {
-                Some(pair) => is_given_up(rt, core, graph, &ready, pair),
-                None => {
-                    drop(core);
-                    false
-                }
-            }
-        }
-        Err(_) => {
+    match prepared(rt.alloc(), &mut core) {
+        Some((ready, pair)) => is_given_up(rt, core, graph, &ready, pair),
+        None => {
             drop(core);
             false
         }

@@ -5,7 +5,7 @@ use crate::seats::{Speaker, Worker};
 use job_queue::Ready;
 use line_text::{MemorySink, MemorySource};
 use session_threads::run_session;
-use shared_core::{Begun, Share};
+use shared_core::{Begun, Share, Shared};
 use std::alloc::{AllocError, AllocGlobal};
 use std::sync::Wait;
 use std::sync::ledger::Ledger;
@@ -14,7 +14,7 @@ use std::thread::Threads;
 use std::time::Clock;
 use strips::DeviceGraph;
 use transcripts::Transcript;
-use worker_pool::{Gate, Shared, run_worker};
+use worker_pool::{Gate, run_worker};
 
 /// What a session came to, and what was written.
 #[derive(Drop)]

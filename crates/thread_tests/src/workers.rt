@@ -6,7 +6,7 @@ use crate::gates::{Meeting, Watched, is_raised};
 use crate::seats::{Worker, a_pass, a_worker};
 use crate::showing::Worked;
 use job_queue::{Pass, Popped, Ready, Seat};
-use shared_core::{Begun, Core, Share};
+use shared_core::{Begun, Core, Share, Shared};
 use std::alloc::AllocGlobal;
 use std::sync::Wait;
 use std::sync::atomic::Ordering::SeqCst;
@@ -16,7 +16,7 @@ use std::thread::Threads;
 use std::time::Clock;
 use strips::DeviceGraph;
 use tenant_slot::StateName;
-use worker_pool::{Open, Shared, run_worker};
+use worker_pool::{Open, run_worker};
 
 /// Whether a tenancy begins to place, and its number is pushed.
 fn is_pushed<C: Begun, P: Ledger, R: Wait + AllocGlobal>(
@@ -75,24 +75,29 @@ fn two_workers<C: Begun, P: Ledger>(
     }
 }
 
-/// Two workers, in front of the queue.
+/// A closed queue with the numbers of two tenancies, which begin to place, and two workers in front of it.
 fn prepared<C: Begun, P: Ledger, R: Wait + AllocGlobal>(
     rt: &R,
     core: &mut Core<C, P>,
     graph: &DeviceGraph,
-    ready: &Ready,
-    seats: &mut Vec<Seat>,
-    passes: &mut Vec<Pass>,
-) -> Option<(Worker<P>, Worker<P>)>
-    requires seats { All (λ s. s.of ≡ ready.now) seats.old.items }
-    requires passes { All (λ p. p.of ≡ ready.now) passes.old.items }
-    requires stay { C.stay ≡ false }
-    ensures { IfSome result (λ both. (both.0.seat.of ≡ ready.now) × (both.1.seat.of ≡ ready.now)) }
+) -> Option<(Ready, Worker<P>, Worker<P>)>
+    requires { C.stay ≡ false }
+    ensures { IfSome result (λ all. (all.1.seat.of ≡ all.0) × (all.2.seat.of ≡ all.0)) }
 {
-    if both_begin(rt, core, graph, ready, passes) {
-        two_workers(core, ready, seats)
+    let (ready, mut seats, mut passes) = Ready::new(rt.alloc(), 2, 1).ok()?;
+    let both = if both_begin(rt, core, graph, &ready, &mut passes) {
+        two_workers(core, &ready, &mut seats)
     } else {
         None
+    };
+    drop(seats);
+    drop(passes);
+    match both {
+        Some((one, other)) => Some((ready, one, other)),
+        None => {
+            drop(ready);
+            None
+        }
     }
 }
 
@@ -105,17 +110,9 @@ pub(crate) fn is_worked<
     requires { C.stay ≡ false }
 {
     let mut core = core;
-    match Ready::new(rt.alloc(), 2, 1) {
-        Ok((ready, mut seats, mut passes)) => {
-            match prepared(rt, &mut core, graph, &ready, &mut seats, &mut passes) {
-                Some((one, other)) => works(rt, core, graph, &ready, one, other, worked),
-                None => {
-                    drop(core);
-                    false
-                }
-            }
-        }
-        Err(_) => {
+    match prepared(rt, &mut core, graph) {
+        Some((ready, one, other)) => works(rt, core, graph, &ready, one, other, worked),
+        None => {
             drop(core);
             false
         }

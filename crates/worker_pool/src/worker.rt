@@ -4,11 +4,10 @@ ghost use Rattle.job_state.specs.JobValue.{basis_in};
 
 use crate::gate::Gate;
 use crate::lack::{Served, lacks_after, pause};
-use crate::shared::Shared;
 use crate::turns::{Taken, give_back, put, take};
 use job_queue::{Law, Popped, Ready, Seat};
 use job_state::{AnyJob, Back, Done};
-use shared_core::{Begun, Share};
+use shared_core::{Begun, Share, Shared};
 use std::sync::Wait;
 use std::sync::ledger::Ledger;
 use std::time::Clock;

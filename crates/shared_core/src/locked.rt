@@ -1,4 +1,5 @@
-use shared_core::{Begun, Core};
+use crate::begun::Begun;
+use crate::shared::Core;
 use std::sync::ledger::Ledger;
 use std::sync::{Condvar, Mutex};
 
