@@ -44,6 +44,7 @@ impl Roads for Pairs {
 struct Street {
     step: Vec<u32>,
     len: usize,
+    guess: Option<u64>,
     ghost one: { step.items ≡ 1 ∷ [] },
     ghost few: { len ≤ 2 ^ 23 },
 }
@@ -80,6 +81,10 @@ impl Roads for Street {
         } else {
             None
         }
+    }
+
+    fn guess(&self) -> Option<u64> {
+        self.guess
     }
 }
 
@@ -146,13 +151,14 @@ fn ties(alloc: Global) -> bool {
     }
 }
 
-/// A street of nine houses.
-fn nine_houses(alloc: Global) -> Result<Street, AllocError>
+/// A street of nine houses, of which it is guessed what a path costs.
+fn nine_houses(alloc: Global, guess: Option<u64>) -> Result<Street, AllocError>
     ensures { IfOk result (λ street. street.len ≡ 9) }
 {
     Ok(Street {
         step: vec![in alloc; 1]?,
         len: 9,
+        guess,
     })
 }
 
@@ -168,8 +174,8 @@ fn goes_along(street: &Street, search: &mut Search, path: &mut Path) -> bool
         && path.nodes.as_slice() == [6, 7].as_slice()
 }
 
-fn along_the_street(alloc: Global) -> bool {
-    match nine_houses(alloc) {
+fn along_the_street(alloc: Global, guess: Option<u64>) -> bool {
+    match nine_houses(alloc, guess) {
         Ok(street) => {
             let mut search = Search::new(alloc);
             let mut path = Path {
@@ -186,8 +192,17 @@ fn along_the_street(alloc: Global) -> bool {
     }
 }
 
+/// Less than a path costs, just that, more, and more than a search can count.
+fn whatever_is_guessed(alloc: Global) -> bool {
+    along_the_street(alloc, None)
+        && along_the_street(alloc, Some(3))
+        && along_the_street(alloc, Some(4))
+        && along_the_street(alloc, Some(9))
+        && along_the_street(alloc, Some(u64::MAX))
+}
+
 #[test]
 fn tables(rt: HostRuntime) {
     assert!(rt; ties(rt.alloc()));
-    assert!(rt; along_the_street(rt.alloc()));
+    assert!(rt; whatever_is_guessed(rt.alloc()));
 }

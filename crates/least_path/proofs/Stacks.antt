@@ -16,7 +16,7 @@ use Rattle.std.proofs.lemmas.List.Elements.{All-contains, All-head, All-tail, Al
 use Rattle.least_path.specs.Graph.{Graph, IsLawful}
 use Rattle.least_path.specs.Path.{Leads, IsPath, cost_of, path_cmp}
 use Rattle.least_path.specs.LeastPath.{IsLeastPath}
-use Rattle.least_path.specs.Frontier.{no_label, cost_in, epoch_in, cost_at, AreBounds, IsLabelled, Reached, IsSettled}
+use Rattle.least_path.specs.Frontier.{no_label, cost_in, epoch_in, cost_at, AreBounds, IsLabelled, Reached, IsSettled, HasNoneAt}
 use Rattle.least_path.specs.Walk.{IsGuided, IsTried, ends_of, after, ahead_of, IsShortWay, MayLead, Needs, Selects, Lists, TakesTurn, Enters, Begins, GoesOn, nodes_in}
 use Rattle.least_path.specs.declared.search.Label.{Label}
 use Rattle.least_path.specs.declared.search.Search.{Search}
@@ -97,9 +97,6 @@ pub record IsFound (g : Graph) (starts : List ℕ) (goal best : ℕ) : Type 0 wh
   pub starts_in : All (λ start. start < g.count) starts
   pub goal_in : goal < g.count
   pub none_cheaper : (path : List ℕ) → IsPath g starts goal path → best ≤ cost_of g path
-  pub path : List ℕ
-  pub is_path : IsPath g starts goal path
-  pub costs : cost_of g path ≡ best
   pub small : best < 2 ^ 60
 
 module _ {g : Graph} {starts : List ℕ} {goal best : ℕ} (f : IsFound g starts goal best) where
@@ -395,26 +392,15 @@ module _ (g : Graph) (starts : List ℕ) (goal best : ℕ) (base : List Turn) (n
 
 -- ---- the turns of the pass
 
-pub found_by : {g : Graph} {starts : List ℕ} {goal : ℕ} {s : Search} → IsLawful g → All (λ start. start < g.count) starts → goal < g.count → IsSettled g starts goal s → IsFound g starts goal (cost_at s goal)
-found_by {g} {starts} {goal} {s} law bs b z =
-    let r = z.frontier.reached goal b z.goal_labelled in
-    record {
-      law = law;
-      starts_in = bs;
-      goal_in = b;
-      none_cheaper = no_cheaper law bs z;
-      path = r.path;
-      is_path = r.is_path;
-      costs = r.costs;
-      small = omega (arith, z.frontier.cheap goal b z.goal_labelled, z.frontier.few);
-    }
+pub found_by : {g : Graph} {starts : List ℕ} {goal : ℕ} {most : Option ℕ} {best : ℕ} {s : Search} → IsLawful g → All (λ start. start < g.count) starts → goal < g.count → IsSettled g starts goal most best s → IsFound g starts goal best
+found_by law bs b z = record { law = law; starts_in = bs; goal_in = b; none_cheaper = no_cheaper law bs z; small = z.small }
 
 -- the starts are raised
-pub walking_starts : {g : Graph} {starts : List ℕ} {goal : ℕ} {s v : Search} → IsLawful g → All (λ start. start < g.count) starts → goal < g.count → IsSettled g starts goal s
+pub walking_starts : {g : Graph} {starts : List ℕ} {goal : ℕ} {most : Option ℕ} {best : ℕ} {s v : Search} → IsLawful g → All (λ start. start < g.count) starts → goal < g.count → IsSettled g starts goal most best s
     → All (λ (label : Label). label.epoch ≤ s.epoch) s.labels
-    → Begins g starts goal (cost_at s goal) s v
-    → Walking g starts goal (cost_at s goal) v.epoch v.labels (reverse v.turns.items)
-walking_starts {g} {starts} {goal} {s} {v} law bs b z past k =
+    → Begins g starts goal best s v
+    → Walking g starts goal best v.epoch v.labels (reverse v.turns.items)
+walking_starts {g} {starts} {goal} {most} {best} {s} {v} law bs b z past k =
     let f = found_by law bs b z in
     let t : Search = k.t in
     let u : Search = k.u in
@@ -424,12 +410,12 @@ walking_starts {g} {starts} {goal} {s} {v} law bs b z past k =
     let tl = k.renews.labels in
     let empty : reverse u.turns.items ≡ [] = rw (l.turns, k.renews.turns) refl in
     rw (r.turns, empty, r.epoch, r.labels, l.epoch, l.labels)
-    (raised_walks g starts goal (cost_at s goal) [] refl u.frame.items r.nodes f (rw tl z.frontier.room) (omega (arith, te)) (rw (te, tl) z.frontier.bounds) tt
+    (raised_walks g starts goal best [] refl u.frame.items r.nodes f (rw tl z.room) (omega (arith, te)) (rw (te, tl) z.bounds) tt
     (λ v c rest b e lt way.
     let own : IsLabelled s v = omega (arith, te, e, ap (λ y. epoch_in y v) tl) in
-    not_dearer f v (cost_at s v) c rest (z.frontier.reached v b own) (rw tl at lt) way)
+    not_dearer f v (cost_at s v) c rest (z.reached v b own) (rw tl at lt) way)
     (λ v c rest b e le way.
-    let old = past v no_label (omega (arith, b, z.frontier.room)) in
+    let old = past v no_label (omega (arith, b, z.room)) in
     absurd (omega (arith, old, te, e, ap (λ y. epoch_in y v) tl)))
     l.listed r.same r.rising)
 
@@ -498,14 +484,13 @@ pub left_behind : {g : Graph} {starts : List ℕ} {goal best : ℕ} {s t : Searc
 left_behind {g} {starts} {goal} {best} {s} {t} stop k w =
     rw (k.epoch, k.labels) (goes_back stop (reverse t.turns.items) (let P : List Turn → Type 0 = λ z. Walking g starts goal best s.epoch s.labels z in subst P (ap reverse k.turns ∙ reverse-push (Entered stop) t.turns.items) w))
 
--- The stack is never empty before the goal is reached.
-pub not_empty : {g : Graph} {starts : List ℕ} {goal best : ℕ} (s : Search) → Walking g starts goal best s.epoch s.labels (reverse s.turns.items) → s.turns.items ≡ [] → ⊥
-not_empty {g} {starts} {goal} {best} s w e =
+-- Where the stack is empty, no path costs just that much.
+pub none_at : {g : Graph} {starts : List ℕ} {goal best : ℕ} (s : Search) → Walking g starts goal best s.epoch s.labels (reverse s.turns.items) → s.turns.items ≡ [] → HasNoneAt g starts goal best
+none_at s w e [] p c = absurd p
+none_at {g} {starts} {goal} {best} s w e (x ∷ rest) p c =
     let w' : Walking g starts goal best s.epoch s.labels [] = (let P : List Turn → Type 0 = λ z. Walking g starts goal best s.epoch s.labels z in subst P (ap reverse e) w) in
-    elim w.found.path as (λ p. IsPath g starts goal p → cost_of g p ≡ best → ⊥) [
-      | [] ↦ λ p c. p
-      | (x ∷ rest) ↦ λ p c. (let q = w'.covers x rest p.0 (record { leads = p.1; tight = omega (arith, c) }) in omega (arith, q.1))
-    ] w.found.is_path w.found.costs
+    let q = w'.covers x rest p.0 (record { leads = p.1; tight = omega (arith, c) }) in
+    omega (arith, q.1)
 
 pub frame_within : {g : Graph} {goal best : ℕ} {parent : Option Stop} {xs : List ℕ} {s t : Search} → All (λ x. x < g.count) xs → Lists g goal best parent xs s t → All (λ x. x < g.count) t.frame.items
 frame_within {g} {xs = xs} {t = t} bs l = λ k d b. All-contains (λ x. x < g.count) xs _ bs (l.listed.sound k d b).0

@@ -1,5 +1,5 @@
 -- Private: what a search keeps true while it labels nodes.
-use Rattle.std.proofs.Common.{◌≡◌, ◌≢◌, ℕ, ◌+◌, ◌*◌, ◌^◌, ◌<◌, ◌≤◌, ◌⊎◌, Some, List, [], ◌∷◌, length, get_or, set}
+use Rattle.std.proofs.Common.{◌≡◌, ◌≢◌, ℕ, ◌+◌, ◌*◌, ◌^◌, ◌<◌, ◌≤◌, ◌⊎◌, Option, Some, None, List, [], ◌∷◌, length, get_or, set}
 use Rattle.std.specs.List.{sum_by, All, Contains}
 use Rattle.std.specs.Prelude.{if◌then◌else◌, ◌==◌}
 use Rattle.std.specs.List.Sorted.{IsPermutation}
@@ -55,21 +55,35 @@ pub record Reached (g : Graph) (starts : List ℕ) (node cost : ℕ) : Type 0 wh
   pub is_path : IsPath g starts node path
   pub costs : cost_of g path ≡ cost
 
--- No way leads from the node to the goal.
-abbrev pub HasNoWay : Graph → ℕ → ℕ → Type 0
-HasNoWay g goal node = (rest : List ℕ) → Leads g goal node rest → ⊥
+-- A path of that cost is asked for: any, or one that costs at most so much.
+abbrev pub IsAsked : Option ℕ → ℕ → Type 0
+IsAsked None cost = Unit {0}
+IsAsked (Some most) cost = cost ≤ most
+
+-- The cost is the most that is asked for, or above it.
+abbrev pub IsReached : Option ℕ → ℕ → Type 0
+IsReached None cost = ⊥
+IsReached (Some most) cost = most ≤ cost
+
+-- No path that is asked for leads over the node at that cost.
+abbrev pub IsUnasked : Graph → ℕ → Option ℕ → ℕ → ℕ → Type 0
+IsUnasked g goal most node cost = (rest : List ℕ) → Leads g goal node rest → IsAsked most (cost + sum_by g.cost rest) → ⊥
+
+-- No path that is asked for leads to the goal.
+abbrev pub HasNoneAsked : Graph → List ℕ → ℕ → Option ℕ → Type 0
+HasNoneAsked g starts goal most = (path : List ℕ) → IsPath g starts goal path → IsAsked most (cost_of g path) → ⊥
 
 -- What the labels of the pass before that number say of the way on is a lower bound.
 abbrev pub AreBounds : Graph → ℕ → ℕ → List Label → Type 0
 AreBounds g goal number labels = (v : ℕ) → v < g.count → epoch_in labels v + 1 ≡ number → IsLowerBound g goal v (Some (ahead_in labels v))
 
 -- Nothing is to be done for a path to the node at that cost.
-abbrev pub IsServed : Graph → ℕ → ℕ → List Label → ℕ → ℕ → Type 0
-IsServed g goal epoch labels node cost = HasNoWay g goal node ⊎ (IsLabelledIn epoch labels node × (cost_in labels node ≤ cost))
+abbrev pub IsServed : Graph → ℕ → Option ℕ → ℕ → List Label → ℕ → ℕ → Type 0
+IsServed g goal most epoch labels node cost = IsUnasked g goal most node cost ⊎ (IsLabelledIn epoch labels node × (cost_in labels node ≤ cost))
 
 -- Each end of the node's edges is served over the node, which is not the goal.
-abbrev pub IsClosed : Graph → ℕ → ℕ → List Label → ℕ → Type 0
-IsClosed g goal epoch labels node = (node ≢ goal) × All (λ end. IsServed g goal epoch labels end (cost_in labels node + g.cost end)) (g.ends node)
+abbrev pub IsClosed : Graph → ℕ → Option ℕ → ℕ → List Label → ℕ → Type 0
+IsClosed g goal most epoch labels node = (node ≢ goal) × All (λ end. IsServed g goal most epoch labels end (cost_in labels node + g.cost end)) (g.ends node)
 
 -- an entry of the queue: at least what any path over the node costs, from a label that was no cheaper than the present one
 pub record IsEntry (g : Graph) (goal epoch : ℕ) (labels : List Label) (entry : Reverse Waiting) : Type 0 where
@@ -87,7 +101,7 @@ pub record Waits (labels : List Label) (queue : List (Reverse Waiting)) (node : 
   pub its_cost : entry.0.cost.0 ≡ cost_in labels node
 
 -- Each node that has a label is closed or waits, but for the one that is being looked at.
-pub record Frontier (g : Graph) (starts : List ℕ) (goal except epoch : ℕ) (labels : List Label) (queue : List (Reverse Waiting)) : Type 0 where
+pub record Frontier (g : Graph) (starts : List ℕ) (goal : ℕ) (most : Option ℕ) (except epoch : ℕ) (labels : List Label) (queue : List (Reverse Waiting)) : Type 0 where
   pub room : g.count ≤ length labels
   pub few : length labels ≤ 2 ^ 23
   pub begun : 1 ≤ epoch
@@ -95,11 +109,11 @@ pub record Frontier (g : Graph) (starts : List ℕ) (goal except epoch : ℕ) (l
   pub cheap : (v : ℕ) → v < g.count → IsLabelledIn epoch labels v → cost_in labels v + fresh epoch labels * 2 ^ 36 ≤ length labels * 2 ^ 36
   pub reached : (v : ℕ) → v < g.count → IsLabelledIn epoch labels v → Reached g starts v (cost_in labels v)
   pub bounds : AreBounds g goal (epoch + 1) labels
-  pub cared_for : (v : ℕ) → v < g.count → IsLabelledIn epoch labels v → (v ≡ except) ⊎ (IsClosed g goal epoch labels v ⊎ Waits labels queue v)
+  pub cared_for : (v : ℕ) → v < g.count → IsLabelledIn epoch labels v → (v ≡ except) ⊎ (IsClosed g goal most epoch labels v ⊎ Waits labels queue v)
   pub entries : All (IsEntry g goal epoch labels) queue
 
-abbrev pub IsFrontier : Graph → List ℕ → ℕ → ℕ → Search → Type 0
-IsFrontier g starts goal except s = Frontier g starts goal except s.epoch s.labels s.queue
+abbrev pub IsFrontier : Graph → List ℕ → ℕ → Option ℕ → ℕ → Search → Type 0
+IsFrontier g starts goal most except s = Frontier g starts goal most except s.epoch s.labels s.queue
 
 -- the state before the first label
 pub record IsBegun (s : Search) (count : ℕ) : Type 0 where
@@ -150,8 +164,8 @@ pub record IsCheaper (s : Search) (node cost : ℕ) : Type 0 where
   pub cheaper : IsLabelled s node → cost < cost_at s node
 
 -- what an offer changes
-abbrev pub Offers : Graph → ℕ → Search → Search → ℕ → ℕ → Type 0
-Offers g goal s t node cost = (IsSame s t × IsServed g goal s.epoch s.labels node cost) ⊎ AddsLabel g goal s t node cost
+abbrev pub Offers : Graph → ℕ → Option ℕ → Search → Search → ℕ → ℕ → Type 0
+Offers g goal most s t node cost = (IsSame s t × IsServed g goal most s.epoch s.labels node cost) ⊎ AddsLabel g goal s t node cost
 
 -- The nearest waits no longer.
 pub record Pops (s t : Search) (waiting : Waiting) : Type 0 where
@@ -163,32 +177,41 @@ pub record Pops (s t : Search) (waiting : Waiting) : Type 0 where
 pub record Falls (s t : Search) : Type 0 where
   pub epoch : t.epoch ≡ s.epoch
   pub left : left t ≤ left s
-  pub served : (g : Graph) (goal node cost : ℕ) → IsServed g goal s.epoch s.labels node cost → IsServed g goal t.epoch t.labels node cost
+  pub served : (g : Graph) (goal : ℕ) (most : Option ℕ) (node cost : ℕ) → IsServed g goal most s.epoch s.labels node cost → IsServed g goal most t.epoch t.labels node cost
 
 -- The node came out of the queue by its label and is not the goal: its edges are looked at next.
-pub record IsTaken (g : Graph) (to node : ℕ) (s : Search) : Type 0 where
+pub record IsTaken (g : Graph) (to : ℕ) (most : Option ℕ) (node : ℕ) (s : Search) : Type 0 where
   pub lawful : IsLawful g
   pub within : node < g.count
   pub goal : to < g.count
   pub other : node ≢ to
   pub labelled : IsLabelled s node
-  pub frontier : (starts : List ℕ) × IsFrontier g starts to node s
+  pub frontier : (starts : List ℕ) × IsFrontier g starts to most node s
 
 -- the search before it looks at a further node
-pub record IsGoing (g : Graph) (starts : List ℕ) (goal : ℕ) (s : Search) : Type 0 where
-  pub frontier : IsFrontier g starts goal g.count s
-  pub entered : All (λ start. IsServed g goal s.epoch s.labels start 0) starts
+pub record IsGoing (g : Graph) (starts : List ℕ) (goal : ℕ) (most : Option ℕ) (s : Search) : Type 0 where
+  pub frontier : IsFrontier g starts goal most g.count s
+  pub entered : All (λ start. IsServed g goal most s.epoch s.labels start 0) starts
 
--- the search when the goal was taken: no entry that is left leads to a path that is less
-pub record IsSettled (g : Graph) (starts : List ℕ) (goal : ℕ) (s : Search) : Type 0 where
-  pub frontier : IsFrontier g starts goal goal s
-  pub entered : All (λ start. IsServed g goal s.epoch s.labels start 0) starts
-  pub goal_labelled : IsLabelled s goal
-  pub no_less : All (λ entry. cost_at s goal ≤ entry.0.at_least) s.queue
+-- the search when no path can cost less any more: at the goal, or where no more is asked for
+pub record IsSettled (g : Graph) (starts : List ℕ) (goal : ℕ) (most : Option ℕ) (best : ℕ) (s : Search) : Type 0 where
+  pub room : g.count ≤ length s.labels
+  pub more : s.epoch + 1 < 2 ^ 16
+  pub reached : (v : ℕ) → v < g.count → IsLabelled s v → Reached g starts v (cost_at s v)
+  pub bounds : AreBounds g goal (s.epoch + 1) s.labels
+  pub entered : All (λ start. IsServed g goal most s.epoch s.labels start 0) starts
+  pub asked : IsAsked most best
+  pub small : best < 2 ^ 60
+  pub tight : (most ≡ Some best) ⊎ Reached g starts goal best
+  pub far : (v : ℕ) → v < g.count → IsLabelled s v → (rest : List ℕ) → Leads g goal v rest → IsClosed g goal most s.epoch s.labels v ⊎ (best ≤ cost_at s v + sum_by g.cost rest)
 
--- what was asked, when the goal was taken
-pub record IsAtGoal (g : Graph) (from : List ℕ) (to : ℕ) (s : Search) : Type 0 where
+-- what was asked, when no path can cost less
+pub record IsAtBest (g : Graph) (from : List ℕ) (to best : ℕ) (s : Search) : Type 0 where
   pub lawful : IsLawful g
   pub starts : AreNodes g from
   pub goal : to < g.count
-  pub settled : IsSettled g from to s
+  pub settled : (most : Option ℕ) × IsSettled g from to most best s
+
+-- No path costs just that much.
+abbrev pub HasNoneAt : Graph → List ℕ → ℕ → ℕ → Type 0
+HasNoneAt g starts goal best = (path : List ℕ) → IsPath g starts goal path → cost_of g path ≡ best → ⊥

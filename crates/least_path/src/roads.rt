@@ -53,6 +53,12 @@ pub trait Roads {
     {
         Some(0)
     }
+
+    /// What a path to the goal may cost, for all that is known. Where the least one costs just that, or a little less, a
+    /// search is faster; no guess changes an answer.
+    fn guess(&self) -> Option<u64> {
+        None
+    }
 }
 
 /// Bounds that are 0 at the goal, and fall along no edge by more than the edge's end costs, are

@@ -54,6 +54,16 @@ enum Turn {
     Entered(Stop),
 }
 
+/// The guess, where a search can count so far.
+fn usable(guess: Option<u64>) -> Option<u64>
+    ensures { IfSome result (λ most. most < 2 ^ 60) }
+{
+    match guess {
+        Some(most) if most < 1 << 60 => guess,
+        _ => None,
+    }
+}
+
 /// A searcher that keeps its room from one search to the next, and clears none of it.
 #[derive(Drop)]
 pub struct Search {
@@ -68,7 +78,7 @@ pub struct Search {
 }
 
 impl Search {
-    ghost use Rattle.least_path.specs.Frontier.{IsBegun};
+    ghost use Rattle.least_path.specs.Frontier.{HasNoneAsked, IsBegun};
 
     /// A searcher with no room yet.
     pub fn new(alloc: Global) -> Self {
@@ -128,12 +138,40 @@ impl Search {
             least_path (R.graph roads.now) starts.now goal
             ≡ (if found then Some path.new.nodes.items else None)) }
     {
+        let guess = usable(roads.guess());
+        if guess.is_some() && self.least_within(roads, starts, goal, guess, path)? {
+            return Ok(true);
+        }
+        self.least_within(roads, starts, goal, None, path)
+    }
+
+    /// Writes the least path, as `least_into` does, of those that cost `most` or less, or of all.
+    fn least_within<R: Roads>(
+        &mut self,
+        roads: &R,
+        starts: &[usize],
+        goal: usize,
+        most: Option<u64>,
+        path: &mut Path,
+    ) -> Result<bool, AllocError>
+        requires starts { AreNodes (R.graph roads.now) starts.now }
+        requires goal { goal < (R.graph roads.now).count }
+        requires most { IfSome most (λ most. most < 2 ^ 60) }
+        ensures found { result ≡ Ok true → TellsLeastPath (R.graph roads.now) starts.now goal
+            path.new }
+        ensures exact { result ≡ Ok true →
+            least_path (R.graph roads.now) starts.now goal ≡ Some path.new.nodes.items }
+        ensures none { result ≡ Ok false → HasNoneAsked (R.graph roads.now) starts.now goal most }
+        ensures kept { result ≡ Ok false → path.new ≡ path.old }
+    {
         self.begin(roads.count())?;
-        if !self.settle(roads, starts, goal)? {
+        let Some(best) = self.settle(roads, starts, goal, most)? else {
+            return Ok(false);
+        };
+        if !self.walk(roads, starts, goal, best, &mut path.nodes)? {
             return Ok(false);
         }
-        path.cost = self.labels.get(goal).cost;
-        self.walk(roads, starts, goal, &mut path.nodes)?;
+        path.cost = best;
         Ok(true)
     }
 

@@ -57,7 +57,7 @@ impl<G: StripGraph> Round<'_, G> {
     ghost use Rattle.pathfinder.specs.Tables.{IsTable, tabled};
 
     /// What a node costs, where a table tells how many trees hold each node.
-    fn price(&self, held: &[u32], node: usize) -> u64
+    pub(crate) fn price(&self, held: &[u32], node: usize) -> u64
         requires within { node < (wiring_of (G.basis self.now.graph.now)).count }
         requires held { IsTable (wiring_of (G.basis self.now.graph.now)).count 8192 held.now }
         ensures value { result ≡ (tabled (wiring_of (G.basis self.now.graph.now))

@@ -1,12 +1,26 @@
 //! What all nodes are and cost in an iteration, but for the trees that hold them.
-ghost use Rattle.std.specs.Prelude.{◌^◌, IfOk};
+ghost use Rattle.std.specs.Prelude.{◌≡◌, ◌<◌, ◌^◌, IfOk};
+ghost use Rattle.rr_graph.specs.Geometry.{capacity_of};
+ghost use Rattle.rr_graph.specs.Graph.{graph_of};
 ghost use Rattle.pathfinder.specs.PlacedNets.{wiring_of};
 ghost use Rattle.pathfinder.specs.Rates.{AreRates};
 ghost use Rattle.pathfinder.specs.Tables.{IsTable};
 
 use crate::rate::Rate;
-use rr_graph::StripGraph;
+use rr_graph::{Node, NodeKind, StripGraph};
 use std::alloc::{AllocError, Global};
+
+/// How many nets a node can carry. Of pins and wires the graph is not asked: each carries one.
+fn capacity_at<G: StripGraph>(graph: &G, number: usize, place: Node) -> u32
+    requires number { number < (graph_of (G.basis graph.now)).count }
+    requires place { place ≡ (graph_of (G.basis graph.now)).node number }
+    ensures { result ≡ capacity_of (G.basis graph.now).arch (G.basis graph.now).strip place }
+{
+    match place.kind {
+        NodeKind::Source | NodeKind::Sink => graph.capacity(number),
+        NodeKind::Opin | NodeKind::Ipin | NodeKind::ChanX | NodeKind::ChanY => 1,
+    }
+}
 
 /// The rates of all nodes, by their overuse so far.
 pub(crate) fn rates_of<G: StripGraph>(
@@ -22,7 +36,8 @@ pub(crate) fn rates_of<G: StripGraph>(
     rates.reserve(history.len())?;
     for node in 0..history.len() {
         let place = graph.node(node);
-        rates.push(Rate::new(place, 1 + history[node], graph.capacity(node)))?;
+        let capacity = capacity_at(graph, node, place);
+        rates.push(Rate::new(place, 1 + history[node], capacity))?;
     }
     Ok(rates)
 }
