@@ -7,9 +7,9 @@ use Rattle.std.proofs.lemmas.List.{ext_get_or, take-append-le, take_all}
 use Rattle.strip_place.specs.declared.net_box.NetBox.{NetBox}
 use Rattle.strip_place.specs.declared.point.Point.{Point}
 use Rattle.strip_place.specs.Nets.{AreTouched, net_at, times_on}
-use Rattle.strip_place.specs.Boxes.{AreBothRenewed, AreFewOf, StayDeep, boxed_length, box_at, length_after, reach_of, reached_length}
+use Rattle.strip_place.specs.Boxes.{AreBothRenewed, AreFewOf, AreTouchedBy, IsFollowed, boxed_length, box_at, length_after, reach_of, reached_length}
 use Rattle.strip_place.specs.Sides.{sides_of, sum_of}
-use Rattle.strip_place.proofs.Depth.{stay_back, stay_there}
+use Rattle.strip_place.proofs.Following.{followed_back, followed_there}
 use Rattle.strip_place.proofs.Lengths.{box_sum}
 use Rattle.strip_place.specs.Wiring.{IsOnNone, IsWired, Wiring, nowhere, point_at, points_after}
 use Rattle.strip_place.proofs.Swaps.{exchanged_back, exchanged_points, grows, least_after, renewed_again, renewed_boxes}
@@ -81,13 +81,47 @@ module _ (nets touching : List (List ℕ)) (points : List Point) (boxes : List N
     exact = renewed_again points (points_after points block other there) nets first second boxes told last total again wired.exact once twice;
   }
 
-  -- boxes that the two blocks are far from the sides of stay as they are, there and back
+  -- the boxes of the two blocks' nets can be worked out, there and back
   module _ (here_x : (point_at points block).x ≤ 65535) (here_y : (point_at points block).y ≤ 65535) (there_x : there.x ≤ 65535) (there_y : there.y ≤ 65535) where
-    pub deep_after_exchange : StayDeep (points_after points block other there) nets boxes (record { one = sides_of (point_at points block); other = sides_of there })
-    deep_after_exchange = stay_there points (points_after points block other there) nets block other (point_at points block) there (exchanged_points points block other there within inside differs) (known stood) here_x here_y there_x there_y boxes wired.exact
+    stands : (k : ℕ) → k < length second → point_at points other ≡ there
+    stands k lt = known stood (get_or second k 0) (theirs.within k lt) (omega (arith, theirs.on k lt))
 
-    pub deep_back : (told : List NetBox) (total : ℕ) → AreBothRenewed (points_after points block other there) nets first second boxes told total → StayDeep points nets told (record { one = sides_of (point_at points block); other = sides_of there })
-    deep_back told total renewed = stay_back points (points_after points block other there) nets block other (point_at points block) there (exchanged_points points block other there within inside differs) (known stood) here_x here_y there_x there_y told (wired_after told total renewed).exact
+    second_there : (k : ℕ) → k < length second → IsFollowed (points_after points block other there) (net_at nets (get_or second k 0)) first (get_or second k 0) (box_at boxes (get_or second k 0)) (sides_of there) (sides_of (point_at points block))
+    second_there k lt =
+        followed_there points (points_after points block other there) nets other block there (point_at points block)
+        (exchanged_back points (points_after points block other there) block other (point_at points block) there (stands k lt) (exchanged_points points block other there within inside differs))
+        (λ number l some. refl) second first theirs mine there_x there_y here_x here_y boxes wired.exact k lt
+
+    second_back : (told : List NetBox) (total : ℕ) → AreBothRenewed (points_after points block other there) nets first second boxes told total → (k : ℕ) → k < length second
+        → IsFollowed points (net_at nets (get_or second k 0)) first (get_or second k 0) (box_at told (get_or second k 0)) (sides_of (point_at points block)) (sides_of there)
+    second_back told total renewed k lt =
+        followed_back points (points_after points block other there) nets other block there (point_at points block)
+        (exchanged_back points (points_after points block other there) block other (point_at points block) there (stands k lt) (exchanged_points points block other there within inside differs))
+        (λ number l some. refl) second first theirs mine there_x there_y here_x here_y told (wired_after told total renewed).exact k lt
+
+    pub touched_there : AreTouchedBy (points_after points block other there) nets first second boxes (record { from = sides_of (point_at points block); to = sides_of there })
+    touched_there = record {
+      first = record {
+        lawful = rw after_long wired.lawful;
+        long = wired.exact.long;
+        touched = few_first;
+        rising = mine.rising;
+        follows = followed_there points (points_after points block other there) nets block other (point_at points block) there (exchanged_points points block other there within inside differs) (known stood) first second mine theirs here_x here_y there_x there_y boxes wired.exact;
+      };
+      second = record { lawful = rw after_long wired.lawful; long = wired.exact.long; touched = few_second; rising = theirs.rising; follows = second_there };
+    }
+
+    pub touched_back : (told : List NetBox) (total : ℕ) → AreBothRenewed (points_after points block other there) nets first second boxes told total → AreTouchedBy points nets first second told (record { from = sides_of there; to = sides_of (point_at points block) })
+    touched_back told total renewed = record {
+      first = record {
+        lawful = wired.lawful;
+        long = renewed.long ∙ wired.exact.long;
+        touched = few_first;
+        rising = mine.rising;
+        follows = followed_back points (points_after points block other there) nets block other (point_at points block) there (exchanged_points points block other there within inside differs) (known stood) first second mine theirs here_x here_y there_x there_y told (wired_after told total renewed).exact;
+      };
+      second = record { lawful = wired.lawful; long = renewed.long ∙ wired.exact.long; touched = few_second; rising = theirs.rising; follows = second_back told total renewed };
+    }
 
   pub fits_is : (allowance : ℕ) → nat_le (reached_length (points_after points block other there) nets first + reached_length (points_after points block other there) nets second) (boxed_length boxes first + boxed_length boxes second + allowance)
       ≡ nat_le (sum_by (reach_of (points_after points block other there)) nets) (sum_by (reach_of points) nets + allowance)

@@ -10,7 +10,7 @@ use Rattle.strip_place.specs.declared.point.Point.{Point}
 use Rattle.strip_place.specs.Extents.{HasCome, count_at, mirrored}
 use Rattle.strip_place.specs.Sides.{sides_of}
 use Rattle.strip_place.specs.Nets.{AreNets, AreTouched, net_at, times_on}
-use Rattle.strip_place.specs.Boxes.{AreBothRenewed, AreBoxes, AreRenewed, IsBox, at_column, at_row, boxed_length, box_at, half_after, half_of, length_after, no_sides, reach_of, reached_length}
+use Rattle.strip_place.specs.Boxes.{AreBothRenewed, AreBoxes, AreRenewed, IsBox, IsBoxBy, at_column, at_row, boxed_length, box_at, half_after, half_of, length_after, no_sides, reach_of, reached_length}
 use Rattle.strip_place.specs.Wiring.{nowhere, point_at, points_after}
 use Rattle.strip_place.proofs.Ends.{HaveSwapped, coordinate_at, counted, swapped_once, swapped_same}
 use Rattle.strip_place.proofs.Nearness.{near_same}
@@ -129,29 +129,31 @@ swapped f none old new block other from to are = record {
   kept = λ k ne nor. coordinate_at f new k none ∙ ap f (are.kept k ne nor) ∙ sym (coordinate_at f old k none);
 }
 
-abbrev x_of : Point → ℕ
+abbrev pub x_of : Point → ℕ
 x_of point = point.x
 
-abbrev y_of : Point → ℕ
+abbrev pub y_of : Point → ℕ
 y_of point = point.y
 
 -- on a net with both or neither each coordinate has as many blocks as before
-same_each : (f : Point → ℕ) → f nowhere ≡ 0 → (old new : List Point) (block other : ℕ) (from to : Point) (net : List ℕ) → AreExchanged old new block other from to → (0 < times_on other net → point_at old other ≡ to) → times_on block net ≡ times_on other net → (c : ℕ) → count_at (map f new) net c ≡ count_at (map f old) net c
+pub same_each : (f : Point → ℕ) → f nowhere ≡ 0 → (old new : List Point) (block other : ℕ) (from to : Point) (net : List ℕ) → AreExchanged old new block other from to → (0 < times_on other net → point_at old other ≡ to) → times_on block net ≡ times_on other net → (c : ℕ) → count_at (map f new) net c ≡ count_at (map f old) net c
 same_each f none old new block other from to net are there alike =
     swapped_same (map f old) (map f new) block other (f from) (f to) net (swapped f none old new block other from to are) (λ some. coordinate_at f old other none ∙ ap f (there some)) alike
 
-pub box_same : (old new : List Point) (block other : ℕ) (from to : Point) (net : List ℕ) (box : NetBox) → AreExchanged old new block other from to → (0 < times_on other net → point_at old other ≡ to) → times_on block net ≡ times_on other net → IsBox old net box → IsBox new net box
+-- a box stays where the counts do
+pub box_counts : (columns new_columns rows new_rows : ℕ → ℕ) (box : NetBox) → ((c : ℕ) → new_columns c ≡ columns c) → ((c : ℕ) → new_rows c ≡ rows c) → IsBoxBy columns rows box → IsBoxBy new_columns new_rows box
+box_counts columns new_columns rows new_rows box across along is = record {
+  left = near_same columns new_columns box.near.left box.next.left across is.left;
+  right = near_same (mirrored columns) (mirrored new_columns) box.near.right box.next.right (λ c. across (65535 - c)) is.right;
+  bottom = near_same rows new_rows box.near.bottom box.next.bottom along is.bottom;
+  top = near_same (mirrored rows) (mirrored new_rows) box.near.top box.next.top (λ c. along (65535 - c)) is.top;
+  columns_inside = λ c past. across c ∙ is.columns_inside c past;
+  rows_inside = λ c past. along c ∙ is.rows_inside c past;
+}
+
+box_same : (old new : List Point) (block other : ℕ) (from to : Point) (net : List ℕ) (box : NetBox) → AreExchanged old new block other from to → (0 < times_on other net → point_at old other ≡ to) → times_on block net ≡ times_on other net → IsBox old net box → IsBox new net box
 box_same old new block other from to net box are there alike is =
-    let columns = same_each x_of refl old new block other from to net are there alike in
-    let rows = same_each y_of refl old new block other from to net are there alike in
-    record {
-      left = near_same (at_column old net) (at_column new net) box.near.left box.next.left columns is.left;
-      right = near_same (mirrored (at_column old net)) (mirrored (at_column new net)) box.near.right box.next.right (λ c. columns (65535 - c)) is.right;
-      bottom = near_same (at_row old net) (at_row new net) box.near.bottom box.next.bottom rows is.bottom;
-      top = near_same (mirrored (at_row old net)) (mirrored (at_row new net)) box.near.top box.next.top (λ c. rows (65535 - c)) is.top;
-      columns_inside = λ c past. columns c ∙ is.columns_inside c past;
-      rows_inside = λ c past. rows c ∙ is.rows_inside c past;
-    }
+    box_counts (at_column old net) (at_column new net) (at_row old net) (at_row new net) box (same_each x_of refl old new block other from to net are there alike) (same_each y_of refl old new block other from to net are there alike) is
 
 -- a block came, on a net of its own
 come_at : (f : Point → ℕ) → f nowhere ≡ 0 → (old new : List Point) (block other : ℕ) (from to : Point) (net : List ℕ) → AreExchanged old new block other from to → (0 < times_on other net → point_at old other ≡ to) → times_on block net ≡ 1 → times_on other net ≤ 1 → HasCome (count_at (map f old) net) (count_at (map f new) net) (f from) (f to)
@@ -177,7 +179,7 @@ least_after old new nets touched block other from to boxes are lawful mine exact
     (come_at y_of refl old new block other from to (net_at nets number) are (there number within) (mine.on k lt) (lawful.once number other within))))
 
 -- the nets of a block that are not among those touched
-none_on : (nets : List (List ℕ)) (who : ℕ) (touched : List ℕ) (number : ℕ) → AreTouched nets who touched → number < length nets → ((k : ℕ) → k < length touched → get_or touched k 0 ≢ number) → times_on who (net_at nets number) ≡ 0
+pub none_on : (nets : List (List ℕ)) (who : ℕ) (touched : List ℕ) (number : ℕ) → AreTouched nets who touched → number < length nets → ((k : ℕ) → k < length touched → get_or touched k 0 ≢ number) → times_on who (net_at nets number) ≡ 0
 none_on nets who touched number is lt off = by (cases_lt 0 (times_on who (net_at nets number)))
   where
     by : (0 < times_on who (net_at nets number)) ⊎ (times_on who (net_at nets number) ≤ 0) → times_on who (net_at nets number) ≡ 0

@@ -1,7 +1,7 @@
 -- Private: the boxes of nets whose blocks stand at points.
 use Rattle.std.specs.Prelude.{ℕ, ◌≡◌, ◌≢◌, ◌+◌, ◌-◌, ◌*◌, ◌<◌, ◌≤◌, ◌==◌, List, length, map, take, sum_by, slice_index, if◌then◌else◌}
 use Rattle.std.specs.List.{slice_index_or}
-use Rattle.strip_place.specs.declared.boxes.Exchanged.{Exchanged}
+use Rattle.strip_place.specs.declared.boxes.Move.{Move}
 use Rattle.strip_place.specs.declared.net_box.NetBox.{NetBox}
 use Rattle.strip_place.specs.declared.point.Point.{Point}
 use Rattle.strip_place.specs.declared.sides.Sides.{Sides}
@@ -130,20 +130,26 @@ pub record AreBoxes (points : List Point) (nets : List (List ℕ)) (boxes : List
   pub long : length boxes ≡ length nets
   pub exact : (number : ℕ) → number < length nets → IsBox points (net_at nets number) (box_at boxes number)
 
--- the nets of whose boxes neither block that changed places is near a side have these boxes still
-abbrev pub StayDeep : List Point → List (List ℕ) → List NetBox → Exchanged → Type 0
-StayDeep points nets boxes moved =
-    (number : ℕ) → number < length nets → IsDeep (box_at boxes number) moved.one → IsDeep (box_at boxes number) moved.other → IsBox points (net_at nets number) (box_at boxes number)
+-- the number is one of those
+abbrev pub IsAmong : List ℕ → ℕ → Type 0
+IsAmong numbers number = (k : ℕ) × (k < length numbers) × (slice_index numbers k ≡ number)
 
--- the boxes of the nets of these numbers can be worked out once two blocks changed places
-pub record CanRenew (points : List Point) (nets : List (List ℕ)) (numbers : List ℕ) (boxes : List NetBox) (moved : Exchanged) : Type 0 where
+-- the box of a net once a block of it went from there to there: where another one came back, which the net's number among others tells, it is the same;
+-- else, where the block had been deep inside, it has met it where it is now
+pub record IsFollowed (points : List Point) (net others : List ℕ) (number : ℕ) (box : NetBox) (from to : Sides) : Type 0 where
+  pub both : IsAmong others number → IsBox points net box
+  pub alone : (IsAmong others number → ⊥) → IsDeep box from → IsBox points net (met box to)
+
+-- the boxes of the nets of these numbers can be worked out once a block on each went from there to there
+pub record CanRenew (points : List Point) (nets : List (List ℕ)) (numbers others : List ℕ) (boxes : List NetBox) (from to : Sides) : Type 0 where
   pub lawful : AreNets (length points) nets
   pub long : length boxes ≡ length nets
   pub touched : AreFewOf (length nets) numbers
-  pub deep : StayDeep points nets boxes moved
+  pub rising : (k j : ℕ) → k < j → j < length numbers → slice_index numbers k < slice_index numbers j
+  pub follows : (k : ℕ) → k < length numbers →
+      IsFollowed points (net_at nets (slice_index numbers k)) others (slice_index numbers k) (box_at boxes (slice_index numbers k)) from to
 
--- so can those of the nets on two lists, over lawful nets
-pub record AreTouchedBy (points : List Point) (nets : List (List ℕ)) (one two : List ℕ) (boxes : List NetBox) (moved : Exchanged) : Type 0 where
-  pub first : AreFewOf (length nets) one
-  pub second : AreFewOf (length nets) two
-  pub deep : StayDeep points nets boxes moved
+-- so can those of the nets on two lists
+pub record AreTouchedBy (points : List Point) (nets : List (List ℕ)) (one two : List ℕ) (boxes : List NetBox) (made : Move) : Type 0 where
+  pub first : CanRenew points nets one two boxes made.from made.to
+  pub second : CanRenew points nets two one boxes made.to made.from

@@ -1,7 +1,7 @@
 //! The boxes of all nets, and how long nets are by them.
-ghost use Rattle.std.specs.Prelude.{◌≡◌, ◌*◌, ◌<◌, ◌≤◌, length, sum_by};
-ghost use Rattle.strip_place.specs.Boxes.{AreBothRenewed, AreRenewed, AreTouchedBy, CanRenew, CanSum, CanWeigh, IsBox, IsDeep, boxed_length, half_of, length_after};
-ghost use Rattle.strip_place.specs.Nets.{AreNets, IsNetOf};
+ghost use Rattle.std.specs.Prelude.{◌≡◌, ◌*◌, ◌<◌, ◌≤◌, length, sum_by, MatchBool};
+ghost use Rattle.strip_place.specs.Boxes.{AreBothRenewed, AreRenewed, AreTouchedBy, CanRenew, CanSum, CanWeigh, IsAmong, IsBox, IsFollowed, boxed_length, half_of, length_after};
+ghost use Rattle.strip_place.specs.Nets.{IsNetOf};
 ghost use Rattle.strip_place.specs.Sides.{sum_of};
 
 use crate::net_box::NetBox;
@@ -9,7 +9,7 @@ use crate::point::Point;
 use crate::sides::Sides;
 use rows::Rows;
 
-/// A net of more blocks than this keeps its box where a draw moves blocks that are far from its sides.
+/// The box of a net of more blocks than this is worked out by the one before, where that can be.
 const FEW_BLOCKS: usize = 12;
 
 /// How long some nets are together, and how long they come to be at least.
@@ -52,61 +52,106 @@ pub(crate) fn whole_length(boxes: &[NetBox]) -> u64
     total
 }
 
-/// Where two blocks stood that changed places.
+/// A block's move: how far from the sides it stood, and how far it stands now.
 #[derive(Clone, Copy, Debug)]
-pub(crate) struct Exchanged {
-    pub(crate) one: Sides,
-    pub(crate) other: Sides,
+pub(crate) struct Move {
+    pub(crate) from: Sides,
+    pub(crate) to: Sides,
 }
 
-/// Works out the boxes of the nets on two lists once two blocks changed places, and tells how long they are together.
+/// Works out the boxes of the nets on two lists once a block of those on the first made the move, and one of those on the
+/// second the move back; tells how long they are together.
 pub(crate) fn renew_both(
     boxes: &mut [NetBox],
     nets: &Rows,
     points: &[Point],
     first: &[u32],
     second: &[u32],
-    moved: Exchanged,
+    made: Move,
 ) -> u64
-    requires lawful { AreNets (length points.now) nets.now }
-    requires long { length boxes.old ≡ length nets.now }
-    requires touched { AreTouchedBy points.now nets.now first.now second.now boxes.old moved }
+    requires { AreTouchedBy points.now nets.now first.now second.now boxes.old made }
     ensures { AreBothRenewed points.now nets.now first.now second.now boxes.old boxes.new result }
 {
-    renew(boxes, nets, points, first, moved) + renew(boxes, nets, points, second, moved)
+    let back = Move {
+        from: made.to,
+        to: made.from,
+    };
+    renew(boxes, nets, points, first, second, made)
+        + renew(boxes, nets, points, second, first, back)
 }
 
-/// Works out the boxes of the nets of these numbers, and tells how long they are together.
+/// Works out the boxes of the nets of these numbers once a block on each made the move, and on the others a block the move
+/// back; tells how long they are together.
 fn renew(
     boxes: &mut [NetBox],
     nets: &Rows,
     points: &[Point],
     touched: &[u32],
-    moved: Exchanged,
+    others: &[u32],
+    made: Move,
 ) -> u64
-    requires { CanRenew points.now nets.now touched.now boxes.old moved }
+    requires { CanRenew points.now nets.now touched.now others.now boxes.old made.from made.to }
     ensures { AreRenewed points.now nets.now touched.now (length touched.now) boxes.old boxes.new
         result }
 {
     let mut total = 0;
     for number in touched {
         let stood = boxes[*number as usize];
-        let found = renewed(stood, nets.row(*number as usize), points, moved);
+        let net = nets.row(*number as usize);
+        let found = renewed(stood, net, points, made, others, *number);
         boxes[*number as usize] = found;
         total += u64::from(found.half_perimeter());
     }
     total
 }
 
-/// The box of a net that had another one: the same where the net is large and the blocks that changed places are far from its sides.
-fn renewed(stood: NetBox, net: &[u32], points: &[Point], moved: Exchanged) -> NetBox
+/// The box of a net of that number that had another one: of one of few blocks it is worked out anew.
+#[inline(always)]
+fn renewed(
+    stood: NetBox,
+    net: &[u32],
+    points: &[Point],
+    made: Move,
+    others: &[u32],
+    number: u32,
+) -> NetBox
     requires net { IsNetOf (length points.now) net.now }
-    requires deep { IsDeep stood moved.one → IsDeep stood moved.other →
-        IsBox points.now net.now stood }
+    requires follows { IsFollowed points.now net.now others.now number stood made.from made.to }
     ensures { IsBox points.now net.now result }
 {
-    if net.len() > FEW_BLOCKS && stood.is_deep(moved.one) && stood.is_deep(moved.other) {
-        return stood;
+    if net.len() > FEW_BLOCKS {
+        return followed(stood, net, points, made, others, number);
     }
     NetBox::of(net, points)
+}
+
+/// The box of a large net of that number that had another one. Where two blocks on it changed places it is the same; where one
+/// of it moved that was far from the sides, it has met that one where it is now; only else its blocks are looked at.
+#[inline(never)]
+fn followed(
+    stood: NetBox,
+    net: &[u32],
+    points: &[Point],
+    made: Move,
+    others: &[u32],
+    number: u32,
+) -> NetBox
+    requires net { IsNetOf (length points.now) net.now }
+    requires follows { IsFollowed points.now net.now others.now number stood made.from made.to }
+    ensures { IsBox points.now net.now result }
+{
+    if is_among(others, number) {
+        return stood;
+    }
+    if stood.is_deep(made.from) {
+        return stood.met(made.to);
+    }
+    NetBox::of(net, points)
+}
+
+/// Whether the number is one of those.
+fn is_among(numbers: &[u32], number: u32) -> bool
+    ensures { MatchBool result (IsAmong numbers.now number) (IsAmong numbers.now number → ⊥) }
+{
+    numbers.contains(&number)
 }

@@ -73,7 +73,7 @@ impl NetBox {
     }
 
     /// The box with one block more.
-    fn met(self, block: Sides) -> Self
+    pub(crate) fn met(self, block: Sides) -> Self
         ensures { result ≡ met self block }
     {
         NetBox {

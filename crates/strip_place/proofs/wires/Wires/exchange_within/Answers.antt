@@ -8,7 +8,7 @@ use Rattle.strip_place.specs.declared.sides.Sides.{Sides}
 use Rattle.strip_place.specs.Boxes.{AreBothRenewed, boxed_length, length_after, reached_length}
 use Rattle.strip_place.specs.Sides.{sides_of}
 use Rattle.strip_place.specs.Wiring.{IsOnNone, Wiring, length_of, nowhere, point_at, points_after, wiring_after}
-use Rattle.strip_place.proofs.Rewiring.{deep_after_exchange, deep_back, few_first, few_second, grown_is, kept_is, least_first, least_second, points_back, sums_small, whole_back, wired_after, wired_again, wiring_of}
+use Rattle.strip_place.proofs.Rewiring.{few_first, few_second, grown_is, kept_is, least_first, least_second, points_back, sums_small, touched_back, touched_there, whole_back, wired_after, wired_again, wiring_of}
 use Rattle.strip_place.proofs.wires.Wires.exchange_within.Goals as goal
 
 pub weigh-one-requires-clause-touched : goal.weigh-one-requires-clause-touched
@@ -128,8 +128,8 @@ returns-then-limit-one-clause-fits c =
     grown_is w.nets w.touching points w.boxes.items c.args.block c.args.other c.args.there one two c.self.invariant within inside c.requires.differs stood first second c.args.allowance _ _ before least c.if-limit-one.true
     ∙ ap (λ (v : Wiring). nat_le (length_of (wiring_after v c.args.block c.args.other c.args.there)) (length_of v + c.args.allowance)) view
 
-pub renew_both-requires-clause-touched : goal.renew_both-requires-clause-touched
-renew_both-requires-clause-touched c =
+pub renew_both-requires : goal.renew_both-requires
+renew_both-requires c =
     let w = c.self.inside in
     let points = w.points.items in
     let view : wiring_of w.nets points ≡ c.args.self.now = c.self.view_is in
@@ -146,11 +146,7 @@ renew_both-requires-clause-touched c =
     let here_x : (point_at points c.args.block).x ≤ 65535 = subst (λ (p : Point). p.x ≤ 65535) back c.of-from.ensures.x in
     let here_y : (point_at points c.args.block).y ≤ 65535 = subst (λ (p : Point). p.y ≤ 65535) back c.of-from.ensures.y in
     let given : c.as_slice-3.result.now ≡ points_after points c.args.block c.args.other c.args.there = c.as_slice-3.ensures.value ∙ ap (λ (p : Point). set (set points c.args.block c.args.there) c.args.other p) back in
-    record {
-      first = few_first w.nets w.touching points w.boxes.items c.args.block c.args.other c.args.there one two c.self.invariant within inside c.requires.differs stood first second;
-      second = few_second w.nets w.touching points w.boxes.items c.args.block c.args.other c.args.there one two c.self.invariant within inside c.requires.differs stood first second;
-      deep = rw (given, c.as_mut_slice.ensures.value, from, c.of-to.ensures.value) (deep_after_exchange w.nets w.touching points w.boxes.items c.args.block c.args.other c.args.there one two c.self.invariant within inside c.requires.differs stood first second here_x here_y c.of-to.ensures.x c.of-to.ensures.y);
-    }
+    rw (given, c.as_mut_slice.ensures.value, from, c.of-to.ensures.value) (touched_there w.nets w.touching points w.boxes.items c.args.block c.args.other c.args.there one two c.self.invariant within inside c.requires.differs stood first second here_x here_y c.of-to.ensures.x c.of-to.ensures.y)
 
 pub invariant_of-self : goal.invariant_of-self
 invariant_of-self c =
@@ -197,8 +193,8 @@ returns-then-renew_both-limit-clause-fits c =
     kept_is w.nets w.touching points w.boxes.items c.args.block c.args.other c.args.there one two c.self.invariant within inside c.requires.differs stood first second c.args.allowance _ c.renew_both.result before renewed.total_is c.if-renew_both-limit.true
     ∙ ap (λ (v : Wiring). nat_le (length_of (wiring_after v c.args.block c.args.other c.args.there)) (length_of v + c.args.allowance)) view
 
-pub renew_both-requires-2-clause-touched : goal.renew_both-requires-2-clause-touched
-renew_both-requires-2-clause-touched c =
+pub renew_both-requires-2 : goal.renew_both-requires-2
+renew_both-requires-2 c =
     let w = c.self.inside in
     let points = w.points.items in
     let view : wiring_of w.nets points ≡ c.args.self.now = c.self.view_is in
@@ -223,11 +219,7 @@ renew_both-requires-2-clause-touched c =
     let stands : c.index-stood.result.now ≡ point_at points c.args.other = get_or_read points c.args.other c.index-stood.result.now inside c.index-stood.ensures nowhere in
     let here : set (set (set (set points c.args.block c.args.there) c.args.other c.index-back.result.now) c.args.block c.index-back.result.now) c.args.other c.index-stood.result.now ≡ points = rw (stands, back) (points_back points c.args.block c.args.other c.args.there c.requires.differs) in
     let lent : c.as_mut_slice-2.result.now ≡ c.renew_both.new.boxes = c.as_mut_slice-2.ensures.value ∙ whole in
-    record {
-      first = few_first w.nets w.touching points w.boxes.items c.args.block c.args.other c.args.there one two c.self.invariant within inside c.requires.differs stood first second;
-      second = few_second w.nets w.touching points w.boxes.items c.args.block c.args.other c.args.there one two c.self.invariant within inside c.requires.differs stood first second;
-      deep = rw (c.as_slice-4.ensures.value ∙ here, lent, from, c.of-to.ensures.value) (deep_back w.nets w.touching points w.boxes.items c.args.block c.args.other c.args.there one two c.self.invariant within inside c.requires.differs stood first second here_x here_y c.of-to.ensures.x c.of-to.ensures.y c.renew_both.new.boxes c.renew_both.result renewed);
-    }
+    rw (c.as_slice-4.ensures.value ∙ here, lent, from, c.of-to.ensures.value) (touched_back w.nets w.touching points w.boxes.items c.args.block c.args.other c.args.there one two c.self.invariant within inside c.requires.differs stood first second here_x here_y c.of-to.ensures.x c.of-to.ensures.y c.renew_both.new.boxes c.renew_both.result renewed)
 
 pub invariant_of-self-2 : goal.invariant_of-self-2
 invariant_of-self-2 c =
