@@ -4,6 +4,7 @@ use Rattle.rr_graph.specs.declared.resource.ResourceKind.TheVariants.{Opin, Pad}
 use Rattle.rr_graph.specs.declared.resource.Resource.{Resource}
 use Rattle.device_book.specs.declared.book.Extent.{Extent}
 use Rattle.rr_graph.specs.Resources.{has}
+use Rattle.device_book.specs.Columns.{column_size}
 use Rattle.device_book.specs.Owners.{in_book, nobody, number_of, owner_of, size_of}
 
 -- one column, one row, numbers 0 to 3
@@ -19,6 +20,9 @@ pad = record { x = 1; kind = Pad; y = 2; n = 0 }
 
 places : size_of small ≡ 120
 places = refl
+
+places_of_a_column : column_size small ≡ 60
+places_of_a_column = refl
 
 where_the_pin_stands : number_of small pin ≡ 66
 where_the_pin_stands = refl

@@ -1,3 +1,4 @@
+pub mod Columns
 pub mod Listing
 pub mod Places
 mod Examples

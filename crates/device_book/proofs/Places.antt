@@ -13,7 +13,7 @@ use Rattle.rr_graph.specs.declared.resource.ResourceKind.TheVariants.{Opin, Ipin
 use Rattle.rr_graph.specs.declared.resource.Resource.{Resource}
 use Rattle.rr_graph.specs.Resources.{IsEarlier, has, is_same, moved_resource, resource_rank}
 use Rattle.device_book.specs.declared.book.Extent.{Extent}
-use Rattle.device_book.specs.Owners.{AreOwned, owner_of, in_book, number_of, size_of}
+use Rattle.device_book.specs.Owners.{AreOwned, Owners, owner_of, in_book, number_of, size_of}
 
 or_false : (b : Bool) → (b || false) ≡ b
 or_false true = refl
@@ -27,16 +27,16 @@ rank_below ChanY = omega arith
 rank_below Pad = omega arith
 
 -- where a resource of the book is
-record IsIn (extent : Extent) (resource : Resource) : Type 0 where
-  x : resource.x ≤ extent.columns
-  y : resource.y < extent.rows + 2
-  n : resource.n < extent.numbers
+pub record IsIn (extent : Extent) (resource : Resource) : Type 0 where
+  pub x : resource.x ≤ extent.columns
+  pub y : resource.y < extent.rows + 2
+  pub n : resource.n < extent.numbers
 
-is_in : (extent : Extent) (resource : Resource) → in_book extent resource ≡ true → IsIn extent resource
+pub is_in : (extent : Extent) (resource : Resource) → in_book extent resource ≡ true → IsIn extent resource
 is_in extent resource is = record { x = grind (arith, nat_tests); y = grind (arith, nat_tests); n = grind (arith, nat_tests) }
 
 -- digits to two bases
-digit_below : (a b m n : ℕ) → a < m → b < n → a * n + b < m * n
+pub digit_below : (a b m n : ℕ) → a < m → b < n → a * n + b < m * n
 digit_below a b m n la lb = let above : a + 1 ≤ m = omega (arith, la) in
     let step : (a + 1) * n ≤ m * n = mul-le-mul_right n above in
     omega (arith, step, lb)
@@ -107,18 +107,27 @@ owner_of-set extent owners resource value other long is = by_device (in_book ext
         ap (λ k. get_or (set owners (number_of extent resource) value) k None) same ∙ get_or-set_same owners (number_of extent resource) value None lt
     by_device true e false f = get_or-set_other owners (number_of extent resource) (number_of extent other) value None (λ same. false≢true (sym f ∙ same_place extent other resource e is same))
 
--- one more of them has the owner
-pub write_more : (extent : Extent) (old now : List (Option ℕ)) (offset : ℕ) (resources : List Resource) (index : ℕ) (value : Option ℕ) (d : Resource) → index < length resources →
-    length now ≡ size_of extent → in_book extent (moved_resource offset (get_or resources index d)) ≡ true →
-    AreOwned (record { extent = extent; owners = old }) (map (moved_resource offset) (take index resources)) value (record { extent = extent; owners = now }) →
-    AreOwned (record { extent = extent; owners = old }) (map (moved_resource offset) (take (index + 1) resources)) value (record { extent = extent; owners = set now (number_of extent (moved_resource offset (get_or resources index d))) value })
-write_more extent old now offset resources index value d lt long there owned = (
+-- one of them has the owner
+pub write_one : (extent : Extent) (owners : List (Option ℕ)) (resource : Resource) (value : Option ℕ) → length owners ≡ size_of extent → in_book extent resource ≡ true →
+    AreOwned (record { extent = extent; owners = owners }) (resource ∷ []) value (record { extent = extent; owners = set owners (number_of extent resource) value })
+write_one extent owners resource value long there = (
   refl,
   λ other.
-      owner_of-set extent now new value other long there
-      ∙ (ap (λ t. if is_same other new then value else t) (owned.1 other)
-      ∙ (merged (is_same other new) (has before other) value (owner_of (record { extent = extent; owners = old }) other)
-      ∙ sym (ap (λ t. if t then value else owner_of (record { extent = extent; owners = old }) other) (one_more other)))),
+      owner_of-set extent owners resource value other long there
+      ∙ ap (λ t. if t then value else owner_of (record { extent = extent; owners = owners }) other) (sym (or_false (is_same other resource))),
+)
+
+-- one more of them has it
+pub write_more : (old now next : Owners) (offset : ℕ) (resources : List Resource) (index : ℕ) (value : Option ℕ) (d : Resource) → index < length resources →
+    AreOwned old (map (moved_resource offset) (take index resources)) value now → AreOwned now (moved_resource offset (get_or resources index d) ∷ []) value next →
+    AreOwned old (map (moved_resource offset) (take (index + 1) resources)) value next
+write_more old now next offset resources index value d lt owned more = (
+  more.0 ∙ owned.0,
+  λ other.
+      more.1 other
+      ∙ (ap (λ t. if has (new ∷ []) other then value else t) (owned.1 other)
+      ∙ (merged (has (new ∷ []) other) (has before other) value (owner_of old other)
+      ∙ sym (ap (λ t. if t then value else owner_of old other) (one_more other)))),
 )
   where
     new : Resource
@@ -127,9 +136,8 @@ write_more extent old now offset resources index value d lt long there owned = (
     before : List Resource
     before = map (moved_resource offset) (take index resources)
 
-    one_more : (other : Resource) → has (map (moved_resource offset) (take (index + 1) resources)) other ≡ (has before other || is_same other new)
-    one_more other = ap (λ xs. has xs other) (map_more (moved_resource offset) resources index d lt)
-        ∙ (list_any-append (is_same other) before (new ∷ []) ∙ ap (λ b. has before other || b) (or_false (is_same other new)))
+    one_more : (other : Resource) → has (map (moved_resource offset) (take (index + 1) resources)) other ≡ (has before other || has (new ∷ []) other)
+    one_more other = ap (λ xs. has xs other) (map_more (moved_resource offset) resources index d lt) ∙ list_any-append (is_same other) before (new ∷ [])
 
     merged : (new before : Bool) (value rest : Option ℕ) → (if new then value else (if before then value else rest)) ≡ (if before || new then value else rest)
     merged true true value rest = refl

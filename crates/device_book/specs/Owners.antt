@@ -110,8 +110,3 @@ pub record IsPlace (extent : Extent) (place : ℕ) : Type 0 where
 pub record IsBook (extent : Extent) (owners : List (Option ℕ)) : Type 0 where
   pub small : IsExtent extent
   pub long : length owners ≡ size_of extent
-
--- private: and for each of these, so many columns to the right
-pub record CanWrite (extent : Extent) (owners : List (Option ℕ)) (offset : ℕ) (resources : List Resource) : Type 0 where
-  pub book : IsBook extent owners
-  pub there : StandIn extent offset resources

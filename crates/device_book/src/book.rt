@@ -1,7 +1,8 @@
 //! The book of owners.
-ghost use Rattle.std.specs.Prelude.{◌≡◌, ◌+◌, ◌<◌, ◌≤◌, ◌*◌, IfOk, None, Some, length, map, max, true};
+ghost use Rattle.std.specs.Prelude.{◌≡◌, [], ◌∷◌, ◌+◌, ◌<◌, ◌≤◌, ◌*◌, IfOk, None, OnOk, Some, length, map, max, true};
 ghost use Rattle.arch_file.specs.Arch.{IsArch};
-ghost use Rattle.device_book.specs.Owners.{AreOwned, CanClaim, CanShift, CanWrite, Claims, HasPlace, IsBook, IsExtent, IsPlace, KeepsLimits, ListsOwners, Releases, Shifts, StandIn, extent_of, in_book, nobody, number_of, owner_of, size_of};
+ghost use Rattle.device_book.specs.Columns.{IsWhole, ListsBefore, column_size};
+ghost use Rattle.device_book.specs.Owners.{AreOwned, CanClaim, CanShift, Claims, HasPlace, IsBook, IsExtent, IsPlace, KeepsLimits, ListsOwners, Releases, Shifts, StandIn, extent_of, in_book, nobody, number_of, owner_of, size_of};
 ghost use Rattle.rr_graph.specs.Resources.{moved_resource, resource_rank};
 
 use arch_file::Arch;
@@ -25,16 +26,19 @@ pub struct Extent {
 pub struct Book {
     extent: Extent,
     owners: Vec<Option<u16>>,
+    /// How many places of each column are owned.
+    used: Vec<u32>,
 }
 
 impl Model for Book {
-    ghost use Rattle.device_book.specs.Owners.{IsBook, Owners};
+    ghost use Rattle.device_book.specs.Columns.{IsWhole};
+    ghost use Rattle.device_book.specs.Owners.{Owners};
 
     ghost Value = { Owners };
 
     ghost view = { λ b. record { extent = b.extent; owners = b.owners.items } };
 
-    ghost invariant = { λ b. IsBook b.extent b.owners.items };
+    ghost invariant = { λ b. IsWhole b.extent b.owners.items b.used.items };
 }
 
 impl Book {
@@ -49,9 +53,12 @@ impl Book {
             rows,
             numbers,
         };
+        let used = vec![in alloc; 0; columns as usize + 1]?;
+        let owners = vec![in alloc; None; size(extent)]?;
         Ok(Book {
             extent,
-            owners: vec![in alloc; None; size(extent)]?,
+            owners,
+            used,
         })
     }
 
@@ -65,11 +72,17 @@ impl Book {
         self.owners[number_of(self.extent, resource)].map(u32::from)
     }
 
-    /// Each resource that is owned, with its owner, in node order.
+    /// Each resource that is owned, with its owner, in node order. It passes over the columns in which none is.
     pub fn owned(&self, alloc: Global) -> Result<Vec<Owned>, AllocError>
         ensures { IfOk result (λ list. ListsOwners self.now list.items) }
     {
-        listed(alloc, self.extent, self.owners.as_slice())
+        let mut list = Vec::new(alloc);
+        for column in 0..self.used.len() {
+            if self.used[column] > 0 {
+                self.list_column(column, &mut list)?;
+            }
+        }
+        Ok(list)
     }
 
     /// Gives resources that nobody owns to a tenancy: those of its strip, so many columns to the right.
@@ -77,8 +90,7 @@ impl Book {
         requires { CanClaim self.old offset resources.now }
         ensures { Claims self.old id (map (moved_resource offset) resources.now) self.new }
     {
-        let extent = self.extent;
-        write(&mut self.owners, extent, Some(id), offset, resources);
+        self.write(Some(id), offset, resources);
     }
 
     /// Takes resources from the tenancy that owns them: those of its strip, so many columns to the right.
@@ -86,8 +98,7 @@ impl Book {
         requires there { StandIn self.old.extent offset resources.now }
         ensures { Releases self.old (map (moved_resource offset) resources.now) self.new }
     {
-        let extent = self.extent;
-        write(&mut self.owners, extent, None, offset, resources);
+        self.write(None, offset, resources);
     }
 
     /// Moves what a tenancy owns from one offset of its strip to another: these resources of the strip. Old and new ones may overlap.
@@ -98,6 +109,48 @@ impl Book {
     {
         self.release(from, resources);
         self.claim(id, to, resources);
+    }
+
+    /// Gives the same owner, or none, to each of these, so many columns to the right.
+    fn write(&mut self, owner: Option<u16>, offset: u32, resources: &[Resource])
+        requires { StandIn self.old.extent offset resources.now }
+        ensures { AreOwned self.old (map (moved_resource offset) resources.now) owner self.new }
+    {
+        for resource in resources {
+            self.write_one(owner, offset, *resource);
+        }
+    }
+
+    /// Gives an owner, or none, to one resource, so many columns to the right, and counts its column anew.
+    fn write_one(&mut self, owner: Option<u16>, offset: u32, resource: Resource)
+        requires { in_book self.old.extent (moved_resource offset resource) ≡ true }
+        ensures { AreOwned self.old (moved_resource offset resource ∷ []) owner self.new }
+    {
+        let extent = self.extent;
+        let resource = resource.moved(offset);
+        let place = number_of(extent, resource);
+        let column = resource.x as usize;
+        let was_owned = u32::from(self.owners[place].is_some());
+        let is_owned = u32::from(owner.is_some());
+        self.owners[place] = owner;
+        self.used[column] = self.used[column] + is_owned - was_owned;
+    }
+
+    /// Lists what is owned in a column, behind what is owned in those before it.
+    fn list_column(&self, column: usize, list: &mut Vec<Owned>) -> Result<(), AllocError>
+        requires within { column ≤ self.now.extent.columns }
+        requires before { ListsBefore self.now column list.old.items }
+        ensures { OnOk result (ListsBefore self.now (column + 1) list.new.items) }
+    {
+        let size = column_size(self.extent);
+        for place in column * size..(column + 1) * size {
+            if let Some(id) = self.owners[place] {
+                let resource = resource_at(self.extent, place);
+                let id = u32::from(id);
+                list.push(Owned { resource, id })?;
+            }
+        }
+        Ok(())
     }
 }
 
@@ -159,41 +212,12 @@ fn rank(kind: ResourceKind) -> usize
     }
 }
 
-/// Writes the same owner at each of these, moved by so many columns.
-fn write(
-    owners: &mut [Option<u16>],
-    extent: Extent,
-    owner: Option<u16>,
-    offset: u32,
-    resources: &[Resource],
-)
-    requires { CanWrite extent owners.old offset resources.now }
-    ensures long { length owners.new ≡ length owners.old }
-    ensures owned { AreOwned (record { extent = extent; owners = owners.old })
-        (map (moved_resource offset) resources.now) owner
-        (record { extent = extent; owners = owners.new }) }
+/// How many places a column has.
+fn column_size(extent: Extent) -> usize
+    requires { IsExtent extent }
+    ensures { result ≡ column_size extent }
 {
-    for resource in resources {
-        let place = number_of(extent, resource.moved(offset));
-        owners[place] = owner;
-    }
-}
-
-/// The resources that are owned, with their owners, in the order of their places.
-fn listed(alloc: Global, extent: Extent, owners: &[Option<u16>]) -> Result<Vec<Owned>, AllocError>
-    requires { IsBook extent owners.now }
-    ensures { IfOk result (λ list. ListsOwners (record { extent = extent; owners = owners.now })
-        list.items) }
-{
-    let mut list = Vec::new(alloc);
-    for place in 0..owners.len() {
-        if let Some(id) = owners[place] {
-            let resource = resource_at(extent, place);
-            let id = u32::from(id);
-            list.push(Owned { resource, id })?;
-        }
-    }
-    Ok(list)
+    5 * (extent.rows as usize + 2) * extent.numbers as usize
 }
 
 /// The resource of a place.

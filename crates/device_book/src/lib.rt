@@ -2,6 +2,9 @@
 //!
 //! A [`Book`] has an owner, or none, for each [`rr_graph::Resource`] of a device, in one flat table. [`Book::claim`] and
 //! [`Book::release`] change the owners of exactly the resources that they are given. Only [`Book::new`] takes memory.
+//!
+//! Beside the table it counts the owned places of each column, so that [`Book::owned`] passes over the columns in which
+//! nobody owns anything.
 #![tactic(auto)]
 
 mod book;

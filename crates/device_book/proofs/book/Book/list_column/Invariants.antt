@@ -1,0 +1,5 @@
+use Rattle.device_book.specs.Columns.{ListsPlaces}
+use Rattle.device_book.proofs.book.Book.list_column.Given as goal
+
+abbrev pub invariant-loop-place : goal.invariant-loop-place
+invariant-loop-place l = ListsPlaces l.self l.place l.list.items
