@@ -2,7 +2,7 @@
 ghost use Rattle.std.specs.Prelude.{◌≡◌, [], ◌∷◌, ◌+◌, ◌<◌, ◌≤◌, ◌*◌, IfOk, None, OnOk, Some, length, map, max, true};
 ghost use Rattle.arch_file.specs.Arch.{IsArch};
 ghost use Rattle.device_book.specs.Columns.{IsWhole, ListsBefore, column_size};
-ghost use Rattle.device_book.specs.Owners.{AreOwned, CanClaim, CanShift, Claims, HasPlace, IsBook, IsExtent, IsPlace, KeepsLimits, ListsOwners, Releases, Shifts, StandIn, extent_of, in_book, nobody, number_of, owner_of, size_of};
+ghost use Rattle.device_book.specs.Owners.{AreOwned, CanClaim, CanShift, Claims, HasPlace, IsExtent, IsPlace, KeepsLimits, ListsOwners, Releases, Shifts, StandIn, extent_of, in_book, nobody, number_of, owner_of, size_of};
 ghost use Rattle.rr_graph.specs.Resources.{moved_resource, resource_rank};
 
 use arch_file::Arch;
@@ -26,7 +26,7 @@ pub struct Extent {
 pub struct Book {
     extent: Extent,
     owners: Vec<Option<u16>>,
-    /// How many places of each column are owned.
+    /// How many places of each column are owned, column by column from the left.
     used: Vec<u32>,
 }
 
