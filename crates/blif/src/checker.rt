@@ -96,9 +96,11 @@ impl<'t> Checker<'t> {
             return Ok(Some(BlifFaultKind::Unknown));
         }
         let keyword = keyword_of(line);
-        if let Some(fault) = self.kind_fault(alloc, keyword, line, lut_size, numbers)? {
+        if let Some(fault) = self.kind_fault(alloc, keyword, line, lut_size)? {
             return Ok(Some(fault));
         }
+        name_nets(&mut self.nets, numbers, keyword, line)?;
+        self.cover = cover_after(keyword, line, self.cover);
         if !self.begun && keyword != Keyword::Model {
             return Ok(Some(BlifFaultKind::NoModel));
         }
@@ -109,67 +111,63 @@ impl<'t> Checker<'t> {
         Ok(None)
     }
 
-    /// The least fault that the line has by itself or with the lines above it; without one all but `begun` is as after it.
+    /// The least fault that the line has by itself or with the lines above it; without one it has come, but for what it names.
     fn kind_fault(
         &mut self,
         alloc: Global,
         keyword: Keyword,
         line: &Line<'_, 't>,
         lut_size: u32,
-        numbers: &mut Nets,
     ) -> Result<Option<BlifFaultKind>, AllocError>
         requires { self.old.ended ≡ false }
         ensures least { IfOk result (λ fault.
             fault ≡ first_kind (kind_faults lut_size self.old keyword line.now.words)) }
         ensures sights { IfOk result (λ fault.
-            IfNone fault (record self.new { begun = true }
-            ≡ sights_after keyword line.now.words self.old)) }
-        ensures begun { IfOk result (λ fault. self.new.begun ≡ self.old.begun) }
-        ensures nets { IfOk result (λ fault.
-            IfNone fault (self.new.nets
-            ≡ with_names self.old.nets (names_in keyword line.now.words))) }
-        ensures numbers { IfOk result (λ fault.
-            IfNone fault (numbers.new
-            ≡ numbers.old ++ numbered self.old.nets (names_in keyword line.now.words))) }
+            IfNone fault (self.new ≡ record (sights_after keyword line.now.words self.old) {
+              begun = self.old.begun;
+              nets = self.old.nets;
+              cover = self.old.cover;
+            })) }
     {
         let rest = line.behind_first();
         let args = rest.words();
-        let fault = match keyword {
-            Keyword::Model if self.begun => Some(BlifFaultKind::Unknown),
-            Keyword::Model | Keyword::Skipped => None,
-            Keyword::Inputs => {
-                number_all(&mut self.nets, args, numbers)?;
-                drive(alloc, &self.clocks, &mut self.drivers, args)?
-            }
-            Keyword::Outputs => {
-                number_all(&mut self.nets, args, numbers)?;
-                show(alloc, &mut self.outputs, args)?
-            }
-            Keyword::Clock => {
-                number_all(&mut self.nets, args, numbers)?;
-                clock(alloc, &self.declared, &self.drivers, &mut self.clocks, args)?
-            }
-            Keyword::Names => {
-                number_all(&mut self.nets, args, numbers)?;
-                table(alloc, lut_size, &self.clocks, &mut self.drivers, &rest)?
-            }
-            Keyword::Latch => latch(
-                alloc,
-                &mut self.nets,
-                numbers,
-                &self.clocks,
-                &mut self.drivers,
-                &rest,
-            )?,
+        match keyword {
+            Keyword::Model if self.begun => Ok(Some(BlifFaultKind::Unknown)),
+            Keyword::Model | Keyword::Skipped => Ok(None),
+            Keyword::Inputs => drive(alloc, &self.clocks, &mut self.drivers, args),
+            Keyword::Outputs => show(alloc, &mut self.outputs, args),
+            Keyword::Clock => clock(alloc, &self.declared, &self.drivers, &mut self.clocks, args),
+            Keyword::Names => table(alloc, lut_size, &self.clocks, &mut self.drivers, &rest),
+            Keyword::Latch => latch(alloc, &self.clocks, &mut self.drivers, &rest),
             Keyword::End => {
                 self.ended = true;
-                None
+                Ok(None)
             }
-            Keyword::Other => Some(BlifFaultKind::Unknown),
-            Keyword::Row => row_fault(self.cover, line),
-        };
-        self.cover = cover_after(keyword, line, self.cover);
-        Ok(fault)
+            Keyword::Other => Ok(Some(BlifFaultKind::Unknown)),
+            Keyword::Row => Ok(row_fault(self.cover, line)),
+        }
+    }
+}
+
+/// Adds the nets that the line names, and puts their numbers at the end.
+fn name_nets<'t>(
+    nets: &mut NameSet<'t>,
+    numbers: &mut Nets,
+    keyword: Keyword,
+    line: &Line<'_, 't>,
+) -> Result<(), AllocError>
+    ensures nets { IfOk result (λ _.
+        nets.new ≡ with_names nets.old (names_in keyword line.now.words)) }
+    ensures numbers { IfOk result (λ _. numbers.new
+        ≡ numbers.old ++ numbered nets.old (names_in keyword line.now.words)) }
+{
+    let rest = line.behind_first();
+    match keyword {
+        Keyword::Inputs | Keyword::Outputs | Keyword::Clock | Keyword::Names => {
+            number_all(nets, rest.words(), numbers)
+        }
+        Keyword::Latch if is_latch(&rest) => name_latch(nets, numbers, &rest),
+        _ => Ok(()),
     }
 }
 
@@ -261,11 +259,9 @@ fn table<'t>(
     drive(alloc, clocks, drivers, &[last_of(args)])
 }
 
-/// The least fault of the latch that this line is; without one its nets are named and its output is driven now.
+/// The least fault of the latch that this line is; without one its output is driven now.
 fn latch<'t>(
     alloc: Global,
-    nets: &mut NameSet<'t>,
-    numbers: &mut Nets,
     clocks: &NameSet<'t>,
     drivers: &mut NameSet<'t>,
     args: &Line<'_, 't>,
@@ -274,17 +270,12 @@ fn latch<'t>(
         fault ≡ first_kind (if is_latch args.now.words
         then driver_faults (clocks.now ++ drivers.old) (latch_output args.now.words)
         else of_line BadLatch)) }
-    ensures nets { IfOk result (λ fault.
-        nets.new ≡ with_names nets.old (latch_nets 2 args.now.words)) }
-    ensures numbers { IfOk result (λ fault.
-        numbers.new ≡ numbers.old ++ numbered nets.old (latch_nets 2 args.now.words)) }
     ensures drivers { IfOk result (λ fault.
         IfNone fault (drivers.new ≡ drivers.old ++ latch_output args.now.words)) }
 {
     if !is_latch(args) {
         return Ok(Some(BlifFaultKind::BadLatch));
     }
-    name_latch(nets, numbers, args)?;
     drive(alloc, clocks, drivers, &args.words()[1..2])
 }
 

@@ -6,7 +6,7 @@ use std::marker::Model;
 
 /// A latch: the number of its `.latch` line, the net that it stores, the net that it drives, and the net that controls
 /// it, if one does.
-#[derive(Clone, Copy, Debug, PartialEq, Eq)]
+#[derive(Clone, Copy, PartialEq, Eq)]
 pub struct Latch {
     pub line: u32,
     pub input: u32,
