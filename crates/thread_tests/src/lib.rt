@@ -3,9 +3,8 @@
 //!
 //! - `showing`: what is shown, each of a core of its own.
 //! - `workers`: a worker that drains a closed queue, two steps at once, and a step without the lock.
-//! - `same_told`: four sessions beside workers are told what they are told alone.
 //! - `failing`: sessions whose reader or writer fails at each call in turn.
-//! - `starving`: a worker that gives each number up, so that `wait` is told it.
+//! - `waiting`: a worker that holds each step, or gives each number up, and what `wait` is told.
 //! - `meanwhile`: what is done to a tenancy while a worker holds a step of it.
 //! - `cores`, `gates`, `seats`, `telling`: what these share.
 #![tactic(auto)]
@@ -19,14 +18,12 @@ mod gates;
 #[cfg(test)]
 mod meanwhile;
 #[cfg(test)]
-mod same_told;
-#[cfg(test)]
 mod seats;
 #[cfg(test)]
 mod showing;
 #[cfg(test)]
-mod starving;
-#[cfg(test)]
 mod telling;
+#[cfg(test)]
+mod waiting;
 #[cfg(test)]
 mod workers;

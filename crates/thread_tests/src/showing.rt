@@ -6,8 +6,7 @@ ghost use Rattle.thread_tests.specs.Devices.{IsSmall};
 use crate::cores::{new_core, new_device, new_graph};
 use crate::failing::all_end_so;
 use crate::meanwhile::{ACTS, Act, acts_under_a_held_job};
-use crate::same_told::tells_the_same;
-use crate::starving::wait_is_told;
+use crate::waiting::{Work, waits_are_told};
 use crate::workers::is_worked;
 use service_core::Device;
 use shared_core::{Begun, Core};
@@ -23,11 +22,9 @@ use strips::DeviceGraph;
 #[derive(Clone, Copy)]
 enum Shown {
     Worked(Worked),
-    /// Beside so many workers.
-    SessionsTellTheSame(usize),
     Meanwhile(Act),
     FailingDevices,
-    NumberGivenUp,
+    Waits(Work),
 }
 
 /// What is shown of workers.
@@ -49,10 +46,9 @@ fn is_shown<
 {
     match shown {
         Shown::Worked(worked) => is_worked(rt, core, graph, worked),
-        Shown::SessionsTellTheSame(workers) => tells_the_same(rt, core, graph, workers),
         Shown::Meanwhile(act) => acts_under_a_held_job(rt, core, graph, act),
         Shown::FailingDevices => all_end_so(rt, core),
-        Shown::NumberGivenUp => wait_is_told(rt, core),
+        Shown::Waits(work) => waits_are_told(rt, core, graph, work),
     }
 }
 
@@ -128,21 +124,6 @@ fn a_step_is_made_without_the_lock(rt: HostRuntime) {
     assert!(rt; shows(&rt, Shown::Worked(Worked::StepWithoutTheLock)));
 }
 
-#[test]
-fn one_worker_tells_the_same(rt: HostRuntime) {
-    assert!(rt; shows(&rt, Shown::SessionsTellTheSame(1)));
-}
-
-#[test]
-fn three_workers_tell_the_same(rt: HostRuntime) {
-    assert!(rt; shows(&rt, Shown::SessionsTellTheSame(3)));
-}
-
-#[test]
-fn sixteen_workers_tell_the_same(rt: HostRuntime) {
-    assert!(rt; shows(&rt, Shown::SessionsTellTheSame(16)));
-}
-
 /// Whether each act is done while a worker holds a step, and leaves what it should.
 fn each_act_is_shown<R: Threads + Wait + Clock + AllocGlobal + Sync>(rt: &R) -> bool {
     let mut are_shown = true;
@@ -164,5 +145,10 @@ fn a_session_ends_where_its_device_fails(rt: HostRuntime) {
 
 #[test]
 fn a_wait_ends_where_the_number_is_given_up(rt: HostRuntime) {
-    assert!(rt; shows(&rt, Shown::NumberGivenUp));
+    assert!(rt; shows(&rt, Shown::Waits(Work::GivenUp)));
+}
+
+#[test]
+fn a_wait_ends_when_the_step_is_made(rt: HostRuntime) {
+    assert!(rt; shows(&rt, Shown::Waits(Work::Held)));
 }

@@ -1,28 +1,43 @@
 //! What a report tells of a device, as texts. The numbers were counted by hand.
 
-use device_picture::{DeviceSize, read_device};
+use device_picture::{Device, DeviceSize, read_device};
 use device_report::{Report, write_report};
 use line_text::MemorySink;
 use std::alloc::Global;
-use std::test::Fail;
 
-/// The report of a device of seven columns and one row, with two tracks and two pads.
-fn report(alloc: Global, text: &str) -> Result<String, Fail> {
-    let Some(size) = DeviceSize::new(7, 1, 2, 2) else {
-        return Err("no such size".into());
-    };
-    let Ok(device) = read_device(alloc, size, text.as_bytes()) else {
-        return Err("the input is refused".into());
-    };
-    let mut sink = MemorySink::new(alloc);
-    let report = Report::new(alloc, &device)?;
-    let written = write_report(&mut sink, &report);
-    drop(report);
-    drop(device);
-    if written.is_err() {
-        return Err("it is not written".into());
+/// What a text tells of a device of seven columns and one row, with two tracks and two pads.
+fn device(alloc: Global, text: &str) -> Option<Device<'_>> {
+    match DeviceSize::new(7, 1, 2, 2) {
+        Some(size) => read_device(alloc, size, text.as_bytes()).ok(),
+        None => None,
     }
-    Ok(String::from_utf8(sink.into_bytes()).map_err(|_| "it is no text")?)
+}
+
+/// Whether that is the report of a device.
+fn is_reported(alloc: Global, device: &Device<'_>, told: &str) -> bool {
+    match Report::new(alloc, device) {
+        Ok(report) => {
+            let mut sink = MemorySink::new(alloc);
+            let is_so = write_report(&mut sink, &report).is_ok()
+                && sink.as_bytes() == told.as_bytes();
+            drop(sink);
+            drop(report);
+            is_so
+        }
+        Err(_) => false,
+    }
+}
+
+/// Whether that is the report of the device that a text tells.
+fn reports(alloc: Global, text: &str, told: &str) -> bool {
+    match device(alloc, text) {
+        Some(device) => {
+            let is_so = is_reported(alloc, &device, told);
+            drop(device);
+            is_so
+        }
+        None => false,
+    }
 }
 
 /// What `op list` and `op owners` print first in the example of a live strip that moves.
@@ -68,24 +83,22 @@ CHANX (5,1) 1/2
 ";
 
 #[test]
-fn two_tenants(rt: HostRuntime) -> Result<(), Fail> {
-    let text = report(rt.alloc(), TWO_TENANTS)?;
-    assert_eq!(rt; text.as_str(), OF_TWO_TENANTS);
-    Ok(())
+fn two_tenants(rt: HostRuntime) {
+    assert!(rt; reports(rt.alloc(), TWO_TENANTS, OF_TWO_TENANTS));
 }
+
+const EMPTY: &str = "columns 7 used 0 guard 0 free 7\nwidest 7 offset 0\n";
+
+const FULL: &str = "\
+tenancy 1 T offset 0 width 3 Empty blocks 0/3 pads 0/12 across 0/12 up 0/8
+tenancy 2 U offset 4 width 3 Empty blocks 0/3 pads 0/12 across 0/12 up 0/8
+columns 7 used 6 guard 1 free 0
+widest none
+";
 
 /// A device without tenancies admits a strip of all its columns, and one that is full none.
 #[test]
-fn empty_and_full(rt: HostRuntime) -> Result<(), Fail> {
-    let empty = report(rt.alloc(), "== op\n")?;
-    assert_eq!(rt;
-        empty.as_str(),
-        "columns 7 used 0 guard 0 free 7\nwidest 7 offset 0\n"
-    );
-    let full = report(rt.alloc(), "== op\n1 T 0 3 Empty\n2 U 4 3 Empty\n")?;
-    assert!(rt;
-        full.as_str()
-            .ends_with("columns 7 used 6 guard 1 free 0\nwidest none\n")
-    );
-    Ok(())
+fn empty_and_full(rt: HostRuntime) {
+    let full = "== op\n1 T 0 3 Empty\n2 U 4 3 Empty\n";
+    assert!(rt; reports(rt.alloc(), "== op\n", EMPTY) && reports(rt.alloc(), full, FULL));
 }

@@ -4,7 +4,6 @@ use clap::error::ErrorKind;
 use desk::{Outcome, Streams, run_words};
 use line_text::{MemorySink, MemorySource};
 use random_script::{Phase, Plan, Wishes, write_script};
-use std::test::Fail;
 
 /// A netlist whose last line is not ended, and one of whose lines ends in CR and LF.
 const NETLIST: &[u8] = b".model m\n.inputs a\n.outputs b\r\n.names a b\n1 1\n.end";
@@ -91,63 +90,89 @@ fn scripts_of_a_tenancy(rt: HostRuntime) {
     assert!(rt; ends(&rt, words.as_slice(), b".model m\n.end\n.\r\n", 3, b""));
 }
 
+/// Words that are refused, and how.
+const REFUSED: [(&[&str], ErrorKind); 8] = [
+    (
+        &["fpgad_desk", "script", "--name=T-1"],
+        ErrorKind::ValueValidation,
+    ),
+    (
+        &["fpgad_desk", "script", "--effort=1"],
+        ErrorKind::MissingRequiredArgument,
+    ),
+    (
+        &["fpgad_desk", "picture", "--rows=65"],
+        ErrorKind::ValueValidation,
+    ),
+    (
+        &["fpgad_desk", "report", "--rows=+5"],
+        ErrorKind::ValueValidation,
+    ),
+    (
+        &["fpgad_desk", "random", "--until=x"],
+        ErrorKind::InvalidValue,
+    ),
+    (&["fpgad_desk", "random", "--help"], ErrorKind::DisplayHelp),
+    (&["fpgad_desk"], ErrorKind::MissingSubcommand),
+    (&["fpgad_desk", "draw"], ErrorKind::InvalidSubcommand),
+];
+
+/// The number of the first of them that is not refused so.
+fn first_taken(rt: &HostRuntime) -> Option<usize> {
+    for (row, (words, kind)) in REFUSED.iter().enumerate() {
+        if !refuses(rt, words, *kind) {
+            return Some(row);
+        }
+    }
+    None
+}
+
 #[test]
 fn words_that_are_refused(rt: HostRuntime) {
-    for (words, kind) in [
-        (
-            ["fpgad_desk", "script", "--name=T-1"],
-            ErrorKind::ValueValidation,
-        ),
-        (
-            ["fpgad_desk", "script", "--effort=1"],
-            ErrorKind::MissingRequiredArgument,
-        ),
-        (
-            ["fpgad_desk", "picture", "--rows=65"],
-            ErrorKind::ValueValidation,
-        ),
-        (
-            ["fpgad_desk", "report", "--rows=+5"],
-            ErrorKind::ValueValidation,
-        ),
-        (
-            ["fpgad_desk", "random", "--until=x"],
-            ErrorKind::InvalidValue,
-        ),
-        (["fpgad_desk", "random", "--help"], ErrorKind::DisplayHelp),
-    ] {
-        assert!(rt; refuses(&rt, words.as_slice(), kind));
+    assert_eq!(rt; first_taken(&rt), None);
+}
+
+/// Whether an outcome has that status, and is told by a line's number.
+fn tells_a_line(rt: &HostRuntime, outcome: &Outcome, status: u8) -> bool {
+    match format!(in rt.alloc(); "{outcome}") {
+        Ok(told) => {
+            let is_so = told.as_str().starts_with("line ");
+            drop(told);
+            is_so && outcome.status() == status
+        }
+        Err(_) => false,
     }
-    assert!(rt; refuses(&rt, ["fpgad_desk"].as_slice(), ErrorKind::MissingSubcommand));
-    assert!(rt;
-        refuses(
-            &rt,
-            ["fpgad_desk", "draw"].as_slice(),
-            ErrorKind::InvalidSubcommand
-        )
-    );
 }
 
 /// The line of an input that is no reply is told.
 #[test]
-fn inputs_that_are_refused(rt: HostRuntime) -> Result<(), Fail> {
+fn inputs_that_are_refused(rt: HostRuntime) {
     let mut sink = MemorySink::new(rt.alloc());
     let words = ["fpgad_desk", "picture"];
     let ended = run_on(&rt, words.as_slice(), b"== op\nok 1\nnothing\n", &mut sink);
     drop(sink);
-    let Ok(outcome) = ended else {
-        return Err("the words are refused".into());
+    let is_so = match ended {
+        Ok(outcome) => tells_a_line(&rt, &outcome, 3),
+        Err(_) => false,
     };
-    assert_eq!(rt; outcome.status(), 3);
-    let told = format!(in rt.alloc(); "{outcome}")?;
-    assert!(rt; told.as_str().starts_with("line "));
-    drop(told);
-    Ok(())
+    assert!(rt; is_so);
+}
+
+/// Whether the words end with the script of that plan, which begins with that line.
+fn ends_with(rt: &HostRuntime, words: &[&str], plan: Plan, line: &[u8]) -> bool {
+    let mut sink = MemorySink::new(rt.alloc());
+    let is_so = write_script(&mut sink, plan).is_ok()
+        && sink.as_bytes().starts_with(line)
+        && ends(rt, words, b"", 0, sink.as_bytes());
+    drop(sink);
+    is_so
 }
 
 /// The bytes are those of the plan that the options give.
 #[test]
-fn random_scripts(rt: HostRuntime) -> Result<(), Fail> {
+fn random_scripts(rt: HostRuntime) {
+    let words = ["fpgad_desk", "random", "--tables", "9", "--tenancies=3"];
+    let line = b"# fpgad --tracks 8 --columns 11 --rows 4\n";
     let plan = Plan::new(Wishes {
         tables: 9,
         tenancies: 3,
@@ -156,19 +181,9 @@ fn random_scripts(rt: HostRuntime) -> Result<(), Fail> {
         seed: 1,
         until: Phase::Routing,
     });
-    let Some(plan) = plan else {
-        return Err("no plan".into());
+    let is_so = match plan {
+        Some(plan) => ends_with(&rt, words.as_slice(), plan, line),
+        None => false,
     };
-    let mut sink = MemorySink::new(rt.alloc());
-    if write_script(&mut sink, plan).is_err() {
-        return Err("it is not written".into());
-    }
-    let words = ["fpgad_desk", "random", "--tables", "9", "--tenancies=3"];
-    assert!(rt;
-        sink.as_bytes()
-            .starts_with(b"# fpgad --tracks 8 --columns 11 --rows 4\n")
-    );
-    assert!(rt; ends(&rt, words.as_slice(), b"", 0, sink.as_bytes()));
-    drop(sink);
-    Ok(())
+    assert!(rt; is_so);
 }

@@ -1,8 +1,9 @@
-//! A session beside a worker that gives each number up, since its graph has no window for the job. Each `wait` is told that memory
-//! lacks, and the run ends.
+//! A session that waits twice beside a worker, which holds the step that is waited for, or gives each number up, since its graph has no
+//! window for the job. Each `wait` is told how the step ended, which is so only if it waits, or that memory lacks, and the run ends.
 ghost use Rattle.std.specs.Prelude.{◌≡◌, All, IfSome, false};
 
 use crate::cores::other_graph;
+use crate::gates::Holding;
 use crate::seats::{Speaker, Worker, a_speaker, a_worker};
 use crate::telling::{Told, run_over};
 use fixtures::AND;
@@ -17,10 +18,46 @@ use std::time::Clock;
 use strips::DeviceGraph;
 use tenant_slot::StateName;
 use transcripts::End;
-use worker_pool::{Open, run_worker};
+use worker_pool::run_worker;
 
-/// What the session is told.
-const TOLD: &[u8] = b"ok Loaded\nok Packing\nrefused 1 NoMemory\nrefused 1 NoMemory\n";
+/// What the worker does.
+#[derive(Clone, Copy)]
+pub(crate) enum Work {
+    /// It holds the step, and makes it.
+    Held,
+    /// It gives the number up.
+    GivenUp,
+}
+
+impl Work {
+    /// What the session is told.
+    fn told(self) -> &'static [u8] {
+        match self {
+            Work::Held => b"ok Loaded\nok Packing\nstatus Packed 0\nstatus Packed 0\n",
+            Work::GivenUp => b"ok Loaded\nok Packing\nrefused 1 NoMemory\nrefused 1 NoMemory\n",
+        }
+    }
+
+    /// How often it is told that memory lacks.
+    fn lacks(self) -> u64 {
+        match self {
+            Work::Held => 0,
+            Work::GivenUp => 2,
+        }
+    }
+
+    /// Whether the first tenancy stands as it does in the end: packed, or with no step made and its number nobody's.
+    fn is_left<C: Begun, P: Ledger>(self, core: &mut Core<C, P>) -> bool {
+        match self {
+            Work::Held => core.state(1) == Some(StateName::Packed),
+            Work::GivenUp => {
+                core.state(1) == Some(StateName::Packing)
+                    && core.entry(1, 2).is_none()
+                    && core.mark_ready(1).is_some()
+            }
+        }
+    }
+}
 
 /// What it says.
 fn input(alloc: Global) -> Option<String> {
@@ -86,19 +123,33 @@ fn prepared<C: Begun, P: Ledger>(
     }
 }
 
-/// Whether each `wait` is told that memory lacks, of a core without tenancies.
-pub(crate) fn wait_is_told<
+/// Whether each `wait` is told what it should, of a core without tenancies.
+pub(crate) fn waits_are_told<
     C: Begun + Send + Sync,
     P: Ledger + Send + Sync,
     R: Threads + Wait + Clock + AllocGlobal + Sync,
->(rt: &R, core: Core<C, P>) -> bool
+>(rt: &R, core: Core<C, P>, graph: &DeviceGraph, work: Work) -> bool
+    requires { C.stay ≡ false }
+{
+    match work {
+        Work::Held => are_told_on(rt, core, graph, work),
+        Work::GivenUp => are_told_elsewhere(rt, core, work),
+    }
+}
+
+/// The same with the graph of another device.
+fn are_told_elsewhere<
+    C: Begun + Send + Sync,
+    P: Ledger + Send + Sync,
+    R: Threads + Wait + Clock + AllocGlobal + Sync,
+>(rt: &R, core: Core<C, P>, work: Work) -> bool
     requires { C.stay ≡ false }
 {
     match other_graph(rt.alloc()) {
         Some(graph) => {
-            let is_told = is_told_on(rt, core, &graph);
+            let are_told = are_told_on(rt, core, &graph, work);
             drop(graph);
-            is_told
+            are_told
         }
         None => {
             drop(core);
@@ -108,16 +159,16 @@ pub(crate) fn wait_is_told<
 }
 
 /// The same with a graph.
-fn is_told_on<
+fn are_told_on<
     C: Begun + Send + Sync,
     P: Ledger + Send + Sync,
     R: Threads + Wait + Clock + AllocGlobal + Sync,
->(rt: &R, core: Core<C, P>, graph: &DeviceGraph) -> bool
+>(rt: &R, core: Core<C, P>, graph: &DeviceGraph, work: Work) -> bool
     requires { C.stay ≡ false }
 {
     let mut core = core;
     match prepared(rt.alloc(), &mut core) {
-        Some((ready, pair)) => is_given_up(rt, core, graph, &ready, pair),
+        Some((ready, pair)) => are_told_in_turn(rt, core, graph, &ready, pair, work),
         None => {
             drop(core);
             false
@@ -125,24 +176,28 @@ fn is_told_on<
     }
 }
 
-/// Whether each `wait` is told, and in the end no step was made, and the number is nobody's.
-fn is_given_up<
+/// Whether each `wait` is told, and the tenancy is left as it should be.
+fn are_told_in_turn<
     C: Begun + Send + Sync,
     P: Ledger + Send + Sync,
     R: Threads + Wait + Clock + AllocGlobal + Sync,
->(rt: &R, core: Core<C, P>, graph: &DeviceGraph, ready: &Ready, pair: Pair<C, P>) -> bool
+>(
+    rt: &R,
+    core: Core<C, P>,
+    graph: &DeviceGraph,
+    ready: &Ready,
+    pair: Pair<C, P>,
+    work: Work,
+) -> bool
     requires speaker { (pair.speaker.pass.of ≡ ready.now) × (pair.speaker.lease.made ≡ 0) }
     requires worker { pair.worker.seat.of ≡ ready.now }
 {
-    let Pair { speaker, worker } = pair;
     let shared = Shared::new(core);
-    let is_told = is_told_beside(rt, &shared, graph, ready, speaker, worker);
+    let is_told = is_told_beside(rt, &shared, graph, ready, pair, work);
     let mut core = shared.into_core();
-    let is_nobodys = core.state(1) == Some(StateName::Packing)
-        && core.entry(1, 2).is_none()
-        && core.mark_ready(1).is_some();
+    let is_left = work.is_left(&mut core);
     drop(core);
-    is_told && is_nobodys
+    is_told && is_left
 }
 
 /// Whether the session is told it beside the worker.
@@ -155,20 +210,23 @@ fn is_told_beside<
     shared: &Shared<C, P>,
     graph: &DeviceGraph,
     ready: &Ready,
-    speaker: Speaker<C>,
-    worker: Worker<P>,
+    pair: Pair<C, P>,
+    work: Work,
 ) -> bool
-    requires speaker { (speaker.pass.of ≡ ready.now) × (speaker.lease.made ≡ 0) }
-    requires worker { worker.seat.of ≡ ready.now }
+    requires speaker { (pair.speaker.pass.of ≡ ready.now) × (pair.speaker.lease.made ≡ 0) }
+    requires worker { pair.worker.seat.of ≡ ready.now }
 {
+    let Pair { speaker, worker } = pair;
+    let holding = Holding::new();
+    let gate = &holding;
     let (share, is_told) = thread::join(
         rt,
         move || -> Share<P>
             requires { worker.seat.of ≡ ready.now }
-        { run_worker(rt, shared, ready, graph, worker.seat, worker.share, &Open) },
+        { run_worker(rt, shared, ready, graph, worker.seat, worker.share, gate) },
         move || -> bool
             requires { (speaker.pass.of ≡ ready.now) × (speaker.lease.made ≡ 0) }
-        { speaks(rt, shared, ready, speaker) },
+        { speaks(rt, shared, ready, speaker, work) },
     );
     drop(share);
     is_told
@@ -180,13 +238,14 @@ fn speaks<C: Begun, P: Ledger, R: Wait + AllocGlobal>(
     shared: &Shared<C, P>,
     ready: &Ready,
     speaker: Speaker<C>,
+    work: Work,
 ) -> bool
     requires { (speaker.pass.of ≡ ready.now) × (speaker.lease.made ≡ 0) }
 {
     let Told { transcript, text } = run_over(rt, shared, ready, speaker);
     ready.close();
-    let is_told = text.as_slice() == TOLD
-        && transcript.no_memory() == 2
+    let is_told = text.as_slice() == work.told()
+        && transcript.no_memory() == work.lacks()
         && transcript.end() == Some(End::Ended);
     drop(text);
     drop(transcript);

@@ -1,6 +1,0 @@
-use Rattle.std.proofs.Common.{◌≡◌}
-use Rattle.std.specs.Prelude.{All}
-use Rattle.thread_tests.proofs.same_told.four_are_seated.Given as goal
-
-abbrev pub invariant-loop-tenant : goal.invariant-loop-tenant
-invariant-loop-tenant g l = All (λ p. p.of ≡ l.ready) l.passes.items × All (λ s. (s.pass.of ≡ l.ready) × (s.lease.made ≡ 0)) l.speakers.items
