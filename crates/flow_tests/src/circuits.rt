@@ -5,9 +5,10 @@ ghost use Rattle.strip_place.specs.Keeping.{AreKeptOn};
 
 use arch_file::{SharedArch, read_arch};
 use blif::{SharedCircuit, read_blif};
+use block_places::{Fit, fit_of};
 use cluster::{PackEnd, Packed, Packing, SharedPacked, check};
 use fixtures::ARCHITECTURE;
-use grid::{Fit, Strip};
+use grid::Strip;
 use std::alloc::Global;
 use strip_place::{Kept, Placing, laws_of_kept};
 
@@ -98,7 +99,7 @@ pub(crate) fn placed(
     ensures packed { IfSome result (λ placing. placing.packed ≡ packed.now) }
     ensures strip { IfSome result (λ placing. placing.strip ≡ strip) }
 {
-    if strip.fits(packed.packed()) != Fit::Fits {
+    if fit_of(strip, packed.packed()) != Fit::Fits {
         return None;
     }
     Placing::start(alloc, packed, strip, kept, seed, effort).ok()

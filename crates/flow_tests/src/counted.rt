@@ -1,5 +1,6 @@
 //! Routing over a window, whose reads are counted.
 ghost use Rattle.std.specs.Prelude.{◌≡◌, ◌<◌, ◌≤◌, length};
+ghost use Rattle.block_places.specs.Placed.{ArePlaced};
 ghost use Rattle.pathfinder.specs.Negotiation.{More};
 ghost use Rattle.pathfinder.specs.PlacedNets.{wiring_of};
 ghost use Rattle.pathfinder.specs.Routings.{IsAfter};
@@ -7,9 +8,9 @@ ghost use Rattle.pathfinder.specs.Routings.{IsAfter};
 use crate::circuits::{packed, placed_anew};
 use crate::graphs::NARROW;
 use arch_file::Arch;
-use cluster::SharedPacked;
+use cluster::{Packed, SharedPacked};
 use fixtures::AND;
-use grid::Strip;
+use grid::{Place, Strip};
 use pathfinder::{IterEnd, Routes, Routing};
 use rr_graph::{Ends, Node, NodeKind, Numbers, StripGraph};
 use std::alloc::Global;
@@ -106,13 +107,33 @@ fn finished<G: StripGraph>(alloc: Global, graph: &G, routing: Routing) -> Option
     None
 }
 
+/// The routes between places on a graph.
+fn routed_between<G: StripGraph>(
+    alloc: Global,
+    graph: &G,
+    packed: &Packed,
+    places: &[Place],
+) -> Option<Routes>
+    requires arch { packed.now.arch ≡ (G.basis graph.now).arch }
+    requires placed { ArePlaced (G.basis graph.now).strip packed.now places.now }
+{
+    match Routing::start(alloc, graph, packed, places) {
+        Ok(routing) => finished(alloc, graph, routing),
+        Err(_) => None,
+    }
+}
+
 /// The routes of placed blocks on a graph.
 fn routed<G: StripGraph>(alloc: Global, graph: &G, placing: &Placing) -> Option<Routes>
     requires arch { placing.now.packed.arch ≡ (G.basis graph.now).arch }
     requires strip { placing.now.strip ≡ (G.basis graph.now).strip }
 {
-    match Routing::start(alloc, graph, placing) {
-        Ok(routing) => finished(alloc, graph, routing),
+    match placing.places(alloc) {
+        Ok(places) => {
+            let routes = routed_between(alloc, graph, placing.packed(), &places);
+            drop(places);
+            routes
+        }
         Err(_) => None,
     }
 }

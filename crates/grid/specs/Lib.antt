@@ -3,4 +3,3 @@ pub mod Places
 pub mod Listed
 pub mod PlaceLaws
 pub mod Numbers
-pub mod Fits

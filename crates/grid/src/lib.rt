@@ -1,22 +1,19 @@
-//! The places of a strip, and whether a packed circuit fits it.
+//! The places of a strip.
 //!
 //! A strip has columns 1 to `width` of logic blocks in rows 1 to `rows`, and at both ends of each column, in row 0 and in
 //! row `rows + 1`, `io_rat` pads. [`Strip::places`] gives the places of a kind in their order, by arithmetic and without memory:
-//! by column, then row, and pads then by number. [`Strip::fits`] compares the blocks of a packed circuit with them, and
-//! [`laws_of_places`] says what placing and routing may take for granted of them.
+//! by column, then row, and pads then by number. [`laws_of_places`] says what placing and routing may take for granted of them.
 #![tactic(auto)]
 
-mod fit;
 mod laws;
 mod place;
 mod places;
 
-pub use fit::Fit;
 pub use laws::laws_of_places;
 pub use place::{Kind, Place, Places};
 
 /// The size of a strip: what a tenancy has of the device, wherever it stands.
-#[derive(Clone, Copy, Debug, PartialEq, Eq)]
+#[derive(Clone, Copy, PartialEq, Eq)]
 pub struct Strip {
     /// Columns of logic blocks, 1 to 256.
     pub width: u32,

@@ -1,13 +1,10 @@
 //! A place, what it is for, and all places for it.
-ghost use Rattle.std.specs.Prelude.{◌≡◌};
 ghost use Rattle.grid.specs.Sizes.{IsStripSize};
-ghost use Rattle.grid.specs.Fits.{kind_of};
 
 use crate::Strip;
-use cluster::Block;
 
 /// What a place is for.
-#[derive(Clone, Copy, Debug, PartialEq, Eq)]
+#[derive(Clone, Copy, PartialEq, Eq)]
 pub enum Kind {
     /// A logic block.
     Logic,
@@ -15,20 +12,8 @@ pub enum Kind {
     Pad,
 }
 
-impl Kind {
-    /// The kind of places that the block goes to.
-    pub fn of(block: Block) -> Self
-        ensures { result ≡ kind_of block }
-    {
-        match block {
-            Block::InputPad(_) | Block::OutputPad(_) => Kind::Pad,
-            Block::Cluster(_) => Kind::Logic,
-        }
-    }
-}
-
 /// A place of a strip.
-#[derive(Clone, Copy, Debug, PartialEq, Eq, PartialOrd, Ord)]
+#[derive(Clone, Copy, PartialEq, Eq, PartialOrd, Ord)]
 pub struct Place {
     /// The column, from 1.
     pub x: u32,
@@ -39,7 +24,7 @@ pub struct Place {
 }
 
 /// The places of a strip that are for one kind, in order.
-#[derive(Clone, Copy, Debug)]
+#[derive(Clone, Copy)]
 pub struct Places {
     pub(crate) strip: Strip,
     pub(crate) kind: Kind,

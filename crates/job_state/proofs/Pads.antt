@@ -12,13 +12,13 @@ use Rattle.grid.specs.declared.Strip.{Strip}
 use Rattle.grid.specs.declared.place.Place.{Place}
 use Rattle.grid.specs.declared.place.Kind.{Kind}
 use Rattle.grid.specs.declared.place.Kind.TheVariants.{Pad}
-use Rattle.grid.specs.Fits.{kind_of}
+use Rattle.block_places.specs.Fits.{kind_of}
 use Rattle.grid.specs.Places.{places_of}
 use Rattle.grid.specs.PlaceLaws.{IsPlaceIn}
 use Rattle.rr_graph.specs.declared.resource.Resource.{Resource}
 use Rattle.rr_graph.specs.declared.resource.ResourceKind.TheVariants.{Pad as PadResource}
 use Rattle.rr_graph.specs.Resources.{is_there}
-use Rattle.strip_place.specs.Placed.{ArePlaced, block_at, place_of}
+use Rattle.block_places.specs.Placed.{ArePlaced, block_at, place_of}
 use Rattle.job_state.specs.RoutedCircuits.{pad_of, pads_of}
 use Rattle.job_state.specs.Gathered.{pads_below}
 use Rattle.job_state.proofs.Gathered.{gathered_to}

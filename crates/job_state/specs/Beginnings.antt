@@ -2,9 +2,9 @@
 use Rattle.std.specs.Prelude.{◌≡◌, ◌≤◌, true, false, None, Ok}
 use Rattle.blif.specs.declared.circuit.Circuit.{Circuit}
 use Rattle.cluster.specs.Clusters.{PackedCircuit, unfit_of}
-use Rattle.grid.specs.Fits.{fit_of}
+use Rattle.block_places.specs.Fits.{fit_of}
 use Rattle.grid.specs.Sizes.{IsStripSize}
-use Rattle.grid.specs.declared.fit.Fit.TheVariants.{Fits}
+use Rattle.block_places.specs.declared.fit.Fit.TheVariants.{Fits}
 use Rattle.strip_place.specs.Keeping.{AreKeptOn}
 use Rattle.job_state.specs.declared.sources.JobKind.TheVariants.{Placing as PlacingJob, Routing as RoutingJob}
 use Rattle.job_state.specs.declared.sources.Sources.{Sources}

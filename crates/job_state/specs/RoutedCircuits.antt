@@ -14,7 +14,7 @@ use Rattle.rr_graph.specs.declared.resource.ResourceKind.TheVariants.{Pad}
 use Rattle.rr_graph.specs.declared.resource.Resource.{Resource}
 use Rattle.rr_graph.specs.Graph.{Basis}
 use Rattle.rr_graph.specs.Resources.{IsEarlier, has, is_there, resource_of}
-use Rattle.strip_place.specs.Placed.{block_at, place_of}
+use Rattle.block_places.specs.Placed.{block_at, place_of}
 
 -- what the graph of its strip stands on, the paths of each net's tree by node, and the pads of its blocks
 pub record RoutedCircuit : Type 0 where

@@ -2,7 +2,7 @@
 use Rattle.std.specs.Prelude.{◌≡◌}
 use Rattle.pathfinder.specs.Routings.{RoutingState}
 use Rattle.rr_graph.specs.Graph.{Basis}
-use Rattle.strip_place.specs.Placed.{ArePlaced}
+use Rattle.block_places.specs.Placed.{ArePlaced}
 use Rattle.job_state.specs.declared.stage.Stage.{Stage}
 use Rattle.job_state.specs.declared.stage.Stage.TheVariants.{Begun, Going}
 use Rattle.job_state.specs.UnderWay.{GoesOn, begun_state}

@@ -24,7 +24,6 @@ use crate::work::Work;
 use arch_file::SharedArch;
 use blif::SharedCircuit;
 use cluster::{Packed, Packing, SharedPacked};
-use pathfinder::places_of;
 use rr_graph::Resource;
 use std::alloc::{AllocError, Global};
 use std::marker::Model;
@@ -111,7 +110,7 @@ impl Parked {
         let shared = sources.arch.clone()?;
         let pads = pads_of(alloc, placing)?;
         let packed = placing.shared_packed().clone()?;
-        let places = places_of(alloc, placing)?;
+        let places = placing.places(alloc)?;
         let work = Work::Routing(RoutingJob::new(
             alloc,
             shared,

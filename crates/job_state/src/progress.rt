@@ -2,7 +2,7 @@
 use pathfinder::Overuse;
 
 /// How far a job is after a step.
-#[derive(Clone, Copy, Debug, PartialEq, Eq)]
+#[derive(Clone, Copy, PartialEq, Eq)]
 pub enum Progress {
     /// A packing goes on, of a circuit with so many tables and latches. It makes no more clusters than these together.
     Packing {

@@ -8,7 +8,7 @@ use std::sync::Arc;
 
 /// A text with many owners, which do not copy it: a tenancy, its jobs, its journal and its receipts
 /// have one netlist between them. Its value is the list of the text's bytes.
-#[derive(Debug, Drop)]
+#[derive(Drop)]
 pub struct SharedText {
     text: Arc<Text>,
 }

@@ -9,7 +9,7 @@ use std::alloc::AllocError;
 use strip_place::Kept;
 
 /// What kind of work a job is.
-#[derive(Clone, Copy, Debug, PartialEq, Eq)]
+#[derive(Clone, Copy, PartialEq, Eq)]
 pub enum JobKind {
     /// One cluster a step.
     Packing,

@@ -52,7 +52,7 @@ impl Begun {
         ensures goes { IfOk result (λ routing. GoesOn (G.basis graph.now) routing) }
         ensures back { IfErr result (λ back. back ≡ Stage.Begun self) }
     {
-        match Routing::between(alloc, graph, self.packed.packed(), self.places.as_slice()) {
+        match Routing::start(alloc, graph, self.packed.packed(), self.places.as_slice()) {
             Ok(routing) => Ok(routing),
             Err(_) => Err(Stage::Begun(self)),
         }

@@ -4,7 +4,7 @@ use Rattle.std.specs.Prelude.{nat_lt, nat_le, is_some, option_map, IsSome, ◌==
 use Rattle.std.proofs.lemmas.Bool.Decides.{nat_tests}
 use Rattle.blif.specs.CircuitOf.{circuit_of}
 use Rattle.cluster.specs.Clusters.{packed_of, unfit_of}
-use Rattle.grid.specs.Fits.{fit_of}
+use Rattle.block_places.specs.Fits.{fit_of}
 use Rattle.grid.specs.Sizes.{IsStripSize}
 use Rattle.grid.specs.declared.Strip.{Strip}
 use Rattle.job_state.specs.JobValue.{basis_in, end_value, is_last, packing_sources, step_count}

@@ -8,7 +8,7 @@ use Rattle.blif.specs.CircuitOf.{circuit_of}
 use Rattle.blif.specs.declared.circuit.Circuit.{Circuit}
 use Rattle.blif.specs.declared.fault.BlifFault.{BlifFault}
 use Rattle.cluster.specs.Clusters.{packed_of, unfit_of}
-use Rattle.grid.specs.Fits.{fit_of}
+use Rattle.block_places.specs.Fits.{fit_of}
 use Rattle.job_state.specs.JobValue.{end_value}
 use Rattle.tenant_slot.specs.Results.{ending_of, ending_told, failure_of, place_file_of, route_file_of}
 use Rattle.tenant_slot.specs.SingleUser.{State, answer_to, circuit_in, misfit_of, routed_unless, with_circuit}

@@ -6,7 +6,7 @@ use Rattle.blif.specs.CircuitOf.{circuit_of}
 use Rattle.blif.specs.declared.circuit.Circuit.{Circuit}
 use Rattle.blif.specs.declared.fault.BlifFault.{BlifFault}
 use Rattle.cluster.specs.Clusters.{packed_of, unfit_of}
-use Rattle.grid.specs.Fits.{fit_of}
+use Rattle.block_places.specs.Fits.{fit_of}
 use Rattle.grid.specs.declared.Strip.{Strip}
 use Rattle.job_state.specs.JobValue.{end_value, placing_sources, routing_sources}
 use Rattle.job_state.specs.declared.sources.Sources.{Sources}

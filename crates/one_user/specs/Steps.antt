@@ -4,7 +4,7 @@ use Rattle.blif.specs.CircuitOf.{circuit_of}
 use Rattle.blif.specs.declared.circuit.Circuit.{Circuit}
 use Rattle.cluster.specs.Blocks.{block_nets}
 use Rattle.cluster.specs.Clusters.{packed_of, unfit_of}
-use Rattle.grid.specs.Fits.{fit_of}
+use Rattle.block_places.specs.Fits.{fit_of}
 use Rattle.job_state.specs.JobValue.{end_value, is_last, job_value, step_count}
 use Rattle.job_state.specs.Progress.{IsProgress}
 use Rattle.job_state.specs.declared.progress.Progress.{Progress}

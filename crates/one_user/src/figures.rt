@@ -9,7 +9,7 @@ use rr_graph::{Resource, ResourceKind, StripGraph};
 use strips::Window;
 
 /// What a routed circuit uses of its device.
-#[derive(Clone, Copy, Debug)]
+#[derive(Clone, Copy)]
 pub struct Figures {
     /// Logic blocks.
     pub blocks: Share,
@@ -27,7 +27,7 @@ pub struct Figures {
 }
 
 /// What a packing has made.
-#[derive(Clone, Copy, Debug)]
+#[derive(Clone, Copy)]
 pub(crate) struct PackedCounts {
     pub(crate) clusters: usize,
     pub(crate) pads: usize,

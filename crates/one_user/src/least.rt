@@ -15,7 +15,7 @@ use text_parts::{Part, write_parts};
 pub const MAX_TRACKS: u32 = 64;
 
 /// What the search for the least tracks comes to.
-#[derive(Debug, Drop)]
+#[derive(Drop)]
 pub enum Least {
     /// It is routed with so many tracks, and was left unrouted with each smaller number. That is the run.
     Routed { tracks: u32, run: Run },

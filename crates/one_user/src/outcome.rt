@@ -3,7 +3,7 @@ use crate::figures::Figures;
 use tenant_slot::{Ending, Refusal, SharedText};
 
 /// The files of a netlist that was routed, as VPR 4.30 writes them.
-#[derive(Debug, Drop)]
+#[derive(Drop)]
 pub struct Files {
     /// The `.net` file: the packed netlist.
     pub net: SharedText,
@@ -14,7 +14,7 @@ pub struct Files {
 }
 
 /// What comes of a netlist on a device of one user's own.
-#[derive(Debug, Drop)]
+#[derive(Drop)]
 pub enum Outcome {
     /// It was packed, placed and routed.
     Routed(Files),
@@ -25,7 +25,7 @@ pub enum Outcome {
 }
 
 /// What comes of a netlist, with what it uses of the device where it was routed.
-#[derive(Debug, Drop)]
+#[derive(Drop)]
 pub struct Run {
     pub outcome: Outcome,
     pub figures: Option<Figures>,

@@ -15,7 +15,7 @@ use tenant_slot::{Origin, Slot, StepReply};
 const MAX_STEPS: u32 = 8192;
 
 /// A step that was made.
-#[derive(Clone, Copy, Debug)]
+#[derive(Clone, Copy)]
 pub(crate) struct StepMade {
     /// The how many-th of the job's steps it is, from 1.
     pub(crate) number: u32,

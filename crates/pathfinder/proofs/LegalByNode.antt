@@ -8,7 +8,7 @@ use Rattle.std.proofs.lemmas.List.Elements.{All-tail}
 use Rattle.cluster.specs.Clusters.{PackedCircuit}
 use Rattle.cluster.specs.Blocks.{BlockNet, block_nets}
 use Rattle.grid.specs.declared.place.Place.{Place}
-use Rattle.strip_place.specs.Placed.{block_at, place_of}
+use Rattle.block_places.specs.Placed.{block_at, place_of}
 use Rattle.rr_graph.specs.declared.node.Node.{Node}
 use Rattle.rr_graph.specs.Geometry.{is_node, is_edge, capacity_of}
 use Rattle.rr_graph.specs.Graph.{Basis, IsRoutingGraph, graph_of}

@@ -19,13 +19,13 @@ use Rattle.grid.specs.declared.place.Place.{Place}
 use Rattle.grid.specs.Sizes.{IsStripSize}
 use Rattle.grid.specs.Places.{place_at, places_of}
 use Rattle.grid.specs.PlaceLaws.{IsInRow, IsPlaceIn}
-use Rattle.grid.specs.Fits.{kind_of}
+use Rattle.block_places.specs.Fits.{kind_of}
 use Rattle.rr_graph.specs.declared.node.NodeKind.TheVariants.{Sink}
 use Rattle.rr_graph.specs.declared.node.Node.{Node}
 use Rattle.rr_graph.specs.Geometry.{is_node}
 use Rattle.rr_graph.specs.Graph.{Basis, IsBasis, IsRoutingGraph, graph_of}
 use Rattle.pathfinder.specs.Wiring.{IsNet, AreNets}
-use Rattle.strip_place.specs.Placed.{block_at, place_of, ArePlaced}
+use Rattle.block_places.specs.Placed.{block_at, place_of, ArePlaced}
 use Rattle.pathfinder.specs.Terminals.{source_at, sink_at}
 use Rattle.pathfinder.specs.PlacedNets.{wiring_of, number_of, net_to_route, nets_to_route}
 use Rattle.pathfinder.proofs.NodeNumbers.{number_found}

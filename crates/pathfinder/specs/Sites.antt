@@ -4,7 +4,7 @@ use Rattle.cluster.specs.Clusters.{PackedCircuit}
 use Rattle.cluster.specs.Blocks.{blocks_of}
 use Rattle.grid.specs.declared.Strip.{Strip}
 use Rattle.grid.specs.declared.place.Place.{Place}
-use Rattle.strip_place.specs.Placed.{ArePlaced}
+use Rattle.block_places.specs.Placed.{ArePlaced}
 
 -- the blocks have places, and it is one of them
 pub record IsPlacedBlock (strip : Strip) (packed : PackedCircuit) (places : List Place) (block : ℕ) : Type 0 where

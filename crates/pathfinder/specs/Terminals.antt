@@ -9,7 +9,7 @@ use Rattle.rr_graph.specs.declared.node.NodeKind.TheVariants.{Source, Sink}
 use Rattle.rr_graph.specs.declared.node.Node.{Node}
 use Rattle.rr_graph.specs.Node.{rank_of}
 use Rattle.rr_graph.specs.Graph.{make_node}
-use Rattle.strip_place.specs.Placed.{block_at, place_of}
+use Rattle.block_places.specs.Placed.{block_at, place_of}
 
 -- the number of a pad's source and sink is the pad's, a logic block's are of a class
 abbrev pub terminal_number : Block → Place → ℕ → ℕ

@@ -11,7 +11,7 @@ use std::alloc::{AllocError, Global};
 const MOST: u64 = 1 << 36;
 
 /// At least what a sink's pins cost: all of them, and those on each side of its block or pad.
-#[derive(Clone, Copy, Debug)]
+#[derive(Clone, Copy)]
 pub(crate) struct PinPrices {
     pub(crate) least: u64,
     pub(crate) top: u64,

@@ -3,11 +3,10 @@ ghost use Rattle.std.specs.Prelude.{◌≡◌, ◌<◌, All, IfOk, length, map, 
 ghost use Rattle.cluster.specs.Blocks.{blocks_of};
 ghost use Rattle.rr_graph.specs.Geometry.{is_node};
 ghost use Rattle.rr_graph.specs.Graph.{graph_of};
-ghost use Rattle.strip_place.specs.Placed.{ArePlaced, block_at, place_of};
+ghost use Rattle.block_places.specs.Placed.{ArePlaced, block_at, place_of};
 ghost use Rattle.pathfinder.specs.Sites.{IsPlacedBlock};
 ghost use Rattle.pathfinder.specs.Terminals.{source_at, sink_at};
 ghost use Rattle.pathfinder.specs.PlacedNets.{number_of, net_to_route, nets_to_route};
-ghost use Rattle.strip_place.specs.Anneal.{places_by_block};
 ghost use Rattle.cluster.specs.PackingLaws.{IsBlockNet};
 
 use cluster::{Block, BlockNet, Packed, laws_of_packing};
@@ -15,7 +14,6 @@ use grid::{Place, laws_of_places};
 use rr_graph::{Node, NodeKind, StripGraph};
 use std::alloc::{AllocError, Global};
 use std::marker::Model;
-use strip_place::Placing;
 
 /// Where a net starts, and where it is wanted, in order.
 #[derive(Drop)]
@@ -44,20 +42,6 @@ impl Terminals {
     {
         self.sinks.as_slice()
     }
-}
-
-/// The places of the blocks, by number.
-pub fn places_of(alloc: Global, placing: &Placing) -> Result<Vec<Place>, AllocError>
-    ensures placed { IfOk result (λ places.
-        ArePlaced placing.now.strip placing.now.packed places.items) }
-    ensures exact { IfOk result (λ places. places.items ≡ places_by_block placing.now) }
-{
-    placing.laws();
-    let mut places = Vec::new(alloc);
-    for block in 0..placing.packed().block_count() {
-        places.push(placing.place_of(block))?;
-    }
-    Ok(places)
 }
 
 /// Where a block drives nets: a pad's source has the pad's number, a cluster's is of class 1.

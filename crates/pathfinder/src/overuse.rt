@@ -10,7 +10,7 @@ use crate::routing::Routing;
 use rr_graph::{Node, StripGraph};
 
 /// Which nodes are in more trees than they can carry.
-#[derive(Clone, Copy, Debug, PartialEq, Eq)]
+#[derive(Clone, Copy, PartialEq, Eq)]
 pub struct Overuse {
     /// How many there are.
     pub nodes: usize,

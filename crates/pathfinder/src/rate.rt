@@ -7,7 +7,7 @@ ghost use Rattle.pathfinder.specs.Limits.{MayCost};
 use rr_graph::{Node, NodeKind, across_of, point_from_sink, up_of};
 
 /// What a node is, and what it costs, but for how many trees hold it.
-#[derive(Clone, Copy, Debug)]
+#[derive(Clone, Copy)]
 pub(crate) struct Rate {
     /// One more than its overuse so far.
     pub(crate) factor: u32,

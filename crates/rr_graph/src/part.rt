@@ -19,7 +19,7 @@ use std::marker::Model;
 
 /// The graph of a strip that has so many of a graph's columns: it reads that graph's tables, and keeps none of its own. Its
 /// value is what it stands on, the architecture and the strip.
-#[derive(Debug, Drop)]
+#[derive(Drop)]
 pub struct Part<'a> {
     pub(crate) nodes: &'a Nodes,
     pub(crate) table: &'a Tables,

@@ -6,7 +6,7 @@ ghost use Rattle.rr_graph.specs.Resources.{IsEarlier, moved_resource, resource_o
 use crate::node::{Node, NodeKind};
 
 /// What kind of thing it is, in node order.
-#[derive(Clone, Copy, Debug, PartialEq, Eq, PartialOrd, Ord)]
+#[derive(Clone, Copy, PartialEq, Eq, PartialOrd, Ord)]
 pub enum ResourceKind {
     /// An output pin of a block, or of a pad.
     Opin,
@@ -21,7 +21,7 @@ pub enum ResourceKind {
 }
 
 /// A pin, a wire or a pad. They are ordered by column, kind, row and number, as the fields stand here.
-#[derive(Clone, Copy, Debug, PartialEq, Eq, PartialOrd, Ord)]
+#[derive(Clone, Copy, PartialEq, Eq, PartialOrd, Ord)]
 pub struct Resource {
     /// The column. Blocks and their pads stand in columns from 1.
     pub x: u32,

@@ -29,7 +29,7 @@ use Rattle.rr_graph.specs.Resources.{has, resource_of}
 use Rattle.strip_place.specs.Anneal.{PlacingUnderWay, placed_after, places_by_block, temperature_at}
 use Rattle.strip_place.specs.Keeping.{kind_for}
 use Rattle.strip_place.specs.Pass.{Draw, after_draw, after_move, cost_of, drawn, exchanged, is_kept, pass_of}
-use Rattle.strip_place.specs.Placed.{block_at, is_same_place, place_of}
+use Rattle.block_places.specs.Placed.{block_at, is_same_place, place_of}
 use Rattle.strip_place.specs.Start.{kept_by_block, place_for, placed_behind, placed_first, places_at_start}
 use Rattle.strip_place.specs.Task.{Task, task_of}
 use Rattle.pathfinder.specs.Negotiation.{Tree, Standing, More, Done, GaveUp as GivenUp, NoPath as WithoutPath, Routed as RoutedTrees, routed_after}

@@ -1,7 +1,7 @@
 use arch_file::Arch;
 
 /// The device: what it is made of, and how many columns and rows of logic blocks it has.
-#[derive(Debug, Drop)]
+#[derive(Drop)]
 pub struct Device {
     pub arch: Arch,
     /// 1 to 256.

@@ -5,7 +5,7 @@ use std::alloc::AllocError;
 use std::marker::Model;
 
 /// Why the core has no reply for a tenant, and won't have one later.
-#[derive(Clone, Copy, Debug, PartialEq, Eq)]
+#[derive(Clone, Copy, PartialEq, Eq)]
 pub enum NoteCause {
     /// The tenancy's journal has all the entries that it may have.
     JournalFull,
@@ -14,7 +14,7 @@ pub enum NoteCause {
 }
 
 /// A note that the core had no reply for that tenancy. The core alone makes it.
-#[derive(Debug, Drop)]
+#[derive(Drop)]
 pub struct Note {
     pub(crate) id: u32,
     pub(crate) cause: NoteCause,
@@ -44,7 +44,7 @@ impl Note {
 }
 
 /// Why a command has no receipt, and no entry. Nothing changed.
-#[derive(Debug, Drop)]
+#[derive(Drop)]
 pub enum NotServed {
     NoMemory,
     JournalFull(Note),

@@ -5,7 +5,7 @@ ghost use Rattle.service_core.specs.Names.{op_refusal_number, op_refusal_text};
 use std::alloc::AllocError;
 
 /// Why the operator's call is refused. Nothing changed.
-#[derive(Clone, Copy, Debug, PartialEq, Eq)]
+#[derive(Clone, Copy, PartialEq, Eq)]
 pub enum OpRefusal {
     NoMemory,
     /// No offset parts a strip of that width from the others.

@@ -1,7 +1,7 @@
 use tenant_slot::StepReply;
 
 /// What a step that was put is answered.
-#[derive(Clone, Copy, Debug, PartialEq, Eq)]
+#[derive(Clone, Copy, PartialEq, Eq)]
 pub enum PutReply {
     /// The tenancy's reply. It is an entry of the journal.
     Recorded(StepReply),

@@ -5,7 +5,7 @@ use tenant_slot::{Command, Reply};
 
 /// A command that was served, its reply, and the number of its entry in the tenancy's journal, from 0.
 /// The core alone makes it.
-#[derive(Debug, Drop)]
+#[derive(Drop)]
 pub struct Receipt {
     pub(crate) id: u32,
     pub(crate) place: u32,

@@ -10,7 +10,7 @@ use Rattle.grid.specs.declared.place.Place.{Place}
 use Rattle.grid.specs.Places.{place_at, places_of}
 use Rattle.strip_place.specs.Task.{Task}
 use Rattle.strip_place.specs.Boards.{places_on, drawn_block}
-use Rattle.strip_place.specs.Placed.{is_same_place, place_of}
+use Rattle.block_places.specs.Placed.{is_same_place, place_of}
 use Rattle.strip_place.specs.Seating.{exchanged_site}
 use Rattle.strip_place.specs.Sites.{AreDistinct, AreOneToOne, IsSiteFor, drawn_for, first_site, site_count, site_place, sites_of}
 use Rattle.strip_place.specs.Pass.{Draw, exchanged, drawn, after_draw, after_move, is_kept, cost_of}

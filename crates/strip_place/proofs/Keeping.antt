@@ -16,14 +16,14 @@ use Rattle.cluster.specs.declared.block.Block.{Block}
 use Rattle.cluster.specs.declared.block.Block.TheVariants.{InputPad, OutputPad, Cluster}
 use Rattle.grid.specs.declared.Strip.{Strip}
 use Rattle.grid.specs.declared.place.Place.{Place}
-use Rattle.grid.specs.Fits.{kind_of}
+use Rattle.block_places.specs.Fits.{kind_of}
 use Rattle.grid.specs.Places.{place_at, places_of}
 use Rattle.kept_places.specs.declared.table.KeptPlace.{KeptPlace}
 use Rattle.kept_places.specs.Kept.{KeptPlaces, in_order}
 use Rattle.kept_places.specs.Table.{entries_of, entry_of}
 use Rattle.kept_places.proofs.Entries.{find-in_order, tied}
 use Rattle.strip_place.specs.Keeping.{AreKeptOn, kind_for}
-use Rattle.strip_place.specs.Placed.{ArePlaced, block_at}
+use Rattle.block_places.specs.Placed.{ArePlaced, block_at}
 
 -- what is found by a key
 zip_found : (keys : List BlockKey) (places : List Place) (key : BlockKey) (place : Place) → find key_order key (zip keys places) ≡ Some place →

@@ -16,11 +16,11 @@ use Rattle.grid.specs.declared.Strip.{Strip}
 use Rattle.grid.specs.declared.place.Kind.{Kind}
 use Rattle.grid.specs.declared.place.Kind.TheVariants.{Logic}
 use Rattle.grid.specs.declared.place.Place.{Place}
-use Rattle.grid.specs.Fits.{kind_of}
+use Rattle.block_places.specs.Fits.{kind_of}
 use Rattle.grid.specs.Places.{place_at, places_of}
 use Rattle.kept_places.specs.Kept.{KeptPlaces, kept_place}
 use Rattle.strip_place.specs.Keeping.{AreKeptOn, kind_for}
-use Rattle.strip_place.specs.Placed.{is_same_place}
+use Rattle.block_places.specs.Placed.{is_same_place}
 use Rattle.strip_place.specs.KeptSites.{kept_sites_of, site_of}
 use Rattle.strip_place.specs.Sites.{IsSiteFor, first_site, site_place}
 use Rattle.strip_place.specs.Starting.{AreKeptSites}

@@ -9,7 +9,7 @@ use Rattle.std.proofs.lemmas.Slice.Zip.{get_or-zip}
 use Rattle.grid.specs.declared.Strip.{Strip}
 use Rattle.grid.specs.declared.place.Kind.{Kind}
 use Rattle.grid.specs.declared.place.Kind.TheVariants.{Logic, Pad}
-use Rattle.grid.specs.Fits.{is_same_kind}
+use Rattle.block_places.specs.Fits.{is_same_kind}
 use Rattle.strip_place.specs.Sites.{AreOneToOne, IsSiteFor, first_site, is_among, kept_sites, least_free, seated_behind, site_count, site_for, start_of}
 use Rattle.strip_place.specs.Starting.{AreKeptSites, HaveRoom, logic_in, pads_in}
 use Rattle.strip_place.proofs.Vacant.{IsLeast, all_free, among_before, among_last, free_count, free_less, free_past, free_same, least_found}

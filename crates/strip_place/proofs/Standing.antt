@@ -12,10 +12,10 @@ use Rattle.grid.specs.declared.place.Kind.{Kind}
 use Rattle.grid.specs.declared.place.Kind.TheVariants.{Logic, Pad}
 use Rattle.grid.specs.declared.place.Place.{Place}
 use Rattle.grid.specs.Places.{place_at, places_of}
-use Rattle.grid.specs.Fits.{kind_of}
+use Rattle.block_places.specs.Fits.{kind_of}
 use Rattle.strip_place.specs.Task.{task_of}
 use Rattle.strip_place.specs.Sites.{sites_of, first_site, site_place, IsSiteFor, AreDistinct, AreOneToOne}
-use Rattle.strip_place.specs.Placed.{ArePlaced, block_at}
+use Rattle.block_places.specs.Placed.{ArePlaced, block_at}
 use Rattle.strip_place.proofs.Starts.{length-sites_of}
 
 -- a site's place is the one of its kind by the number in that kind

@@ -18,7 +18,7 @@ use Rattle.kept_places.specs.Kept.{KeptPlaces, kept_place}
 use Rattle.strip_place.specs.Boards.{places_on, has_place}
 use Rattle.strip_place.specs.Keeping.{AreKeptOn, kind_for}
 use Rattle.strip_place.specs.KeptSites.{kept_sites_of, site_of}
-use Rattle.strip_place.specs.Placed.{is_same_place}
+use Rattle.block_places.specs.Placed.{is_same_place}
 use Rattle.strip_place.specs.Sites.{AreDistinct, first_site, is_among, kept_sites, least_free, seated_behind, site_count, site_place, sites_of, start_of}
 use Rattle.strip_place.specs.Start.{kept_by_block, placed_behind, placed_first}
 use Rattle.strip_place.specs.Starting.{AreKeptSites, HaveRoom}

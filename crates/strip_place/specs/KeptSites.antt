@@ -11,7 +11,7 @@ use Rattle.grid.specs.Places.{places_of}
 use Rattle.grid.specs.Sizes.{IsStripSize}
 use Rattle.kept_places.specs.Kept.{KeptPlaces, kept_place}
 use Rattle.strip_place.specs.Keeping.{kind_for}
-use Rattle.strip_place.specs.Placed.{is_same_place}
+use Rattle.block_places.specs.Placed.{is_same_place}
 use Rattle.strip_place.specs.Sites.{first_site}
 
 -- it is a place of that kind in the strip

@@ -10,7 +10,7 @@ use Rattle.grid.specs.declared.place.Place.{Place}
 use Rattle.grid.specs.Places.{place_at, places_of}
 use Rattle.kept_places.specs.Kept.{KeptPlaces, kept_place}
 use Rattle.strip_place.specs.Keeping.{kind_for}
-use Rattle.strip_place.specs.Placed.{is_same_place}
+use Rattle.block_places.specs.Placed.{is_same_place}
 use Rattle.strip_place.specs.Task.{task_of}
 
 -- the place of a block: the one that it keeps, or the first of its kind, in the strip's order, that isn't among the taken

@@ -3,8 +3,8 @@ use Rattle.std.specs.Prelude.{ℕ, ◌≡◌, ◌+◌, ◌<◌, ◌≤◌, List,
 use Rattle.grid.specs.declared.Strip.{Strip}
 use Rattle.grid.specs.declared.place.Kind.{Kind}
 use Rattle.grid.specs.declared.place.Kind.TheVariants.{Logic, Pad}
-use Rattle.grid.specs.declared.fit.Fit.TheVariants.{Fits}
-use Rattle.grid.specs.Fits.{fit_of}
+use Rattle.block_places.specs.declared.fit.Fit.TheVariants.{Fits}
+use Rattle.block_places.specs.Fits.{fit_of}
 use Rattle.grid.specs.Sizes.{IsStripSize}
 use Rattle.cluster.specs.Clusters.{PackedCircuit}
 use Rattle.kept_places.specs.Kept.{KeptPlaces}

@@ -13,7 +13,7 @@ use rows::Rows;
 const FEW_BLOCKS: usize = 12;
 
 /// How long some nets are together, and how long they come to be at least.
-#[derive(Clone, Copy, Debug)]
+#[derive(Clone, Copy)]
 pub(crate) struct Lengths {
     pub(crate) before: u64,
     pub(crate) after: u64,
@@ -53,7 +53,7 @@ pub(crate) fn whole_length(boxes: &[NetBox]) -> u64
 }
 
 /// A block's move: how far from the sides it stood, and how far it stands now.
-#[derive(Clone, Copy, Debug)]
+#[derive(Clone, Copy)]
 pub(crate) struct Move {
     pub(crate) from: Sides,
     pub(crate) to: Sides,

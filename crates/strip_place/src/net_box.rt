@@ -8,7 +8,7 @@ use crate::point::Point;
 use crate::sides::{FAR, Sides};
 
 /// How far the blocks of a net are from each side: the nearest one, and another that is near too, or [`FAR`].
-#[derive(Clone, Copy, Debug)]
+#[derive(Clone, Copy)]
 pub(crate) struct NetBox {
     pub(crate) near: Sides,
     pub(crate) next: Sides,

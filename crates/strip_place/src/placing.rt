@@ -3,12 +3,12 @@ ghost use Rattle.std.specs.Prelude.{◌≡◌, ◌*◌, ◌<◌, ◌≤◌, leng
 ghost use Rattle.std.specs.List.{zip};
 ghost use Rattle.cluster.specs.Blocks.{blocks_of};
 ghost use Rattle.cluster.specs.Keys.{keys_of};
-ghost use Rattle.grid.specs.declared.fit.Fit.TheVariants.{Fits};
-ghost use Rattle.grid.specs.Fits.{fit_of};
+ghost use Rattle.block_places.specs.declared.fit.Fit.TheVariants.{Fits};
+ghost use Rattle.block_places.specs.Fits.{fit_of};
 ghost use Rattle.grid.specs.Sizes.{IsStripSize};
 ghost use Rattle.kept_places.specs.Kept.{in_order};
 ghost use Rattle.strip_place.specs.Anneal.{one_more, end_of, after_words, draw_of, places_by_block};
-ghost use Rattle.strip_place.specs.Placed.{ArePlaced};
+ghost use Rattle.block_places.specs.Placed.{ArePlaced};
 ghost use Rattle.strip_place.specs.Keeping.{AreKeptOn};
 ghost use Rattle.strip_place.specs.Pass.{cost_of, pass_of};
 ghost use Rattle.strip_place.specs.Task.{task_of};
@@ -24,7 +24,7 @@ use std::alloc::{AllocError, Global};
 use std::marker::Model;
 
 /// What a pass answers.
-#[derive(Clone, Copy, Debug, PartialEq, Eq)]
+#[derive(Clone, Copy, PartialEq, Eq)]
 pub enum PassEnd {
     /// There are more.
     More,
@@ -146,6 +146,20 @@ impl Placing {
         ensures { slice_get (places_by_block self.now) block ≡ Some result }
     {
         self.board.place(block)
+    }
+
+    /// The places of the blocks, by number.
+    pub fn places(&self, alloc: Global) -> Result<Vec<Place>, AllocError>
+        ensures placed { IfOk result (λ places.
+            ArePlaced self.now.strip self.now.packed places.items) }
+        ensures exact { IfOk result (λ places. places.items ≡ places_by_block self.now) }
+    {
+        self.laws();
+        let mut places = Vec::new(alloc);
+        for block in 0..self.packed().block_count() {
+            places.push(self.place_of(block))?;
+        }
+        Ok(places)
     }
 
     /// What the places cost: the sum, over all nets that are not global, of the width plus the height of the box of the net's

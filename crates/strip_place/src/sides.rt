@@ -8,7 +8,7 @@ use crate::point::Point;
 pub(crate) const FAR: u32 = 65535;
 
 /// How far something is from each side. All four are treated alike, so that a processor can do it at once.
-#[derive(Clone, Copy, Debug)]
+#[derive(Clone, Copy)]
 pub(crate) struct Sides {
     pub(crate) left: u32,
     pub(crate) right: u32,

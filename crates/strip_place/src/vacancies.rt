@@ -10,7 +10,7 @@ use std::alloc::{AllocError, Global};
 use std::marker::Model;
 
 /// Which sites are taken, and from which on the free ones of each kind stand. Its value is a record of these.
-#[derive(Debug, Drop)]
+#[derive(Drop)]
 pub(crate) struct Vacancies {
     marks: Vec<bool>,
     logic: usize,

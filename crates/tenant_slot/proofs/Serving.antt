@@ -7,7 +7,7 @@ use Rattle.blif.specs.declared.fault.BlifFault.{BlifFault}
 use Rattle.kept_places.specs.Kept.{KeptPlaces}
 use Rattle.strip_place.specs.Keeping.{AreKeptOn}
 use Rattle.cluster.specs.Clusters.{packed_of, unfit_of}
-use Rattle.grid.specs.Fits.{fit_of}
+use Rattle.block_places.specs.Fits.{fit_of}
 use Rattle.job_state.specs.JobValue.{packing_sources, placing_sources}
 use Rattle.tenant_slot.specs.declared.command.Command.{Command}
 use Rattle.tenant_slot.specs.declared.command.Command.TheVariants.{Change, Pack, Place}

@@ -5,10 +5,10 @@ use Rattle.blif.specs.CircuitOf.{circuit_of}
 use Rattle.blif.specs.declared.circuit.Circuit.{Circuit}
 use Rattle.blif.specs.declared.fault.BlifFault.{BlifFault}
 use Rattle.cluster.specs.Clusters.{packed_of, unfit_of}
-use Rattle.grid.specs.Fits.{fit_of}
+use Rattle.block_places.specs.Fits.{fit_of}
 use Rattle.grid.specs.declared.Strip.{Strip}
-use Rattle.grid.specs.declared.fit.Fit.{Fit}
-use Rattle.grid.specs.declared.fit.Fit.TheVariants.{Fits, TooManyBlocks, TooManyPads}
+use Rattle.block_places.specs.declared.fit.Fit.{Fit}
+use Rattle.block_places.specs.declared.fit.Fit.TheVariants.{Fits, TooManyBlocks, TooManyPads}
 use Rattle.job_state.specs.declared.sources.JobKind.{JobKind}
 use Rattle.job_state.specs.declared.sources.JobKind.TheVariants.{Packing as PackingJob, Placing as PlacingJob, Routing as RoutingJob}
 use Rattle.job_state.specs.declared.sources.Sources.{Sources}

@@ -3,7 +3,7 @@ ghost use Rattle.std.specs.Prelude.{◌≡◌, ℕ, List, length, nat_lt, IfErr,
 ghost use Rattle.blif.specs.CircuitOf.{circuit_of};
 ghost use Rattle.cluster.specs.Blocks.{block_nets};
 ghost use Rattle.cluster.specs.Clusters.{packed_of, unfit_of};
-ghost use Rattle.grid.specs.Fits.{fit_of};
+ghost use Rattle.block_places.specs.Fits.{fit_of};
 ghost use Rattle.job_state.specs.JobValue.{packing_sources, placing_sources, routing_sources};
 ghost use Rattle.strip_place.specs.Anneal.{places_by_block};
 ghost use Rattle.vpr_files.specs.NetFile.{net_text_of};
@@ -20,8 +20,8 @@ use crate::not_served::NotServed;
 use crate::reply::{FileKind, Misfit, Refusal, Reply, StateName};
 use crate::standing::Change;
 use blif::{BlifError, SharedCircuit, read_blif};
+use block_places::{Fit, fit_of};
 use cluster::{PackError, PackFault, Packed, check};
-use grid::Fit;
 use job_state::{Parked, SharedText};
 use line_text::{MemorySink, Sink, Text};
 use pathfinder::Routes;
@@ -161,7 +161,7 @@ impl Answer {
             let reply = Reply::Refused(Refusal::BadEffort);
             return Ok(Answer::unchanged(lut_size, reply));
         }
-        match misfit(job.strip.fits(packing.packed())) {
+        match misfit(fit_of(job.strip, packing.packed())) {
             Some(misfit) => {
                 let reply = Reply::Refused(Refusal::DoesNotFit(misfit));
                 Ok(Answer::unchanged(lut_size, reply))

@@ -5,7 +5,7 @@ use job_state::SharedText;
 use std::alloc::AllocError;
 
 /// What a tenant asks.
-#[derive(Debug, Drop)]
+#[derive(Drop)]
 pub enum Command {
     /// A first netlist, in the state Empty.
     Upload(SharedText),

@@ -3,7 +3,7 @@ use crate::command::Command;
 
 /// A step that was made: the tenancy's generation when its job began, the how many-th of the job's steps it is, from 1, and
 /// whether its sources weren't those of the running job. A foreign step is never the running job's.
-#[derive(Clone, Copy, Debug, PartialEq, Eq)]
+#[derive(Clone, Copy, PartialEq, Eq)]
 pub struct Advance {
     pub generation: u32,
     pub number: u32,

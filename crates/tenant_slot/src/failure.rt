@@ -1,7 +1,7 @@
 //! Why a netlist that is placed isn't routed.
 
 /// How a routing ended without routes.
-#[derive(Clone, Copy, Debug, PartialEq, Eq)]
+#[derive(Clone, Copy, PartialEq, Eq)]
 pub enum RoutingFailure {
     /// After the last iteration more nets want a node than it carries.
     GaveUp,

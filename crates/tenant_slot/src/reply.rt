@@ -10,7 +10,7 @@ use job_state::SharedText;
 use std::alloc::AllocError;
 
 /// The name of a state of one tenancy.
-#[derive(Clone, Copy, Debug, PartialEq, Eq)]
+#[derive(Clone, Copy, PartialEq, Eq)]
 pub enum StateName {
     Empty,
     Loaded,
@@ -76,7 +76,7 @@ impl StateName {
 }
 
 /// How a routing ended that left a net without its way.
-#[derive(Debug, Drop)]
+#[derive(Drop)]
 pub enum Ending {
     /// After the last iteration more nets want a node than it carries.
     GaveUp,
@@ -109,7 +109,7 @@ impl Clone for Ending {
 }
 
 /// What `status` answers.
-#[derive(Debug, Drop)]
+#[derive(Drop)]
 pub struct Status {
     pub state: StateName,
     /// How many steps of the running job are finished, 0 where none runs.
@@ -150,7 +150,7 @@ impl Clone for Status {
 }
 
 /// Of what a strip has too little for a packed netlist.
-#[derive(Clone, Copy, Debug, PartialEq, Eq)]
+#[derive(Clone, Copy, PartialEq, Eq)]
 pub enum Misfit {
     /// Places for logic blocks.
     Blocks { have: usize, need: usize },
@@ -159,7 +159,7 @@ pub enum Misfit {
 }
 
 /// Why a command is refused. The state stays, and the refusal is an entry of the journal.
-#[derive(Debug, Drop)]
+#[derive(Drop)]
 pub enum Refusal {
     /// The command isn't lawful in this state.
     WrongState(StateName),
@@ -232,7 +232,7 @@ impl Clone for Refusal {
 }
 
 /// What a result file is.
-#[derive(Clone, Copy, Debug, PartialEq, Eq)]
+#[derive(Clone, Copy, PartialEq, Eq)]
 pub enum FileKind {
     /// The packed netlist.
     Net,
@@ -256,7 +256,7 @@ impl FileKind {
 }
 
 /// What a step that was made is answered.
-#[derive(Clone, Copy, Debug, PartialEq, Eq)]
+#[derive(Clone, Copy, PartialEq, Eq)]
 pub enum StepReply {
     /// The job goes on.
     Advanced,
@@ -267,7 +267,7 @@ pub enum StepReply {
 }
 
 /// What a command or a step is answered.
-#[derive(Debug, Drop)]
+#[derive(Drop)]
 pub enum Reply {
     /// The command was accepted, and led to this state.
     Accepted(StateName),

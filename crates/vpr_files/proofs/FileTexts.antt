@@ -11,7 +11,7 @@ use Rattle.cluster.specs.PackingLaws.{IsBlockNet}
 use Rattle.grid.specs.declared.Strip.{Strip}
 use Rattle.grid.specs.declared.place.Place.{Place}
 use Rattle.rr_graph.specs.declared.node.Node.{Node}
-use Rattle.strip_place.specs.Placed.{block_at, place_of}
+use Rattle.block_places.specs.Placed.{block_at, place_of}
 use Rattle.vpr_files.specs.TextLines.{line_of, spaced, text_of}
 use Rattle.vpr_files.specs.PlaceFile.{placed_line}
 use Rattle.vpr_files.specs.NodeText.{kind_word, node_text_of, number_word}

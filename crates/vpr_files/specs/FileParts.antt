@@ -6,7 +6,7 @@ use Rattle.cluster.specs.Blocks.{BlockNet, block_nets, blocks_of, net_name}
 use Rattle.grid.specs.declared.Strip.{Strip}
 use Rattle.grid.specs.declared.place.Place.{Place}
 use Rattle.rr_graph.specs.declared.node.Node.{Node}
-use Rattle.strip_place.specs.Placed.{place_of}
+use Rattle.block_places.specs.Placed.{place_of}
 use Rattle.vpr_files.specs.NodeText.{node_text_of}
 use Rattle.vpr_files.specs.PlaceFile.{placed_line}
 use Rattle.vpr_files.specs.RouteFile.{connected_line, net_lines}

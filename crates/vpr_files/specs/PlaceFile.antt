@@ -5,7 +5,7 @@ use Rattle.cluster.specs.Clusters.{PackedCircuit}
 use Rattle.cluster.specs.Blocks.{block_name, blocks_of}
 use Rattle.grid.specs.declared.Strip.{Strip}
 use Rattle.grid.specs.declared.place.Place.{Place}
-use Rattle.strip_place.specs.Placed.{block_at, place_of}
+use Rattle.block_places.specs.Placed.{block_at, place_of}
 use Rattle.vpr_files.specs.TextLines.{text_of}
 
 -- the line of a block at a place: its name, the column, the row, the number among the pads of that end of the column, and its own number

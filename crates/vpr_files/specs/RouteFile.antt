@@ -6,7 +6,7 @@ use Rattle.cluster.specs.Blocks.{BlockNet, block_name, block_nets, net_name}
 use Rattle.grid.specs.declared.Strip.{Strip}
 use Rattle.grid.specs.declared.place.Place.{Place}
 use Rattle.rr_graph.specs.declared.node.Node.{Node}
-use Rattle.strip_place.specs.Placed.{block_at, place_of}
+use Rattle.block_places.specs.Placed.{block_at, place_of}
 use Rattle.vpr_files.specs.NodeText.{node_text_of, position_text}
 use Rattle.vpr_files.specs.TextLines.{text_of}
 

@@ -7,7 +7,7 @@ use crate::net_file::{cluster_name, net_name};
 use cluster::{Block, Packed};
 
 /// The name of a block, in two parts: what stands before the name of a net, and that name.
-#[derive(Clone, Copy, Debug)]
+#[derive(Clone, Copy)]
 pub(crate) struct BlockName<'a> {
     pub(crate) before: &'a [u8],
     pub(crate) net: &'a [u8],

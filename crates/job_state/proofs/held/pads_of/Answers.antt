@@ -6,7 +6,7 @@ use Rattle.cluster.specs.Blocks.{blocks_of}
 use Rattle.cluster.specs.Clusters.{PackedCircuit}
 use Rattle.grid.specs.Sizes.{IsStripSize}
 use Rattle.strip_place.specs.Anneal.{places_by_block}
-use Rattle.strip_place.specs.Placed.{block_at, place_of}
+use Rattle.block_places.specs.Placed.{block_at, place_of}
 use Rattle.job_state.specs.RoutedCircuits.{AreThere, pad_of}
 use Rattle.job_state.specs.Gathered.{pads_below}
 use Rattle.job_state.proofs.Gathered.{gathered_to}

@@ -1,6 +1,6 @@
 use Rattle.std.proofs.Common.{◌∙◌, ◌++◌, ◌∷◌, [], ap}
 use Rattle.rr_graph.specs.Graph.{graph_of}
-use Rattle.strip_place.specs.Placed.{block_at, place_of}
+use Rattle.block_places.specs.Placed.{block_at, place_of}
 use Rattle.pathfinder.specs.PlacedNets.{number_of}
 use Rattle.pathfinder.specs.Terminals.{sink_at}
 use Rattle.pathfinder.proofs.Lists.{map_more}

@@ -4,7 +4,7 @@ use Rattle.cluster.specs.declared.block.Block.TheVariants.{Cluster}
 use Rattle.cluster.specs.Blocks.{blocks_of}
 use Rattle.rr_graph.specs.Geometry.{is_node}
 use Rattle.rr_graph.specs.Graph.{graph_of}
-use Rattle.strip_place.specs.Placed.{block_at, place_of}
+use Rattle.block_places.specs.Placed.{block_at, place_of}
 use Rattle.pathfinder.specs.PlacedNets.{number_of}
 use Rattle.pathfinder.specs.Terminals.{source_at}
 use Rattle.pathfinder.proofs.PlacedTerminals.{block_source}

@@ -5,7 +5,7 @@ use Rattle.cluster.specs.Blocks.{blocks_of}
 use Rattle.cluster.specs.Clusters.{PackedCircuit}
 use Rattle.grid.specs.declared.place.Place.{Place}
 use Rattle.strip_place.specs.Anneal.{places_by_block}
-use Rattle.strip_place.specs.Placed.{place_of}
+use Rattle.block_places.specs.Placed.{place_of}
 use Rattle.vpr_files.specs.PlaceFile.{placed_line}
 use Rattle.vpr_files.specs.TextLines.{line_of}
 use Rattle.vpr_files.proofs.FileTexts.{at_its_place}

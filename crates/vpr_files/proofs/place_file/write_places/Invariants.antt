@@ -2,7 +2,7 @@ use Rattle.std.proofs.Common.{length, take}
 use Rattle.std.specs.List.{flat_map, range_with_len}
 use Rattle.cluster.specs.Blocks.{blocks_of}
 use Rattle.strip_place.specs.Anneal.{places_by_block}
-use Rattle.strip_place.specs.Placed.{place_of}
+use Rattle.block_places.specs.Placed.{place_of}
 use Rattle.vpr_files.specs.PlaceFile.{placed_line}
 use Rattle.vpr_files.specs.TextLines.{line_of}
 use Rattle.line_text.specs.Writing.{TakesAll}

@@ -1,7 +1,7 @@
 use Rattle.std.proofs.Common.{take}
 use Rattle.std.specs.List.{flat_map}
 use Rattle.strip_place.specs.Anneal.{places_by_block}
-use Rattle.strip_place.specs.Placed.{place_of}
+use Rattle.block_places.specs.Placed.{place_of}
 use Rattle.vpr_files.specs.RouteFile.{connected_line}
 use Rattle.vpr_files.specs.TextLines.{line_of}
 use Rattle.line_text.specs.Writing.{TakesAll}

@@ -2,7 +2,7 @@ use Rattle.std.proofs.Common.{◌≡◌, IfOk, ◌∙◌, arith, ap, sym, subst,
 use Rattle.cluster.specs.Clusters.{PackedCircuit}
 use Rattle.grid.specs.declared.Strip.{Strip}
 use Rattle.strip_place.specs.Anneal.{PlacingUnderWay}
-use Rattle.strip_place.specs.Placed.{ArePlaced}
+use Rattle.block_places.specs.Placed.{ArePlaced}
 use Rattle.job_state.specs.RoutedCircuits.{on_strip}
 use Rattle.job_state.specs.UnderWay.{RoutingUnderWay, begun_state}
 use Rattle.job_state.specs.declared.sources.Sources.{Sources}

@@ -4,7 +4,7 @@ use Rattle.cluster.specs.Clusters.{PackedCircuit}
 use Rattle.cluster.specs.Blocks.{blocks_of}
 use Rattle.cluster.specs.Keys.{keys_of}
 use Rattle.kept_places.specs.Table.{entries_of}
-use Rattle.strip_place.specs.Placed.{ArePlaced}
+use Rattle.block_places.specs.Placed.{ArePlaced}
 use Rattle.strip_place.specs.Anneal.{places_by_block}
 use Rattle.strip_place.proofs.Keeping.{gathered, gathered_all, kept_exact, kept_lawfully, keys_distinct}
 use Rattle.strip_place.proofs.placing.Placing.kept.Goals as goal

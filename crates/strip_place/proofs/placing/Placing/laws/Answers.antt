@@ -3,7 +3,7 @@ use Rattle.strip_place.specs.Start.{places_at_start}
 use Rattle.strip_place.specs.Task.{Task, task_of}
 use Rattle.strip_place.specs.Sites.{AreOneToOne}
 use Rattle.strip_place.specs.Anneal.{PlacingUnderWay, places_by_block, placed_after}
-use Rattle.strip_place.specs.Placed.{ArePlaced}
+use Rattle.block_places.specs.Placed.{ArePlaced}
 use Rattle.strip_place.proofs.Standing.{placed_by}
 use Rattle.strip_place.proofs.placing.Placing.laws.Goals as goal
 

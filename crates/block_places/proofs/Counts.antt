@@ -8,7 +8,7 @@ use Rattle.cluster.specs.Clusters.{PackedCircuit}
 use Rattle.grid.specs.declared.place.Kind.TheVariants.{Logic, Pad}
 use Rattle.grid.specs.declared.Strip.{Strip}
 use Rattle.grid.specs.Places.{places_of}
-use Rattle.grid.specs.Fits.{block_count, compared, fit_of, is_for}
+use Rattle.block_places.specs.Fits.{block_count, compared, fit_of, is_for}
 
 -- the blocks of both
 count_append : {X : Type 0} (p : X → Bool) (xs ys : List X) → count_by p (xs ++ ys) ≡ count_by p xs + count_by p ys

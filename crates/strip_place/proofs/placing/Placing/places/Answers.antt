@@ -5,11 +5,11 @@ use Rattle.cluster.specs.Clusters.{PackedCircuit}
 use Rattle.cluster.specs.Blocks.{blocks_of}
 use Rattle.grid.specs.declared.place.Place.{Place}
 use Rattle.strip_place.specs.Anneal.{places_by_block}
-use Rattle.pathfinder.proofs.nets.places_of.Goals as goal
+use Rattle.strip_place.proofs.placing.Placing.places.Goals as goal
 
 pub loop-block-preserved : goal.loop-block-preserved
 loop-block-preserved c =
-    let all = places_by_block c.args.placing.now in
+    let all = places_by_block c.args.self.now in
     let place = c.place_of.result in
     let many = ap (λ (packed : PackedCircuit). length (blocks_of packed)) c.packed.ensures in
     let within : c.loop-block.block < length all = omega (arith, c.loop-block-test.true, c.laws.ensures.long, c.block_count-block-end.ensures, many) in
@@ -20,4 +20,4 @@ loop-block-preserved c =
 pub returns-clause-exact : goal.returns-clause-exact
 returns-clause-exact c =
     let many = ap (λ (packed : PackedCircuit). length (blocks_of packed)) c.packed.ensures in
-    c.loop-block.invariant ∙ take_all c.loop-block.block (places_by_block c.args.placing.now) (omega (arith, c.loop-block-test.false, c.laws.ensures.long, c.block_count-block-end.ensures, many))
+    c.loop-block.invariant ∙ take_all c.loop-block.block (places_by_block c.args.self.now) (omega (arith, c.loop-block-test.false, c.laws.ensures.long, c.block_count-block-end.ensures, many))

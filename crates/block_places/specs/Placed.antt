@@ -7,7 +7,7 @@ use Rattle.cluster.specs.Blocks.{blocks_of}
 use Rattle.grid.specs.declared.Strip.{Strip}
 use Rattle.grid.specs.declared.place.Place.{Place}
 use Rattle.grid.specs.Places.{place_at, places_of}
-use Rattle.grid.specs.Fits.{kind_of}
+use Rattle.block_places.specs.Fits.{kind_of}
 
 -- a block and its place
 abbrev pub block_at : PackedCircuit → ℕ → Block

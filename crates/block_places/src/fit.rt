@@ -1,14 +1,13 @@
 //! Whether a packed circuit fits a strip.
 ghost use Rattle.std.specs.Prelude.{◌≡◌};
 ghost use Rattle.grid.specs.Sizes.{IsStripSize};
-ghost use Rattle.grid.specs.Fits.{compared, fit_of};
+ghost use Rattle.block_places.specs.Fits.{compared, fit_of};
 
-use crate::Strip;
-use crate::place::Kind;
 use cluster::Packed;
+use grid::{Kind, Strip};
 
 /// Whether the blocks of a circuit have places enough. Clusters of logic are looked at first.
-#[derive(Clone, Copy, Debug, PartialEq, Eq)]
+#[derive(Clone, Copy, PartialEq, Eq)]
 pub enum Fit {
     Fits,
     /// The strip has fewer places for logic blocks than are needed.
@@ -17,19 +16,17 @@ pub enum Fit {
     TooManyPads { have: usize, need: usize },
 }
 
-impl Strip {
-    /// Whether the packed circuit fits the strip.
-    pub fn fits(self, packed: &Packed) -> Fit
-        requires { IsStripSize self }
-        ensures { result ≡ fit_of self packed.now }
-    {
-        compared(
-            self.places(Kind::Logic).len(),
-            packed.cluster_count(),
-            self.places(Kind::Pad).len(),
-            packed.pad_count(),
-        )
-    }
+/// Whether the packed circuit fits the strip.
+pub fn fit_of(strip: Strip, packed: &Packed) -> Fit
+    requires { IsStripSize strip }
+    ensures { result ≡ fit_of strip packed.now }
+{
+    compared(
+        strip.places(Kind::Logic).len(),
+        packed.cluster_count(),
+        strip.places(Kind::Pad).len(),
+        packed.pad_count(),
+    )
 }
 
 /// Compares the places for logic blocks with the clusters, and then those for pads with the pads.

@@ -7,8 +7,8 @@ use Rattle.cluster.specs.Blocks.{blocks_of}
 use Rattle.grid.specs.declared.Strip.{Strip}
 use Rattle.grid.specs.declared.place.Kind.{Kind}
 use Rattle.grid.specs.declared.place.Kind.TheVariants.{Logic, Pad}
-use Rattle.grid.specs.declared.fit.Fit.{Fit}
-use Rattle.grid.specs.declared.fit.Fit.TheVariants.{Fits, TooManyBlocks, TooManyPads}
+use Rattle.block_places.specs.declared.fit.Fit.{Fit}
+use Rattle.block_places.specs.declared.fit.Fit.TheVariants.{Fits, TooManyBlocks, TooManyPads}
 use Rattle.grid.specs.Places.{places_of}
 
 -- the kind of places that a block goes to
