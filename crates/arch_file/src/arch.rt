@@ -5,7 +5,7 @@ use std::alloc::AllocError;
 use std::marker::Model;
 
 /// What a pin of a logic block is for.
-#[derive(Clone, Copy, Debug, PartialEq, Eq)]
+#[derive(Clone, Copy, PartialEq, Eq)]
 pub enum PinClass {
     /// Class 0, an input of a table.
     Input,
@@ -16,7 +16,7 @@ pub enum PinClass {
 }
 
 /// The sides of a logic block on which a pin can be reached.
-#[derive(Clone, Copy, Debug, PartialEq, Eq)]
+#[derive(Clone, Copy, PartialEq, Eq)]
 pub struct Sides {
     pub top: bool,
     pub bottom: bool,
@@ -25,14 +25,14 @@ pub struct Sides {
 }
 
 /// A pin of a logic block.
-#[derive(Clone, Copy, Debug, PartialEq, Eq)]
+#[derive(Clone, Copy, PartialEq, Eq)]
 pub struct Pin {
     pub class: PinClass,
     pub sides: Sides,
 }
 
 /// The pins of a logic block, numbered from 0 in the order of their lines. Its value is their list.
-#[derive(Debug, Drop)]
+#[derive(Drop)]
 pub struct Pins {
     pins: Vec<Pin>,
 }
@@ -73,7 +73,7 @@ impl Clone for Pins {
 }
 
 /// What a device is made of, but for its size.
-#[derive(Debug, Drop)]
+#[derive(Drop)]
 pub struct Arch {
     /// Pads at each end of a column, 1 to 8.
     pub io_rat: u32,

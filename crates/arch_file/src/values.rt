@@ -14,7 +14,7 @@ use line_text::{Line, is_word, millionths, whole_number};
 pub(crate) const ONE: u64 = 1_000_000;
 
 /// How the numbers of tracks are meant.
-#[derive(Clone, Copy, Debug)]
+#[derive(Clone, Copy)]
 pub(crate) enum FcType {
     /// So many tracks.
     Absolute,

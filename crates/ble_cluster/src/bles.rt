@@ -13,7 +13,7 @@ use std::alloc::{AllocError, Global};
 use std::marker::Model;
 
 /// A basic logic element (BLE): a table, a latch, or a table with the latch behind it.
-#[derive(Clone, Copy, Debug)]
+#[derive(Clone, Copy)]
 pub struct Ble<'a> {
     /// The nets that it reads, each once, in first-seen order.
     pub inputs: &'a [u32],
@@ -24,7 +24,7 @@ pub struct Ble<'a> {
 }
 
 /// A BLE, without its inputs, and where these stand.
-#[derive(Clone, Copy, Debug)]
+#[derive(Clone, Copy)]
 pub(crate) struct BleSpan {
     pub(crate) inputs: Span,
     pub(crate) output: u32,
@@ -32,7 +32,7 @@ pub(crate) struct BleSpan {
 }
 
 /// BLEs, by number. Its value is the list of them.
-#[derive(Debug, Drop)]
+#[derive(Drop)]
 pub struct Bles {
     inputs: Vec<u32>,
     bles: Vec<BleSpan>,

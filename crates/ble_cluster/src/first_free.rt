@@ -7,7 +7,7 @@ use std::alloc::{AllocError, Global};
 
 /// Numbers, each with a key, of which more and more are taken. Where the free ones within a bound begin is kept, so that
 /// all searches for one bound together go over the numbers once.
-#[derive(Debug, Drop)]
+#[derive(Drop)]
 pub(crate) struct FirstFree {
     keys: Vec<usize>,
     /// For each bound, no free number below this has a key within the bound.

@@ -11,7 +11,7 @@ use crate::shared_nets::SharedNets;
 use std::alloc::{AllocError, Global};
 
 /// A cluster under way: its members, and what follows from them.
-#[derive(Debug, Drop)]
+#[derive(Drop)]
 pub(crate) struct GrowingCluster {
     pub(crate) members: Vec<u32>,
     /// The nets that a member reads.

@@ -8,7 +8,7 @@ use std::marker::Model;
 
 /// Nets, each once, in the order in which they came, among so many. Its value is the list of them, and how many there
 /// may be. Whether a net is there is answered at once.
-#[derive(Debug, Drop)]
+#[derive(Drop)]
 pub struct NetSet {
     nets: Vec<u32>,
     marks: Vec<bool>,

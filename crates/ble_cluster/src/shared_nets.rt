@@ -6,7 +6,7 @@ use std::alloc::{AllocError, Global};
 use std::marker::Model;
 
 /// How many nets each BLE shares with the cluster under way. Its value is the list of these counts.
-#[derive(Debug, Drop)]
+#[derive(Drop)]
 pub(crate) struct SharedNets {
     gains: Vec<u32>,
     touched: Vec<u32>,

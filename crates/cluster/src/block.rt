@@ -1,7 +1,7 @@
 //! Blocks, and the nets between them.
 
 /// A block of a packed circuit.
-#[derive(Clone, Copy, Debug, PartialEq, Eq)]
+#[derive(Clone, Copy, PartialEq, Eq)]
 pub enum Block {
     /// The pad by which this net of the circuit comes in.
     InputPad(u32),
@@ -12,7 +12,7 @@ pub enum Block {
 }
 
 /// What kind of block it is.
-#[derive(Clone, Copy, Debug, PartialEq, Eq, PartialOrd, Ord)]
+#[derive(Clone, Copy, PartialEq, Eq, PartialOrd, Ord)]
 pub enum BlockKind {
     /// A pad by which a net comes in.
     InputPad,
@@ -23,7 +23,7 @@ pub enum BlockKind {
 }
 
 /// What a block is told by, whatever its number: its kind and its name. No two blocks of a packed circuit have the same.
-#[derive(Clone, Copy, Debug, PartialEq, Eq, PartialOrd, Ord)]
+#[derive(Clone, Copy, PartialEq, Eq, PartialOrd, Ord)]
 pub struct BlockKey<'a> {
     pub kind: BlockKind,
     /// The name; of an output pad without the `out:`, which the kind tells.
@@ -31,7 +31,7 @@ pub struct BlockKey<'a> {
 }
 
 /// A net between blocks.
-#[derive(Clone, Copy, Debug)]
+#[derive(Clone, Copy)]
 pub struct BlockNet<'a> {
     /// Its number in the circuit.
     pub net: u32,

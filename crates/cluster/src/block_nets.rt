@@ -8,7 +8,7 @@ use std::alloc::{AllocError, Global};
 use std::marker::Model;
 
 /// A net between blocks, without its readers, and where these stand.
-#[derive(Clone, Copy, Debug)]
+#[derive(Clone, Copy)]
 pub(crate) struct NetSpan {
     pub(crate) net: u32,
     pub(crate) driver: u32,
@@ -17,7 +17,7 @@ pub(crate) struct NetSpan {
 }
 
 /// Nets between blocks, by number. Its value is the list of them.
-#[derive(Debug, Drop)]
+#[derive(Drop)]
 pub(crate) struct BlockNets {
     readers: Vec<u32>,
     nets: Vec<NetSpan>,

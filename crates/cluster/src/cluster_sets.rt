@@ -9,7 +9,7 @@ use ble_cluster::{Bles, NetSet};
 use std::alloc::{AllocError, Global};
 
 /// The nets on the pins of a cluster, by class. Kept from one cluster to the next.
-#[derive(Debug, Drop)]
+#[derive(Drop)]
 pub(crate) struct ClusterSets {
     pub(crate) outputs: NetSet,
     pub(crate) inputs: NetSet,

@@ -11,7 +11,7 @@ use strip_files::FileFault;
 use tenancy_script::Fault;
 
 /// How an errand ended.
-#[derive(Clone, Copy, Debug)]
+#[derive(Clone, Copy)]
 pub enum Outcome {
     /// All is written.
     Done,

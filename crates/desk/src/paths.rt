@@ -7,7 +7,7 @@ use std::io::{ErrorKind, Read};
 use std::rt::Files;
 
 /// A file that a tool reads or writes, or the folder in which it writes.
-#[derive(Clone, Copy, Debug)]
+#[derive(Clone, Copy)]
 pub enum FileRole {
     Architecture,
     Netlist,

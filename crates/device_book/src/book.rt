@@ -11,7 +11,7 @@ use std::alloc::{AllocError, Global};
 use std::marker::Model;
 
 /// How far a device's resources reach: their columns, their rows, and the numbers in each place.
-#[derive(Clone, Copy, Debug, PartialEq, Eq)]
+#[derive(Clone, Copy, PartialEq, Eq)]
 pub struct Extent {
     /// The device's columns. There is one more of wires, to the left of them.
     pub columns: u32,
@@ -155,7 +155,7 @@ impl Book {
 }
 
 /// A resource and the tenancy that owns it.
-#[derive(Clone, Copy, Debug, PartialEq, Eq)]
+#[derive(Clone, Copy, PartialEq, Eq)]
 pub struct Owned {
     pub resource: Resource,
     pub id: u32,

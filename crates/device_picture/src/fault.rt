@@ -3,7 +3,7 @@ use std::alloc::AllocError;
 use std::fmt;
 
 /// What is wrong with a line.
-#[derive(Clone, Copy, Debug, PartialEq, Eq)]
+#[derive(Clone, Copy, PartialEq, Eq)]
 pub enum Fault {
     /// The first line is not `== op`.
     NoSection,
@@ -46,7 +46,7 @@ impl Fault {
 }
 
 /// The least line that is refused, counted from 1.
-#[derive(Clone, Copy, Debug)]
+#[derive(Clone, Copy)]
 pub struct InputFault {
     pub fault: Fault,
     pub line: usize,
@@ -61,7 +61,7 @@ impl fmt::Display for InputFault {
 }
 
 /// Why no device was read.
-#[derive(Clone, Copy, Debug)]
+#[derive(Clone, Copy)]
 pub enum ReadError {
     NoMemory,
     Fault(InputFault),

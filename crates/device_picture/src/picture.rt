@@ -26,20 +26,26 @@ const LANES: usize = 4225;
 ///   stand in a square in the order of their numbers, from its lower left corner on; the sides that they face are not told.
 /// - The legend has each tenancy's name, offset, width and state.
 pub fn draw<K: Sink>(alloc: Global, device: &Device<'_>, sink: &mut K) -> Result<(), DrawError> {
-    let frame = Frame::of(device);
     let mut runs = Runs::new(alloc, LANES)?;
+    let drawn = draw_with(device, sink, &mut runs);
+    drop(runs);
+    Ok(drawn?)
+}
+
+/// Writes it by means of these runs.
+fn draw_with<K: Sink>(device: &Device<'_>, sink: &mut K, runs: &mut Runs) -> Result<(), Failed> {
+    let frame = Frame::of(device);
     frame.write_head(sink)?;
     write_column(sink, frame.geometry, device.size.pads)?;
     frame.write_heading(sink, device)?;
     frame.begin_device(sink)?;
     write_ground(sink, frame.geometry, device)?;
-    write_tenancies(sink, frame.geometry, device, &mut runs)?;
+    write_tenancies(sink, frame.geometry, device, runs)?;
     end_group(sink)?;
     frame.write_columns(sink)?;
     frame.write_rows(sink)?;
     write_legend(sink, frame, device)?;
-    write_parts(sink, &[Part::Text("</svg>\n")])?;
-    Ok(())
+    write_parts(sink, &[Part::Text("</svg>\n")])
 }
 
 /// Writes what the tenancies own.

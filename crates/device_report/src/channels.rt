@@ -10,7 +10,7 @@ use std::alloc::{AllocError, Global};
 pub const MAX_SHOWN: usize = 10;
 
 /// Which way the wires of a channel go.
-#[derive(Clone, Copy, Debug, PartialEq, Eq)]
+#[derive(Clone, Copy, PartialEq, Eq)]
 pub enum Direction {
     /// Above a row.
     Across,
@@ -19,7 +19,7 @@ pub enum Direction {
 }
 
 /// How many wires of a channel are owned. A channel is what lies above a block, or right of it.
-#[derive(Clone, Copy, Debug, PartialEq, Eq)]
+#[derive(Clone, Copy, PartialEq, Eq)]
 pub struct ChannelUse {
     pub x: u32,
     pub direction: Direction,

@@ -5,7 +5,7 @@ ghost use Rattle.device_report.specs.Columns.{IsColumnUse, columns_that, is_besi
 use strips::PlacedStrip;
 
 /// How many columns of the device are in strips, and how many are not.
-#[derive(Clone, Copy, Debug, PartialEq, Eq)]
+#[derive(Clone, Copy, PartialEq, Eq)]
 pub struct ColumnUse {
     /// Columns of strips.
     pub used: usize,

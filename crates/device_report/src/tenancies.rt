@@ -7,7 +7,7 @@ use device_picture::{DeviceSize, Owned, Tenancy};
 use rr_graph::ResourceKind;
 
 /// How many of a strip's things are used.
-#[derive(Clone, Copy, Debug, PartialEq, Eq)]
+#[derive(Clone, Copy, PartialEq, Eq)]
 pub struct Share {
     pub used: usize,
     /// How many the strip has.

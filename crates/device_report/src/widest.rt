@@ -6,7 +6,7 @@ ghost use Rattle.device_report.specs.Widest.{IsWidest};
 use strips::{MAX_STRIPS, PlacedStrip};
 
 /// Where a strip of that width would stand.
-#[derive(Clone, Copy, Debug, PartialEq, Eq)]
+#[derive(Clone, Copy, PartialEq, Eq)]
 pub struct Room {
     /// The columns to the left of it.
     pub offset: u32,

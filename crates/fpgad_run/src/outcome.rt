@@ -10,7 +10,7 @@ use std::fmt;
 use std::process::ExitCode;
 
 /// How a run of a script ended.
-#[derive(Clone, Copy, Debug, PartialEq, Eq)]
+#[derive(Clone, Copy, PartialEq, Eq)]
 pub enum Outcome {
     /// All replies are written.
     Done,

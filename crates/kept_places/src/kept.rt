@@ -16,7 +16,7 @@ use std::sync::Arc;
 
 /// Places that are kept for blocks, with many owners, which do not copy them. Its value is the map from keys to places, as a
 /// list in the order of the keys.
-#[derive(Debug, Drop)]
+#[derive(Drop)]
 pub struct Kept {
     table: Option<Arc<Table>>,
 }

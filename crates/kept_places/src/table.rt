@@ -16,7 +16,7 @@ use std::cmp::Ordering;
 use std::marker::Model;
 
 /// A place that is kept for a block.
-#[derive(Clone, Copy, Debug, PartialEq, Eq, PartialOrd, Ord)]
+#[derive(Clone, Copy, PartialEq, Eq, PartialOrd, Ord)]
 pub struct KeptPlace<'a> {
     /// What the block is told by.
     pub key: BlockKey<'a>,
@@ -25,7 +25,7 @@ pub struct KeptPlace<'a> {
 }
 
 /// An entry of a table, whose name stands among all names.
-#[derive(Clone, Copy, Debug)]
+#[derive(Clone, Copy)]
 pub(crate) struct Row {
     pub(crate) kind: BlockKind,
     pub(crate) name: Span,
@@ -33,7 +33,7 @@ pub(crate) struct Row {
 }
 
 /// Places by key, in the order of the keys, no two of which are the same. Its value is the list of the entries.
-#[derive(Debug, Drop)]
+#[derive(Drop)]
 pub(crate) struct Table {
     names: Vec<u8>,
     rows: Vec<Row>,

@@ -4,7 +4,7 @@ ghost use Rattle.least_path.specs.Graph.{Graph, IsLawful};
 ghost use Rattle.least_path.specs.LowerBound.{IsLowerBound, IsConsistent};
 
 /// The ends of a node's edges: the numbers of a list, with a base added to each.
-#[derive(Clone, Copy, Debug)]
+#[derive(Clone, Copy)]
 pub struct Ends<'a> {
     pub list: &'a [u32],
     pub base: usize,

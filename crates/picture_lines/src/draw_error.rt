@@ -3,7 +3,7 @@ use line_text::Failed;
 use std::alloc::AllocError;
 
 /// Why no picture was drawn, or not all of it.
-#[derive(Clone, Copy, Debug, PartialEq, Eq)]
+#[derive(Clone, Copy, PartialEq, Eq)]
 pub enum DrawError {
     /// There is no memory. Nothing was written.
     NoMemory,

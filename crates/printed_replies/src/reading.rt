@@ -12,7 +12,7 @@ use line_text::NameSet;
 use std::alloc::{AllocError, Global};
 
 /// Why lines have no replies.
-#[derive(Clone, Copy, Debug, PartialEq, Eq)]
+#[derive(Clone, Copy, PartialEq, Eq)]
 pub enum ReadError {
     NoMemory,
     /// The line of the printed text, from 1, that fits no reply.

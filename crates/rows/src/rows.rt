@@ -7,7 +7,7 @@ use std::alloc::{AllocError, Global};
 use std::marker::Model;
 
 /// Rows of numbers, which stand one after another in one list. Its value is the list of rows.
-#[derive(Debug, Drop)]
+#[derive(Drop)]
 pub struct Rows {
     numbers: Vec<u32>,
     spans: Vec<Span>,

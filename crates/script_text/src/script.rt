@@ -12,7 +12,7 @@ use std::marker::Model;
 use tenant_slot::SharedText;
 
 /// Why a script has no acts.
-#[derive(Clone, Copy, Debug)]
+#[derive(Clone, Copy)]
 pub enum ScriptError {
     NoMemory,
     /// The number of the least line of no form.

@@ -2,14 +2,14 @@ use settling::Cause;
 use std::alloc::AllocError;
 
 /// What a name's session was told.
-#[derive(Debug, Drop)]
+#[derive(Drop)]
 pub struct Section<'t> {
     pub name: &'t [u8],
     pub text: Vec<u8>,
 }
 
 /// What a script was answered.
-#[derive(Debug, Drop)]
+#[derive(Drop)]
 pub struct Answered<'t> {
     /// What the operator was told.
     pub operator: Vec<u8>,
@@ -18,7 +18,7 @@ pub struct Answered<'t> {
 }
 
 /// Why a script isn't answered.
-#[derive(Clone, Copy, Debug, PartialEq, Eq)]
+#[derive(Clone, Copy, PartialEq, Eq)]
 pub enum Unserved {
     /// There was no memory for tables, texts or a thread.
     NoMemory,

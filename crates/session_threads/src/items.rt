@@ -10,7 +10,7 @@ use std::alloc::Global;
 use std::mem;
 
 /// What a line comes to.
-#[derive(Debug, Drop)]
+#[derive(Drop)]
 pub(crate) enum Outcome {
     /// No item ends with it.
     Nothing,

@@ -6,7 +6,7 @@ use shared_core::{Begun, Core};
 use std::sync::ledger::Ledger;
 
 /// How the job of a tenancy stands.
-#[derive(Clone, Copy, Debug, PartialEq, Eq)]
+#[derive(Clone, Copy, PartialEq, Eq)]
 pub(crate) enum Found {
     /// No step is to come: the tenancy isn't live, no job of it runs, or its journal is full.
     Ended,

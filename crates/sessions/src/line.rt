@@ -13,7 +13,7 @@ use tenant_slot::{Command, SharedText};
 const MAX_LINE: usize = 4096;
 
 /// What a session's line asks. A command stands with its text.
-#[derive(Debug, Drop)]
+#[derive(Drop)]
 pub enum SessionLine {
     /// No words: it is answered nothing.
     Blank,
@@ -24,7 +24,7 @@ pub enum SessionLine {
 }
 
 /// Which command a text is for.
-#[derive(Clone, Copy, Debug, PartialEq, Eq)]
+#[derive(Clone, Copy, PartialEq, Eq)]
 pub enum TextKind {
     Upload,
     Change,
@@ -43,7 +43,7 @@ impl TextKind {
 }
 
 /// What a session's line is by itself.
-#[derive(Debug, Drop)]
+#[derive(Drop)]
 pub enum LineForm {
     Asks(SessionLine),
     /// The text follows.

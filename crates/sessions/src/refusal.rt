@@ -2,7 +2,7 @@ ghost use Rattle.std.specs.Prelude.{◌≡◌};
 ghost use Rattle.sessions.specs.SessionText.{session_refusal_name, session_refusal_number};
 
 /// Why a session's line has no command, or no answer of the core.
-#[derive(Clone, Copy, Debug, PartialEq, Eq)]
+#[derive(Clone, Copy, PartialEq, Eq)]
 pub enum SessionRefusal {
     UnknownCommand,
     BadNumber,

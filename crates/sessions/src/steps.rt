@@ -12,7 +12,7 @@ use strips::{DeviceGraph, Window};
 use tenant_slot::{Origin, StepReply};
 
 /// What the making of a step of a tenancy's job came to.
-#[derive(Clone, Copy, Debug, PartialEq, Eq)]
+#[derive(Clone, Copy, PartialEq, Eq)]
 pub enum StepOutcome {
     /// The step was put, and is an entry of the journal.
     Recorded(StepReply),

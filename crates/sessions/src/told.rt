@@ -7,7 +7,7 @@ use line_text::{Failed, Sink};
 use service_core::{NotServed, Receipt};
 
 /// What a session's line was answered.
-#[derive(Debug, Drop)]
+#[derive(Drop)]
 pub enum Answer {
     /// The line asks nothing.
     Nothing,

@@ -3,7 +3,7 @@ use std::sync::ledger::Ledger;
 use transcripts::Transcript;
 
 /// Why what was told isn't settled.
-#[derive(Clone, Copy, Debug, PartialEq, Eq)]
+#[derive(Clone, Copy, PartialEq, Eq)]
 pub enum Cause {
     /// A lease or a share that was given isn't there.
     Missing,

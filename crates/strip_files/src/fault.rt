@@ -2,7 +2,7 @@
 use std::fmt;
 
 /// Which of the three files.
-#[derive(Clone, Copy, Debug, PartialEq, Eq)]
+#[derive(Clone, Copy, PartialEq, Eq)]
 pub enum File {
     Net,
     Place,
@@ -10,7 +10,7 @@ pub enum File {
 }
 
 /// What is wrong with a line.
-#[derive(Clone, Copy, Debug, PartialEq, Eq)]
+#[derive(Clone, Copy, PartialEq, Eq)]
 pub enum Fault {
     /// None of the lines that may stand there.
     UnknownLine,
@@ -56,7 +56,7 @@ impl Fault {
 }
 
 /// The least line of a file that is refused, counted from 1.
-#[derive(Clone, Copy, Debug, PartialEq, Eq)]
+#[derive(Clone, Copy, PartialEq, Eq)]
 pub struct FileFault {
     pub file: File,
     pub line: usize,

@@ -4,7 +4,7 @@ ghost use Rattle.std.specs.Prelude.{◌≡◌, ◌≤◌, ◌+◌, true};
 use rr_graph::NodeKind;
 
 /// Columns and rows of a strip, within the service's limits.
-#[derive(Clone, Copy, Debug, PartialEq, Eq)]
+#[derive(Clone, Copy, PartialEq, Eq)]
 pub struct StripSize {
     /// Columns of logic blocks, 1 to 256.
     pub columns: u32,

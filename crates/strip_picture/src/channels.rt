@@ -16,7 +16,7 @@ const CHANNELS: usize = 33_410;
 pub const MOST_TRACKS: u32 = 64;
 
 /// How many tracks of a channel are used. A channel is what lies above a row in a column, or right of a column in a row.
-#[derive(Clone, Copy, Debug, PartialEq, Eq)]
+#[derive(Clone, Copy, PartialEq, Eq)]
 pub struct ChannelUse {
     pub direction: Direction,
     pub x: u32,

@@ -14,7 +14,7 @@ use strip_files::RoutedStrip;
 use text_parts::{Part, write_parts};
 
 /// What of the nets is drawn.
-#[derive(Clone, Copy, Debug, PartialEq, Eq)]
+#[derive(Clone, Copy, PartialEq, Eq)]
 pub enum View {
     /// Each net in a colour, by its number.
     Nets,

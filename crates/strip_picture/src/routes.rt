@@ -19,7 +19,7 @@ const COLOURS: usize = 12;
 const MOST_LINES: u64 = 300_000;
 
 /// How much of the routes is drawn.
-#[derive(Clone, Copy, Debug, PartialEq, Eq)]
+#[derive(Clone, Copy, PartialEq, Eq)]
 pub(crate) enum Detail {
     /// All.
     Pins,

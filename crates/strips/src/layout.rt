@@ -11,7 +11,7 @@ use std::marker::Model;
 pub const MAX_STRIPS: usize = 64;
 
 /// There is no room for a strip at an offset.
-#[derive(Clone, Copy, Debug, PartialEq, Eq)]
+#[derive(Clone, Copy, PartialEq, Eq)]
 pub struct NoRoom;
 
 /// The strips on a device of so many columns, parted from one another.

@@ -1,7 +1,7 @@
 //! A strip at its place.
 
 /// The strip of one tenancy: the columns from `offset` on, `width` of them.
-#[derive(Clone, Copy, Debug, Default, PartialEq, Eq)]
+#[derive(Clone, Copy, Default, PartialEq, Eq)]
 pub struct PlacedStrip {
     /// The tenancy whose strip it is.
     pub id: u32,

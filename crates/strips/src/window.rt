@@ -13,7 +13,7 @@ use std::alloc::{AllocError, Global};
 use std::marker::Model;
 
 /// The routing graph of a device, of all its columns. Its value is what it stands on.
-#[derive(Debug, Drop)]
+#[derive(Drop)]
 pub struct DeviceGraph {
     fabric: Fabric,
 }
@@ -47,7 +47,7 @@ impl DeviceGraph {
 /// A strip's window on the device's graph: the strip's own routing graph, in its own columns, read in the device's tables.
 /// All columns have the same nodes and the same pairs beside them, so where the strip stands only decides whether there is
 /// a window. Its value is what the strip's graph stands on.
-#[derive(Debug, Drop)]
+#[derive(Drop)]
 pub struct Window<'a> {
     part: Part<'a>,
 }

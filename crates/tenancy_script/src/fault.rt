@@ -7,7 +7,7 @@ use sessions::{is_point, without_cr};
 use std::fmt;
 
 /// Why a tenancy has no script. Lines are counted from 1.
-#[derive(Clone, Copy, Debug, PartialEq, Eq)]
+#[derive(Clone, Copy, PartialEq, Eq)]
 pub enum Fault {
     /// The name isn't 1 to 32 letters, digits and `_`.
     BadName,

@@ -7,7 +7,7 @@ use itoa::Buffer;
 use line_text::{Failed, Sink, write_all};
 
 /// A part of a text. Numbers are written in decimal digits.
-#[derive(Clone, Copy, Debug)]
+#[derive(Clone, Copy)]
 pub enum Part<'a> {
     Text(&'a str),
     Bytes(&'a [u8]),

@@ -2,7 +2,7 @@ use service_core::{Note, Receipt};
 use sessions::SessionRefusal;
 
 /// What an item of a session's input was told.
-#[derive(Debug, Drop)]
+#[derive(Drop)]
 pub enum Place {
     /// The command was served, and is an entry of the journal.
     Receipt(Receipt),
@@ -13,7 +13,7 @@ pub enum Place {
 }
 
 /// An item's place in a transcript.
-#[derive(Debug, Drop)]
+#[derive(Drop)]
 pub struct Item {
     pub place: Place,
     /// So many items just before it found no memory.
@@ -21,7 +21,7 @@ pub struct Item {
 }
 
 /// How a session ended.
-#[derive(Clone, Copy, Debug, PartialEq, Eq)]
+#[derive(Clone, Copy, PartialEq, Eq)]
 pub enum End {
     /// At its input's end.
     Ended,

@@ -10,7 +10,7 @@ pub trait Gate {
 }
 
 /// A gate that lets each step through.
-#[derive(Clone, Copy, Debug, PartialEq, Eq)]
+#[derive(Clone, Copy, PartialEq, Eq)]
 pub struct Open;
 
 impl Gate for Open {
