@@ -1,9 +1,9 @@
 //! The colours of tenancies.
-use line_text::{Failed, Sink};
-use text_parts::{Part, write_parts};
+use line_text::Sink;
+use text_parts::{Part, Pen};
 
 /// Writes the colour of the tenancy at a place of the list, as a value of CSS. Colours of places side by side lie far apart.
-pub(crate) fn write_colour<K: Sink>(sink: &mut K, place: usize) -> Result<(), Failed> {
+pub(crate) fn write_colour<K: Sink>(pen: &mut Pen<'_, K>, place: usize) {
     let place = (place % 360) as u32;
     let hue = (210 + 137 * place) % 360;
     let light = match place % 3 {
@@ -11,14 +11,11 @@ pub(crate) fn write_colour<K: Sink>(sink: &mut K, place: usize) -> Result<(), Fa
         1 => 50,
         _ => 34,
     };
-    write_parts(
-        sink,
-        &[
-            Part::Text("hsl("),
-            Part::Number(hue),
-            Part::Text(",75%,"),
-            Part::Number(light),
-            Part::Text("%)"),
-        ],
-    )
+    pen.write(&[
+        Part::Text("hsl("),
+        Part::Number(hue),
+        Part::Text(",75%,"),
+        Part::Number(light),
+        Part::Text("%)"),
+    ]);
 }

@@ -3,9 +3,9 @@ ghost use Rattle.std.specs.Prelude.{◌≤◌};
 
 use crate::device::Device;
 use crate::geometry::Geometry;
-use line_text::{Failed, Sink};
+use line_text::Sink;
 use picture_lines::{Sheet, begin_group, end_group, write_numbers, write_rows};
-use text_parts::{Part, write_parts};
+use text_parts::{Part, Pen};
 
 /// The styles: tracks, blocks and pads, wires, owned pads, output pins, input pins, strips, guard columns.
 const STYLES: &str = "<style>text{font-family:sans-serif;fill:#222}\
@@ -98,108 +98,98 @@ impl Frame {
     }
 
     /// Writes the beginning, up to the heading.
-    pub(crate) fn write_head<K: Sink>(&self, sink: &mut K) -> Result<(), Failed> {
+    pub(crate) fn write_head<K: Sink>(&self, pen: &mut Pen<'_, K>) {
         let sheet = Sheet {
             width: self.width,
             height: self.height(),
             dots: self.dots(),
             font: self.font,
         };
-        sheet.write_head(sink, STYLES)?;
-        self.write_hatching(sink)
+        sheet.write_head(pen, STYLES);
+        self.write_hatching(pen);
     }
 
     /// Writes the hatching of guard columns.
-    fn write_hatching<K: Sink>(&self, sink: &mut K) -> Result<(), Failed> {
+    fn write_hatching<K: Sink>(&self, pen: &mut Pen<'_, K>) {
         let step = Part::Number((self.font / 2).max(1));
-        write_parts(
-            sink,
-            &[
-                Part::Text(
-                    "<pattern id=\"guard\" patternUnits=\"userSpaceOnUse\" patternTransform=\"rotate(45)\" width=\"",
-                ),
-                step,
-                Part::Text("\" height=\""),
-                step,
-                Part::Text("\"><path d=\"M0 0v"),
-                step,
-                Part::Text("\" stroke=\"#777\" stroke-width=\""),
-                step,
-                Part::Text("\" stroke-opacity=\".6\"/></pattern>\n"),
-            ],
-        )
+        pen.write(&[
+            Part::Text(
+                "<pattern id=\"guard\" patternUnits=\"userSpaceOnUse\" patternTransform=\"rotate(45)\" width=\"",
+            ),
+            step,
+            Part::Text("\" height=\""),
+            step,
+            Part::Text("\"><path d=\"M0 0v"),
+            step,
+            Part::Text("\" stroke=\"#777\" stroke-width=\""),
+            step,
+            Part::Text("\" stroke-opacity=\".6\"/></pattern>\n"),
+        ]);
     }
 
     /// Writes the heading: the size of the device.
-    pub(crate) fn write_heading<K: Sink>(
-        &self,
-        sink: &mut K,
-        device: &Device<'_>,
-    ) -> Result<(), Failed> {
+    pub(crate) fn write_heading<K: Sink>(&self, pen: &mut Pen<'_, K>, device: &Device<'_>) {
         let size = device.size;
-        write_parts(
-            sink,
-            &[
-                Part::Text("<text x=\""),
-                Part::Number(self.font),
-                Part::Text("\" y=\""),
-                Part::Number(2 * self.font),
-                Part::Text("\" font-weight=\"bold\">"),
-                Part::Number(size.columns),
-                Part::Text(" × "),
-                Part::Number(size.rows),
-                Part::Text(" blocks, "),
-                Part::Number(size.tracks),
-                Part::Text(" tracks</text>\n"),
-            ],
-        )
+        pen.write(&[
+            Part::Text("<text x=\""),
+            Part::Number(self.font),
+            Part::Text("\" y=\""),
+            Part::Number(2 * self.font),
+            Part::Text("\" font-weight=\"bold\">"),
+            Part::Number(size.columns),
+            Part::Text(" × "),
+            Part::Number(size.rows),
+            Part::Text(" blocks, "),
+            Part::Number(size.tracks),
+            Part::Text(" tracks</text>\n"),
+        ]);
     }
 
     /// Begins the group in which heights count upwards, and column 0 begins at 0.
-    pub(crate) fn begin_device<K: Sink>(&self, sink: &mut K) -> Result<(), Failed> {
+    pub(crate) fn begin_device<K: Sink>(&self, pen: &mut Pen<'_, K>) {
         let base = self.ground() + self.geometry.bottom();
         begin_group(
-            sink,
+            pen,
             self.geometry.lattice,
             self.left(),
             base,
             " scale(1 -1)\">\n",
-        )
+        );
     }
 
     /// Writes the numbers of columns below the device.
-    pub(crate) fn write_columns<K: Sink>(&self, sink: &mut K) -> Result<(), Failed> {
+    pub(crate) fn write_columns<K: Sink>(&self, pen: &mut Pen<'_, K>) {
         let lattice = self.geometry.lattice;
         let base = self.ground() + 2 * self.font;
         begin_group(
-            sink,
+            pen,
             lattice,
             self.left(),
             base,
             "\" text-anchor=\"middle\">\n",
-        )?;
+        );
         write_numbers(
-            sink,
+            pen,
             lattice,
             "<text x=\"",
             self.geometry.columns,
             self.step(),
-        )?;
-        end_group(sink)
+        );
+        end_group(pen);
     }
 
     /// Writes the numbers of rows left of the device.
-    pub(crate) fn write_rows<K: Sink>(&self, sink: &mut K) -> Result<(), Failed> {
+    pub(crate) fn write_rows<K: Sink>(&self, pen: &mut Pen<'_, K>) {
         let lattice = self.geometry.lattice;
         let base = self.ground() + self.geometry.bottom();
         write_rows(
-            sink,
+            pen,
             lattice,
             2 * self.font,
             base,
             self.geometry.rows,
             self.step(),
-        )
+        );
     }
 
     /// Of so many columns, or rows, one has its number beside it.

@@ -3,9 +3,9 @@ ghost use Rattle.std.specs.Prelude.{◌≤◌};
 
 use crate::device::Owned;
 use crate::geometry::Geometry;
-use line_text::{Failed, Sink};
+use line_text::Sink;
 use rr_graph::ResourceKind;
-use text_parts::{Part, write_parts};
+use text_parts::{Part, Pen};
 
 /// How many nodes one path draws at most.
 pub(crate) const LONGEST_PATH: usize = 4096;
@@ -21,60 +21,52 @@ struct Mark {
 
 /// Writes the pins or the pads of one kind among these nodes, as paths of a class.
 pub(crate) fn write_marks<K: Sink>(
-    sink: &mut K,
+    pen: &mut Pen<'_, K>,
     geometry: Geometry,
     owned: &[Owned],
     kind: ResourceKind,
     class: &str,
-) -> Result<(), Failed> {
+) {
     for part in owned.chunks(LONGEST_PATH) {
-        write_parts(
-            sink,
-            &[
-                Part::Text("<path class=\""),
-                Part::Text(class),
-                Part::Text("\" d=\""),
-            ],
-        )?;
-        write_path(sink, geometry, part, kind)?;
-        write_parts(sink, &[Part::Text("\"/>\n")])?;
+        pen.write(&[
+            Part::Text("<path class=\""),
+            Part::Text(class),
+            Part::Text("\" d=\""),
+        ]);
+        write_path(pen, geometry, part, kind);
+        pen.text("\"/>\n");
     }
-    Ok(())
 }
 
 /// Writes the pins or the pads of one kind among these nodes.
 fn write_path<K: Sink>(
-    sink: &mut K,
+    pen: &mut Pen<'_, K>,
     geometry: Geometry,
     owned: &[Owned],
     kind: ResourceKind,
-) -> Result<(), Failed> {
+) {
     for one in owned {
         if one.node.kind == kind {
-            write_mark(sink, mark_of(geometry, *one))?;
+            write_mark(pen, mark_of(geometry, *one));
         }
     }
-    Ok(())
 }
 
 /// Writes a rectangle.
-fn write_mark<K: Sink>(sink: &mut K, mark: Mark) -> Result<(), Failed> {
-    write_parts(
-        sink,
-        &[
-            Part::Text("M"),
-            Part::Number(mark.x),
-            Part::Text(" "),
-            Part::Number(mark.y),
-            Part::Text("h"),
-            Part::Number(mark.width),
-            Part::Text("v"),
-            Part::Number(mark.height),
-            Part::Text("h-"),
-            Part::Number(mark.width),
-            Part::Text("z"),
-        ],
-    )
+fn write_mark<K: Sink>(pen: &mut Pen<'_, K>, mark: Mark) {
+    pen.write(&[
+        Part::Text("M"),
+        Part::Number(mark.x),
+        Part::Text(" "),
+        Part::Number(mark.y),
+        Part::Text("h"),
+        Part::Number(mark.width),
+        Part::Text("v"),
+        Part::Number(mark.height),
+        Part::Text("h-"),
+        Part::Number(mark.width),
+        Part::Text("z"),
+    ]);
 }
 
 /// The rectangle of a pin or a pad.

@@ -9,11 +9,11 @@ use crate::marks::write_marks;
 use crate::runs::Runs;
 use crate::tenancy::Tenancy;
 use crate::wires::write_wires;
-use line_text::{Failed, Sink};
+use line_text::Sink;
 use picture_lines::{Direction, DrawError, end_group};
 use rr_graph::ResourceKind;
 use std::alloc::Global;
-use text_parts::{Part, write_parts};
+use text_parts::{Part, Pen};
 
 /// How many runs of horizontal wires may grow at a time: the channels over 65 rows, with 65 places each.
 const LANES: usize = 4225;
@@ -27,70 +27,67 @@ const LANES: usize = 4225;
 /// - The legend has each tenancy's name, offset, width and state.
 pub fn draw<K: Sink>(alloc: Global, device: &Device<'_>, sink: &mut K) -> Result<(), DrawError> {
     let mut runs = Runs::new(alloc, LANES)?;
-    let drawn = draw_with(device, sink, &mut runs);
+    let mut pen = Pen::new(sink);
+    draw_with(device, &mut pen, &mut runs);
     drop(runs);
-    Ok(drawn?)
+    Ok(pen.end()?)
 }
 
 /// Writes it by means of these runs.
-fn draw_with<K: Sink>(device: &Device<'_>, sink: &mut K, runs: &mut Runs) -> Result<(), Failed> {
+fn draw_with<K: Sink>(device: &Device<'_>, pen: &mut Pen<'_, K>, runs: &mut Runs) {
     let frame = Frame::of(device);
-    frame.write_head(sink)?;
-    write_column(sink, frame.geometry, device.size.pads)?;
-    frame.write_heading(sink, device)?;
-    frame.begin_device(sink)?;
-    write_ground(sink, frame.geometry, device)?;
-    write_tenancies(sink, frame.geometry, device, runs)?;
-    end_group(sink)?;
-    frame.write_columns(sink)?;
-    frame.write_rows(sink)?;
-    write_legend(sink, frame, device)?;
-    write_parts(sink, &[Part::Text("</svg>\n")])
+    frame.write_head(pen);
+    write_column(pen, frame.geometry, device.size.pads);
+    frame.write_heading(pen, device);
+    frame.begin_device(pen);
+    write_ground(pen, frame.geometry, device);
+    write_tenancies(pen, frame.geometry, device, runs);
+    end_group(pen);
+    frame.write_columns(pen);
+    frame.write_rows(pen);
+    write_legend(pen, frame, device);
+    pen.text("</svg>\n");
 }
 
 /// Writes what the tenancies own.
 fn write_tenancies<K: Sink>(
-    sink: &mut K,
+    pen: &mut Pen<'_, K>,
     geometry: Geometry,
     device: &Device<'_>,
     runs: &mut Runs,
-) -> Result<(), Failed> {
+) {
     for (place, tenancy) in device.tenancies.iter().enumerate() {
         let owned = device.owned_by(tenancy.id);
-        begin_tenancy(sink, *tenancy, place)?;
-        write_owned(sink, geometry, owned, runs)?;
-        write_parts(sink, &[Part::Text("</g>\n")])?;
+        begin_tenancy(pen, *tenancy, place);
+        write_owned(pen, geometry, owned, runs);
+        pen.text("</g>\n");
     }
-    Ok(())
 }
 
 /// Begins the group of a tenancy.
-fn begin_tenancy<K: Sink>(sink: &mut K, tenancy: Tenancy<'_>, place: usize) -> Result<(), Failed> {
-    write_parts(sink, &[Part::Text("<g color=\"")])?;
-    write_colour(sink, place)?;
-    write_parts(
-        sink,
-        &[
-            Part::Text("\"><title>"),
-            Part::Bytes(tenancy.name),
-            Part::Text("</title>\n"),
-        ],
-    )
+fn begin_tenancy<K: Sink>(pen: &mut Pen<'_, K>, tenancy: Tenancy<'_>, place: usize) {
+    pen.text("<g color=\"");
+    write_colour(pen, place);
+    pen.write(&[
+        Part::Text("\"><title>"),
+        Part::Bytes(tenancy.name),
+        Part::Text("</title>\n"),
+    ]);
 }
 
 /// Writes what a tenancy owns.
 fn write_owned<K: Sink>(
-    sink: &mut K,
+    pen: &mut Pen<'_, K>,
     geometry: Geometry,
     owned: &[Owned],
     runs: &mut Runs,
-) -> Result<(), Failed> {
+) {
     if owned.is_empty() {
-        return Ok(());
+        return;
     }
-    write_wires(sink, geometry, owned, Direction::Across, runs)?;
-    write_wires(sink, geometry, owned, Direction::Up, runs)?;
-    write_marks(sink, geometry, owned, ResourceKind::Pad, "p")?;
-    write_marks(sink, geometry, owned, ResourceKind::Opin, "o")?;
-    write_marks(sink, geometry, owned, ResourceKind::Ipin, "i")
+    write_wires(pen, geometry, owned, Direction::Across, runs);
+    write_wires(pen, geometry, owned, Direction::Up, runs);
+    write_marks(pen, geometry, owned, ResourceKind::Pad, "p");
+    write_marks(pen, geometry, owned, ResourceKind::Opin, "o");
+    write_marks(pen, geometry, owned, ResourceKind::Ipin, "i");
 }

@@ -4,72 +4,70 @@ use crate::device::Owned;
 use crate::geometry::Geometry;
 use crate::marks::LONGEST_PATH;
 use crate::runs::{Run, Runs};
-use line_text::{Failed, Sink};
+use line_text::Sink;
 use picture_lines::{Direction, write_line};
 use rr_graph::ResourceKind;
-use text_parts::{Part, write_parts};
+use text_parts::Pen;
 
 /// Writes the wires that go one way among these nodes, as paths. Wires that adjoin are one line.
 pub(crate) fn write_wires<K: Sink>(
-    sink: &mut K,
+    pen: &mut Pen<'_, K>,
     geometry: Geometry,
     owned: &[Owned],
     direction: Direction,
     runs: &mut Runs,
-) -> Result<(), Failed> {
+) {
     runs.clear();
     for part in owned.chunks(LONGEST_PATH) {
-        begin_path(sink)?;
-        write_ended(sink, geometry, part, direction, runs)?;
-        end_path(sink)?;
+        begin_path(pen);
+        write_ended(pen, geometry, part, direction, runs);
+        end_path(pen);
     }
-    begin_path(sink)?;
-    write_open(sink, geometry, direction, runs)?;
-    end_path(sink)
+    begin_path(pen);
+    write_open(pen, geometry, direction, runs);
+    end_path(pen);
 }
 
 /// Begins a path of wires.
-fn begin_path<K: Sink>(sink: &mut K) -> Result<(), Failed> {
-    write_parts(sink, &[Part::Text("<path class=\"w\" d=\"")])
+fn begin_path<K: Sink>(pen: &mut Pen<'_, K>) {
+    pen.text("<path class=\"w\" d=\"");
 }
 
 /// Ends a path.
-fn end_path<K: Sink>(sink: &mut K) -> Result<(), Failed> {
-    write_parts(sink, &[Part::Text("\"/>\n")])
+fn end_path<K: Sink>(pen: &mut Pen<'_, K>) {
+    pen.text("\"/>\n");
 }
 
 /// Writes the lines that end among these nodes.
 fn write_ended<K: Sink>(
-    sink: &mut K,
+    pen: &mut Pen<'_, K>,
     geometry: Geometry,
     owned: &[Owned],
     direction: Direction,
     runs: &mut Runs,
-) -> Result<(), Failed> {
+) {
     for one in owned {
         if let Some(wire) = wire_of(*one, direction) {
             let lane = lane_of(geometry, wire, direction);
             if let Some(run) = runs.push(lane, wire) {
-                write_run(sink, geometry, run, direction)?;
+                write_run(pen, geometry, run, direction);
             }
         }
     }
-    Ok(())
 }
 
 /// Writes the lines that have not ended.
 fn write_open<K: Sink>(
-    sink: &mut K,
+    pen: &mut Pen<'_, K>,
     geometry: Geometry,
     direction: Direction,
     runs: &Runs,
-) -> Result<(), Failed> {
+) {
     for open in runs.open() {
         if let Some(run) = *open {
-            write_run(sink, geometry, run, direction)?;
+            write_run(pen, geometry, run, direction);
         }
     }
-    Ok(())
 }
 
 /// A node as a wire that goes that way. None where it is none.
@@ -92,17 +90,12 @@ fn lane_of(geometry: Geometry, wire: Run, direction: Direction) -> usize {
 }
 
 /// Writes a line.
-fn write_run<K: Sink>(
-    sink: &mut K,
-    geometry: Geometry,
-    run: Run,
-    direction: Direction,
-) -> Result<(), Failed> {
+fn write_run<K: Sink>(pen: &mut Pen<'_, K>, geometry: Geometry, run: Run, direction: Direction) {
     let along = geometry.lattice.track(run.last, run.track);
     let across = geometry.lattice.track(run.channel, run.track);
     let length = geometry.lattice.span(run.count);
     match direction {
-        Direction::Across => write_line(sink, along, across, "h-", length),
-        Direction::Up => write_line(sink, across, along, "v-", length),
+        Direction::Across => write_line(pen, along, across, "h-", length),
+        Direction::Up => write_line(pen, across, along, "v-", length),
     }
 }

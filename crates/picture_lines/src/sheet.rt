@@ -2,8 +2,8 @@
 ghost use Rattle.std.specs.Prelude.{◌≤◌};
 
 use crate::lattice::Lattice;
-use line_text::{Failed, Sink};
-use text_parts::{Part, write_parts};
+use line_text::Sink;
+use text_parts::{Part, Pen};
 
 /// How large a sheet is.
 #[derive(Clone, Copy)]
@@ -21,143 +21,115 @@ pub struct Sheet {
 
 impl Sheet {
     /// Writes the beginning: the size, the styles, and the ground.
-    pub fn write_head<K: Sink>(&self, sink: &mut K, styles: &str) -> Result<(), Failed> {
-        write_parts(
-            sink,
-            &[
-                Part::Text("<svg xmlns=\"http://www.w3.org/2000/svg\" width=\""),
-                Part::Number(self.dots),
-                Part::Text("\" height=\""),
-                Part::Number(self.height * self.dots / self.width),
-                Part::Text("\" viewBox=\"0 0 "),
-                Part::Number(self.width),
-                Part::Text(" "),
-                Part::Number(self.height),
-                Part::Text("\" font-size=\""),
-                Part::Number(self.font),
-                Part::Text("\">\n"),
-                Part::Text(styles),
-                Part::Text("<rect width=\"100%\" height=\"100%\" fill=\"#fff\"/>\n"),
-            ],
-        )
+    pub fn write_head<K: Sink>(&self, pen: &mut Pen<'_, K>, styles: &str) {
+        pen.write(&[
+            Part::Text("<svg xmlns=\"http://www.w3.org/2000/svg\" width=\""),
+            Part::Number(self.dots),
+            Part::Text("\" height=\""),
+            Part::Number(self.height * self.dots / self.width),
+            Part::Text("\" viewBox=\"0 0 "),
+            Part::Number(self.width),
+            Part::Text(" "),
+            Part::Number(self.height),
+            Part::Text("\" font-size=\""),
+            Part::Number(self.font),
+            Part::Text("\">\n"),
+            Part::Text(styles),
+            Part::Text("<rect width=\"100%\" height=\"100%\" fill=\"#fff\"/>\n"),
+        ]);
     }
 }
 
 /// Begins a group whose column 0 begins so far from the left, less the length of a block, and so far from above, and what is done with
 /// it then.
-pub fn begin_group<K: Sink>(
-    sink: &mut K,
-    lattice: Lattice,
-    x: u32,
-    y: u32,
-    turn: &str,
-) -> Result<(), Failed> {
-    write_parts(
-        sink,
-        &[
-            Part::Text("<g transform=\"translate("),
-            Part::Number(x),
-            Part::Text(" "),
-            Part::Number(y),
-            Part::Text(") translate(-"),
-            Part::Number(lattice.block),
-            Part::Text(" 0)"),
-            Part::Text(turn),
-        ],
-    )
+pub fn begin_group<K: Sink>(pen: &mut Pen<'_, K>, lattice: Lattice, x: u32, y: u32, turn: &str) {
+    pen.write(&[
+        Part::Text("<g transform=\"translate("),
+        Part::Number(x),
+        Part::Text(" "),
+        Part::Number(y),
+        Part::Text(") translate(-"),
+        Part::Number(lattice.block),
+        Part::Text(" 0)"),
+        Part::Text(turn),
+    ]);
 }
 
 /// Ends a group.
-pub fn end_group<K: Sink>(sink: &mut K) -> Result<(), Failed> {
-    write_parts(sink, &[Part::Text("</g>\n")])
+pub fn end_group<K: Sink>(pen: &mut Pen<'_, K>) {
+    pen.text("</g>\n");
 }
 
 /// Writes the numbers of rows, one of `step`, that end so far from the left; row 0 begins so far from above.
 pub fn write_rows<K: Sink>(
-    sink: &mut K,
+    pen: &mut Pen<'_, K>,
     lattice: Lattice,
     x: u32,
     y: u32,
     rows: u32,
     step: u32,
-) -> Result<(), Failed>
+)
     requires rows { rows ≤ 256 }
     requires step { 1 ≤ step }
 {
-    write_parts(
-        sink,
-        &[
-            Part::Text("<g transform=\"translate("),
-            Part::Number(x),
-            Part::Text(" "),
-            Part::Number(y),
-            Part::Text(")\" text-anchor=\"end\">\n"),
-        ],
-    )?;
-    write_numbers(sink, lattice, "<text dy=\".35em\" y=\"-", rows, step)?;
-    end_group(sink)
+    pen.write(&[
+        Part::Text("<g transform=\"translate("),
+        Part::Number(x),
+        Part::Text(" "),
+        Part::Number(y),
+        Part::Text(")\" text-anchor=\"end\">\n"),
+    ]);
+    write_numbers(pen, lattice, "<text dy=\".35em\" y=\"-", rows, step);
+    end_group(pen);
 }
 
 /// Writes the numbers of columns or rows at their middles, one of `step`, each begun so.
 pub fn write_numbers<K: Sink>(
-    sink: &mut K,
+    pen: &mut Pen<'_, K>,
     lattice: Lattice,
     start: &str,
     count: u32,
     step: u32,
-) -> Result<(), Failed>
+)
     requires count { count ≤ 256 }
     requires step { 1 ≤ step }
 {
     for number in 1..=count {
         if number % step == 0 {
             let middle = lattice.start(number) + lattice.block / 2;
-            write_number(sink, start, middle, number)?;
+            write_number(pen, start, middle, number);
         }
     }
-    Ok(())
 }
 
 /// Writes a number at a place.
-fn write_number<K: Sink>(sink: &mut K, start: &str, place: u32, number: u32) -> Result<(), Failed> {
-    write_parts(
-        sink,
-        &[
-            Part::Text(start),
-            Part::Number(place),
-            Part::Text("\">"),
-            Part::Number(number),
-            Part::Text("</text>\n"),
-        ],
-    )
+fn write_number<K: Sink>(pen: &mut Pen<'_, K>, start: &str, place: u32, number: u32) {
+    pen.write(&[
+        Part::Text(start),
+        Part::Number(place),
+        Part::Text("\">"),
+        Part::Number(number),
+        Part::Text("</text>\n"),
+    ]);
 }
 
 /// Writes a square of a class, as large as letters, and begins the text beside it.
-pub fn write_swatch<K: Sink>(
-    sink: &mut K,
-    x: u32,
-    y: u32,
-    font: u32,
-    class: &str,
-) -> Result<(), Failed>
+pub fn write_swatch<K: Sink>(pen: &mut Pen<'_, K>, x: u32, y: u32, font: u32, class: &str)
     requires { font ≤ 1000 }
 {
-    write_parts(
-        sink,
-        &[
-            Part::Text("<g transform=\"translate("),
-            Part::Number(x),
-            Part::Text(" "),
-            Part::Number(y),
-            Part::Text(")\"><rect class=\""),
-            Part::Text(class),
-            Part::Text("\" style=\"stroke-width:.12em\" width=\""),
-            Part::Number(font),
-            Part::Text("\" height=\""),
-            Part::Number(font),
-            Part::Text("\"/><text x=\""),
-            Part::Number(2 * font),
-            Part::Text("\" dy=\".85em\">"),
-        ],
-    )
+    pen.write(&[
+        Part::Text("<g transform=\"translate("),
+        Part::Number(x),
+        Part::Text(" "),
+        Part::Number(y),
+        Part::Text(")\"><rect class=\""),
+        Part::Text(class),
+        Part::Text("\" style=\"stroke-width:.12em\" width=\""),
+        Part::Number(font),
+        Part::Text("\" height=\""),
+        Part::Number(font),
+        Part::Text("\"/><text x=\""),
+        Part::Number(2 * font),
+        Part::Text("\" dy=\".85em\">"),
+    ]);
 }

@@ -3,69 +3,66 @@ ghost use Rattle.std.specs.Prelude.{◌≤◌, ◌<◌};
 
 use crate::draws::{Source, Square};
 use crate::plan::{Plan, side_of};
-use line_text::{Failed, Sink};
+use line_text::Sink;
 use rand_core::utils::NextWord;
 use rand_pcg::Pcg32;
-use text_parts::{Part, write_parts};
+use text_parts::{Part, Pen};
 
 /// Of so many tables one has a latch behind it.
 const LATCHED: u32 = 16;
 
 /// Writes the netlist of a tenancy: tables of two inputs or more, one in 16 followed by a latch.
-pub(crate) fn write_circuit<K: Sink>(sink: &mut K, plan: Plan, tenancy: u32) -> Result<(), Failed> {
+pub(crate) fn write_circuit<K: Sink>(pen: &mut Pen<'_, K>, plan: Plan, tenancy: u32) {
     let square = Square {
         tables: plan.wishes.tables,
         side: side_of(plan.wishes.tables, 87),
         inputs: plan.ends(),
     };
-    write_ends(sink, square)?;
+    write_ends(pen, square);
     let mut words = Pcg32::new(plan.wishes.seed, u64::from(tenancy));
     for table in 0..square.tables {
-        write_table(sink, square, &mut words, plan.wishes.inputs, table)?;
+        write_table(pen, square, &mut words, plan.wishes.inputs, table);
     }
-    write_parts(sink, &[Part::Text(".end\n")])
+    pen.text(".end\n");
 }
 
 /// Writes what stands before the tables: the inputs, the clock and the outputs.
-fn write_ends<K: Sink>(sink: &mut K, square: Square) -> Result<(), Failed> {
-    write_parts(sink, &[Part::Text(".model random\n.inputs")])?;
+fn write_ends<K: Sink>(pen: &mut Pen<'_, K>, square: Square) {
+    pen.text(".model random\n.inputs");
     for input in 0..square.inputs {
-        write_source(sink, Source::Input(input))?;
+        write_source(pen, Source::Input(input));
     }
-    write_parts(sink, &[Part::Text("\n.clock clk\n.outputs")])?;
+    pen.text("\n.clock clk\n.outputs");
     let outputs = square.inputs.min(square.tables);
     for output in 0..outputs {
-        write_source(sink, Source::Table(output * square.tables / outputs))?;
+        write_source(pen, Source::Table(output * square.tables / outputs));
     }
-    write_parts(sink, &[Part::Text("\n")])
+    pen.text("\n");
 }
 
 /// Writes a table, and the latch behind it.
 fn write_table<K: Sink>(
-    sink: &mut K,
+    pen: &mut Pen<'_, K>,
     square: Square,
     words: &mut Pcg32,
     most: u32,
     table: u32,
-) -> Result<(), Failed>
+)
     requires table { table < square.tables }
     requires most { (1 ≤ most) × (most ≤ 8) }
 {
     let draws = most - words.next_word() % (most / 2 + 1);
     let (sources, count) = drawn(square, words, table, draws);
-    write_parts(sink, &[Part::Text(".names")])?;
+    pen.text(".names");
     for source in &sources[..count] {
-        write_source(sink, *source)?;
+        write_source(pen, *source);
     }
-    write_parts(
-        sink,
-        &[Part::Text(" n"), Part::Number(table), Part::Text("\n")],
-    )?;
+    pen.write(&[Part::Text(" n"), Part::Number(table), Part::Text("\n")]);
     for _source in &sources[..count] {
-        write_parts(sink, &[Part::Text("1")])?;
+        pen.text("1");
     }
-    write_parts(sink, &[Part::Text(" 1\n")])?;
-    write_latch(sink, table)
+    pen.text(" 1\n");
+    write_latch(pen, table);
 }
 
 /// The distinct sources of so many draws, and their number.
@@ -87,28 +84,25 @@ fn drawn(square: Square, words: &mut Pcg32, table: u32, draws: u32) -> ([Source;
 }
 
 /// Writes the latch behind a table, if it has one.
-fn write_latch<K: Sink>(sink: &mut K, table: u32) -> Result<(), Failed> {
+fn write_latch<K: Sink>(pen: &mut Pen<'_, K>, table: u32) {
     if table % LATCHED != 0 {
-        return Ok(());
+        return;
     }
-    write_parts(
-        sink,
-        &[
-            Part::Text(".latch n"),
-            Part::Number(table),
-            Part::Text(" q"),
-            Part::Number(table),
-            Part::Text(" re clk 2\n"),
-        ],
-    )
+    pen.write(&[
+        Part::Text(".latch n"),
+        Part::Number(table),
+        Part::Text(" q"),
+        Part::Number(table),
+        Part::Text(" re clk 2\n"),
+    ]);
 }
 
 /// Writes the name of a source behind a space.
-fn write_source<K: Sink>(sink: &mut K, source: Source) -> Result<(), Failed> {
+fn write_source<K: Sink>(pen: &mut Pen<'_, K>, source: Source) {
     let (start, number) = match source {
         Source::Input(input) => (" i", input),
         Source::Table(table) if table % LATCHED == 0 => (" q", table),
         Source::Table(table) => (" n", table),
     };
-    write_parts(sink, &[Part::Text(start), Part::Number(number)])
+    pen.write(&[Part::Text(start), Part::Number(number)]);
 }

@@ -2,9 +2,9 @@
 ghost use Rattle.std.specs.Prelude.{◌≤◌};
 
 use crate::plan::Plan;
-use line_text::{Failed, Sink};
+use line_text::Sink;
 use picture_lines::{Sheet, begin_group, end_group, write_numbers, write_rows, write_swatch};
-use text_parts::{Part, write_parts};
+use text_parts::{Part, Pen};
 
 /// The styles: letters, names, numbers of channels, empty places, clusters, input and output pads, wires and pins of nets, a picked net, its
 /// driver and its readers, the others, bars.
@@ -73,93 +73,87 @@ impl Frame {
     }
 
     /// Writes the beginning: the size, the styles, and the ground.
-    pub(crate) fn write_head<K: Sink>(&self, sink: &mut K) -> Result<(), Failed> {
+    pub(crate) fn write_head<K: Sink>(&self, pen: &mut Pen<'_, K>) {
         let sheet = Sheet {
             width: self.width,
             height: self.height(),
             dots: self.dots(),
             font: self.plan.font,
         };
-        sheet.write_head(sink, STYLES)
+        sheet.write_head(pen, STYLES);
     }
 
     /// Begins a heading: the first or the second.
-    pub(crate) fn begin_heading<K: Sink>(&self, sink: &mut K, line: u32) -> Result<(), Failed>
+    pub(crate) fn begin_heading<K: Sink>(&self, pen: &mut Pen<'_, K>, line: u32)
         requires { line ≤ 2 }
     {
         let weight = if line == 1 { "bold" } else { "normal" };
-        write_parts(
-            sink,
-            &[
-                Part::Text("<text x=\""),
-                Part::Number(self.plan.font),
-                Part::Text("\" y=\""),
-                Part::Number(2 * line * self.plan.font),
-                Part::Text("\" font-weight=\""),
-                Part::Text(weight),
-                Part::Text("\">"),
-            ],
-        )
+        pen.write(&[
+            Part::Text("<text x=\""),
+            Part::Number(self.plan.font),
+            Part::Text("\" y=\""),
+            Part::Number(2 * line * self.plan.font),
+            Part::Text("\" font-weight=\""),
+            Part::Text(weight),
+            Part::Text("\">"),
+        ]);
     }
 
     /// Begins the group in which heights count upwards.
-    pub(crate) fn begin_shapes<K: Sink>(&self, sink: &mut K) -> Result<(), Failed> {
-        self.begin_group(sink, " scale(1 -1)\">\n")
+    pub(crate) fn begin_shapes<K: Sink>(&self, pen: &mut Pen<'_, K>) {
+        self.begin_group(pen, " scale(1 -1)\">\n");
     }
 
     /// Begins a group of texts of a class, so many tenths large, in which heights count downwards from row 0.
     pub(crate) fn begin_texts<K: Sink>(
         &self,
-        sink: &mut K,
+        pen: &mut Pen<'_, K>,
         class: &str,
         tenths: u32,
         turn: &str,
-    ) -> Result<(), Failed> {
-        self.begin_group(sink, turn)?;
-        write_parts(
-            sink,
-            &[
-                Part::Text("\" class=\""),
-                Part::Text(class),
-                Part::Text("\" font-size=\""),
-                Part::Number(tenths / 10),
-                Part::Text("."),
-                Part::Number(tenths % 10),
-                Part::Text("\">\n"),
-            ],
-        )
+    ) {
+        self.begin_group(pen, turn);
+        pen.write(&[
+            Part::Text("\" class=\""),
+            Part::Text(class),
+            Part::Text("\" font-size=\""),
+            Part::Number(tenths / 10),
+            Part::Text("."),
+            Part::Number(tenths % 10),
+            Part::Text("\">\n"),
+        ]);
     }
 
     /// Begins a group with its point 0 where column 0 and row 0 begin, and what is done with it then.
-    fn begin_group<K: Sink>(&self, sink: &mut K, turn: &str) -> Result<(), Failed> {
-        begin_group(sink, self.plan.lattice, self.left(), self.ground(), turn)
+    fn begin_group<K: Sink>(&self, pen: &mut Pen<'_, K>, turn: &str) {
+        begin_group(pen, self.plan.lattice, self.left(), self.ground(), turn);
     }
 
     /// Writes the numbers of columns below the strip.
-    pub(crate) fn write_columns<K: Sink>(&self, sink: &mut K) -> Result<(), Failed> {
+    pub(crate) fn write_columns<K: Sink>(&self, pen: &mut Pen<'_, K>) {
         let plan = self.plan;
-        self.begin_group(sink, "\" text-anchor=\"middle\">\n")?;
+        self.begin_group(pen, "\" text-anchor=\"middle\">\n");
         write_numbers(
-            sink,
+            pen,
             plan.lattice,
             "<text dy=\"1.2em\" x=\"",
             plan.size.columns,
             self.step(),
-        )?;
-        end_group(sink)
+        );
+        end_group(pen);
     }
 
     /// Writes the numbers of rows left of the strip.
-    pub(crate) fn write_rows<K: Sink>(&self, sink: &mut K) -> Result<(), Failed> {
+    pub(crate) fn write_rows<K: Sink>(&self, pen: &mut Pen<'_, K>) {
         let plan = self.plan;
         write_rows(
-            sink,
+            pen,
             plan.lattice,
             3 * plan.font,
             self.ground(),
             plan.size.rows,
             self.step(),
-        )
+        );
     }
 
     /// Of so many columns, or rows, one has its number beside it.
@@ -172,21 +166,21 @@ impl Frame {
     /// Writes an entry of the legend: a square of a class, and words.
     pub(crate) fn write_entry<'p, K: Sink>(
         &self,
-        sink: &mut K,
+        pen: &mut Pen<'_, K>,
         entry: u32,
         class: &'p str,
         words: &'p str,
-    ) -> Result<(), Failed>
+    )
         requires { entry ≤ 8 }
     {
         let font = self.plan.font;
         write_swatch(
-            sink,
+            pen,
             font + entry * 9 * font,
             self.ground() + 4 * font,
             font,
             class,
-        )?;
-        write_parts(sink, &[Part::Text(words), Part::Text("</text></g>\n")])
+        );
+        pen.write(&[Part::Text(words), Part::Text("</text></g>\n")]);
     }
 }

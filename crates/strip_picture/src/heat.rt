@@ -8,48 +8,43 @@ use crate::channels::{ChannelUse, Channels};
 use crate::plan::Plan;
 use line_text::{Failed, Sink};
 use picture_lines::{Direction, Lattice, write_box};
-use text_parts::{Part, write_parts};
+use text_parts::{Part, Pen, write_parts};
 
 /// How many colours bars have, but for that of an unused channel.
 const LEVELS: usize = 8;
 
 /// Writes the bars of all channels, the emptier ones first.
 pub(crate) fn write_bars<K: Sink>(
-    sink: &mut K,
+    pen: &mut Pen<'_, K>,
     plan: Plan,
     channels: &Channels,
     fullest: usize,
-) -> Result<(), Failed> {
+) {
     for level in 0..=LEVELS {
-        write_parts(
-            sink,
-            &[
-                Part::Text("<path class=\"h h"),
-                Part::Number(level as u32),
-                Part::Text("\" d=\""),
-            ],
-        )?;
-        write_level(sink, plan, &channels.across, fullest, level)?;
-        write_level(sink, plan, &channels.up, fullest, level)?;
-        write_parts(sink, &[Part::Text("\"/>\n")])?;
+        pen.write(&[
+            Part::Text("<path class=\"h h"),
+            Part::Number(level as u32),
+            Part::Text("\" d=\""),
+        ]);
+        write_level(pen, plan, &channels.across, fullest, level);
+        write_level(pen, plan, &channels.up, fullest, level);
+        pen.text("\"/>\n");
     }
-    Ok(())
 }
 
 /// Writes the bars of a level.
 fn write_level<K: Sink>(
-    sink: &mut K,
+    pen: &mut Pen<'_, K>,
     plan: Plan,
     channels: &[ChannelUse],
     fullest: usize,
     level: usize,
-) -> Result<(), Failed> {
+) {
     for channel in channels {
         if level_of(channel.tracks, fullest) == level {
-            write_bar(sink, plan, *channel)?;
+            write_bar(pen, plan, *channel);
         }
     }
-    Ok(())
 }
 
 /// The level of a channel with so many used tracks: 0 where none is, the highest where as many are as in the fullest channel.
@@ -61,14 +56,14 @@ fn level_of(tracks: usize, fullest: usize) -> usize {
 }
 
 /// Writes the bar of a channel.
-fn write_bar<K: Sink>(sink: &mut K, plan: Plan, channel: ChannelUse) -> Result<(), Failed> {
+fn write_bar<K: Sink>(pen: &mut Pen<'_, K>, plan: Plan, channel: ChannelUse) {
     let lattice = plan.lattice;
     let x = lattice.start(channel.x.min(256));
     let y = lattice.start(channel.y.min(256));
     let width = lattice.channel.saturating_sub(2);
     match channel.direction {
-        Direction::Across => write_box(sink, x, y + lattice.block + 1, lattice.block, width),
-        Direction::Up => write_box(sink, x + lattice.block + 1, y, width, lattice.block),
+        Direction::Across => write_box(pen, x, y + lattice.block + 1, lattice.block, width),
+        Direction::Up => write_box(pen, x + lattice.block + 1, y, width, lattice.block),
     }
 }
 

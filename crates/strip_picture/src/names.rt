@@ -5,7 +5,7 @@ ghost use Rattle.line_text.specs.Writing.{Writes};
 ghost use Rattle.strip_picture.specs.Escapes.{escaped};
 
 use line_text::{Failed, Sink, write_all};
-use text_parts::{Part, write_parts};
+use text_parts::{Part, Pen};
 
 /// Writes bytes as the text of an element, or as an attribute's: what XML would take for its own stands by its name, and a byte that
 /// is no printing ASCII character as the sign for a character that is not known.
@@ -33,69 +33,62 @@ fn write_byte<K: Sink>(sink: &mut K, byte: u8) -> Result<(), Failed>
     }
 }
 
+/// Writes a name, or a part of one, as [`write_escaped`] does.
+fn escape<K: Sink>(pen: &mut Pen<'_, K>, bytes: &[u8]) {
+    pen.lend(|sink| write_escaped(sink, bytes));
+}
+
 /// Writes a name, and of a longer one than so many letters its first ones and a sign that some are missing.
-pub(crate) fn write_beginning<K: Sink>(
-    sink: &mut K,
-    name: &[u8],
-    letters: usize,
-) -> Result<(), Failed> {
+pub(crate) fn write_beginning<K: Sink>(pen: &mut Pen<'_, K>, name: &[u8], letters: usize) {
     if name.len() <= letters {
-        return write_escaped(sink, name);
+        return escape(pen, name);
     }
-    write_escaped(sink, front(name, letters))?;
-    write_parts(sink, &[Part::Text("…")])
+    escape(pen, front(name, letters));
+    pen.text("…");
 }
 
 /// Writes a name in one line of so many letters: of a longer one the last ones, behind a sign that some are missing.
-pub(crate) fn write_end<K: Sink>(sink: &mut K, name: &[u8], letters: usize) -> Result<(), Failed> {
+pub(crate) fn write_end<K: Sink>(pen: &mut Pen<'_, K>, name: &[u8], letters: usize) {
     if name.len() <= letters {
-        return write_escaped(sink, name);
+        return escape(pen, name);
     }
-    write_parts(sink, &[Part::Text("…")])?;
-    write_escaped(sink, back(name, letters.saturating_sub(1)))
+    pen.text("…");
+    escape(pen, back(name, letters.saturating_sub(1)));
 }
 
 /// Writes a name in up to three lines of so many letters, as the inside of a `text` whose lines begin at that column. Of a name that is longer
 /// the first line and the last two are written.
-pub(crate) fn write_lines<K: Sink>(
-    sink: &mut K,
-    name: &[u8],
-    letters: usize,
-    x: u32,
-) -> Result<(), Failed> {
-    write_escaped(sink, front(name, letters))?;
+pub(crate) fn write_lines<K: Sink>(pen: &mut Pen<'_, K>, name: &[u8], letters: usize, x: u32) {
+    escape(pen, front(name, letters));
     let rest = behind(name, letters);
     if rest.is_empty() {
-        return Ok(());
+        return;
     }
-    begin_line(sink, x)?;
+    begin_line(pen, x);
     if rest.len() <= letters.saturating_mul(2) {
-        write_escaped(sink, front(rest, letters))?;
+        escape(pen, front(rest, letters));
     } else {
         let end = back(rest, letters.saturating_mul(2).saturating_sub(1));
-        write_parts(sink, &[Part::Text("…")])?;
-        write_escaped(sink, front(end, letters.saturating_sub(1)))?;
+        pen.text("…");
+        escape(pen, front(end, letters.saturating_sub(1)));
     }
-    write_parts(sink, &[Part::Text("</tspan>")])?;
+    pen.text("</tspan>");
     let rest = behind(rest, letters);
     if rest.is_empty() {
-        return Ok(());
+        return;
     }
-    begin_line(sink, x)?;
-    write_escaped(sink, back(rest, letters))?;
-    write_parts(sink, &[Part::Text("</tspan>")])
+    begin_line(pen, x);
+    escape(pen, back(rest, letters));
+    pen.text("</tspan>");
 }
 
 /// Begins the next line.
-fn begin_line<K: Sink>(sink: &mut K, x: u32) -> Result<(), Failed> {
-    write_parts(
-        sink,
-        &[
-            Part::Text("<tspan x=\""),
-            Part::Number(x),
-            Part::Text("\" dx=\".3em\" dy=\"1.1em\">"),
-        ],
-    )
+fn begin_line<K: Sink>(pen: &mut Pen<'_, K>, x: u32) {
+    pen.write(&[
+        Part::Text("<tspan x=\""),
+        Part::Number(x),
+        Part::Text("\" dx=\".3em\" dy=\"1.1em\">"),
+    ]);
 }
 
 /// The first so many bytes, or all.

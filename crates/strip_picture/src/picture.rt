@@ -6,12 +6,12 @@ use crate::heat::{write_bars, write_numbers};
 use crate::names::write_beginning;
 use crate::plan::Plan;
 use crate::routes::{Detail, TOLD_LETTERS, write_routes};
-use line_text::{Failed, Sink};
+use line_text::Sink;
 use picture_lines::{DrawError, end_group};
 use rr_graph::NodeKind;
 use std::alloc::Global;
 use strip_files::RoutedStrip;
-use text_parts::{Part, write_parts};
+use text_parts::{Part, Pen};
 
 /// What of the nets is drawn.
 #[derive(Clone, Copy, PartialEq, Eq)]
@@ -54,10 +54,10 @@ pub fn draw<K: Sink>(
     sink: &mut K,
 ) -> Result<(), DrawError> {
     let channels = channels_of(alloc, strip)?;
-    let drawn = write_sheet(sink, Sheet::of(strip, &channels, view));
+    let mut pen = Pen::new(sink);
+    write_sheet(&mut pen, Sheet::of(strip, &channels, view));
     drop(channels);
-    drawn?;
-    Ok(())
+    Ok(pen.end()?)
 }
 
 impl<'a, 't> Sheet<'a, 't> {
@@ -109,70 +109,63 @@ fn wires(channels: &[ChannelUse]) -> usize {
 }
 
 /// Writes a sheet.
-fn write_sheet<K: Sink>(sink: &mut K, sheet: Sheet<'_, '_>) -> Result<(), Failed> {
+fn write_sheet<K: Sink>(pen: &mut Pen<'_, K>, sheet: Sheet<'_, '_>) {
     let frame = sheet.frame;
-    frame.write_head(sink)?;
-    write_heading(sink, &sheet)?;
-    write_second_heading(sink, &sheet)?;
-    frame.begin_shapes(sink)?;
-    write_shapes(sink, &sheet)?;
-    end_group(sink)?;
-    write_texts(sink, &sheet)?;
-    frame.write_columns(sink)?;
-    frame.write_rows(sink)?;
-    write_legend(sink, &sheet)?;
-    write_parts(sink, &[Part::Text("</svg>\n")])
+    frame.write_head(pen);
+    write_heading(pen, &sheet);
+    write_second_heading(pen, &sheet);
+    frame.begin_shapes(pen);
+    write_shapes(pen, &sheet);
+    end_group(pen);
+    write_texts(pen, &sheet);
+    frame.write_columns(pen);
+    frame.write_rows(pen);
+    write_legend(pen, &sheet);
+    pen.text("</svg>\n");
 }
 
 /// Writes the first heading.
-fn write_heading<K: Sink>(sink: &mut K, sheet: &Sheet<'_, '_>) -> Result<(), Failed> {
+fn write_heading<K: Sink>(pen: &mut Pen<'_, K>, sheet: &Sheet<'_, '_>) {
     let channels = sheet.channels;
     let wires = wires(&channels.across).saturating_add(wires(&channels.up));
-    sheet.frame.begin_heading(sink, 1)?;
-    write_parts(
-        sink,
-        &[
-            Part::Number(sheet.strip.size.columns),
-            Part::Text(" × "),
-            Part::Number(sheet.strip.size.rows),
-            Part::Text(" blocks, "),
-            Part::Long(sheet.strip.nets.len() as u64),
-            Part::Text(" nets, "),
-            Part::Long(wires as u64),
-            Part::Text(" wires, fullest channel "),
-            Part::Long(sheet.fullest as u64),
-            Part::Text(" tracks</text>\n"),
-        ],
-    )
+    sheet.frame.begin_heading(pen, 1);
+    pen.write(&[
+        Part::Number(sheet.strip.size.columns),
+        Part::Text(" × "),
+        Part::Number(sheet.strip.size.rows),
+        Part::Text(" blocks, "),
+        Part::Long(sheet.strip.nets.len() as u64),
+        Part::Text(" nets, "),
+        Part::Long(wires as u64),
+        Part::Text(" wires, fullest channel "),
+        Part::Long(sheet.fullest as u64),
+        Part::Text(" tracks</text>\n"),
+    ]);
 }
 
 /// Writes the second heading: what is drawn, and what is not.
-fn write_second_heading<K: Sink>(sink: &mut K, sheet: &Sheet<'_, '_>) -> Result<(), Failed> {
-    sheet.frame.begin_heading(sink, 2)?;
+fn write_second_heading<K: Sink>(pen: &mut Pen<'_, K>, sheet: &Sheet<'_, '_>) {
+    sheet.frame.begin_heading(pen, 2);
     match sheet.view {
-        View::Nets => write_parts(sink, &[Part::Text("nets in colours, by number")])?,
-        View::Net(net) => write_picked(sink, sheet.strip, net)?,
-        View::Channels => write_parts(sink, &[Part::Text("used tracks of each channel")])?,
+        View::Nets => pen.text("nets in colours, by number"),
+        View::Net(net) => write_picked(pen, sheet.strip, net),
+        View::Channels => pen.text("used tracks of each channel"),
     }
     let missing = match sheet.detail {
         Detail::Pins => "",
         Detail::Wires => ", without pins: there are too many",
         Detail::Nothing => ", without nets: there are too many wires",
     };
-    write_parts(sink, &[Part::Text(missing), Part::Text("</text>\n")])
+    pen.write(&[Part::Text(missing), Part::Text("</text>\n")]);
 }
 
 /// Writes what is told of the net that is drawn before the others.
-fn write_picked<K: Sink>(
-    sink: &mut K,
-    strip: &RoutedStrip<'_>,
-    number: usize,
-) -> Result<(), Failed> {
+fn write_picked<K: Sink>(pen: &mut Pen<'_, K>, strip: &RoutedStrip<'_>, number: usize) {
     let Some(net) = strip.nets.get(number) else {
-        return write_parts(sink, &[Part::Text("no such net")]);
+        return pen.text("no such net");
     };
-    write_parts(sink, &[Part::Text("net ")])?;
-    write_beginning(sink, net.name, TOLD_LETTERS)?;
+    pen.text("net ");
+    write_beginning(pen, net.name, TOLD_LETTERS);
     let way = if net.is_global {
         ", which goes by the global network and has no wires"
     } else if strip.nodes_of(number).is_empty() {
@@ -180,61 +173,61 @@ fn write_picked<K: Sink>(
     } else {
         ""
     };
-    write_parts(sink, &[Part::Text(way)])
+    pen.text(way);
 }
 
 /// Writes what is no text.
-fn write_shapes<K: Sink>(sink: &mut K, sheet: &Sheet<'_, '_>) -> Result<(), Failed> {
+fn write_shapes<K: Sink>(pen: &mut Pen<'_, K>, sheet: &Sheet<'_, '_>) {
     let plan = sheet.frame.plan;
     let strip = sheet.strip;
-    write_places(sink, plan)?;
-    write_blocks(sink, plan, strip)?;
+    write_places(pen, plan);
+    write_blocks(pen, plan, strip);
     match sheet.view {
-        View::Nets => write_routes(sink, plan, strip, None, sheet.detail),
+        View::Nets => write_routes(pen, plan, strip, None, sheet.detail),
         View::Net(net) => {
             let nodes = strip.nodes_of(net);
-            write_ends(sink, plan, nodes, NodeKind::Ipin, "t")?;
-            write_ends(sink, plan, nodes, NodeKind::Opin, "s")?;
-            write_routes(sink, plan, strip, Some(net), sheet.detail)
+            write_ends(pen, plan, nodes, NodeKind::Ipin, "t");
+            write_ends(pen, plan, nodes, NodeKind::Opin, "s");
+            write_routes(pen, plan, strip, Some(net), sheet.detail);
         }
-        View::Channels => write_bars(sink, plan, sheet.channels, sheet.fullest),
+        View::Channels => write_bars(pen, plan, sheet.channels, sheet.fullest),
     }
 }
 
 /// Writes the names and the numbers.
-fn write_texts<K: Sink>(sink: &mut K, sheet: &Sheet<'_, '_>) -> Result<(), Failed> {
+fn write_texts<K: Sink>(pen: &mut Pen<'_, K>, sheet: &Sheet<'_, '_>) {
     let frame = sheet.frame;
     let plan = frame.plan;
-    frame.begin_texts(sink, "m", plan.name_font, "")?;
-    write_cluster_names(sink, plan, sheet.strip)?;
-    end_group(sink)?;
-    frame.begin_texts(sink, "m", plan.pad_font, " rotate(-90)")?;
-    write_pad_names(sink, plan, sheet.strip)?;
-    end_group(sink)?;
+    frame.begin_texts(pen, "m", plan.name_font, "");
+    write_cluster_names(pen, plan, sheet.strip);
+    end_group(pen);
+    frame.begin_texts(pen, "m", plan.pad_font, " rotate(-90)");
+    write_pad_names(pen, plan, sheet.strip);
+    end_group(pen);
     if sheet.view == View::Channels {
-        frame.begin_texts(sink, "n", 5 * plan.lattice.channel, "")?;
-        write_numbers(sink, plan.lattice, &sheet.channels.across)?;
-        write_numbers(sink, plan.lattice, &sheet.channels.up)?;
-        end_group(sink)?;
+        frame.begin_texts(pen, "n", 5 * plan.lattice.channel, "");
+        let channels = sheet.channels;
+        pen.lend(|sink| write_numbers(sink, plan.lattice, &channels.across));
+        pen.lend(|sink| write_numbers(sink, plan.lattice, &channels.up));
+        end_group(pen);
     }
-    Ok(())
 }
 
 /// Writes the legend.
-fn write_legend<K: Sink>(sink: &mut K, sheet: &Sheet<'_, '_>) -> Result<(), Failed> {
+fn write_legend<K: Sink>(pen: &mut Pen<'_, K>, sheet: &Sheet<'_, '_>) {
     let frame = sheet.frame;
-    frame.write_entry(sink, 0, "k", "cluster")?;
-    frame.write_entry(sink, 1, "i", "input pad")?;
-    frame.write_entry(sink, 2, "o", "output pad")?;
+    frame.write_entry(pen, 0, "k", "cluster");
+    frame.write_entry(pen, 1, "i", "input pad");
+    frame.write_entry(pen, 2, "o", "output pad");
     match sheet.view {
-        View::Nets => Ok(()),
+        View::Nets => (),
         View::Net(_) => {
-            frame.write_entry(sink, 3, "s", "driver")?;
-            frame.write_entry(sink, 4, "t", "reader")
+            frame.write_entry(pen, 3, "s", "driver");
+            frame.write_entry(pen, 4, "t", "reader");
         }
         View::Channels => {
-            frame.write_entry(sink, 3, "h h0", "unused")?;
-            frame.write_entry(sink, 4, "h h8", "fullest")
+            frame.write_entry(pen, 3, "h h0", "unused");
+            frame.write_entry(pen, 4, "h h8", "fullest");
         }
     }
 }

@@ -4,10 +4,10 @@ ghost use Rattle.std.specs.Prelude.{◌≤◌};
 use crate::names::write_beginning;
 use crate::pieces::{Run, Stub, Walk};
 use crate::plan::Plan;
-use line_text::{Failed, Sink};
+use line_text::Sink;
 use picture_lines::{Direction, write_line};
 use strip_files::{RouteNode, RoutedStrip};
-use text_parts::{Part, write_parts};
+use text_parts::{Part, Pen};
 
 /// How many letters of a net's name are told.
 pub(crate) const TOLD_LETTERS: usize = 60;
@@ -63,124 +63,114 @@ pub(crate) enum Ink {
 
 /// Writes the routes of all nets, as pale ones but for that net where one is told.
 pub(crate) fn write_routes<K: Sink>(
-    sink: &mut K,
+    pen: &mut Pen<'_, K>,
     plan: Plan,
     strip: &RoutedStrip<'_>,
     picked: Option<usize>,
     detail: Detail,
-) -> Result<(), Failed> {
-    write_parts(sink, &[Part::Text("<g class=\"r\">\n")])?;
+) {
+    pen.text("<g class=\"r\">\n");
     let ink = match picked {
         Some(_) => Ink::Pale,
         None => Ink::Coloured,
     };
     if detail != Detail::Nothing {
         for net in 0..strip.nets.len() {
-            write_net(sink, plan, strip, net, ink, detail)?;
+            write_net(pen, plan, strip, net, ink, detail);
         }
     }
     if let Some(net) = picked {
-        write_net(sink, plan, strip, net, Ink::Strong, Detail::Pins)?;
+        write_net(pen, plan, strip, net, Ink::Strong, Detail::Pins);
     }
-    write_parts(sink, &[Part::Text("</g>\n")])
+    pen.text("</g>\n");
 }
 
 /// Writes the route of a net, if it has one.
 fn write_net<K: Sink>(
-    sink: &mut K,
+    pen: &mut Pen<'_, K>,
     plan: Plan,
     strip: &RoutedStrip<'_>,
     net: usize,
     ink: Ink,
     detail: Detail,
-) -> Result<(), Failed> {
+) {
     let nodes = strip.nodes_of(net);
     if nodes.is_empty() {
-        return Ok(());
+        return;
     }
-    begin_path(sink, net, ink, "")?;
-    write_lines(sink, plan, nodes, detail == Detail::Pins)?;
-    write_parts(sink, &[Part::Text("\">")])?;
-    write_title(sink, strip, net)?;
-    write_parts(sink, &[Part::Text("</path>\n")])?;
+    begin_path(pen, net, ink, "");
+    write_lines(pen, plan, nodes, detail == Detail::Pins);
+    pen.text("\">");
+    write_title(pen, strip, net);
+    pen.text("</path>\n");
     if detail == Detail::Pins {
-        begin_path(sink, net, ink, " d")?;
-        write_dots(sink, plan, nodes)?;
-        write_parts(sink, &[Part::Text("\"/>\n")])?;
+        begin_path(pen, net, ink, " d");
+        write_dots(pen, plan, nodes);
+        pen.text("\"/>\n");
     }
-    Ok(())
 }
 
 /// Begins a path of a net, with a further class.
-fn begin_path<K: Sink>(sink: &mut K, net: usize, ink: Ink, class: &str) -> Result<(), Failed> {
-    write_parts(sink, &[Part::Text("<path class=\"")])?;
+fn begin_path<K: Sink>(pen: &mut Pen<'_, K>, net: usize, ink: Ink, class: &str) {
+    pen.text("<path class=\"");
     match ink {
-        Ink::Coloured => write_parts(
-            sink,
-            &[Part::Text("c"), Part::Number((net % COLOURS) as u32)],
-        )?,
-        Ink::Pale => write_parts(sink, &[Part::Text("q")])?,
-        Ink::Strong => write_parts(sink, &[Part::Text("z")])?,
+        Ink::Coloured => pen.write(&[Part::Text("c"), Part::Number((net % COLOURS) as u32)]),
+        Ink::Pale => pen.text("q"),
+        Ink::Strong => pen.text("z"),
     }
-    write_parts(sink, &[Part::Text(class), Part::Text("\" d=\"")])
+    pen.write(&[Part::Text(class), Part::Text("\" d=\"")]);
 }
 
 /// Writes the name of a net as the title of its path.
-fn write_title<K: Sink>(sink: &mut K, strip: &RoutedStrip<'_>, net: usize) -> Result<(), Failed> {
-    write_parts(sink, &[Part::Text("<title>net ")])?;
+fn write_title<K: Sink>(pen: &mut Pen<'_, K>, strip: &RoutedStrip<'_>, net: usize) {
+    pen.text("<title>net ");
     if let Some(net) = strip.nets.get(net) {
-        write_beginning(sink, net.name, TOLD_LETTERS)?;
+        write_beginning(pen, net.name, TOLD_LETTERS);
     }
-    write_parts(sink, &[Part::Text("</title>")])
+    pen.text("</title>");
 }
 
 /// Writes the wires of a route, and the lines to its pins where they are wanted.
-fn write_lines<K: Sink>(
-    sink: &mut K,
-    plan: Plan,
-    nodes: &[RouteNode],
-    pins: bool,
-) -> Result<(), Failed> {
+fn write_lines<K: Sink>(pen: &mut Pen<'_, K>, plan: Plan, nodes: &[RouteNode], pins: bool) {
     let mut walk = Walk::new(plan);
     for read in nodes {
         let step = walk.step(*read);
-        write_run(sink, plan, step.run)?;
+        write_run(pen, plan, step.run);
         if pins {
-            write_stub(sink, step.stub)?;
+            write_stub(pen, step.stub);
         }
     }
-    write_run(sink, plan, walk.rest())
+    write_run(pen, plan, walk.rest());
 }
 
 /// Writes the ends of the lines to the pins of a route.
-fn write_dots<K: Sink>(sink: &mut K, plan: Plan, nodes: &[RouteNode]) -> Result<(), Failed> {
+fn write_dots<K: Sink>(pen: &mut Pen<'_, K>, plan: Plan, nodes: &[RouteNode]) {
     let mut walk = Walk::new(plan);
     for read in nodes {
         if let Some(stub) = walk.step(*read).stub {
-            write_line(sink, stub.x, stub.y, "h", 0)?;
+            write_line(pen, stub.x, stub.y, "h", 0);
         }
     }
-    Ok(())
 }
 
 /// Writes wires that adjoin, if there are some.
-fn write_run<K: Sink>(sink: &mut K, plan: Plan, run: Option<Run>) -> Result<(), Failed> {
+fn write_run<K: Sink>(pen: &mut Pen<'_, K>, plan: Plan, run: Option<Run>) {
     let Some(run) = run else {
-        return Ok(());
+        return;
     };
     let along = plan.lattice.track(run.last, run.track);
     let across = plan.lattice.track(run.channel, run.track);
     let length = plan.lattice.span(run.count());
     match run.direction {
-        Direction::Across => write_line(sink, along, across, "h-", length),
-        Direction::Up => write_line(sink, across, along, "v-", length),
+        Direction::Across => write_line(pen, along, across, "h-", length),
+        Direction::Up => write_line(pen, across, along, "v-", length),
     }
 }
 
 /// Writes the line to a pin, if there is one.
-fn write_stub<K: Sink>(sink: &mut K, stub: Option<Stub>) -> Result<(), Failed> {
+fn write_stub<K: Sink>(pen: &mut Pen<'_, K>, stub: Option<Stub>) {
     match stub {
-        Some(stub) => write_line(sink, stub.x, stub.y, stub.command, stub.length),
-        None => Ok(()),
+        Some(stub) => write_line(pen, stub.x, stub.y, stub.command, stub.length),
+        None => (),
     }
 }
