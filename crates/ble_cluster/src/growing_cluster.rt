@@ -32,14 +32,21 @@ impl GrowingCluster {
         ensures room { IfOk result (λ growth. (growth.reads.count ≡ nets)
             × (growth.drives.count ≡ nets) × (length growth.gains ≡ elements)) }
     {
-        Ok(GrowingCluster {
-            members: Vec::new(alloc),
-            reads: NetSet::new(alloc, nets)?,
-            drives: NetSet::new(alloc, nets)?,
-            outside: 0,
-            clock: None,
-            gains: SharedNets::new(alloc, elements)?,
-        })
+        let gains = SharedNets::new(alloc, elements)?;
+        match two_sets(alloc, nets) {
+            Ok((reads, drives)) => Ok(GrowingCluster {
+                members: Vec::new(alloc),
+                reads,
+                drives,
+                outside: 0,
+                clock: None,
+                gains,
+            }),
+            Err(error) => {
+                drop(gains);
+                Err(error)
+            }
+        }
     }
 
     /// Lets all members go.
@@ -221,5 +228,19 @@ impl GrowingCluster {
     {
         self.members.push(number)?;
         Ok(())
+    }
+}
+
+/// Two empty sets of so many nets.
+fn two_sets(alloc: Global, nets: usize) -> Result<(NetSet, NetSet), AllocError>
+    ensures { IfOk result (λ both. (both.0.count ≡ nets) × (both.1.count ≡ nets)) }
+{
+    let first = NetSet::new(alloc, nets)?;
+    match NetSet::new(alloc, nets) {
+        Ok(second) => Ok((first, second)),
+        Err(error) => {
+            drop(first);
+            Err(error)
+        }
     }
 }

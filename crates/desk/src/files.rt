@@ -4,7 +4,7 @@ ghost use Rattle.std.specs.Prelude.{◌+◌, ◌<◌, ◌^◌, length};
 use crate::outcome::Outcome;
 use crate::paths::{FileRole, make_folder, read_file, write_file};
 use crate::words::FOLDER;
-use line_text::{NameSet, ReadError as ReadFailure, Sink, Source, read_all};
+use line_text::{NameSet, Sink, Source, read_all};
 use option_words::{Given, OptionWord, Program, Takes};
 use printed_replies::{ReadError, Replies};
 use script_replies::{file_of, read_replies, script_lines, session_names, told_lines, write_told};
@@ -97,16 +97,28 @@ pub(crate) fn run<H: Files + AllocGlobal, R: Source, W: Sink>(
     writer: &mut W,
 ) -> Result<(), Outcome> {
     let script = read_file(rt, FileRole::Script, wishes.script, u64::MAX)?;
-    let printed = match read_all(rt.alloc(), reader) {
-        Ok(printed) => printed,
-        Err(ReadFailure::NoMemory) => return Err(Outcome::NoMemory),
-        Err(ReadFailure::Failed) => return Err(Outcome::InputFailed),
-    };
     let lines = lines_of(script.as_slice(), wishes.has_architecture);
-    let outcome = parted(rt, wishes.folder, lines, printed.as_slice(), writer);
+    let outcome = parted_as_read(rt, wishes.folder, lines, reader, writer);
     drop(script);
-    drop(printed);
     outcome
+}
+
+/// The same, of the lines of the script.
+fn parted_as_read<H: Files + AllocGlobal, R: Source, W: Sink>(
+    rt: &H,
+    folder: &str,
+    lines: Lines<'_>,
+    reader: &mut R,
+    writer: &mut W,
+) -> Result<(), Outcome> {
+    match read_all(rt.alloc(), reader) {
+        Ok(printed) => {
+            let outcome = parted(rt, folder, lines, printed.as_slice(), writer);
+            drop(printed);
+            outcome
+        }
+        Err(error) => Err(Outcome::of_reading(error)),
+    }
 }
 
 /// The same, of the texts.
@@ -124,7 +136,11 @@ fn parted<H: Files + AllocGlobal, W: Sink>(
     };
     let acts = script.into_acts();
     let outcome = match read_replies(rt.alloc(), &acts, printed) {
-        Ok(replies) => taken_out(rt, folder, lines, &acts, &replies, writer),
+        Ok(replies) => {
+            let outcome = taken_out(rt, folder, lines, &acts, &replies, writer);
+            drop(replies);
+            outcome
+        }
         Err(ReadError::NoMemory) => Err(Outcome::NoMemory),
         Err(ReadError::Misfit(line)) => Err(Outcome::RepliesRefused(line)),
     };

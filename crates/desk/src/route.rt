@@ -151,21 +151,43 @@ pub(crate) fn run<H: Files + AllocGlobal, W: Sink, E: Sink>(
     is_terminal: bool,
 ) -> Result<(), Outcome> {
     let arch = read_file(rt, FileRole::Architecture, wishes.arch, MAX_READ)?;
-    let netlist = read_file(rt, FileRole::Netlist, wishes.netlist, MAX_READ)?;
-    let Ok(netlist) = SharedText::new(rt.alloc(), Text::new(netlist)) else {
-        return Err(Outcome::NoMemory);
-    };
     let least = if wishes.is_told || is_terminal {
-        searched(rt.alloc(), wishes, arch.as_slice(), &netlist, teller)
+        least_on(rt, wishes, arch.as_slice(), teller)
     } else {
-        searched(rt.alloc(), wishes, arch.as_slice(), &netlist, &mut Silence)
+        least_on(rt, wishes, arch.as_slice(), &mut Silence)
     };
     drop(arch);
+    match least? {
+        Least::Routed { run, .. } => ended(rt, wishes, run, writer, teller),
+        Least::Refused(run) => ended(rt, wishes, run, writer, teller),
+        Least::Unrouted => Err(Outcome::Unrouted),
+    }
+}
+
+/// The netlist that is routed.
+fn netlist_of<H: Files + AllocGlobal>(rt: &H, wishes: Wishes<'_>) -> Result<SharedText, Outcome> {
+    let netlist = read_file(rt, FileRole::Netlist, wishes.netlist, MAX_READ)?;
+    match SharedText::new(rt.alloc(), Text::new(netlist)) {
+        Ok(netlist) => Ok(netlist),
+        Err(refused) => {
+            drop(refused);
+            Err(Outcome::NoMemory)
+        }
+    }
+}
+
+/// The run of the netlist that is read, on that architecture.
+fn least_on<H: Files + AllocGlobal, E: Sink>(
+    rt: &H,
+    wishes: Wishes<'_>,
+    arch: &[u8],
+    teller: &mut E,
+) -> Result<Least, Outcome> {
+    let netlist = netlist_of(rt, wishes)?;
+    let least = searched(rt.alloc(), wishes, arch, &netlist, teller);
     drop(netlist);
     match least {
-        Ok(Least::Routed { run, .. }) => ended(rt, wishes, run, writer, teller),
-        Ok(Least::Refused(run)) => ended(rt, wishes, run, writer, teller),
-        Ok(Least::Unrouted) => Err(Outcome::Unrouted),
+        Ok(least) => Ok(least),
         Err(TextError::NoMemory) => Err(Outcome::NoMemory),
         Err(TextError::Fault(fault)) => Err(Outcome::ArchRefused(fault)),
     }
@@ -209,10 +231,19 @@ fn ended<H: Files + AllocGlobal, W: Sink, E: Sink>(
 ) -> Result<(), Outcome> {
     let Run { outcome, figures } = run;
     match outcome {
-        End::Routed(files) => saved(rt, wishes, files)?,
-        End::Unrouted(ending) => return Err(told_unrouted(rt.alloc(), ending, teller)),
-        End::Refused(refusal) => return Err(told_refused(rt.alloc(), refusal, teller)),
+        End::Routed(files) => {
+            let saved = saved(rt, wishes, &files);
+            drop(files);
+            saved?;
+            print_known(writer, figures)
+        }
+        End::Unrouted(ending) => Err(told_unrouted(rt.alloc(), ending, teller)),
+        End::Refused(refusal) => Err(told_refused(rt.alloc(), refusal, teller)),
     }
+}
+
+/// Prints what a run uses, if that is known.
+fn print_known<W: Sink>(writer: &mut W, figures: Option<Figures>) -> Result<(), Outcome> {
     match figures {
         Some(figures) => print(writer, &figures).or(Err(Outcome::OutputFailed)),
         None => Ok(()),
@@ -234,7 +265,7 @@ fn print<W: Sink>(writer: &mut W, figures: &Figures) -> Result<(), Failed> {
 fn saved<H: Files + AllocGlobal>(
     rt: &H,
     wishes: Wishes<'_>,
-    files: Results,
+    files: &Results,
 ) -> Result<(), Outcome> {
     let name = stem_of(wishes.netlist);
     let folder = wishes.folder;

@@ -101,16 +101,39 @@ pub(crate) fn print<H: Files + AllocGlobal, W: Sink>(
     writer: &mut W,
 ) -> Result<(), Outcome> {
     let net = read_file(rt, FileRole::Net, wishes.net_file, u64::MAX)?;
+    let outcome = print_packed(rt, wishes, net.as_slice(), writer);
+    drop(net);
+    outcome
+}
+
+/// The same, of the text of the packing.
+fn print_packed<H: Files + AllocGlobal, W: Sink>(
+    rt: &H,
+    wishes: Wishes<'_>,
+    net: &[u8],
+    writer: &mut W,
+) -> Result<(), Outcome> {
     let place = read_file(rt, FileRole::Places, wishes.place_file, u64::MAX)?;
+    let outcome = print_placed(rt, wishes, net, place.as_slice(), writer);
+    drop(place);
+    outcome
+}
+
+/// The same, of the texts of the packing and of the places.
+fn print_placed<H: Files + AllocGlobal, W: Sink>(
+    rt: &H,
+    wishes: Wishes<'_>,
+    net: &[u8],
+    place: &[u8],
+    writer: &mut W,
+) -> Result<(), Outcome> {
     let route = read_file(rt, FileRole::Routes, wishes.route_file, u64::MAX)?;
     let texts = StripTexts {
-        net: net.as_slice(),
-        place: place.as_slice(),
+        net,
+        place,
         route: route.as_slice(),
     };
     let outcome = drawn(rt.alloc(), texts, wishes.shown, writer);
-    drop(net);
-    drop(place);
     drop(route);
     outcome
 }

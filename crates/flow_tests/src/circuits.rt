@@ -67,9 +67,13 @@ fn finished(packing: Packing) -> Option<Packed> {
         match packing.next() {
             Ok(PackEnd::More(more)) => packing = more,
             Ok(PackEnd::Last(packed)) => return Some(packed),
-            Err(_) => return None,
+            Err(back) => {
+                drop(back);
+                return None;
+            }
         }
     }
+    drop(packing);
     None
 }
 

@@ -101,9 +101,13 @@ fn finished<G: StripGraph>(alloc: Global, graph: &G, routing: Routing) -> Option
         match routing.iteration(alloc, graph) {
             Ok(IterEnd::Again(next)) => routing = next,
             Ok(IterEnd::Done(routes)) => return Some(routes),
-            _ => return None,
+            other => {
+                drop(other);
+                return None;
+            }
         }
     }
+    drop(routing);
     None
 }
 

@@ -106,19 +106,13 @@ impl Parked {
         ensures job { IfOk result (λ job. job ≡ first_step id generation sources) }
         ensures going { IfOk result (λ job. is_over job ≡ false) }
     {
-        let placing = placing.placing();
-        let shared = sources.arch.clone()?;
-        let pads = pads_of(alloc, placing)?;
-        let packed = placing.shared_packed().clone()?;
-        let places = placing.places(alloc)?;
-        let work = Work::Routing(RoutingJob::new(
-            alloc,
-            shared,
-            placing.strip(),
-            pads,
-            Stage::Begun(Begun { packed, places }),
-        ));
-        Parked::begin(alloc, id, generation, sources, work)
+        match routing_of(alloc, &sources, placing) {
+            Ok(routing) => Parked::begin(alloc, id, generation, sources, Work::Routing(routing)),
+            Err(error) => {
+                drop(sources);
+                Err(error)
+            }
+        }
     }
 
     /// A job before its first step.
@@ -135,18 +129,23 @@ impl Parked {
         ensures job { IfOk result (λ job. job ≡ first_step id generation sources) }
         ensures going { IfOk result (λ job. is_over job ≡ false) }
     {
-        let work = Box::new(alloc, work)?;
         let step = JobStep {
             id,
             generation,
             number: 1,
             sources,
         };
-        Ok(Parked {
-            step,
-            work,
-            made: false,
-        })
+        match Box::new(alloc, work) {
+            Ok(work) => Ok(Parked {
+                step,
+                work,
+                made: false,
+            }),
+            Err(error) => {
+                drop(step);
+                Err(error.into())
+            }
+        }
     }
 
     /// The job, to be stepped. Takes no memory.
@@ -225,6 +224,25 @@ impl Parked {
             _ => &[],
         }
     }
+}
+
+/// A routing of what a finished placing of the same netlist, kept places, seed and effort has made, before its first iteration.
+fn routing_of(alloc: Global, sources: &Sources, placing: &Parked) -> Result<RoutingJob, AllocError>
+    requires { CanRoute sources.now placing.now }
+    ensures { IfOk result (λ routing. job_value sources.now 0 ≡ Ok (Work.Routing routing)) }
+{
+    let placing = placing.placing();
+    let shared = sources.arch.clone()?;
+    let pads = pads_of(alloc, placing)?;
+    let packed = placing.shared_packed().clone()?;
+    let places = placing.places(alloc)?;
+    Ok(RoutingJob::new(
+        alloc,
+        shared,
+        placing.strip(),
+        pads,
+        Stage::Begun(Begun { packed, places }),
+    ))
 }
 
 /// A step makes a cluster of a BLE at least, and a circuit has at most 8,192.

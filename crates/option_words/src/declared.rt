@@ -66,9 +66,24 @@ pub(crate) fn commands<'a>(alloc: Global, toolbox: &Toolbox) -> Result<Command<'
         .subcommand_required(true)
         .disable_help_subcommand(true);
     for tool in toolbox.tools {
-        commands = commands.subcommand(command(alloc, tool)?)?;
+        commands = with_tool(alloc, commands, tool)?;
     }
     Ok(commands)
+}
+
+/// The toolbox with one tool more.
+fn with_tool<'a>(
+    alloc: Global,
+    commands: Command<'a>,
+    tool: &Program,
+) -> Result<Command<'a>, AllocError> {
+    match command(alloc, tool) {
+        Ok(command) => commands.subcommand(command),
+        Err(error) => {
+            drop(commands);
+            Err(error)
+        }
+    }
 }
 
 /// The program as clap takes it.
@@ -101,12 +116,15 @@ fn taking<'a>(argument: Arg<'a>, option: &OptionWord) -> Arg<'a> {
     match option.takes {
         Takes::Nothing => argument.long(option.name).action(ArgAction::SetTrue),
         Takes::Alone => argument.value_name(option.value_name).required(true),
-        takes => argument
-            .long(option.name)
-            .value_name(option.value_name)
+        takes => valued(argument, option)
             .value_parser(parser(takes))
             .required(matches!(takes, Takes::GivenText)),
     }
+}
+
+/// An option with its name in the words and what the help calls its value.
+fn valued<'a>(argument: Arg<'a>, option: &OptionWord) -> Arg<'a> {
+    argument.long(option.name).value_name(option.value_name)
 }
 
 /// How clap checks what an option takes.

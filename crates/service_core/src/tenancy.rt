@@ -146,15 +146,26 @@ impl Tenancy {
             unreachable!()
         };
         if self.journal.len() == MAX_ENTRIES as usize {
+            drop(command);
             return Err(NotServed::JournalFull);
         }
-        self.journal.reserve(1)?;
-        let (answer, told) = answered(slot, &command)?;
-        give_up(book, offset, slot, answer.reply());
-        let reply = slot.accept(answer);
-        let event = Event::Command(command);
-        self.journal.push(Entry { event, reply }).unwrap();
-        Ok(told)
+        if self.journal.reserve(1).is_err() {
+            drop(command);
+            return Err(NotServed::NoMemory);
+        }
+        match answered(slot, &command) {
+            Ok((answer, told)) => {
+                give_up(book, offset, slot, answer.reply());
+                let reply = slot.accept(answer);
+                let event = Event::Command(command);
+                self.journal.push(Entry { event, reply }).unwrap();
+                Ok(told)
+            }
+            Err(refusal) => {
+                drop(command);
+                Err(refusal)
+            }
+        }
     }
 
     /// The next step of the running job, where it isn't out.

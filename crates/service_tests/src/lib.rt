@@ -2,7 +2,6 @@
 //! each public function once that no program calls, with ample memory. A fact is told as `bool`; what lacks memory is told as
 //! `None` or `false`.
 //!
-//! - `acts`: jobs that come back late, whatever was done meanwhile.
 //! - `names`: the names and numbers that replies are printed with.
 //! - `commands`: commands and replies, with their copies.
 //! - `slots`: a slot to be tested, and a job that leaves it and comes back.
@@ -13,8 +12,6 @@
 //! - `layouts`: where strips stand, and who owns what.
 #![tactic(auto)]
 
-#[cfg(test)]
-mod acts;
 #[cfg(test)]
 mod admissions;
 #[cfg(test)]

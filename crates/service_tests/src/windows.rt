@@ -12,9 +12,22 @@ fn admits_three(core: &mut Service) -> bool {
     core.admit(1) == Ok((1, 0)) && core.admit(1) == Ok((2, 2)) && core.admit(1) == Ok((3, 4))
 }
 
-/// Whether the second packs, places and routes its netlist, each step made through the window at that offset.
+/// Whether the second has a job to be taken, which is given back.
+fn goes_back(core: &mut Service) -> bool {
+    match core.take(2) {
+        Some(job) => {
+            core.give_back(job.into_back());
+            true
+        }
+        None => false,
+    }
+}
+
+/// Whether the second packs, places and routes its netlist, each step made through the window at that offset. The first job goes back
+/// once before it is stepped.
 fn routes(alloc: Global, core: &mut Service, graph: &DeviceGraph, offset: u32) -> bool {
     begins_packing(alloc, core, 2, AND)
+        && goes_back(core)
         && finishes(core, graph, 2, offset, 1)
         && leads_to(
             core,

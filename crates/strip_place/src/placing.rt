@@ -83,12 +83,12 @@ impl Placing {
               passes = 0;
             }) }
     {
+        let shared = packed.clone()?;
+        let stays = kept.clone()?;
         let board = start_board(alloc, packed.packed(), strip, kept)?;
-        let packed = packed.clone()?;
-        let kept = kept.clone()?;
         Ok(Placing {
-            packed,
-            kept,
+            packed: shared,
+            kept: stays,
             board,
             seed,
             effort,

@@ -1,7 +1,8 @@
 //! A reply before it is given.
-ghost use Rattle.std.specs.Prelude.{◌≡◌, ℕ, List, length, nat_lt, IfErr, IfOk, None, Some};
+ghost use Rattle.std.specs.Prelude.{◌≡◌, ℕ, List, length, nat_lt, Err, IfErr, IfOk, None, Some};
 ghost use Rattle.blif.specs.CircuitOf.{circuit_of};
 ghost use Rattle.cluster.specs.Blocks.{block_nets};
+ghost use Rattle.line_text.specs.TextErrors.{Gives};
 ghost use Rattle.cluster.specs.Clusters.{packed_of, unfit_of};
 ghost use Rattle.block_places.specs.Fits.{fit_of};
 ghost use Rattle.job_state.specs.JobValue.{packing_sources, placing_sources, routing_sources};
@@ -93,23 +94,21 @@ impl Answer {
             ≡ load_outcome lut_size text.now kept (circuit_of text.now lut_size)) }
         ensures err { IfErr result (λ e. e ≡ NotServed.NoMemory) }
     {
-        match read_blif(alloc, text.as_bytes(), lut_size) {
-            Ok(circuit) => {
-                let Ok(circuit) = SharedCircuit::new(alloc, circuit) else {
-                    return Err(NotServed::NoMemory);
-                };
-                let text = text.clone()?;
-                Ok(Answer {
-                    lut_size,
-                    change: Some(loading(Netlist { text, circuit }, kept)),
-                    reply: Reply::Accepted(StateName::Loaded),
-                })
-            }
-            Err(BlifError::Fault(fault)) => Ok(Answer::unchanged(
+        match netlist_of(alloc, lut_size, text) {
+            Ok(netlist) => Ok(Answer {
                 lut_size,
-                Reply::Refused(Refusal::BadBlif(fault)),
-            )),
-            Err(BlifError::NoMemory) => Err(NotServed::NoMemory),
+                change: Some(loading(netlist, kept)),
+                reply: Reply::Accepted(StateName::Loaded),
+            }),
+            Err(BlifError::Fault(fault)) => {
+                drop(kept);
+                let reply = Reply::Refused(Refusal::BadBlif(fault));
+                Ok(Answer::unchanged(lut_size, reply))
+            }
+            Err(BlifError::NoMemory) => {
+                drop(kept);
+                Err(NotServed::NoMemory)
+            }
         }
     }
 
@@ -264,6 +263,18 @@ impl Answer {
             Err(_) => Err(NotServed::NoMemory),
         }
     }
+}
+
+/// The netlist of a text, with the text shared.
+fn netlist_of(alloc: Global, lut_size: u32, text: &SharedText) -> Result<Netlist, BlifError>
+    ensures lawful { IfOk result (IsNetlist lut_size) }
+    ensures text { IfOk result (λ netlist. netlist.text ≡ text.now) }
+    ensures fault { IfErr result (λ error. Gives (circuit_of text.now lut_size) (Err error)) }
+{
+    let circuit = read_blif(alloc, text.as_bytes(), lut_size)?;
+    let circuit = SharedCircuit::new(alloc, circuit)?;
+    let text = text.clone()?;
+    Ok(Netlist { text, circuit })
 }
 
 /// What a netlist that is loaded changes: it is the first, or, where there are kept places, stands in place of another, of which

@@ -36,13 +36,21 @@ impl Beginning<'_> {
         ensures going { IfOk result (λ job. is_last job.sources 0 ≡ false) }
     {
         let sources = Sources::packing(self.arch, self.strip, &self.netlist.text)?;
-        let copy = sources.clone()?;
+        let Ok(copy) = sources.clone() else {
+            drop(sources);
+            return Err(AllocError);
+        };
         let circuit = &self.netlist.circuit;
-        let ready = Parked::pack(self.alloc, self.id, self.generation, copy, circuit)?;
-        Ok(Running {
-            sources,
-            ready: Some(ready),
-        })
+        match Parked::pack(self.alloc, self.id, self.generation, copy, circuit) {
+            Ok(ready) => Ok(Running {
+                sources,
+                ready: Some(ready),
+            }),
+            Err(error) => {
+                drop(sources);
+                Err(error)
+            }
+        }
     }
 
     /// The placing of what the finished packing has made, on a strip that has places enough.
@@ -62,12 +70,20 @@ impl Beginning<'_> {
     {
         let text = &self.netlist.text;
         let sources = Sources::placing(self.arch, self.strip, text, self.kept, seed, effort)?;
-        let copy = sources.clone()?;
-        let ready = Parked::place(self.alloc, self.id, self.generation, copy, packing)?;
-        Ok(Running {
-            sources,
-            ready: Some(ready),
-        })
+        let Ok(copy) = sources.clone() else {
+            drop(sources);
+            return Err(AllocError);
+        };
+        match Parked::place(self.alloc, self.id, self.generation, copy, packing) {
+            Ok(ready) => Ok(Running {
+                sources,
+                ready: Some(ready),
+            }),
+            Err(error) => {
+                drop(sources);
+                Err(error)
+            }
+        }
     }
 
     /// The routing of what the finished placing of that seed and that effort has made.
@@ -87,11 +103,19 @@ impl Beginning<'_> {
     {
         let text = &self.netlist.text;
         let sources = Sources::routing(self.arch, self.strip, text, self.kept, seed, effort)?;
-        let copy = sources.clone()?;
-        let ready = Parked::route(self.alloc, self.id, self.generation, copy, placing)?;
-        Ok(Running {
-            sources,
-            ready: Some(ready),
-        })
+        let Ok(copy) = sources.clone() else {
+            drop(sources);
+            return Err(AllocError);
+        };
+        match Parked::route(self.alloc, self.id, self.generation, copy, placing) {
+            Ok(ready) => Ok(Running {
+                sources,
+                ready: Some(ready),
+            }),
+            Err(error) => {
+                drop(sources);
+                Err(error)
+            }
+        }
     }
 }

@@ -118,23 +118,6 @@ pub(crate) fn begin_placing<C: Begun, P: Ledger>(
     }
 }
 
-/// The same of a tenancy that then begins to route: the three steps that place it are made.
-pub(crate) fn begin_routing<C: Begun, P: Ledger>(
-    alloc: Global,
-    core: &mut Core<C, P>,
-    graph: &DeviceGraph,
-    id: u32,
-) -> Option<u32>
-    requires { C.stay ≡ false }
-{
-    let slot = begin_placing(alloc, core, graph, id);
-    let begins = is_stepped(core, graph, id)
-        && is_stepped(core, graph, id)
-        && is_stepped(core, graph, id)
-        && is_served(core, id, Command::Route);
-    if begins { slot } else { None }
-}
-
 pub(crate) fn is_served<C: Begun, P: Ledger>(
     core: &mut Core<C, P>,
     id: u32,

@@ -95,40 +95,6 @@ impl Gate for Watched {
     }
 }
 
-/// A step that is held until another thread lets it go on.
-#[derive(Drop)]
-pub(crate) struct Held {
-    pub(crate) begins: AtomicU64,
-    pub(crate) goes_on: AtomicU64,
-    missed: AtomicU64,
-}
-
-impl Held {
-    pub(crate) fn new() -> Self {
-        Held {
-            begins: AtomicU64::new(0),
-            goes_on: AtomicU64::new(0),
-            missed: AtomicU64::new(0),
-        }
-    }
-
-    /// Whether a step was held until then.
-    pub(crate) fn was_held(&self) -> bool {
-        self.missed.load(SeqCst) == 0 && self.begins.load(SeqCst) == 1
-    }
-}
-
-impl Gate for Held {
-    fn before(&self, _job: &AnyJob) {
-        self.begins.store(1, SeqCst);
-        if !is_raised(&self.goes_on) {
-            self.missed.store(1, SeqCst);
-        }
-    }
-
-    fn after(&self, _stepped: &Result<Done, Back>) {}
-}
-
 /// Holds each step for a million turns.
 #[derive(Drop)]
 pub(crate) struct Holding {

@@ -3,20 +3,14 @@
 //!
 //! - `showing`: what is shown, each of a core of its own.
 //! - `workers`: a worker that drains a closed queue, two steps at once, and a step without the lock.
-//! - `failing`: sessions whose reader or writer fails at each call in turn.
 //! - `waiting`: a worker that holds each step, or gives each number up, and what `wait` is told.
-//! - `meanwhile`: what is done to a tenancy while a worker holds a step of it.
 //! - `cores`, `gates`, `seats`, `telling`: what these share.
 #![tactic(auto)]
 
 #[cfg(test)]
 mod cores;
 #[cfg(test)]
-mod failing;
-#[cfg(test)]
 mod gates;
-#[cfg(test)]
-mod meanwhile;
 #[cfg(test)]
 mod seats;
 #[cfg(test)]

@@ -4,8 +4,6 @@ ghost use Rattle.service_core.specs.Service.{empty};
 ghost use Rattle.thread_tests.specs.Devices.{IsSmall};
 
 use crate::cores::{new_core, new_device, new_graph};
-use crate::failing::all_end_so;
-use crate::meanwhile::{ACTS, Act, acts_under_a_held_job};
 use crate::waiting::{Work, waits_are_told};
 use crate::workers::is_worked;
 use service_core::Device;
@@ -22,8 +20,6 @@ use strips::DeviceGraph;
 #[derive(Clone, Copy)]
 enum Shown {
     Worked(Worked),
-    Meanwhile(Act),
-    FailingDevices,
     Waits(Work),
 }
 
@@ -46,8 +42,6 @@ fn is_shown<
 {
     match shown {
         Shown::Worked(worked) => is_worked(rt, core, graph, worked),
-        Shown::Meanwhile(act) => acts_under_a_held_job(rt, core, graph, act),
-        Shown::FailingDevices => all_end_so(rt, core),
         Shown::Waits(work) => waits_are_told(rt, core, graph, work),
     }
 }
@@ -122,25 +116,6 @@ fn a_step_is_stolen(rt: HostRuntime) {
 #[test]
 fn a_step_is_made_without_the_lock(rt: HostRuntime) {
     assert!(rt; shows(&rt, Shown::Worked(Worked::StepWithoutTheLock)));
-}
-
-/// Whether each act is done while a worker holds a step, and leaves what it should.
-fn each_act_is_shown<R: Threads + Wait + Clock + AllocGlobal + Sync>(rt: &R) -> bool {
-    let mut are_shown = true;
-    for act in ACTS.iter() {
-        are_shown &= shows(rt, Shown::Meanwhile(*act));
-    }
-    are_shown
-}
-
-#[test]
-fn acts_under_a_held_step_leave_what_they_should(rt: HostRuntime) {
-    assert!(rt; each_act_is_shown(&rt));
-}
-
-#[test]
-fn a_session_ends_where_its_device_fails(rt: HostRuntime) {
-    assert!(rt; shows(&rt, Shown::FailingDevices));
 }
 
 #[test]
