@@ -64,13 +64,22 @@ pub(crate) fn read_errand<'a, S: AsStr>(
     alloc: Global,
     words: &'a [S],
 ) -> Result<Errand<'a>, Error> {
-    let call = read_call(alloc, &TOOLBOX, words)?;
+    errand_by(alloc, &TOOLBOX, words)
+}
+
+/// The same, by the tools.
+fn errand_by<'a, S: AsStr>(
+    alloc: Global,
+    toolbox: &Toolbox,
+    words: &'a [S],
+) -> Result<Errand<'a>, Error> {
+    let call = read_call(alloc, toolbox, words)?;
     let errand = errand_of(&call);
     let tool = call.tool;
     drop(call);
     match errand {
         Ok(errand) => Ok(errand),
-        Err(why) => Err(call_refusal(alloc, &TOOLBOX, &tool, why)),
+        Err(why) => Err(call_refusal(alloc, toolbox, &tool, why)),
     }
 }
 

@@ -130,12 +130,21 @@ pub struct CommandLine<'a> {
 
 /// The options that these words give, the first being the program's name. An error is clap's, and a call for help is one.
 pub fn read_options<'a, S: AsStr>(alloc: Global, words: &'a [S]) -> Result<CommandLine<'a>, Error> {
-    let given = read_words(alloc, &PROGRAM, words)?;
+    options_by(alloc, &PROGRAM, words)
+}
+
+/// The same, by the program for its options.
+fn options_by<'a, S: AsStr>(
+    alloc: Global,
+    program: &Program,
+    words: &'a [S],
+) -> Result<CommandLine<'a>, Error> {
+    let given = read_words(alloc, program, words)?;
     let line = line_of(&given);
     drop(given);
     match line {
         Ok(line) => Ok(line),
-        Err(why) => Err(refusal(alloc, &PROGRAM, words, why)),
+        Err(why) => Err(refusal(alloc, program, words, why)),
     }
 }
 

@@ -205,20 +205,67 @@ fn start_workers<
     requires { All (λ s. s.of ≡ ready.now) seats.items }
 {
     let mut seats = seats;
+    let mut are_started = true;
     for share in shares {
-        let Some(seat) = a_seat(&mut seats, ready) else {
-            return false;
-        };
-        let Ok(worker) = scope.spawn(move || run_worker(
+        are_started = start_worker(
+            rt,
+            scope,
+            shared,
+            ready,
+            graph,
+            &mut seats,
+            share,
+            started,
+            are_started,
+        );
+    }
+    drop(seats);
+    are_started
+}
+
+/// Starts a worker, where those before were started. Tells whether it was.
+fn start_worker<
+    's,
+    E,
+    C: Begun + Send + Sync + 's,
+    P: Ledger + Send + Sync + 's,
+    R: Wait + Clock + Sync + 's,
+>(
+    rt: &'s R,
+    scope: &Scope<'s, E>,
+    shared: &'s Shared<C, P>,
+    ready: &'s Ready,
+    graph: &'s DeviceGraph,
+    seats: &mut Vec<Seat>,
+    share: Share<P>,
+    started: &mut Vec<Worker<P>>,
+    goes_on: bool,
+) -> bool
+    requires { All (λ s. s.of ≡ ready.now) seats.old.items }
+    ensures { All (λ s. s.of ≡ ready.now) seats.new.items }
+{
+    if !goes_on || started.reserve(1).is_err() {
+        drop(share);
+        return false;
+    }
+    match a_seat(seats, ready) {
+        Some(seat) => match scope.spawn(move || run_worker(
             rt, shared, ready, graph, seat, share, &Open,
-        )) else {
-            return false;
-        };
-        if started.push(worker).is_err() {
-            return false;
+        )) {
+            Ok(worker) => {
+                started.push(worker).unwrap();
+                true
+            }
+            Err(error) => {
+                drop(error);
+                false
+            }
+        },
+        None => {
+            drop(share);
+            false
         }
     }
-    true
 }
 
 /// Starts the sessions, and answers those of names that aren't live. Tells whether all were started or answered.
@@ -243,20 +290,65 @@ fn start_sessions<
         ≡ map started_by started.old.items ++ seated.entry.items }
 {
     let mut passes = passes;
+    let mut are_started = true;
     for seat in seated {
-        let Some(pass) = a_pass(&mut passes, ready) else {
-            return false;
-        };
-        // (one that runs and that nobody waits for would find the queue closed, and its job never stepped)
-        if started.reserve(1).is_err() {
-            return false;
-        }
-        let Some(session) = start_session(rt, scope, shared, ready, pass, seat) else {
-            return false;
-        };
-        started.push(session).unwrap();
+        are_started = start_next(
+            rt,
+            scope,
+            shared,
+            ready,
+            &mut passes,
+            seat,
+            started,
+            are_started,
+        );
     }
-    true
+    drop(passes);
+    are_started
+}
+
+/// Starts a session, or answers it, where those before were. Tells whether it was.
+fn start_next<
+    's,
+    't: 's,
+    E,
+    C: Begun + Send + Sync + 's,
+    P: Ledger + Send + Sync + 's,
+    R: Wait + AllocGlobal + Sync + 's,
+>(
+    rt: &'s R,
+    scope: &Scope<'s, E>,
+    shared: &'s Shared<C, P>,
+    ready: &'s Ready,
+    passes: &mut Vec<Pass>,
+    seat: Seated<'t, C>,
+    started: &mut Vec<Started<'t, C>>,
+    goes_on: bool,
+) -> bool
+    requires { All (λ p. p.of ≡ ready.now) passes.old.items }
+    ensures passes { All (λ p. p.of ≡ ready.now) passes.new.items }
+    ensures goes_on { IsTrue result → IsTrue goes_on }
+    ensures started { IsTrue result → map started_by started.new.items
+        ≡ map started_by started.old.items ++ seat.entry ∷ [] }
+{
+    // (one that runs and that nobody waits for would find the queue closed, and its job never stepped)
+    if !goes_on || started.reserve(1).is_err() {
+        drop(seat);
+        return false;
+    }
+    match a_pass(passes, ready) {
+        Some(pass) => match start_session(rt, scope, shared, ready, pass, seat) {
+            Some(session) => {
+                started.push(session).unwrap();
+                true
+            }
+            None => false,
+        },
+        None => {
+            drop(seat);
+            false
+        }
+    }
 }
 
 /// Starts a session, or answers it where its name isn't live.
@@ -288,9 +380,18 @@ fn start_session<
                 ensures { IfSome result (λ part.
                     asked_in part ≡ asked_by (said_by said.entry) lease.id) }
             { run_part(rt, shared, ready, pass, said, lease) };
-            Some(Started::Runs(scope.spawn_with(kept, run).ok()?))
+            match scope.spawn_with(kept, run) {
+                Ok(thread) => Some(Started::Runs(thread)),
+                Err(error) => {
+                    drop(error);
+                    None
+                }
+            }
         }
-        None => Some(Started::Answered(evicted_part(rt.alloc(), said, id).ok()?)),
+        None => match evicted_part(rt.alloc(), said, id) {
+            Ok(part) => Some(Started::Answered(part)),
+            Err(_) => None,
+        },
     }
 }
 
@@ -329,9 +430,37 @@ fn with_part<'t, C: Begun>(
         IsSomeAnd parts.entry (λ old.
         IsSomeAnd part.entry (λ p. all.items ≡ old.items ++ p ∷ []))) }
 {
-    let mut parts = parts?;
-    parts.push(part?).ok()?;
-    Some(parts)
+    match parts {
+        Some(parts) => with_last(parts, part),
+        None => {
+            drop(part);
+            None
+        }
+    }
+}
+
+/// The parts with that one behind them, if there is one.
+fn with_last<'t, C: Begun>(
+    parts: Vec<Part<'t, C>>,
+    part: Option<Part<'t, C>>,
+) -> Option<Vec<Part<'t, C>>>
+    ensures { IfSome result (λ all.
+        IsSomeAnd part.entry (λ p. all.items ≡ parts.entry.items ++ p ∷ [])) }
+{
+    let mut parts = parts;
+    match part {
+        Some(part) => match parts.push(part) {
+            Ok(()) => Some(parts),
+            Err(refused) => {
+                drop((parts, refused));
+                None
+            }
+        },
+        None => {
+            drop(parts);
+            None
+        }
+    }
 }
 
 /// Waits for the workers, and gives their shares. None where memory lacks.

@@ -1,7 +1,8 @@
 //! What the sessions were told, once they and the workers have ended.
-ghost use Rattle.std.specs.Prelude.{◌≡◌, [], true, map, IfOk, OnOk};
+ghost use Rattle.std.specs.Prelude.{◌≡◌, List, [], true, map, IfOk, OnOk};
 ghost use Rattle.script_threads.specs.Parts.{Adds, AreParts, Finishes};
 ghost use Rattle.script_threads.specs.Served.{section_told};
+ghost use Rattle.script_threads.specs.Sessions.{PartState};
 
 use crate::answered::{Section, Unserved};
 use crate::part::Part;
@@ -31,10 +32,30 @@ pub(crate) fn finish<'t, C: Begun, P: Ledger>(
     ensures ok { IfOk result (λ r. Finishes C.begun parts.entry.items (map section_told r.1.items)
         r.0) }
 {
+    match part_all(alloc, parts) {
+        Ok(parted) => settled(core, parted, shares),
+        Err(error) => {
+            drop((core, shares));
+            Err(Unserved::from(error))
+        }
+    }
+}
+
+/// The same, with the transcripts parted from what was told.
+fn settled<'t, C: Begun, P: Ledger>(
+    core: Core<C, P>,
+    parted: Parted<'t, C>,
+    shares: Vec<Share<P>>,
+) -> Result<(Service, Vec<Section<'t>>), Unserved>
+    requires { C.stay ≡ true }
+    ensures ok { (parts : List PartState) →
+        AreParts parts (map section_told parted.entry.sections.items) parted.entry.transcripts.items
+        → IfOk result (λ r. Finishes C.begun parts (map section_told r.1.items) r.0) }
+{
     let Parted {
         sections,
         transcripts,
-    } = part_all(alloc, parts)?;
+    } = parted;
     match settle(core, transcripts, shares) {
         Ok(settled) => {
             let service = settled.into_service();
@@ -43,7 +64,7 @@ pub(crate) fn finish<'t, C: Begun, P: Ledger>(
         }
         Err(not_settled) => {
             let cause = not_settled.cause;
-            drop(not_settled);
+            drop((not_settled, sections));
             Err(Unserved::NotSettled(cause))
         }
     }
@@ -59,16 +80,31 @@ fn part_all<'t, C: Begun>(
         parted.transcripts.items) }
 {
     let mut parted = Parted {
-        sections: Vec::with_capacity(alloc, parts.len())?,
-        transcripts: Vec::with_capacity(alloc, parts.len())?,
+        sections: Vec::new(alloc),
+        transcripts: Vec::new(alloc),
     };
-    for part in parts {
-        parted.add(part)?;
+    match parted.add_all(parts) {
+        Ok(()) => Ok(parted),
+        Err(error) => {
+            drop(parted);
+            Err(error)
+        }
     }
-    Ok(parted)
 }
 
 impl<'t, C: Begun> Parted<'t, C> {
+    /// Adds what the sessions were told, where nothing was added before.
+    fn add_all(&mut self, parts: Vec<Part<'t, C>>) -> Result<(), AllocError>
+        requires { (self.old.sections.items ≡ []) × (self.old.transcripts.items ≡ []) }
+        ensures { OnOk result (AreParts parts.entry.items (map section_told self.new.sections.items)
+            self.new.transcripts.items) }
+    {
+        for part in parts {
+            self.add(part)?;
+        }
+        Ok(())
+    }
+
     /// Adds what a session was told, and its transcript, if it ran.
     fn add(&mut self, part: Part<'t, C>) -> Result<(), AllocError>
         ensures { OnOk result (Adds part.entry (map section_told self.old.sections.items)
@@ -83,10 +119,10 @@ impl<'t, C: Begun> Parted<'t, C> {
         } = part;
         let SessionInput { name, input } = said;
         drop(input);
-        self.sections.push(Section { name, text })?;
         if let Some(transcript) = transcript {
             self.transcripts.push(transcript)?;
         }
+        self.sections.push(Section { name, text })?;
         Ok(())
     }
 }

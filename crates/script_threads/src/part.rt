@@ -1,10 +1,11 @@
 //! What one name's session is told.
-ghost use Rattle.std.specs.Prelude.{◌≡◌, ◌++◌, false, IfOk, IfSome, OnOk};
+ghost use Rattle.std.specs.Prelude.{◌≡◌, ◌++◌, [], false, IfOk, IfSome, OnOk};
+ghost use Rattle.std.specs.List.{flat_map};
 ghost use Rattle.script_text.specs.Threaded.{said_by};
 ghost use Rattle.operator.specs.Held.{held};
 ghost use Rattle.sessions.specs.SessionText.{session_refusal_text};
 ghost use Rattle.script_threads.specs.Seats.{asked_by};
-ghost use Rattle.script_threads.specs.Sessions.{asked_in, evicted_refusal, evicted_text};
+ghost use Rattle.script_threads.specs.Sessions.{asked_in, evicted_line, evicted_refusal, evicted_text};
 
 use job_queue::{Pass, Ready};
 use line_text::{MemorySink, MemorySource};
@@ -60,16 +61,18 @@ pub(crate) fn run_part<'t, C: Begun, P: Ledger, R: Wait + AllocGlobal>(
     let mut reader = MemorySource::new(said.input.as_slice());
     let mut writer = MemorySink::new(rt.alloc());
     let transcript = run_session(rt, shared, ready, pass, lease, &mut reader, &mut writer);
-    if transcript.end() != Some(End::Ended) {
-        return None;
+    if transcript.end() == Some(End::Ended) {
+        let text = writer.into_bytes();
+        Some(Part {
+            said,
+            id,
+            text,
+            transcript: Some(transcript),
+        })
+    } else {
+        drop((transcript, writer, said));
+        None
     }
-    let text = writer.into_bytes();
-    Some(Part {
-        said,
-        id,
-        text,
-        transcript: Some(transcript),
-    })
 }
 
 /// The session of a name that isn't live: each item is told its own refusal, or that the tenancy is evicted.
@@ -81,24 +84,44 @@ pub(crate) fn evicted_part<'t, C: Begun>(
     ensures { IfOk result (λ part. asked_in part
         ≡ record (asked_by (said_by said.entry) id) { live = false }) }
 {
-    let text = evicted_text(alloc, said.input.as_slice())?;
-    Ok(Part {
-        said,
-        id,
-        text,
-        transcript: None,
-    })
+    match evicted_text(alloc, said.input.as_slice()) {
+        Ok(text) => Ok(Part {
+            said,
+            id,
+            text,
+            transcript: None,
+        }),
+        Err(error) => {
+            drop(said);
+            Err(error)
+        }
+    }
 }
 
 /// What the items of an input are told where the tenancy isn't live.
 fn evicted_text(alloc: Global, input: &[u8]) -> Result<Vec<u8>, AllocError>
     ensures { IfOk result (λ text. text.items ≡ evicted_text input.now) }
 {
+    let items = read_items(alloc, input)?;
     let mut text = MemorySink::new(alloc);
-    for item in read_items(alloc, input)? {
-        tell(&mut text, refusal_of(item))?;
+    match tell_all(&mut text, items) {
+        Ok(()) => Ok(text.into_bytes()),
+        Err(error) => {
+            drop(text);
+            Err(error)
+        }
     }
-    Ok(text.into_bytes())
+}
+
+/// Appends what these items are told, where nothing was told before.
+fn tell_all(text: &mut MemorySink, items: Vec<SessionLine>) -> Result<(), AllocError>
+    requires { held text.old ≡ [] }
+    ensures { OnOk result (held text.new ≡ flat_map evicted_line items.entry.items) }
+{
+    for item in items {
+        tell(text, refusal_of(item))?;
+    }
+    Ok(())
 }
 
 /// Appends the line of a refusal.

@@ -80,14 +80,42 @@ fn prepare<'t, C: Begun, P: Ledger>(
         ≡ map (asked_of operator.now core.old.service.histories)
         (map said_by sessions.entry.items)) }
 {
-    let shares = shares(alloc, core, workers)?;
-    let (ready, seats, passes) = Ready::new(alloc, shares.len(), sessions.len())?;
-    let seated = seat_all(alloc, operator, core, sessions)?;
-    Ok(Prepared {
-        ready,
-        workers: (seats, shares),
-        sessions: (passes, seated),
-    })
+    match shares(alloc, core, workers) {
+        Ok(shares) => match seat_all(alloc, operator, core, sessions) {
+            Ok(seated) => prepared_of(alloc, shares, seated),
+            Err(error) => {
+                drop(shares);
+                Err(error)
+            }
+        },
+        Err(error) => {
+            drop(sessions);
+            Err(error)
+        }
+    }
+}
+
+/// The same, of the workers' shares and the sessions that are seated.
+fn prepared_of<'t, C: Begun, P: Ledger>(
+    alloc: Global,
+    shares: Vec<Share<P>>,
+    seated: Vec<Seated<'t, C>>,
+) -> Result<Prepared<'t, C, P>, AllocError>
+    ensures seats { IfOk result (λ p. All (λ s. s.of ≡ p.ready) p.workers.0.items) }
+    ensures passes { IfOk result (λ p. All (λ s. s.of ≡ p.ready) p.sessions.0.items) }
+    ensures seated { IfOk result (λ p. p.sessions.1 ≡ seated.entry) }
+{
+    match Ready::new(alloc, shares.len(), seated.len()) {
+        Ok((ready, seats, passes)) => Ok(Prepared {
+            ready,
+            workers: (seats, shares),
+            sessions: (passes, seated),
+        }),
+        Err(error) => {
+            drop((shares, seated));
+            Err(error)
+        }
+    }
 }
 
 /// Runs the sessions that are seated, and settles what they were told.

@@ -1,4 +1,4 @@
-use Rattle.std.proofs.Common.{◌≡◌, IfOk, ◌∙◌, arith, ap, sym, subst, refl}
+use Rattle.std.proofs.Common.{◌≡◌, IfOk, ◌∙◌, ap, sym, subst}
 use Rattle.cluster.specs.Clusters.{PackedCircuit}
 use Rattle.grid.specs.declared.Strip.{Strip}
 use Rattle.strip_place.specs.Anneal.{PlacingUnderWay}

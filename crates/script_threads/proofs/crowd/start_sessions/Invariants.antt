@@ -1,5 +1,5 @@
 use Rattle.std.proofs.Common.{◌≡◌, ◌++◌}
-use Rattle.std.specs.Prelude.{All, map}
+use Rattle.std.specs.Prelude.{All, IsTrue, map}
 use Rattle.script_threads.specs.Parts.{started_by}
 use Rattle.script_threads.proofs.crowd.start_sessions.Given as goal
 
@@ -7,5 +7,5 @@ use Rattle.script_threads.proofs.crowd.start_sessions.Given as goal
 abbrev pub invariant-loop-seat : goal.invariant-loop-seat
 invariant-loop-seat g l = record {
   passes : All (λ p. p.of ≡ l.ready) l.passes.items;
-  started : map started_by l.started.items ≡ map started_by l.fn.started.items ++ l.yielded;
+  started : IsTrue l.are_started → map started_by l.started.items ≡ map started_by l.fn.started.items ++ l.yielded;
 }

@@ -2,7 +2,7 @@ use Rattle.std.proofs.Common.{◌≡◌}
 use Rattle.std.specs.List.{flat_map}
 use Rattle.operator.specs.Held.{held}
 use Rattle.script_threads.specs.Sessions.{evicted_line}
-use Rattle.script_threads.proofs.part.evicted_text.Given as goal
+use Rattle.script_threads.proofs.part.tell_all.Given as goal
 
 -- the items so far are told
 abbrev pub invariant-loop-item : goal.invariant-loop-item

@@ -2,7 +2,7 @@ use Rattle.std.proofs.Common.{◌≡◌, ◌++◌, ◌∙◌, ap, sym, rules}
 use Rattle.operator.specs.Held.{held}
 use Rattle.script_threads.specs.Sessions.{evicted_line}
 use Rattle.script_threads.proofs.PartLemmas.{told_push}
-use Rattle.script_threads.proofs.part.evicted_text.Goals as goal
+use Rattle.script_threads.proofs.part.tell_all.Goals as goal
 
 pub loop-item-preserved : goal.loop-item-preserved
 loop-item-preserved c =
