@@ -57,8 +57,8 @@ fn crew_of(ready: Ready, seats: Vec<Seat>, passes: Vec<Pass>) -> Option<Crew>
             third,
             pass,
         }),
-        others => {
-            drop((ready, others));
+        _ => {
+            drop(ready);
             None
         }
     }

@@ -14,6 +14,7 @@ mod running;
 mod seated;
 mod seats;
 mod serving;
+mod workers;
 
 pub use answered::{Answered, Section, Unserved};
 pub use serving::serve_on_threads;

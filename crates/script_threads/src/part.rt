@@ -116,7 +116,7 @@ fn evicted_text(alloc: Global, input: &[u8]) -> Result<Vec<u8>, AllocError>
 /// Appends what these items are told, where nothing was told before.
 fn tell_all(text: &mut MemorySink, items: Vec<SessionLine>) -> Result<(), AllocError>
     requires { held text.old ≡ [] }
-    ensures { OnOk result (held text.new ≡ flat_map evicted_line items.entry.items) }
+    ensures { OnOk result (held text.new ≡ flat_map evicted_line items.items) }
 {
     for item in items {
         tell(text, refusal_of(item))?;
