@@ -1,5 +1,5 @@
 //! A script that is served until memory suffices for each of its lines.
-ghost use Rattle.std.specs.Prelude.{◌<◌, ◌^◌, length};
+ghost use Rattle.std.specs.Prelude.{◌+◌, ◌<◌, ◌^◌, length};
 
 use crate::again::{TIMES, same_line};
 use crate::held::{Held, give_back, put, take};
@@ -20,22 +20,25 @@ pub(crate) fn told_by(alloc: Global, script: &[u8]) -> Option<Vec<u8>>
     requires { length script.now < 2 ^ 32 }
 {
     let cut = cut_text(script, 1)?;
-    let Start { graph, core } = make_start(alloc, cut.ahead)?;
-    let script = script_of(alloc, cut.rest, cut.number)?;
-    let mut sections = Sections::new(alloc)?;
+    let start = make_start(alloc, cut.ahead)?;
+    told_on(alloc, start, cut.rest, cut.number)
+}
+
+/// The same on a device.
+fn told_on(alloc: Global, start: Start, text: &[u8], number: usize) -> Option<Vec<u8>>
+    requires { number + length text.now < 2 ^ 64 }
+{
+    let Start { graph, core } = start;
     let mut patient = Patient {
         alloc,
         graph: &graph,
         core,
         operator: Operator::new(alloc),
     };
-    let mut held = None;
-    let is_served = patient.serve_all(script, &mut held, &mut sections);
-    give_back(&mut patient.core, held);
-    match is_served {
-        Some(()) => sections.whole(),
-        None => None,
-    }
+    let told = patient.told(text, number);
+    drop(patient);
+    drop(graph);
+    told
 }
 
 /// A service that is asked again.
@@ -48,6 +51,30 @@ struct Patient<'t, 'g> {
 }
 
 impl<'t> Patient<'t, '_> {
+    /// What the sections of a script hold in the end.
+    fn told(&mut self, text: &'t [u8], number: usize) -> Option<Vec<u8>>
+        requires { number + length text.now < 2 ^ 64 }
+    {
+        let mut sections = Sections::new(self.alloc)?;
+        let whole = match self.serve(text, number, &mut sections) {
+            Some(()) => sections.whole(),
+            None => None,
+        };
+        drop(sections);
+        whole
+    }
+
+    /// Serves a script, and gives back a job that is held at its end.
+    fn serve(&mut self, text: &'t [u8], number: usize, sections: &mut Sections<'t>) -> Option<()>
+        requires { number + length text.now < 2 ^ 64 }
+    {
+        let script = script_of(self.alloc, text, number)?;
+        let mut held = None;
+        let is_served = self.serve_all(script, &mut held, sections);
+        give_back(&mut self.core, held);
+        is_served
+    }
+
     /// Serves the lines of a script.
     fn serve_all(
         &mut self,
@@ -98,34 +125,56 @@ impl<'t> Patient<'t, '_> {
     ) -> Option<()> {
         let section = sections.of(b"op")?;
         match line {
-            OperatorLine::Step(name, count) => {
-                let id = self.operator.last_id(name);
-                for _ in 0..count {
-                    let word = match take(&mut self.core, id) {
-                        Some(it) => put(&mut self.core, self.graph, it)?,
-                        None => b"none",
-                    };
-                    write_parts(section, &[word, b"\n"]).ok()?;
-                }
-                Some(())
-            }
-            OperatorLine::Take(name) => {
-                let taken = take(&mut self.core, self.operator.last_id(name));
-                give_back(&mut self.core, replace(held, taken));
-                write_parts(section, &[b"ok job 1\n"]).ok()
-            }
-            OperatorLine::Put(_) => {
-                let word = put(&mut self.core, self.graph, held.take()?)?;
-                write_parts(section, &[word, b"\n"]).ok()
-            }
-            OperatorLine::Evict(name) => {
-                self.core.evict(self.operator.last_id(name)).ok()?;
-                write_parts(section, &[b"ok\n"]).ok()
-            }
+            OperatorLine::Step(name, count) => self.step(name, count, section),
+            OperatorLine::Take(name) => self.take_job(name, held, section),
+            OperatorLine::Put(_) => self.put_job(held, section),
+            OperatorLine::Evict(name) => self.evict(name, section),
             OperatorLine::Admit(name, width) => self.admit(name, width, section),
             OperatorLine::Owners => self.tell_owners(section),
             OperatorLine::Move(..) | OperatorLine::List => None,
         }
+    }
+
+    /// Makes so many steps of a tenancy's job, and tells what each comes to.
+    fn step(&mut self, name: &[u8], count: u32, section: &mut Section<'t>) -> Option<()> {
+        let id = self.operator.last_id(name);
+        for _ in 0..count {
+            let word = self.stepped(id)?;
+            write_parts(section, &[word, b"\n"]).ok()?;
+        }
+        Some(())
+    }
+
+    /// What the next step of that tenancy's job comes to.
+    fn stepped(&mut self, id: u32) -> Option<&'static [u8]> {
+        match take(&mut self.core, id) {
+            Some(taken) => put(&mut self.core, self.graph, taken),
+            None => Some(b"none"),
+        }
+    }
+
+    /// Holds a tenancy's job in place of the one that is held.
+    fn take_job(
+        &mut self,
+        name: &[u8],
+        held: &mut Option<Held>,
+        section: &mut Section<'t>,
+    ) -> Option<()> {
+        let taken = take(&mut self.core, self.operator.last_id(name));
+        give_back(&mut self.core, replace(held, taken));
+        write_parts(section, &[b"ok job 1\n"]).ok()
+    }
+
+    /// Steps the job that is held, puts it, and tells what that comes to.
+    fn put_job(&mut self, held: &mut Option<Held>, section: &mut Section<'t>) -> Option<()> {
+        let word = put(&mut self.core, self.graph, held.take()?)?;
+        write_parts(section, &[word, b"\n"]).ok()
+    }
+
+    /// Evicts a tenancy.
+    fn evict(&mut self, name: &[u8], section: &mut Section<'t>) -> Option<()> {
+        self.core.evict(self.operator.last_id(name)).ok()?;
+        write_parts(section, &[b"ok\n"]).ok()
     }
 
     /// Admits a tenancy, and tells its id and its offset.

@@ -1,11 +1,13 @@
-//! The program: runs the worked scripts as the service's program does, and compares what each writes, tells and ends with.
+//! The program: runs the worked scripts as the service's program and the desk do, and compares what each writes, tells and ends with.
 //!
-//! Standard input lists the runs, one a line: `NAME STATUS WORDS`, with the words behind the service's name. A run reads NAME.script; it is
-//! to end with that status, to write NAME.stdout and to tell NAME.stderr, byte for byte. A file that is not there has no bytes.
+//! Standard input lists the runs, one a line: `NAME STATUS WORDS`, the words being those of a command line: `fpgad WORDS`, `fpgad_desk WORDS`, or
+//! `cmp FILE FILE`, which ends with 0 where the files hold the same bytes. A run reads NAME.script; it is to end with that status, to write
+//! NAME.stdout and to tell NAME.stderr, byte for byte. A file that is not there has no bytes.
 //! Each line is printed with what came of it. The status is 0 where all agree, and 1 where one does not, or input or output failed.
 #![tactic(auto)]
 
 mod difference;
+mod ended;
 mod row;
 mod run;
 mod verdict;

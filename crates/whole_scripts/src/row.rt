@@ -11,7 +11,7 @@ pub(crate) struct Row<'a> {
     pub name: &'a str,
     /// The status that the run is to end with.
     pub status: u32,
-    /// The words behind the service's name, with blanks between.
+    /// The words of its command line, with blanks between.
     pub words: &'a str,
 }
 

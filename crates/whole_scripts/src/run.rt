@@ -1,9 +1,9 @@
 //! How a row is run, and what is compared.
 use crate::difference::first_difference;
+use crate::ended::{Ended, ended_by};
 use crate::row::Row;
 use crate::verdict::Verdict;
-use clap::Error;
-use fpgad_run::{Outcome, run_words};
+use desk::Streams;
 use line_text::{MemorySink, MemorySource, ReadError, StdSource, read_all};
 use std::alloc::{AllocError, AllocGlobal, Global};
 use std::fs::File;
@@ -13,21 +13,13 @@ use std::sync::Wait;
 use std::thread::Threads;
 use std::time::Clock;
 
-/// What a run writes, tells and ends with.
-#[derive(Drop)]
-struct Ended {
-    written: Vec<u8>,
-    told: String,
-    status: u8,
-}
-
-/// Runs a row as the service's program does, and compares what comes of it with its files.
+/// Runs a row as the program does that it names, and compares what comes of it with its files.
 pub(crate) fn verdict_on<H: Files + Threads + Wait + Clock + AllocGlobal + Sync>(
     rt: &H,
     row: Row<'_>,
 ) -> Result<Verdict, AllocError> {
     let words = words(rt.alloc(), row.words)?;
-    let ended = run_row(rt, row.name, words.as_slice());
+    let ended = run_words(rt, row.name, words.as_slice());
     drop(words);
     let ended = ended?;
     let verdict = compared(rt, row, &ended);
@@ -35,19 +27,26 @@ pub(crate) fn verdict_on<H: Files + Threads + Wait + Clock + AllocGlobal + Sync>
     verdict
 }
 
-/// Runs a row's script under these words.
-fn run_row<H: Files + Threads + Wait + Clock + AllocGlobal + Sync>(
+/// Runs the program that the first word names, on the row's input.
+fn run_words<H: Files + Threads + Wait + Clock + AllocGlobal + Sync>(
     rt: &H,
     name: &str,
     words: &[&str],
 ) -> Result<Ended, AllocError> {
-    let script = bytes_of(rt, name, "script")?;
-    let ended = run_script(rt, words, script.as_slice());
-    drop(script);
+    if let ["cmp", left, right] = words {
+        return compare_files(rt, left, right);
+    }
+    let input = row_file(rt, name, "script")?;
+    let ended = if words.first() == Some(&"fpgad_desk") {
+        run_tool(rt, words, input.as_slice())
+    } else {
+        run_script(rt, words, input.as_slice())
+    };
+    drop(input);
     ended
 }
 
-/// Runs a script under these words.
+/// Runs a script as the service does under these words.
 fn run_script<H: Files + Threads + Wait + Clock + AllocGlobal + Sync>(
     rt: &H,
     words: &[&str],
@@ -55,47 +54,62 @@ fn run_script<H: Files + Threads + Wait + Clock + AllocGlobal + Sync>(
 ) -> Result<Ended, AllocError> {
     let mut reader = MemorySource::new(script);
     let mut writer = MemorySink::new(rt.alloc());
-    let outcome = run_words(rt, words, &mut reader, &mut writer);
-    let status = status_of(&outcome);
-    let written = writer.into_bytes();
-    match told(rt.alloc(), outcome) {
-        Ok(told) => Ok(Ended {
-            written,
-            told,
-            status,
-        }),
-        Err(error) => {
-            drop(written);
-            Err(error)
-        }
-    }
+    let outcome = fpgad_run::run_words(rt, words, &mut reader, &mut writer);
+    let status = match &outcome {
+        Ok(outcome) => outcome.status(),
+        Err(_) => 2,
+    };
+    ended_by(
+        rt.alloc(),
+        writer,
+        MemorySink::new(rt.alloc()),
+        status,
+        outcome,
+    )
 }
 
-/// The words of a command line, behind the service's name.
+/// Does what these words ask of the desk.
+fn run_tool<H: Files + AllocGlobal>(
+    rt: &H,
+    words: &[&str],
+    input: &[u8],
+) -> Result<Ended, AllocError> {
+    let mut reader = MemorySource::new(input);
+    let mut writer = MemorySink::new(rt.alloc());
+    let mut teller = MemorySink::new(rt.alloc());
+    let streams = Streams {
+        reader: &mut reader,
+        writer: &mut writer,
+        teller: &mut teller,
+        is_terminal: false,
+    };
+    let outcome = desk::run_words(rt, words, streams);
+    let status = match &outcome {
+        Ok(outcome) => outcome.status(),
+        Err(_) => 2,
+    };
+    ended_by(rt.alloc(), writer, teller, status, outcome)
+}
+
+/// Compares two files: the status is 0 where they hold the same bytes.
+fn compare_files<H: Files + AllocGlobal>(
+    rt: &H,
+    left: &str,
+    right: &str,
+) -> Result<Ended, AllocError> {
+    let bytes = bytes_of(rt, left)?;
+    let difference = difference_from(rt, bytes.as_slice(), right);
+    drop(bytes);
+    Ok(Ended::silent(rt.alloc(), difference?.is_none()))
+}
+
+/// The words of a command line.
 fn words<'a>(alloc: Global, text: &'a str) -> Result<Vec<&'a str>, AllocError> {
     let mut words = Vec::new(alloc);
-    words.push("fpgad")?;
     for word in text.split_ascii_whitespace() {
         words.push(word)?;
     }
     Ok(words)
-}
-
-/// The status of a run; one whose words are refused has 2.
-fn status_of(outcome: &Result<Outcome, Error>) -> u8 {
-    match outcome {
-        Ok(outcome) => outcome.status(),
-        Err(_) => 2,
-    }
-}
-
-/// What a run tells on standard error: a line where it ends with a status, or why its words are refused.
-fn told(alloc: Global, outcome: Result<Outcome, Error>) -> Result<String, AllocError> {
-    match outcome {
-        Ok(Outcome::Done) => Ok(String::new(alloc)),
-        Ok(outcome) => format!(in alloc; "{outcome}\n"),
-        Err(error) => error.to_string(alloc),
-    }
 }
 
 /// What is to come of a row beside what came of it.
@@ -107,32 +121,51 @@ fn compared<H: Files + AllocGlobal>(
     if u32::from(ended.status) != row.status {
         return Ok(Verdict::EndsWith(ended.status));
     }
-    if let Some(byte) = difference_from(rt, ended.written.as_slice(), row.name, "stdout")? {
+    if let Some(byte) = difference_from_row(rt, ended.written.as_slice(), row.name, "stdout")? {
         return Ok(Verdict::WritesOther(byte));
     }
-    if let Some(byte) = difference_from(rt, ended.told.as_bytes(), row.name, "stderr")? {
+    if let Some(byte) = difference_from_row(rt, ended.told.as_slice(), row.name, "stderr")? {
         return Ok(Verdict::TellsOther(byte));
     }
     Ok(Verdict::Agrees)
 }
 
 /// Where bytes differ from those of a row's file.
-fn difference_from<H: Files + AllocGlobal>(
+fn difference_from_row<H: Files + AllocGlobal>(
     rt: &H,
     bytes: &[u8],
     name: &str,
     kind: &str,
 ) -> Result<Option<usize>, AllocError> {
-    let expected = bytes_of(rt, name, kind)?;
-    Ok(first_difference(bytes, expected.as_slice()))
+    let expected = row_file(rt, name, kind)?;
+    let difference = first_difference(bytes, expected.as_slice());
+    drop(expected);
+    Ok(difference)
 }
 
-/// The bytes of a row's file; none where there is no such file.
-fn bytes_of<H: Files + AllocGlobal>(rt: &H, name: &str, kind: &str) -> Result<Vec<u8>, AllocError> {
+/// Where bytes differ from those of a file.
+fn difference_from<H: Files + AllocGlobal>(
+    rt: &H,
+    bytes: &[u8],
+    path: &str,
+) -> Result<Option<usize>, AllocError> {
+    let expected = bytes_of(rt, path)?;
+    let difference = first_difference(bytes, expected.as_slice());
+    drop(expected);
+    Ok(difference)
+}
+
+/// The bytes of a row's file.
+fn row_file<H: Files + AllocGlobal>(rt: &H, name: &str, kind: &str) -> Result<Vec<u8>, AllocError> {
     let path = format!(in rt.alloc(); "{name}.{kind}")?;
-    let file = File::open(rt, path.as_str());
+    let bytes = bytes_of(rt, path.as_str());
     drop(path);
-    match file {
+    bytes
+}
+
+/// The bytes of a file; none where there is no such file.
+fn bytes_of<H: Files + AllocGlobal>(rt: &H, path: &str) -> Result<Vec<u8>, AllocError> {
+    match File::open(rt, path) {
         Ok(file) => bytes_in(rt.alloc(), file),
         Err(_) => Ok(Vec::new(rt.alloc())),
     }

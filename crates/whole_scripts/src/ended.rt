@@ -1,0 +1,89 @@
+//! How a program ended.
+use clap::Error;
+use line_text::{MemorySink, write_all};
+use std::alloc::{AllocError, Global};
+use std::fmt::Display;
+
+/// What a run writes, tells and ends with.
+#[derive(Drop)]
+pub(crate) struct Ended {
+    pub written: Vec<u8>,
+    /// What it tells on standard error.
+    pub told: Vec<u8>,
+    pub status: u8,
+}
+
+impl Ended {
+    /// The end of what writes and tells nothing: its status is 0 or 1.
+    pub(crate) fn silent(alloc: Global, is_done: bool) -> Self {
+        Ended {
+            written: Vec::new(alloc),
+            told: Vec::new(alloc),
+            status: if is_done { 0 } else { 1 },
+        }
+    }
+}
+
+/// The end of a program that wrote and told that, and ends with that status and its message.
+pub(crate) fn ended_by<O: Display + Drop>(
+    alloc: Global,
+    writer: MemorySink,
+    teller: MemorySink,
+    status: u8,
+    outcome: Result<O, Error>,
+) -> Result<Ended, AllocError> {
+    let written = writer.into_bytes();
+    match told_with(alloc, teller, status, outcome) {
+        Ok(told) => Ok(Ended {
+            written,
+            told,
+            status,
+        }),
+        Err(error) => {
+            drop(written);
+            Err(error)
+        }
+    }
+}
+
+/// What was told, and the message behind it.
+fn told_with<O: Display + Drop>(
+    alloc: Global,
+    teller: MemorySink,
+    status: u8,
+    outcome: Result<O, Error>,
+) -> Result<Vec<u8>, AllocError> {
+    let mut teller = teller;
+    let message = match message_of(alloc, status, outcome) {
+        Ok(message) => message,
+        Err(error) => {
+            drop(teller);
+            return Err(error);
+        }
+    };
+    let told = write_all(&mut teller, message.as_bytes());
+    drop(message);
+    match told {
+        Ok(()) => Ok(teller.into_bytes()),
+        Err(_) => {
+            drop(teller);
+            Err(AllocError)
+        }
+    }
+}
+
+/// What a program tells last: a line where it ends with a status, or why its words are refused.
+fn message_of<O: Display + Drop>(
+    alloc: Global,
+    status: u8,
+    outcome: Result<O, Error>,
+) -> Result<String, AllocError> {
+    match outcome {
+        Ok(outcome) if status == 0 => {
+            drop(outcome);
+            Ok(String::new(alloc))
+        }
+        Ok(outcome) => format!(in alloc; "{outcome}\n"),
+        Err(error) => error.to_string(alloc),
+    }
+}
