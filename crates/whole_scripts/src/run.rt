@@ -98,7 +98,7 @@ fn compare_files<H: Files + AllocGlobal>(
     right: &str,
 ) -> Result<Ended, AllocError> {
     let bytes = bytes_of(rt, left)?;
-    let difference = difference_from(rt, bytes.as_slice(), right);
+    let difference = difference_from(bytes.as_slice(), bytes_of(rt, right));
     drop(bytes);
     Ok(Ended::silent(rt.alloc(), difference?.is_none()))
 }
@@ -121,35 +121,23 @@ fn compared<H: Files + AllocGlobal>(
     if u32::from(ended.status) != row.status {
         return Ok(Verdict::EndsWith(ended.status));
     }
-    if let Some(byte) = difference_from_row(rt, ended.written.as_slice(), row.name, "stdout")? {
+    let expected = row_file(rt, row.name, "stdout");
+    if let Some(byte) = difference_from(ended.written.as_slice(), expected)? {
         return Ok(Verdict::WritesOther(byte));
     }
-    if let Some(byte) = difference_from_row(rt, ended.told.as_slice(), row.name, "stderr")? {
+    let expected = row_file(rt, row.name, "stderr");
+    if let Some(byte) = difference_from(ended.told.as_slice(), expected)? {
         return Ok(Verdict::TellsOther(byte));
     }
     Ok(Verdict::Agrees)
 }
 
-/// Where bytes differ from those of a row's file.
-fn difference_from_row<H: Files + AllocGlobal>(
-    rt: &H,
+/// Where bytes differ from those that are expected.
+fn difference_from(
     bytes: &[u8],
-    name: &str,
-    kind: &str,
+    expected: Result<Vec<u8>, AllocError>,
 ) -> Result<Option<usize>, AllocError> {
-    let expected = row_file(rt, name, kind)?;
-    let difference = first_difference(bytes, expected.as_slice());
-    drop(expected);
-    Ok(difference)
-}
-
-/// Where bytes differ from those of a file.
-fn difference_from<H: Files + AllocGlobal>(
-    rt: &H,
-    bytes: &[u8],
-    path: &str,
-) -> Result<Option<usize>, AllocError> {
-    let expected = bytes_of(rt, path)?;
+    let expected = expected?;
     let difference = first_difference(bytes, expected.as_slice());
     drop(expected);
     Ok(difference)
