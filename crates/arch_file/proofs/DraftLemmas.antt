@@ -1,4 +1,4 @@
--- How the draft follows the lines that were read.
+-- The draft holds what the lines read so far describe.
 use Rattle.std.proofs.Common.{◌≡◌, ◌∙◌, ℕ, ◌<◌, ◌≤◌, List, Bool, true, false, cond, ◌||◌, eqb, length, get_or, set, Option, Some, None, is_some, refl, ap, sym, arith}
 use Rattle.std.specs.Option.{option_or}
 use Rattle.std.proofs.lemmas.Bool.{eqb-true}
@@ -35,12 +35,12 @@ rank_below FcPad = omega arith
 rank_below SwitchBlockType = omega arith
 rank_below Segment = omega arith
 
--- a choice behind a function
+-- a function applied to a conditional
 cond_ap : {A B : Type 0} (f : A → B) (b : Bool) (x y : A) → cond b (f x) (f y) ≡ f (cond b x y)
 cond_ap f true x y = refl
 cond_ap f false x y = refl
 
--- one more keyword, whose words were not there
+-- one more keyword, which was not found before
 or_new : (b : Bool) (found : Option Words) (words : Words) → (b ≡ true → is_some found ≡ false) → option_or found (cond b (Some words) None) ≡ cond b (Some words) found
 or_new true None words fresh = refl
 or_new true (Some other) words fresh = let never : true ≡ false = fresh refl in cc
@@ -76,7 +76,7 @@ mark_place stands place other false differs inside =
     eqb_self : (n : ℕ) → eqb n n ≡ true
     eqb_self n = grind (arith, nat_tests)
 
--- no value has that keyword
+-- the keyword is not one that has a value
 abbrev pub IsPlain : Keyword → Type 0
 IsPlain keyword = (other : Keyword) → rank_of other < 11 → same_keyword other keyword ≡ false
 
@@ -94,7 +94,7 @@ mark_stands stands found keyword other words ranks stood =
     mark_place stands (rank_of keyword) (rank_of other) (same_keyword other keyword) (sym (alike_by_rank other keyword)) (omega (arith, rank_below keyword))
     ∙ ap (λ b. b || same_keyword other keyword) stood ∙ sym (is_some_or (same_keyword other keyword) (found other) words)
 
--- a keyword that has no value stands now
+-- a keyword without a value is marked
 pub Follows-mark : (draft : Draft) (found : Keyword → Option Words) (seen : List Pin) (keyword : Keyword) (words : Words) → 11 ≤ rank_of keyword → Follows draft found seen → Follows (record draft { stands = set draft.stands (rank_of keyword) true }) (found_with found keyword words) seen
 Follows-mark draft found seen keyword words high follows =
     let plain : IsPlain keyword = IsPlain-from_rank keyword high in
@@ -136,7 +136,7 @@ limit_set true found more words value old new limit is sets was limits is_there 
 limit_set false found more words value old new limit is sets was limits is_there =
     rw sets (was (ap is_some (sym is) ∙ is_there))
 
--- a keyword that didn't stand has its value now, and stands
+-- a keyword that was not read gets its value and its mark
 pub Follows-set : (old mid : Draft) (found : Keyword → Option Words) (seen : List Pin) (keyword : Keyword) (words : Words) → get_or old.stands (rank_of keyword) false ≡ false → Follows old found seen → Sets old keyword words mid → Follows (record mid { stands = set mid.stands (rank_of keyword) true }) (found_with found keyword words) seen
 Follows-set old mid found seen keyword words fresh follows sets =
     let new = λ (other : Keyword). or_new (same_keyword other keyword) (found other) words (λ same. sym (follows.stands other) ∙ ap (λ n. get_or old.stands n false) (eqb-true (rank_of other) (rank_of keyword) (sym (alike_by_rank other keyword) ∙ same)) ∙ fresh) in

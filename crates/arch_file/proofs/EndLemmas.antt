@@ -22,7 +22,7 @@ use Rattle.arch_file.specs.Readings.{least_kind}
 use Rattle.arch_file.specs.Ranks.{rank_of}
 use Rattle.arch_file.specs.Words.{required}
 
--- keywords by their places among those that must stand
+-- keywords are ordered by their index among the required ones
 abbrev Rise : Keyword → Keyword → Type 0
 Rise first second = word_of (Missing first) ≤ word_of (Missing second)
 
@@ -59,7 +59,7 @@ before_class b (keyword ∷ keywords) = (one b, before_class b keywords)
     one true = (refl, tt)
     one false = tt
 
--- the faults of the end stand in their order
+-- the faults of the end are listed in order
 end_order : (q : Keyword → Bool) (b : Bool) → InOrder Comes (map (λ k. Missing k) (filter q required) ++ only_if b BadClass)
 end_order q b =
     InOrder-append Comes (map (λ k. Missing k) (filter q required)) (only_if b BadClass)
@@ -80,7 +80,7 @@ find_same : (p q : Keyword → Bool) (xs : List Keyword) → ((k : Keyword) → 
 find_same p q [] same = refl
 find_same p q (x ∷ xs) same = rw (same x, find_same p q xs same) refl
 
--- a keyword that must stand is missing
+-- a required keyword is missing
 pub end_faults-missing : (stood : Keyword → Bool) (lines : List JoinedLine) (keyword : Keyword) → ((k : Keyword) → stood k ≡ stands k lines) → find (λ k. not (stood k)) required ≡ Some keyword → least_kind (end_faults lines) ≡ Some (Missing keyword)
 end_faults-missing stood lines keyword same found =
     least_by_in_order comes_before (end_faults lines) (end_order (λ k. not (stands k lines)) (not (has_its_pins lines)))
@@ -110,7 +110,7 @@ not_false : (b : Bool) → not b ≡ false → b ≡ true
 not_false true is = refl
 not_false false is = sym is
 
--- the keywords of the limited numbers stand
+-- the keywords of the numbers with limits are all marked
 pub record HasNumbers (stood : Keyword → Bool) : Type 0 where
   pub io_rat : stood IoRat ≡ true
   pub cluster_size : stood SubblocksPerClb ≡ true
@@ -132,7 +132,7 @@ HasNumbers-from_none stood none =
 one_clock : (count : ℕ) → nat_lt 0 count ≡ true → count ≤ 1 → count ≡ 1
 one_clock count some most = let above : 0 < count = ltb-true 0 count some in omega arith
 
--- the architecture of a draft whose lines have all that they need
+-- the architecture of a draft whose lines are complete
 pub draft_arch : (draft : Draft) (lines : List JoinedLine) (tracks : ℕ) (pins : List Pin) (output input pad : ℕ)
     → FollowsLines draft lines → find (λ k. not (slice_index_or draft.stands (rank_of k) false)) required ≡ None
     → (nat_lt 0 draft.inputs && ((output_count draft.pins.items == draft.cluster_size) && draft.has_clock)) ≡ true

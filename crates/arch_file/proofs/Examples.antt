@@ -86,7 +86,7 @@ least_of_all = refl
 no_lines : least_fault (faults_behind [] []) ≡ Some (record { line = 0; kind = Missing keywords.IoRat })
 no_lines = refl
 
--- the least fault of the whole, and the whole
+-- the least fault of an incomplete text, and the value of a complete one
 a_part : arch_of_lines (Ok (take 15 small)) 2 ≡ Err (record { line = 0; kind = Missing keywords.Segment })
 unfolding small keyword_of value_faults pin_line_faults pin_in segment_faults is_unread
 a_part = refl
@@ -108,7 +108,7 @@ the_whole : arch_of_lines (Ok small) 3 ≡ Ok (record {
 unfolding small keyword_of value_faults pin_line_faults pin_in segment_faults is_unread
 the_whole = refl
 
--- half of five tracks are two; a part of one is one; no more than all
+-- half of five tracks are two; a fraction below one track is rounded up to one; at most all tracks
 half_of_five : reach true 500000 5 ≡ 2
 half_of_five = refl
 

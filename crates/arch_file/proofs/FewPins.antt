@@ -1,4 +1,4 @@
--- An architecture has few pins.
+-- The number of pins of an architecture is small.
 use Rattle.std.proofs.Common.{◌≡◌, ℕ, ◌+◌, ◌≤◌, List, [], ◌∷◌, length, cond, refl, arith}
 use Rattle.std.proofs.lemmas.List.Sums.{sum_by-cons}
 use Rattle.arch_file.specs.declared.arch.Arch.{Arch}

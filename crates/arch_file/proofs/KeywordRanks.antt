@@ -1,4 +1,4 @@
--- Keywords that are spelled alike have one rank.
+-- Keywords with the same spelling have the same rank.
 use Rattle.std.proofs.Common.{◌≡◌, ◌∙◌, ℕ, Bool, true, false, eqb, [], ◌∷◌, Some, get_or, refl, sym, ap, arith}
 use Rattle.std.proofs.lemmas.Bool.{eqb-true}
 use Rattle.std.proofs.lemmas.Bool.Decides.{nat_tests}
@@ -29,7 +29,7 @@ ranked_is Segment = refl
 ranked_is Inpin = refl
 ranked_is Outpin = refl
 
--- the keyword that is spelled so
+-- a keyword is found by its spelling
 spelled_is : (keyword : Keyword) → keyword_of (text_of keyword) ≡ Some keyword
 unfolding keyword_of
 spelled_is IoRat = refl

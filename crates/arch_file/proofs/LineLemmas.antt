@@ -1,4 +1,4 @@
--- The faults of one line, and the lists with one more line.
+-- The faults of one line, and the words and pins after one more line.
 use Rattle.std.proofs.Common.{◌≡◌, ◌∙◌, ℕ, ◌+◌, ◌<◌, ◌≤◌, List, [], ◌∷◌, ◌++◌, Bool, true, false, cond, ◌||◌, ◌==◌, Option, Some, None, is_some, refl, ap, sym, arith, count_by, nat_lt, length, drop, get_or, codes, eqb}
 use Rattle.std.specs.Option.{option_or, option_to_list}
 use Rattle.std.specs.Str.{bytes_eq}
@@ -28,7 +28,7 @@ use Rattle.arch_file.specs.Ranks.{rank_of}
 use Rattle.arch_file.proofs.KeywordRanks.{alike_by_rank}
 use Rattle.arch_file.specs.Words.{is_pin_keyword, lone, same_keyword}
 
--- `Repeated` comes before those
+-- `Repeated` comes before all of these
 abbrev IsRepeatedFirst : List ArchFaultKind → Type 0
 IsRepeatedFirst kinds = least_kind (Repeated ∷ kinds) ≡ Some Repeated
 
@@ -56,7 +56,7 @@ repeated_word : (keyword : Keyword) (passes : List ℕ → Bool) (word : Option 
 repeated_word keyword passes None = refl
 repeated_word keyword passes (Some word) = either (passes word) _ _ refl refl
 
--- a repeated keyword comes before all that is wrong with its value
+-- a repeated keyword comes before everything that is wrong with its value
 pub repeated_first : (keyword : Keyword) (words : List (List ℕ)) → least_kind (Repeated ∷ value_faults keyword words) ≡ Some Repeated
 unfolding value_faults
 repeated_first IoRat words = repeated_whole 8 (whole_in words)
@@ -84,7 +84,7 @@ keyword_faults-segment before keyword words stood pin segment stands = rw (pin, 
 pub keyword_faults-pin : (before : List JoinedLine) (keyword : Keyword) (words : List (List ℕ)) → is_pin_keyword keyword ≡ true → keyword_faults before keyword words ≡ pin_line_faults (pins_of before) keyword words
 keyword_faults-pin before keyword words pin = rw pin refl
 
--- `segment` is no pin's keyword, and has no value
+-- `segment` is not a pin's keyword, and has no value
 pub segment_rank : (keyword : Keyword) → same_keyword keyword Segment ≡ true → rank_of keyword ≡ 11
 segment_rank keyword same = eqb-true (rank_of keyword) 11 (sym (alike_by_rank keyword Segment) ∙ same)
 
@@ -96,7 +96,7 @@ pin_rank keyword pin =
     let ranks : (eqb (rank_of keyword) 12 || eqb (rank_of keyword) 13) ≡ true = rw (← alike_by_rank keyword Inpin, ← alike_by_rank keyword Outpin) pin in
     grind (arith, nat_tests, ranks)
 
--- a line that is no pin's gives no pin
+-- a line without a pin's keyword adds no pin
 pub no_pin : (seen : List Pin) (keyword : Keyword) (words : List (List ℕ)) → is_pin_keyword keyword ≡ false → seen ++ option_to_list (pin_behind (Some keyword) words) ≡ seen
 no_pin seen keyword words pin = rw pin (append-nil seen)
 
@@ -144,7 +144,7 @@ Follows-add old mid found seen pin follows adds sides clock room =
       sides = All-push (λ p. has_side p.sides ≡ true) seen pin follows.sides sides;
     }
 
--- the lists with one more line
+-- the words and pins of the lines with one more line
 pub words_at-push : (keyword : Keyword) (before : List JoinedLine) (line : JoinedLine) → words_at keyword (before ++ line ∷ []) ≡ option_or (words_at keyword before) (words_at keyword (line ∷ []))
 words_at-push keyword [] line = refl
 words_at-push keyword (first ∷ before) line = or_choice (begins_with keyword first.words) (Some (drop 1 first.words)) (words_at keyword before) (words_at keyword (line ∷ [])) (words_at keyword (before ++ line ∷ [])) (words_at-push keyword before line)
@@ -160,7 +160,7 @@ pins_of-push before line = filter_map-append (λ l. pin_of_words l.words) before
     single None = refl
     single (Some pin) = refl
 
--- the same words and pins by another name
+-- the draft depends only on the words and pins
 pub Follows-same : (draft : Draft) (found other : Keyword → Option (List (List ℕ))) (seen more : List Pin) → ((keyword : Keyword) → found keyword ≡ other keyword) → seen ≡ more → Follows draft found seen → Follows draft other more
 Follows-same draft found other seen more same pins follows =
     record {

@@ -24,7 +24,7 @@ use Rattle.arch_file.specs.Words.{is_pin_keyword, is_unread, keyword_of, same_ke
 use Rattle.arch_file.proofs.DraftLemmas.{Follows-mark, Follows-set}
 use Rattle.arch_file.proofs.LineLemmas.{Follows-add, Follows-same, keyword_faults-pin, keyword_faults-segment, keyword_faults-value, no_pin, one_pin, pin_rank, pins_of-push, segment_pin, segment_rank, words_at-push}
 
--- the draft in which a keyword stands
+-- the draft with a keyword marked
 abbrev pub marked : Draft → Keyword → Draft
 marked draft keyword = record draft { stands = set draft.stands (rank_of keyword) true }
 
@@ -55,7 +55,7 @@ reads_pin before keyword words old mid new pin follows is_pin faults is adds sid
       (Follows-add old mid (λ other. words_at other before) (pins_of before) pin follows adds sides clock room))),
 )
 
--- the draft that follows these lines and what one more line adds
+-- a draft that holds these lines and one more line's words holds all of the lines
 pub lines_more : (draft : Draft) (before : List JoinedLine) (line : JoinedLine) → Follows draft (λ other. option_or (words_at other before) (words_at other (line ∷ []))) (pins_of before ++ option_to_list (pin_of_words line.words)) → FollowsLines draft (before ++ line ∷ [])
 lines_more draft before line follows =
     Follows-same draft (λ other. option_or (words_at other before) (words_at other (line ∷ []))) (λ other. words_at other (before ++ line ∷ []))
@@ -74,7 +74,7 @@ lines_same draft before line nothing pin follows =
     (λ other. or_none (words_at other before) ∙ ap (option_or (words_at other before)) (sym (nothing other)))
     (sym (append-nil (pins_of before)) ∙ ap (λ p. pins_of before ++ option_to_list p) (sym pin)) follows)
 
--- it is that keyword
+-- the keyword is this one
 abbrev is_keyword : Keyword → Option Keyword → Bool
 is_keyword keyword found = option_map_or (same_keyword keyword) found false
 

@@ -1,4 +1,4 @@
--- The least fault is one of the first line that has any.
+-- The least fault belongs to the first line that has any.
 use Rattle.std.proofs.Common.{◌≡◌, ◌∙◌, ℕ, zero, suc, ◌+◌, ◌<◌, ◌≤◌, List, [], ◌∷◌, ◌++◌, Bool, true, false, Some, Ok, Err, option_map, length, take, drop, slice_get, refl, ap, sym, subst, arith, nat_lt, add-one}
 use Rattle.std.proofs.Math.Seq.{drop-cons}
 use Rattle.std.proofs.lemmas.Bool.Decides.{nat_tests}
@@ -27,7 +27,7 @@ use Rattle.arch_file.specs.Readings.{least_kind}
 abbrev found : Bool → ℕ → ArchFaultKind → Found ArchFault
 found at_end number kind = record { at_end = at_end; line = number; number = number_of kind; word = word_of kind; fault = record { line = number; kind = kind } }
 
--- a fault is the end's, or stands at a line from that number on
+-- a fault is of the end, or of a line with at least this number
 abbrev IsFrom : ℕ → Found ArchFault → Type 0
 IsFrom low fault = fault.at_end ≡ false → low ≤ fault.line
 
@@ -38,7 +38,7 @@ each_found : (P : Found ArchFault → Type 0) (at_end : Bool) (number : ℕ) (ki
 each_found P at_end number [] h = tt
 each_found P at_end number (kind ∷ kinds) h = (h kind, each_found P at_end number kinds h)
 
--- the faults behind some lines stand behind them
+-- the faults of the later lines are at those lines or at the end
 from_faults_behind : (before lines : List JoinedLine) (low : ℕ) → RisesFrom low lines → Each (IsFrom low) (faults_behind before lines)
 from_faults_behind before [] low rises = each_found (IsFrom low) true 0 (end_faults before) (λ kind line. absurd (cc))
 from_faults_behind before (line ∷ lines) low rises =
@@ -46,7 +46,7 @@ from_faults_behind before (line ∷ lines) low rises =
     (each_found (IsFrom low) false line.number (faults_of before line.words) (λ kind _. rises.0))
     (IsFrom-weaker low (line.number + 1) (faults_behind (before ++ line ∷ []) lines) (omega (arith, rises.0)) (from_faults_behind (before ++ line ∷ []) lines (line.number + 1) rises.1))
 
--- a fault of a line comes before those from the next line on
+-- a fault of a line comes before those of the next lines and of the end
 precedes_from : (number : ℕ) (kind : ArchFaultKind) (other : Found ArchFault) → IsFrom (number + 1) other → Precedes (found false number kind) other
 precedes_from number kind other from = by other.at_end refl
   where
@@ -59,7 +59,7 @@ least_found : (at_end : Bool) (number : ℕ) (kinds : List ArchFaultKind) → le
 least_found at_end number kinds =
     least_map comes_before precedes (found at_end number) kinds (λ x y. by_number-same (turn_of at_end) _ ∙ by_number-same number (comes_before x y))
 
--- of the faults of a line and those behind it, the least is the line's
+-- of a line's faults and the later ones, the least is the line's
 pub least_at : (number : ℕ) (kinds : List ArchFaultKind) (kind : ArchFaultKind) (rest : List (Found ArchFault)) → Each (IsFrom (number + 1)) rest → least_kind kinds ≡ Some kind → least_fault (found_at false number kinds ++ rest) ≡ Some (record { line = number; kind = kind })
 least_at number kinds kind rest from is =
     ap (option_map (λ f. f.fault))
@@ -67,7 +67,7 @@ least_at number kinds kind rest from is =
     (least_found false number kinds ∙ ap (option_map (found false number)) is)
     (each_found (λ x. Each (Precedes x) rest) false number kinds (λ k. Each-weaker (IsFrom (number + 1)) (Precedes (found false number k)) rest (precedes_from number k) from)))
 
--- a line at its place among all
+-- the lines from an index on begin with the line at that index
 pub drop_line : (lines : List JoinedLine) (place : ℕ) (line : JoinedLine) → slice_get lines place ≡ Some line → drop place lines ≡ line ∷ drop (place + 1) lines
 drop_line lines place line found =
     let inside : place < length lines = slice_get_within lines place line found in
@@ -83,7 +83,7 @@ pub faults_behind-fine : (lines : List JoinedLine) (place : ℕ) (line : JoinedL
 faults_behind-fine lines place line found fine =
     rw (drop_line lines place line found, take_line lines place line found, fine) refl
 
--- the lines from a place on rise, too
+-- the lines from an index on have increasing numbers, too
 rises_drop : (low place : ℕ) (lines : List JoinedLine) → RisesFrom low lines → RisesFrom low (drop place lines)
 rises_drop low zero lines rises = rises
 rises_drop low (suc place) [] rises = tt
@@ -98,7 +98,7 @@ faults_behind-fault lines place line kind rises at is =
     ap (λ xs. least_fault (faults_behind before xs)) (drop_line lines place line at)
     ∙ least_at line.number (faults_of before line.words) kind (faults_behind (before ++ line ∷ []) rest) (from_faults_behind (before ++ line ∷ []) rest (line.number + 1) risen.1) is
 
--- only the end's faults are left
+-- only the faults of the end are left
 pub faults_behind-end : (lines : List JoinedLine) (place : ℕ) → length lines ≤ place → faults_behind (take place lines) (drop place lines) ≡ found_at true 0 (end_faults lines)
 faults_behind-end lines place ended = rw (take_all place lines ended, drop_all place lines ended) refl
 
@@ -106,13 +106,13 @@ pub least_end : (lines : List JoinedLine) (kind : ArchFaultKind) → least_kind 
 least_end lines kind is =
     ap (option_map (λ f. f.fault)) (least_found true 0 (end_faults lines) ∙ ap (option_map (found true 0)) is)
 
--- a line that is refused, of lines before which nothing is wrong
+-- a line is refused, and the lines before it have no faults
 pub reads_fault : (lines : List JoinedLine) (place : ℕ) (line : JoinedLine) (refusal : TextError ArchFaultKind) (draft : Draft) → RisesFrom 1 lines → slice_get lines place ≡ Some line → Reads (take place lines) line (Err refusal) draft → faults_behind (take place lines) (drop place lines) ≡ faults_behind [] lines → ReadsAll lines (Err (error_at line.number refusal))
 reads_fault lines place line NoMemory draft rises at reads rest = reads
 reads_fault lines place line (Fault kind) draft rises at reads rest =
     ap least_fault (sym rest) ∙ faults_behind-fault lines place line kind rises at reads
 
--- a text whose lines are fine, and whose end isn't
+-- the lines of a text have no faults, but its end has one
 pub arch_of-end : (text : List ℕ) (tracks : ℕ) (lines : List JoinedLine) (kind : ArchFaultKind) → length text ≤ MAX_TEXT → lines_of text ≡ Ok lines → faults_behind [] lines ≡ found_at true 0 (end_faults lines) → least_kind (end_faults lines) ≡ Some kind → arch_of text tracks ≡ Err (record { line = 0; kind = kind })
 unfolding arch_of
 arch_of-end text tracks lines kind short is ends least =

@@ -1,4 +1,4 @@
--- How the pairs of a segment line are walked.
+-- Reading the pairs of a segment line one by one.
 use Rattle.std.proofs.Common.{◌≡◌, ◌∙◌, ℕ, ◌+◌, ◌<◌, ◌≤◌, List, [], ◌∷◌, Bool, true, false, cond, length, drop, get_or, refl, ap, sym, arith, add-one, ◌%◌, ◌||◌, not, eq-eqb, Some}
 use Rattle.std.specs.Borrow.{Bor}
 use Rattle.std.specs.Option.{option_eq}
@@ -20,11 +20,11 @@ abbrev pub is_none_left : List (List ℕ) → Bool
 is_none_left [] = true
 is_none_left (value ∷ values) = false
 
--- what is still to be seen, where a 1 was found or not
+-- what the remaining values must be, given whether a 1 was found
 abbrev pub is_one_still : Bool → List (List ℕ) → Bool
 is_one_still is_found values = cond is_found (is_none_left values) (is_one values)
 
--- two words from a place on
+-- the list from an index on begins with the next two words
 pub drop-two : (words : List (Bor (List ℕ))) (i : ℕ) (d : Bor (List ℕ)) → i + 1 < length words → drop i words ≡ get_or words i d ∷ get_or words (i + 1) d ∷ drop (i + 2) words
 drop-two words i d inside =
     let first : i < length words = omega arith in
@@ -33,7 +33,7 @@ drop-two words i d inside =
     let two : i + 1 + 1 ≡ i + 2 = omega arith in
     both ∙ ap (λ xs. get_or words i d ∷ xs) (second ∙ ap (λ n. get_or words (i + 1) d ∷ drop n words) two)
 
--- one pair more
+-- one more pair
 pub values_under-pair : (key : List ℕ) (words : List (Bor (List ℕ))) (i next : ℕ) (d : Bor (List ℕ)) → next ≡ i + 2 → i + 1 < length words → values_under key (drop i (texts words)) ≡ cond (bytes_eq (get_or words i d).now key) ((get_or words (i + 1) d).now ∷ values_under key (drop next (texts words))) (values_under key (drop next (texts words)))
 values_under-pair key words i next d is inside =
     let here : drop i (texts words) ≡ (get_or words i d).now ∷ (get_or words (i + 1) d).now ∷ drop next (texts words) =
@@ -54,7 +54,7 @@ pub is_one-found : (value : List ℕ) (values : List (List ℕ)) → option_eq n
 is_one-found value [] found = found
 is_one-found value (second ∷ values) found = refl
 
--- a value isn't 1
+-- a value that isn't 1
 pub is_one-other : (value : List ℕ) (values : List (List ℕ)) → option_eq nat_eq (millionths_of value) (Some one) ≡ false → is_one (value ∷ values) ≡ false
 is_one-other value [] found = found
 is_one-other value (second ∷ values) found = refl
@@ -63,7 +63,7 @@ bad_number_least : (b : Bool) → least_kind (BadNumber ∷ only_if b (NotProfil
 bad_number_least true = refl
 bad_number_least false = refl
 
--- a wrong count of words comes before all else
+-- a wrong number of words comes before all other faults
 pub segment_faults-odd : (is_second : Bool) (words : List (List ℕ)) → length words % 2 ≡ 1 → least_kind (segment_faults is_second words) ≡ Some BadNumber
 unfolding segment_faults
 segment_faults-odd is_second words odd =

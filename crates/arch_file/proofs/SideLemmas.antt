@@ -1,4 +1,4 @@
--- How the words behind a pin's class are read one by one.
+-- Reading the words after a pin's class one by one.
 use Rattle.std.proofs.Common.{◌≡◌, ◌∙◌, ℕ, List, [], ◌∷◌, ◌++◌, Bool, true, false, ◌&&◌, ◌||◌, not, refl, ap, sym, codes}
 use Rattle.std.specs.List.{list_all}
 use Rattle.std.specs.Str.{bytes_eq}
@@ -40,7 +40,7 @@ pub lawful-push : (words : List (List ℕ)) (more : List ℕ) → (list_all is_s
 lawful-push words more =
     rw (and_push (list_all is_side_word) is_side_word refl (λ _ _. refl) words more, are_distinct-push words more) (lawful_shuffle (list_all is_side_word words) (are_distinct words) (is_side_word more) (has more words))
 
--- what is kept of one more word
+-- the effect of one more word
 pub record Takes (read next : SideWords) (word : List ℕ) (stood : Bool) : Type 0 where
   pub top : next.sides.top ≡ (read.sides.top || bytes_eq word (codes "top"))
   pub bottom : next.sides.bottom ≡ (read.sides.bottom || bytes_eq word (codes "bottom"))
@@ -71,7 +71,7 @@ into_true false = refl
 into_same : (b : Bool) → b ≡ (b || false)
 into_same b = sym (or-false b)
 
--- one more word that is a side, or the mark of the global network
+-- one more word that is a side or `global`
 pub Shows-top : (read : SideWords) (words : List (List ℕ)) → Shows read words → Shows (record { sides = record { top = true; bottom = read.sides.bottom; left = read.sides.left; right = read.sides.right }; is_global = read.is_global; is_lawful = read.is_lawful && not read.sides.top }) (words ++ codes "top" ∷ [])
 Shows-top read words shows =
     Shows-push read _ words (codes "top") shows (record { top = into_true (read.sides.top); bottom = into_same (read.sides.bottom); left = into_same (read.sides.left); right = into_same (read.sides.right); global = into_same (read.is_global); lawful = ap (λ b. read.is_lawful && not b) (ap (λ s. s.top) shows.sides) })

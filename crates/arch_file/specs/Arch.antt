@@ -1,4 +1,4 @@
--- What an architecture text says: the architecture, or the least fault.
+-- The meaning of an architecture text: the architecture, or the least fault.
 use Rattle.std.specs.Prelude.{ℕ, ◌≡◌, ◌≤◌, List, [], true, All, Result, Ok, Err, length, nat_lt, if◌then◌else◌}
 use Rattle.std.specs.Option.{option_map_or}
 use Rattle.line_text.specs.LeastFault.{least_fault}
@@ -18,7 +18,7 @@ pub use Rattle.arch_file.specs.Pins.{is_input_class, is_output_class, is_clock_c
 abbrev pub IsWithin : ℕ → ℕ → ℕ → Type 0
 IsWithin low number high = (low ≤ number) × (number ≤ high)
 
--- the architecture keeps the limits
+-- the architecture is within its limits
 pub record IsArch (arch : Arch) : Type 0 where
   pub io_rat : IsWithin 1 arch.io_rat 8
   pub cluster_size : IsWithin 1 arch.cluster_size 16
@@ -32,7 +32,7 @@ pub record IsArch (arch : Arch) : Type 0 where
   pub clocks : clock_count arch.pins ≡ 1
   pub sides : All (λ pin. has_side pin.sides ≡ true) arch.pins
 
--- what the lines say, where nothing is wrong with them
+-- the architecture that the lines describe if they have no fault
 abbrev pub arch_from : List JoinedLine → ℕ → Arch
 arch_from lines tracks = record {
   io_rat = whole_at IoRat lines;
@@ -50,7 +50,7 @@ abbrev pub arch_of_lines : Result (List JoinedLine) LineFault → ℕ → Result
 arch_of_lines (Err fault) tracks = Err (fault_of_lines fault)
 arch_of_lines (Ok lines) tracks = option_map_or Err (least_fault (faults_behind [] lines)) (Ok (arch_from lines tracks))
 
--- the architecture of a text for that many tracks, or its least fault
+-- the architecture of a text for this many tracks, or its least fault
 unfoldable pub arch_of : List ℕ → ℕ → Result Arch ArchFault
 arch_of text tracks =
     if nat_lt MAX_TEXT (length text) then Err (record { line = 0; kind = OverLimit }) else arch_of_lines (lines_of text) tracks

@@ -23,7 +23,7 @@ abbrev pub begins_with : Keyword → List (List ℕ) → Bool
 begins_with keyword [] = false
 begins_with keyword (word ∷ words) = option_map_or (same_keyword keyword) (keyword_of word) false
 
--- the words behind the keyword, of the first line that begins with it
+-- the words after the keyword, on the first line that begins with it
 abbrev pub words_at : Keyword → List JoinedLine → Option (List (List ℕ))
 words_at keyword [] = None
 words_at keyword (line ∷ lines) =
@@ -33,19 +33,19 @@ words_at keyword (line ∷ lines) =
 abbrev pub stands : Keyword → List JoinedLine → Bool
 stands keyword lines = is_some (words_at keyword lines)
 
--- the whole number behind the keyword
+-- the whole number after the keyword
 abbrev pub whole_at : Keyword → List JoinedLine → ℕ
 whole_at keyword lines = whole_from (words_at keyword lines)
 
--- the decimal behind the keyword, in millionths
+-- the decimal after the keyword, in millionths
 abbrev pub decimal_at : Keyword → List JoinedLine → ℕ
 decimal_at keyword lines = decimal_from (words_at keyword lines)
 
--- the numbers of tracks are parts of all
+-- whether the numbers of tracks are given as fractions of all tracks
 abbrev pub is_fractional : List JoinedLine → Bool
 is_fractional lines = is_fractional_from (words_at FcType lines)
 
--- the pin of a line that begins with the keyword
+-- the pin of a line, from its keyword and the words after it
 abbrev pub pin_behind : Option Keyword → List (List ℕ) → Option Pin
 pin_behind None words = None
 pin_behind (Some keyword) words = if is_pin_keyword keyword then pin_in words else None
@@ -59,24 +59,24 @@ pin_of_words (word ∷ words) = pin_behind (keyword_of word) words
 abbrev pub pins_of : List JoinedLine → List Pin
 pins_of lines = filter_map (λ line. pin_of_words line.words) lines
 
--- the faults of a line that begins with the keyword, behind those lines
+-- the faults of a line that begins with the keyword, after the lines before it
 abbrev pub keyword_faults : List JoinedLine → Keyword → List (List ℕ) → List ArchFaultKind
 keyword_faults before keyword words =
     if is_pin_keyword keyword then pin_line_faults (pins_of before) keyword words
     else (if same_keyword keyword Segment then segment_faults (stands keyword before) words
     else only_if (stands keyword before) Repeated ++ value_faults keyword words)
 
--- the faults of a line by its first word, behind those lines
+-- the faults of a line, by its first word, after the lines before it
 abbrev pub first_word_faults : List JoinedLine → List ℕ → Option Keyword → List (List ℕ) → List ArchFaultKind
 first_word_faults before word None words = only_if (not (is_unread word)) Unknown
 first_word_faults before word (Some keyword) words = keyword_faults before keyword words
 
--- the faults of a line's words, behind those lines
+-- the faults of a line's words, after the lines before it
 abbrev pub faults_of : List JoinedLine → List (List ℕ) → List ArchFaultKind
 faults_of before [] = []
 faults_of before (word ∷ words) = first_word_faults before word (keyword_of word) words
 
--- there is an input, as many outputs as logic elements, and a clock
+-- there is an input, as many outputs as BLEs, and a clock
 abbrev pub has_its_pins : List JoinedLine → Bool
 has_its_pins lines =
     nat_lt 0 (input_count (pins_of lines))
@@ -88,11 +88,11 @@ end_faults lines =
     map (λ keyword. Missing keyword) (filter (λ keyword. not (stands keyword lines)) required)
     ++ only_if (not (has_its_pins lines)) BadClass
 
--- faults at the line of that number, or at the end
+-- faults at the line with this number, or at the end
 abbrev pub found_at : Bool → ℕ → List ArchFaultKind → List (Found ArchFault)
 found_at at_end number kinds = map (λ kind. record { at_end = at_end; line = number; number = number_of kind; word = word_of kind; fault = record { line = number; kind = kind } }) kinds
 
--- all faults of the lines that stand behind those, and of the end
+-- all faults of the later lines, after the lines before them, and those of the end
 abbrev pub faults_behind : List JoinedLine → List JoinedLine → List (Found ArchFault)
 faults_behind before [] = found_at true 0 (end_faults before)
 faults_behind before (line ∷ lines) =

@@ -1,4 +1,4 @@
--- Private: what the code keeps of the lines that it has read.
+-- Private: what the code stores of the lines that it has read.
 use Rattle.std.specs.Prelude.{ℕ, ◌≡◌, ◌≤◌, ◌+◌, ◌||◌, Bool, true, false, List, [], ◌∷◌, ◌++◌, length, slice_index_or, Option, Some, None, is_some, nat_lt, All, Result, Ok, Err, if◌then◌else◌}
 use Rattle.std.specs.Option.{option_or, option_to_list}
 use Rattle.line_text.specs.LeastFault.{least_fault}
@@ -22,11 +22,11 @@ use Rattle.arch_file.specs.Values.{decimal_from, is_fractional_from, whole_from}
 use Rattle.arch_file.specs.Ranks.{rank_of}
 use Rattle.arch_file.specs.Words.{same_keyword}
 
--- a number from 1 to a limit, where it is there
+-- if the number was given, it is from 1 to the limit
 abbrev pub IsLimited : Bool → ℕ → ℕ → Type 0
 IsLimited is_there number limit = is_there ≡ true → (1 ≤ number) × (number ≤ limit)
 
--- the draft keeps these words behind keywords, and these pins
+-- the draft holds the values of these words after keywords, and these pins
 pub record Follows (draft : Draft) (found : Keyword → Option (List (List ℕ))) (seen : List Pin) : Type 0 where
   pub ranks : length draft.stands ≡ 14
   pub stands : (keyword : Keyword) → slice_index_or draft.stands (rank_of keyword) false ≡ is_some (found keyword)
@@ -47,11 +47,11 @@ pub record Follows (draft : Draft) (found : Keyword → Option (List (List ℕ))
   pub clock_limit : clock_count seen ≤ 1
   pub sides : All (λ pin. has_side pin.sides ≡ true) seen
 
--- the draft keeps what these lines say
+-- the draft holds the values of these lines
 abbrev pub FollowsLines : Draft → List JoinedLine → Type 0
 FollowsLines draft before = Follows draft (λ keyword. words_at keyword before) (pins_of before)
 
--- the new draft has the value of the words behind a keyword, and is else the old one
+-- the new draft has the value of the words after the keyword; everything else is unchanged
 pub record Sets (old : Draft) (keyword : Keyword) (words : List (List ℕ)) (new : Draft) : Type 0 where
   pub stands : new.stands ≡ old.stands
   pub io_rat : new.io_rat ≡ (if same_keyword IoRat keyword then whole_from (Some words) else old.io_rat)
@@ -68,7 +68,7 @@ pub record Sets (old : Draft) (keyword : Keyword) (words : List (List ℕ)) (new
   pub cluster_limit : IsLimited (same_keyword SubblocksPerClb keyword) new.cluster_size 16
   pub lut_limit : IsLimited (same_keyword SubblockLutSize keyword) new.lut_size 8
 
--- the new draft has one pin more, and is else the old one
+-- the new draft has one more pin; everything else is unchanged
 pub record AddsPin (old : Draft) (pin : Pin) (new : Draft) : Type 0 where
   pub stands : new.stands ≡ old.stands
   pub io_rat : new.io_rat ≡ old.io_rat
@@ -82,33 +82,33 @@ pub record AddsPin (old : Draft) (pin : Pin) (new : Draft) : Type 0 where
   pub inputs : new.inputs ≡ old.inputs + (if is_input_class pin.class then 1 else 0)
   pub clock : new.has_clock ≡ (old.has_clock || is_clock_class pin.class)
 
--- the words behind keywords, with one more line that begins with a keyword
+-- the words after each keyword, with one more line that begins with a keyword
 abbrev pub found_with : (Keyword → Option (List (List ℕ))) → Keyword → List (List ℕ) → Keyword → Option (List (List ℕ))
 found_with found keyword words other = option_or (found other) (if same_keyword other keyword then Some words else None)
 
--- what reading the words behind a keyword may answer, behind those lines
+-- what reading the words after a keyword may return, after the lines before it
 abbrev pub ReadsKeyword : List JoinedLine → Keyword → List (List ℕ) → Result (Unit {0}) (TextError ArchFaultKind) → Draft → Type 0
 ReadsKeyword before keyword words (Ok done) new =
     (keyword_faults before keyword words ≡ [])
     × Follows new (found_with (λ other. words_at other before) keyword words) (pins_of before ++ option_to_list (pin_behind (Some keyword) words))
 ReadsKeyword before keyword words (Err error) new = Fails (least_kind (keyword_faults before keyword words)) error
 
--- what reading a line may answer, behind those lines
+-- what reading a line may return, after the lines before it
 abbrev pub Reads : List JoinedLine → JoinedLine → Result (Unit {0}) (TextError ArchFaultKind) → Draft → Type 0
 Reads before line (Ok done) new = (faults_of before line.words ≡ []) × FollowsLines new (before ++ line ∷ [])
 Reads before line (Err error) new = Fails (least_kind (faults_of before line.words)) error
 
--- what the end of these lines may answer
+-- what the end of these lines may return
 abbrev pub Ends : List JoinedLine → ℕ → Result Arch ArchFaultKind → Type 0
 Ends lines tracks (Ok arch) = (end_faults lines ≡ []) × (arch ≡ arch_from lines tracks) × IsArch arch
 Ends lines tracks (Err kind) = least_kind (end_faults lines) ≡ Some kind
 
--- why a line is not read, as an error of the text
+-- the error of a line, as an error of the text
 abbrev pub error_at : ℕ → TextError ArchFaultKind → TextError ArchFault
 error_at line NoMemory = NoMemory
 error_at line (Fault kind) = Fault (record { line = line; kind = kind })
 
--- what reading these lines may answer
+-- what reading these lines may return
 abbrev pub ReadsAll : List JoinedLine → Result Draft (TextError ArchFault) → Type 0
 ReadsAll lines (Ok draft) = FollowsLines draft lines × (faults_behind [] lines ≡ found_at true 0 (end_faults lines))
 ReadsAll lines (Err error) = Fails (least_fault (faults_behind [] lines)) error

@@ -1,4 +1,4 @@
--- How a fault is told: its number, its name and its printed text.
+-- How a fault is reported: its number, its name and its printed text.
 use Rattle.std.specs.Prelude.{ℕ, List, ◌++◌, codes}
 use Rattle.std.specs.Fmt.{decimal}
 use Rattle.arch_file.specs.declared.fault.ArchFault.{ArchFault}
@@ -7,7 +7,7 @@ use Rattle.arch_file.specs.declared.fault.ArchFaultKind.TheVariants.{Unknown, Re
 use Rattle.line_text.specs.declared.fault.LineFault.{LineFault}
 use Rattle.line_text.specs.declared.fault.LineFault.TheVariants as line_faults
 
--- the number by which replies tell a kind of fault
+-- the number of a kind of fault in replies
 abbrev pub number_of : ArchFaultKind → ℕ
 number_of Unknown = 1
 number_of Repeated = 2
@@ -20,7 +20,7 @@ number_of OverLimit = 8
 number_of NotAscii = 9
 number_of LineTooLong = 10
 
--- the name by which replies tell it
+-- the name of a kind of fault in replies
 abbrev pub name_of : ArchFaultKind → List ℕ
 name_of Unknown = codes "Unknown"
 name_of Repeated = codes "Repeated"
@@ -33,7 +33,7 @@ name_of OverLimit = codes "OverLimit"
 name_of NotAscii = codes "NotAscii"
 name_of LineTooLong = codes "LineTooLong"
 
--- number, name and line, parted by one blank
+-- number, name and line, separated by one blank
 abbrev pub printed_fault : ArchFault → List ℕ
 printed_fault fault = decimal (number_of fault.kind) ++ codes " " ++ name_of fault.kind ++ codes " " ++ decimal fault.line
 

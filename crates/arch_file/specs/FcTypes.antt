@@ -1,4 +1,4 @@
--- Private: how the code keeps the way in which the numbers of tracks are meant.
+-- Private: how the code stores whether numbers of tracks are absolute or fractional.
 use Rattle.std.specs.Prelude.{Bool, true, false}
 use Rattle.arch_file.specs.declared.values.FcType.{FcType}
 use Rattle.arch_file.specs.declared.values.FcType.TheVariants.{Absolute, Fractional}

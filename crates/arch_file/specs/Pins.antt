@@ -5,22 +5,22 @@ use Rattle.arch_file.specs.declared.arch.PinClass.{PinClass}
 use Rattle.arch_file.specs.declared.arch.PinClass.TheVariants.{Input, Output, Clock}
 use Rattle.arch_file.specs.declared.arch.Sides.{Sides}
 
--- an input of a table
+-- whether it is an input of a table
 abbrev pub is_input_class : PinClass → Bool
 is_input_class Input = true
 is_input_class class = false
 
--- an output of a logic element
+-- whether it is the output of a BLE
 abbrev pub is_output_class : PinClass → Bool
 is_output_class Output = true
 is_output_class class = false
 
--- a clock
+-- whether it is a clock
 abbrev pub is_clock_class : PinClass → Bool
 is_clock_class Clock = true
 is_clock_class class = false
 
--- how many pins of a class there are
+-- the number of pins of a class
 abbrev pub input_count : List Pin → ℕ
 input_count pins = count_by (λ pin. is_input_class pin.class) pins
 
@@ -30,6 +30,6 @@ output_count pins = count_by (λ pin. is_output_class pin.class) pins
 abbrev pub clock_count : List Pin → ℕ
 clock_count pins = count_by (λ pin. is_clock_class pin.class) pins
 
--- some side reaches the pin
+-- whether the pin can be reached on some side
 abbrev pub has_side : Sides → Bool
 has_side sides = sides.top || (sides.bottom || (sides.left || sides.right))

@@ -1,9 +1,9 @@
--- Private: where the draft marks that a keyword stands.
+-- Private: the index at which the draft marks that a keyword was read.
 use Rattle.std.specs.Prelude.{ℕ}
 use Rattle.arch_file.specs.declared.fault.Keyword.{Keyword}
 use Rattle.arch_file.specs.declared.fault.Keyword.TheVariants.{IoRat, ChanWidthIo, ChanWidthX, ChanWidthY, Inpin, Outpin, SubblocksPerClb, SubblockLutSize, FcType, FcOutput, FcInput, FcPad, SwitchBlockType, Segment}
 
--- the place of a keyword's mark
+-- the index of a keyword's mark
 abbrev pub rank_of : Keyword → ℕ
 rank_of IoRat = 0
 rank_of ChanWidthIo = 1

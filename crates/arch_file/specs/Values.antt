@@ -1,4 +1,4 @@
--- The values behind the keywords, and what can be wrong with them.
+-- The values after the keywords, and what can be wrong with them.
 use Rattle.std.specs.Prelude.{ℕ, ◌==◌, ◌*◌, ◌/◌, min, max, nat_lt, Bool, false, ◌||◌, List, [], ◌∷◌, codes, Option, Some, None, option_and_then, unwrap_or, if◌then◌else◌}
 use Rattle.std.specs.Option.{option_map_or}
 use Rattle.std.specs.Str.{bytes_eq}
@@ -21,7 +21,7 @@ decimal_in words = option_and_then millionths_of (lone words)
 abbrev pub one : ℕ
 one = 1000000
 
--- a whole number from 1 to that limit
+-- a whole number from 1 to the limit
 abbrev pub whole_faults : ℕ → Option ℕ → List ArchFaultKind
 whole_faults limit None = BadNumber ∷ []
 whole_faults limit (Some number) =
@@ -48,31 +48,31 @@ abbrev pub word_faults : Keyword → (List ℕ → Bool) → Option (List ℕ) �
 word_faults keyword passes None = BadNumber ∷ []
 word_faults keyword passes (Some word) = if passes word then [] else NotProfile keyword ∷ []
 
--- numbers of tracks are parts of all
+-- whether the word gives numbers of tracks as fractions of all tracks
 abbrev pub is_fractional_word : List ℕ → Bool
 is_fractional_word word = bytes_eq word (codes "fractional")
 
--- a way in which numbers of tracks are meant
+-- whether the word is a way of giving numbers of tracks
 abbrev pub is_fc_type : List ℕ → Bool
 is_fc_type word = bytes_eq word (codes "absolute") || is_fractional_word word
 
--- the one kind of switch blocks
+-- whether the word is the one kind of switch block
 abbrev pub is_subset : List ℕ → Bool
 is_subset word = bytes_eq word (codes "subset")
 
--- the whole number of words that may be missing, else 0
+-- the whole number of the words, 0 if they are missing or aren't one
 abbrev pub whole_from : Option (List (List ℕ)) → ℕ
 whole_from words = unwrap_or (option_and_then whole_in words) 0
 
--- the same of a decimal
+-- the decimal of the words, in millionths, 0 if they are missing or aren't one
 abbrev pub decimal_from : Option (List (List ℕ)) → ℕ
 decimal_from words = unwrap_or (option_and_then decimal_in words) 0
 
--- the same of the way in which numbers of tracks are meant
+-- whether the words give fractions; false if they are missing
 abbrev pub is_fractional_from : Option (List (List ℕ)) → Bool
 is_fractional_from words = option_map_or is_fractional_word (option_and_then lone words) false
 
--- what is wrong with the words behind a keyword that has a value
+-- what is wrong with the words after a keyword that has a value
 unfoldable pub value_faults : Keyword → List (List ℕ) → List ArchFaultKind
 value_faults IoRat words = whole_faults 8 (whole_in words)
 value_faults ChanWidthIo words = one_faults ChanWidthIo (decimal_in words)
@@ -87,6 +87,7 @@ value_faults FcPad words = decimal_faults (decimal_in words)
 value_faults SwitchBlockType words = word_faults SwitchBlockType is_subset (lone words)
 value_faults keyword words = []
 
--- how many tracks a pin reaches: that many, or that part of all, rounded down, at least 1 and at most all
+-- the number of tracks that a pin reaches: the given number or fraction of all tracks, rounded
+-- down, at least 1 and at most all
 abbrev pub reach : Bool → ℕ → ℕ → ℕ
 reach is_fractional value tracks = min tracks (max 1 ((if is_fractional then value * tracks else value) / one))

@@ -23,31 +23,31 @@ text_of FcPad = codes "Fc_pad"
 text_of SwitchBlockType = codes "switch_block_type"
 text_of Segment = codes "segment"
 
--- the keywords that must stand, in the order in which a missing one is told
+-- the required keywords, in the order in which missing ones are reported
 abbrev pub required : List Keyword
 required =
     IoRat ∷ ChanWidthIo ∷ ChanWidthX ∷ ChanWidthY ∷ SubblocksPerClb ∷ SubblockLutSize ∷ FcType ∷ FcOutput ∷ FcInput ∷ FcPad
     ∷ SwitchBlockType ∷ Segment ∷ []
 
--- they are spelled alike
+-- two keywords have the same spelling
 abbrev pub same_keyword : Keyword → Keyword → Bool
 same_keyword first second = bytes_eq (text_of first) (text_of second)
 
--- its lines are pins
+-- the keyword's lines describe pins
 abbrev pub is_pin_keyword : Keyword → Bool
 is_pin_keyword keyword = same_keyword keyword Inpin || same_keyword keyword Outpin
 
--- the keyword that a word is
+-- the keyword with this spelling
 unfoldable pub keyword_of : List ℕ → Option Keyword
 keyword_of word = find (λ keyword. bytes_eq word (text_of keyword)) (Inpin ∷ Outpin ∷ required)
 
--- words of resistances, capacitances and times, and of switches, whose lines aren't read
+-- words for resistances, capacitances, times and switches, whose lines aren't read
 unfoldable pub is_unread : List ℕ → Bool
 is_unread word =
     bytes_eq word (codes "switch")
     || (starts_with nat_eq word (codes "R_") || (starts_with nat_eq word (codes "C_") || starts_with nat_eq word (codes "T_")))
 
--- the word that stands alone
+-- the only word of a line
 abbrev pub lone : List (List ℕ) → Option (List ℕ)
 lone (word ∷ []) = Some word
 lone words = None

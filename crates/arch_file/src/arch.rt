@@ -1,17 +1,17 @@
-//! What a device is made of.
+//! What a device consists of.
 ghost use Rattle.std.specs.Prelude.{◌≡◌, ◌<◌};
 
 use std::alloc::AllocError;
 use std::marker::Model;
 
-/// What a pin of a logic block is for.
+/// What a pin of a logic block is used for.
 #[derive(Clone, Copy, PartialEq, Eq)]
 pub enum PinClass {
     /// Class 0, an input of a table.
     Input,
-    /// Class 1, the output of a logic element.
+    /// Class 1, the output of a BLE.
     Output,
-    /// Class 2, the clock, which comes by the global network.
+    /// Class 2, the clock, which arrives on the global network.
     Clock,
 }
 
@@ -72,23 +72,23 @@ impl Clone for Pins {
     }
 }
 
-/// What a device is made of, but for its size.
+/// What a device consists of, except for its size.
 #[derive(Drop)]
 pub struct Arch {
     /// Pads at each end of a column, 1 to 8.
     pub io_rat: u32,
     pub pins: Pins,
-    /// Logic elements of a block, 1 to 16.
+    /// BLEs of a logic block, 1 to 16.
     pub cluster_size: u32,
     /// Inputs of a table, 1 to 8.
     pub lut_size: u32,
     /// Tracks of each channel, 1 to 64.
     pub tracks: u32,
-    /// How many tracks an output pin reaches, 1 to all.
+    /// Tracks that an output pin reaches, 1 to all.
     pub fc_output: u32,
-    /// How many tracks an input pin reaches, 1 to all.
+    /// Tracks that an input pin reaches, 1 to all.
     pub fc_input: u32,
-    /// How many tracks a pad reaches, 1 to all.
+    /// Tracks that a pad reaches, 1 to all.
     pub fc_pad: u32,
 }
 

@@ -1,4 +1,4 @@
-//! What the lines so far say of the architecture.
+//! The architecture as far as the lines read so far describe it.
 ghost use Rattle.std.specs.Prelude.{◌≡◌, ◌<◌, List, [], OnOk, true, false, not, nat_lt, ◌≤◌, ◌&&◌, ◌==◌, slice_index_or, slice_set};
 ghost use Rattle.std.specs.List.{find};
 ghost use Rattle.line_text.specs.Lines.{JoinedLine};
@@ -18,17 +18,17 @@ use crate::words::{is_unread, keyword_of, required};
 use line_text::{Line, TextError};
 use std::alloc::{AllocError, Global};
 
-/// Logic elements of a block.
+/// The largest number of BLEs of a logic block.
 const MAX_CLUSTER_SIZE: u32 = 16;
-/// Pads at each end of a column.
+/// The largest number of pads at each end of a column.
 const MAX_IO_RAT: u32 = 8;
-/// Inputs of a table.
+/// The largest number of inputs of a table.
 const MAX_LUT_SIZE: u32 = 8;
 
-/// Why a line isn't read.
+/// Why a line is refused.
 pub(crate) type Refusal = TextError<ArchFaultKind>;
 
-/// The same at a line.
+/// The refusal of the line with this number.
 pub(crate) fn at_line(refusal: Refusal, line: u32) -> ArchError
     ensures { result ≡ error_at line refusal }
 {
@@ -49,27 +49,27 @@ impl From<ArchFaultKind> for TextError<ArchFaultKind> {
     }
 }
 
-/// What the lines read so far say. A value whose keyword doesn't stand is 0, or absolute.
+/// The values of the lines read so far. A value whose keyword was not read is 0, or absolute.
 #[derive(Drop)]
 pub(crate) struct Draft {
-    /// Which keywords stand, by rank.
+    /// Whether each keyword was read, by rank.
     stands: [bool; 14],
     io_rat: u32,
     cluster_size: u32,
     lut_size: u32,
     fc_type: FcType,
-    /// In millionths, as the next two.
+    /// In millionths, as are the next two.
     fc_output: u64,
     fc_input: u64,
     fc_pad: u64,
     pins: Vec<Pin>,
-    /// How many of the pins are inputs.
+    /// The number of inputs among the pins.
     inputs: u32,
     has_clock: bool,
 }
 
 impl Draft {
-    /// No line.
+    /// The draft before any line is read.
     pub(crate) fn new(alloc: Global) -> Self
         ensures { FollowsLines result [] }
     {
@@ -88,7 +88,7 @@ impl Draft {
         }
     }
 
-    /// The value behind a keyword.
+    /// Sets the value after a keyword, if it is lawful.
     #[tactic(auto, unfolding(crate::specs::Values::value_faults))]
     fn set(&mut self, keyword: Keyword, line: &Line<'_, '_>) -> Result<(), ArchFaultKind>
         ensures faults { Finds (value_faults keyword line.now.words) result }
@@ -130,14 +130,14 @@ impl Draft {
         }
     }
 
-    /// Whether the keyword stands.
+    /// Whether the keyword was read.
     fn has(&self, keyword: Keyword) -> bool
         ensures { result ≡ slice_index_or self.now.stands (rank_of keyword) false }
     {
         self.stands[keyword.rank()]
     }
 
-    /// The keyword stands now.
+    /// Marks the keyword as read.
     fn mark(&mut self, keyword: Keyword)
         ensures { self.new ≡ record self.old {
           stands = slice_set self.old.stands (rank_of keyword) true;
@@ -146,7 +146,7 @@ impl Draft {
         self.stands[keyword.rank()] = true;
     }
 
-    /// One more pin.
+    /// Adds a pin.
     fn add(&mut self, pin: Pin) -> Result<(), AllocError>
         requires { is_input_class pin.class ≡ true → self.old.inputs < 128 }
         ensures { OnOk result (AddsPin self.old pin self.new) }
@@ -165,7 +165,7 @@ impl Draft {
         }
     }
 
-    /// The line of a pin, behind its keyword.
+    /// Reads a pin's line, after its keyword.
     fn read_pin(&mut self, keyword: Keyword, line: &Line<'_, '_>) -> Result<(), Refusal>
         requires { is_pin_keyword keyword ≡ true }
         ensures { (before : List JoinedLine) → FollowsLines self.old before
@@ -177,7 +177,7 @@ impl Draft {
         Ok(())
     }
 
-    /// The line of a segment, behind its keyword.
+    /// Reads a segment's line, after its keyword.
     fn read_segment(&mut self, keyword: Keyword, line: &Line<'_, '_>) -> Result<(), Refusal>
         requires { same_keyword keyword Keyword.Segment ≡ true }
         ensures { (before : List JoinedLine) → FollowsLines self.old before
@@ -188,7 +188,7 @@ impl Draft {
         Ok(())
     }
 
-    /// The line of a value, behind its keyword.
+    /// Reads a value's line, after its keyword.
     fn read_value(&mut self, keyword: Keyword, line: &Line<'_, '_>) -> Result<(), Refusal>
         requires pin { is_pin_keyword keyword ≡ false }
         requires segment { same_keyword keyword Keyword.Segment ≡ false }
@@ -203,7 +203,7 @@ impl Draft {
         Ok(())
     }
 
-    /// A line, behind its keyword.
+    /// Reads a line, after its keyword.
     fn read_keyword(&mut self, keyword: Keyword, line: &Line<'_, '_>) -> Result<(), Refusal>
         ensures { (before : List JoinedLine) → FollowsLines self.old before
             → ReadsKeyword before keyword line.now.words result self.new }
@@ -217,7 +217,7 @@ impl Draft {
         self.read_value(keyword, line)
     }
 
-    /// A line.
+    /// Reads a line.
     pub(crate) fn read(&mut self, line: &Line<'_, '_>) -> Result<(), Refusal>
         ensures { (before : List JoinedLine) → FollowsLines self.old before
             → Reads before line.now result self.new }
@@ -237,7 +237,7 @@ impl Draft {
         }
     }
 
-    /// The first keyword that must stand and doesn't.
+    /// The first required keyword that was not read.
     fn first_missing(&self) -> Option<Keyword>
         ensures { result
             ≡ find (λ keyword. not (slice_index_or self.now.stands (rank_of keyword) false))
@@ -249,7 +249,7 @@ impl Draft {
             .find(|keyword| !self.has(*keyword))
     }
 
-    /// How many outputs there are.
+    /// The number of output pins.
     fn outputs(&self) -> usize
         ensures { result ≡ output_count self.now.pins.items }
     {
@@ -259,7 +259,7 @@ impl Draft {
             .count()
     }
 
-    /// Whether there is an input, as many outputs as logic elements, and a clock.
+    /// Whether there is an input, as many outputs as BLEs, and a clock.
     fn has_its_pins(&self) -> bool
         ensures { result ≡ (nat_lt 0 self.now.inputs
             && ((output_count self.now.pins.items == self.now.cluster_size)
@@ -268,7 +268,7 @@ impl Draft {
         0 < self.inputs && self.outputs() == self.cluster_size as usize && self.has_clock
     }
 
-    /// The architecture of all lines, for that many tracks.
+    /// The architecture for this many tracks, once all lines are read.
     pub(crate) fn finish(self, tracks: u32) -> Result<Arch, ArchFaultKind>
         requires few { 1 ≤ tracks }
         requires many { tracks ≤ 64 }

@@ -1,4 +1,4 @@
-//! What can be wrong with an architecture file, and how it is told.
+//! What can be wrong with an architecture file, and how it is reported.
 ghost use Rattle.std.specs.Prelude.{◌≡◌};
 ghost use Rattle.arch_file.specs.Faults.{name_of, number_of};
 
@@ -6,7 +6,7 @@ use line_text::{LineFault, TextError};
 use std::fmt;
 use thiserror::Error;
 
-/// A keyword of the architecture file, as `io_rat` or `chan_width_io`.
+/// A keyword of the architecture file, such as `io_rat` or `chan_width_io`.
 #[derive(Clone, Copy, Debug, PartialEq, Eq)]
 pub enum Keyword {
     IoRat,
@@ -28,30 +28,30 @@ pub enum Keyword {
 /// What is wrong with an architecture text.
 #[derive(Clone, Copy, Debug, PartialEq, Eq)]
 pub enum ArchFaultKind {
-    /// The line's first word is no keyword, or a pin's line lacks its `class:`.
+    /// The line's first word is not a keyword, or a pin's line has no `class:`.
     Unknown,
-    /// The keyword stands before.
+    /// An earlier line has the keyword too.
     Repeated,
     /// The text has no line with the keyword.
     Missing(Keyword),
-    /// A wrong count of words, or a word that isn't the number that is wanted.
+    /// A wrong number of words, or a word that isn't a number of the required kind.
     BadNumber,
-    /// A value that VPR reads, and devices of this profile don't have.
+    /// A value that VPR accepts, but that devices of this profile don't have.
     NotProfile(Keyword),
-    /// A class that the pin can't have, a second clock, or in the end a wrong count of pins.
+    /// A class that the pin can't have, a second clock, or at the end a wrong number of pins.
     BadClass,
-    /// The words behind the class aren't distinct sides, at least one.
+    /// The words after the class aren't distinct sides, or there is no side.
     BadSide,
-    /// A number, a count of pins or the text is above its limit.
+    /// A number, the number of pins or the length of the text is above its limit.
     OverLimit,
-    /// A byte outside comments is neither blank nor a printing ASCII character.
+    /// A byte outside comments is neither a blank nor a printing ASCII character.
     NotAscii,
     /// A joined line has more than 262,144 bytes.
     LineTooLong,
 }
 
 impl ArchFaultKind {
-    /// The number by which replies tell it, 1 to 10.
+    /// Its number in replies, 1 to 10.
     pub fn number(self) -> u32
         ensures { result ≡ number_of self }
     {
@@ -69,7 +69,7 @@ impl ArchFaultKind {
         }
     }
 
-    /// The name by which replies tell it.
+    /// Its name in replies.
     pub fn name(self) -> &'static str
         ensures { result.now ≡ name_of self }
     {
@@ -88,7 +88,7 @@ impl ArchFaultKind {
     }
 }
 
-/// A fault, with the number of its line from 1, or 0 where it is the text's.
+/// A fault, with the number of its line from 1, or 0 if it concerns the whole text.
 #[derive(Clone, Copy, Debug, PartialEq, Eq, Error)]
 pub struct ArchFault {
     pub line: u32,
@@ -96,14 +96,14 @@ pub struct ArchFault {
 }
 
 impl ArchFault {
-    /// The number by which replies tell what is wrong, 1 to 10.
+    /// The fault's number in replies, 1 to 10.
     pub fn number(self) -> u32
         ensures { result ≡ number_of self.kind }
     {
         self.kind.number()
     }
 
-    /// The name by which replies tell what is wrong.
+    /// The fault's name in replies.
     pub fn name(self) -> &'static str
         ensures { result.now ≡ name_of self.kind }
     {
@@ -125,7 +125,7 @@ impl fmt::Display for ArchFault {
     }
 }
 
-/// Why a text has no architecture.
+/// Why a text describes no architecture.
 pub type ArchError = TextError<ArchFault>;
 
 impl From<LineFault> for ArchFault {

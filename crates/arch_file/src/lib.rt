@@ -1,12 +1,13 @@
-//! The architecture file: what a device is made of.
+//! The architecture file: what a device consists of.
 //!
-//! [`read_arch`] reads a text of VPR 4.30's architecture file, as far as devices of this profile have it,
-//! and answers the [`Arch`] of a device of so many tracks. A text that isn't lawful has an [`ArchFault`]:
-//! the text's size is looked at first, then faults of its lines, then the least fault of the first line
-//! that has one, by the fault's number, and last what is missing at the end.
+//! [`read_arch`] reads a text of VPR 4.30's architecture file, limited to what devices of this
+//! profile have, and returns the [`Arch`] of a device with a given number of tracks. A text that
+//! isn't lawful has an [`ArchFault`]: the text's size is checked first, then its splitting into
+//! lines, then the lines themselves, and last what is missing at the end. Of the lines' faults it
+//! is one of the first line that has any, and of that line's the one with the least number.
 //!
-//! The definition in `specs/` lists all faults of a text and takes the least; the code goes over the lines
-//! once and stops at the first line that has a fault.
+//! The definition in `specs/` lists all faults of a text and takes the least; the code reads the
+//! lines once and stops at the first line that has a fault.
 //!
 //! [`SharedArch`] is an architecture with many owners.
 #![tactic(auto)]

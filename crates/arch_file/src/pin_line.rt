@@ -1,4 +1,4 @@
-//! The line of a pin: its class and its sides.
+//! Reads the line of a pin: its class and its sides.
 ghost use Rattle.std.specs.Prelude.{ℕ, ◌≡◌, ◌<◌, ◌++◌, ◌∷◌, [], List, IfOk, Some, nat_lt, true, false};
 ghost use Rattle.arch_file.specs.Readings.{FindsLeast};
 ghost use Rattle.arch_file.specs.PinLine.{class_faults, class_fits, class_of, pin_in, pin_line_faults, sides_of};
@@ -10,20 +10,20 @@ use crate::arch::{Pin, PinClass, Sides};
 use crate::fault::{ArchFaultKind, Keyword};
 use line_text::{Line, is_word};
 
-/// How many inputs a logic block may have.
+/// The largest number of inputs of a logic block.
 const MAX_INPUTS: u32 = 128;
 
-/// What the words behind a pin's class say.
+/// The meaning of the words after a pin's class.
 #[derive(Clone, Copy)]
 struct SideWords {
     sides: Sides,
     is_global: bool,
-    /// Each is a word for a side or the global network, and none stands twice.
+    /// Each word is a side or `global`, and none occurs twice.
     is_lawful: bool,
 }
 
 impl SideWords {
-    /// No word.
+    /// The meaning of no words.
     fn none() -> Self
         ensures { Shows result [] }
     {
@@ -39,7 +39,7 @@ impl SideWords {
         }
     }
 
-    /// One more word.
+    /// Adds one more word.
     fn with(self, word: &[u8]) -> Self
         ensures { (before : List (List ℕ)) → Shows self before →
             Shows result (before ++ word.now ∷ []) }
@@ -74,7 +74,7 @@ impl SideWords {
         more
     }
 
-    /// All words of the line.
+    /// Reads all words of the line.
     fn of(line: &Line<'_, '_>) -> Self
         ensures { Shows result line.now.words }
     {
@@ -87,7 +87,7 @@ impl SideWords {
     }
 }
 
-/// Whether a side can be reached.
+/// Whether the pin can be reached on some side.
 fn has_side(sides: Sides) -> bool
     ensures { result ≡ has_side sides }
 {
@@ -110,7 +110,8 @@ fn class_of(word: &[u8]) -> Option<PinClass>
     None
 }
 
-/// Whether the keyword takes pins of that class: inputs and outputs that aren't global, and a clock that is.
+/// Whether the keyword allows pins of this class: inputs and outputs that aren't global, and a
+/// clock that is.
 fn class_fits(keyword: Keyword, class: PinClass, is_global: bool) -> bool
     ensures { result ≡ class_fits keyword (Some class) is_global }
 {
@@ -122,7 +123,8 @@ fn class_fits(keyword: Keyword, class: PinClass, is_global: bool) -> bool
     }
 }
 
-/// The pin of a class word and the line behind it, where so many inputs stand before, and perhaps a clock.
+/// The pin of a class word and the line after it, or the least fault. `inputs` is the number of
+/// inputs before it, and `has_clock` whether there is a clock before it.
 fn pin_of(
     keyword: Keyword,
     class: &[u8],
@@ -161,7 +163,8 @@ fn pin_of(
     })
 }
 
-/// The pin of the line behind its keyword, where so many inputs stand before, and perhaps a clock.
+/// The pin of a line after its keyword, or the least fault. `inputs` is the number of inputs before
+/// it, and `has_clock` whether there is a clock before it.
 #[tactic(auto, unfolding(crate::specs::PinLine::pin_line_faults, crate::specs::PinLine::pin_in))]
 pub(crate) fn pin_in(
     keyword: Keyword,

@@ -1,4 +1,4 @@
-//! From the text to the architecture.
+//! Reads the text of an architecture.
 ghost use Rattle.std.specs.Prelude.{◌≤◌, IfOk};
 ghost use Rattle.line_text.specs.LineOrder.{RisesFrom};
 ghost use Rattle.line_text.specs.TextErrors.{Gives};
@@ -11,7 +11,8 @@ use crate::fault::{ArchError, ArchFault, ArchFaultKind};
 use line_text::{Lines, MAX_TEXT, logical_lines};
 use std::alloc::Global;
 
-/// What all lines say, whose numbers rise, or the least fault of the first line that has one.
+/// Reads all lines, whose numbers increase. Fails with the least fault of the first line that has
+/// one.
 fn read_lines(alloc: Global, lines: &Lines<'_>) -> Result<Draft, ArchError>
     requires { RisesFrom 1 lines.now }
     ensures { ReadsAll lines.now result }
@@ -26,9 +27,9 @@ fn read_lines(alloc: Global, lines: &Lines<'_>) -> Result<Draft, ArchError>
     Ok(draft)
 }
 
-/// The architecture of a device with that many tracks in each channel, as a text of the architecture file
-/// has it (VPR and T-VPack User's Manual 4.30), or the text's least fault. Of lines of resistances,
-/// capacitances, times and switches only the first word is read.
+/// The architecture that a text describes, for a device with this many tracks in each channel, or
+/// the text's least fault. The format is that of the VPR and T-VPack User's Manual 4.30. Of lines
+/// of resistances, capacitances, times and switches only the first word is read.
 #[tactic(auto, unfolding(crate::specs::Arch::arch_of))]
 pub fn read_arch(alloc: Global, text: &[u8], tracks: u32) -> Result<Arch, ArchError>
     requires few { 1 ≤ tracks }

@@ -20,7 +20,7 @@ fn is_number_one(word: &[u8]) -> bool
     }
 }
 
-/// Whether one value stands behind the key on the line, and is 1.
+/// Whether the line has exactly one value for the key, and that is 1.
 fn is_one(line: &Line<'_, '_>, key: &str) -> bool
     ensures { result ≡ is_one (values_under key.now line.now.words) }
 {
@@ -40,7 +40,7 @@ fn is_one(line: &Line<'_, '_>, key: &str) -> bool
     is_found
 }
 
-/// Whether the four keys that must be 1 are.
+/// Whether each of the four keys that must be 1 is 1.
 fn are_ones(line: &Line<'_, '_>) -> bool
     ensures { result ≡ are_ones line.now.words }
 {
@@ -50,7 +50,7 @@ fn are_ones(line: &Line<'_, '_>) -> bool
         && is_one(line, "Frac_sb:")
 }
 
-/// Whether the line behind `segment` is lawful, where another `segment` may stand before.
+/// Checks the line after `segment`; `is_second` says that another `segment` line came before.
 #[tactic(auto, unfolding(crate::specs::Segment::segment_faults))]
 pub(crate) fn check_segment(line: &Line<'_, '_>, is_second: bool) -> Result<(), ArchFaultKind>
     ensures { FindsLeast (segment_faults is_second line.now.words) result }

@@ -1,4 +1,4 @@
-//! An architecture that many own.
+//! An architecture with many owners.
 ghost use Rattle.std.specs.Prelude.{◌≡◌, IfErr, IfOk};
 ghost use Rattle.arch_file.specs.Arch.{IsArch};
 
@@ -7,7 +7,7 @@ use std::alloc::{AllocError, AllocFailed, Global};
 use std::marker::Model;
 use std::sync::Arc;
 
-/// An architecture with many owners, which do not copy it. Its value is the architecture.
+/// An architecture with many owners, who share one copy. Its value is the architecture.
 #[derive(Drop)]
 pub struct SharedArch {
     arch: Arc<Arch>,
@@ -26,7 +26,7 @@ impl Model for SharedArch {
 }
 
 impl SharedArch {
-    /// The architecture, to be shared. Without memory it comes back.
+    /// Makes the architecture shared. If memory runs out the architecture is handed back.
     pub fn new(alloc: Global, arch: Arch) -> Result<Self, AllocFailed<Arch>>
         requires { IsArch arch }
         ensures ok { IfOk result (λ shared. shared ≡ arch) }
@@ -49,7 +49,7 @@ impl SharedArch {
 impl Clone for SharedArch {
     ghost is_clone = { λ shared copy. copy ≡ shared };
 
-    /// One more owner. Copies nothing, and is refused only where the owners can't be counted any more.
+    /// Adds an owner, without copying. Fails only if the number of owners overflows.
     fn clone(&self) -> Result<Self, AllocError> {
         Ok(SharedArch {
             arch: self.arch.clone()?,

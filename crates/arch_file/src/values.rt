@@ -1,4 +1,4 @@
-//! The values behind the keywords.
+//! Reads the values after the keywords.
 ghost use Rattle.std.specs.Prelude.{◌≡◌, ◌<◌, ◌≤◌, IfOk, Some, false};
 ghost use Rattle.std.specs.Option.{option_map_or};
 ghost use Rattle.arch_file.specs.Readings.{Finds};
@@ -13,12 +13,12 @@ use line_text::{Line, is_word, millionths, whole_number};
 /// 1, in millionths.
 pub(crate) const ONE: u64 = 1_000_000;
 
-/// How the numbers of tracks are meant.
+/// How the numbers of tracks are given.
 #[derive(Clone, Copy)]
 pub(crate) enum FcType {
-    /// So many tracks.
+    /// As a number of tracks.
     Absolute,
-    /// That part of all tracks.
+    /// As a fraction of all tracks.
     Fractional,
 }
 
@@ -36,7 +36,7 @@ fn decimal_in(line: &Line<'_, '_>) -> Option<u64>
     millionths(lone(line)?)
 }
 
-/// A whole number from 1 to that limit.
+/// The line's whole number, which must be from 1 to the limit.
 pub(crate) fn whole_up_to(line: &Line<'_, '_>, limit: u32) -> Result<u32, ArchFaultKind>
     ensures faults { Finds (whole_faults limit (whole_in line.now.words)) result }
     ensures value { IfOk result (λ number. whole_in line.now.words ≡ Some number) }
@@ -57,7 +57,7 @@ pub(crate) fn whole_up_to(line: &Line<'_, '_>, limit: u32) -> Result<u32, ArchFa
     }
 }
 
-/// A decimal, in millionths.
+/// The line's decimal, in millionths.
 pub(crate) fn decimal(line: &Line<'_, '_>) -> Result<u64, ArchFaultKind>
     ensures faults { Finds (decimal_faults (decimal_in line.now.words)) result }
     ensures value { IfOk result (λ number. decimal_in line.now.words ≡ Some number) }
@@ -68,7 +68,7 @@ pub(crate) fn decimal(line: &Line<'_, '_>) -> Result<u64, ArchFaultKind>
     }
 }
 
-/// Whether the line's words are one decimal that is 1.
+/// Checks that the line is one decimal and that it is 1.
 pub(crate) fn check_one(keyword: Keyword, line: &Line<'_, '_>) -> Result<(), ArchFaultKind>
     ensures { Finds (one_faults keyword (decimal_in line.now.words)) result }
 {
@@ -84,7 +84,7 @@ pub(crate) fn check_one(keyword: Keyword, line: &Line<'_, '_>) -> Result<(), Arc
     }
 }
 
-/// Whether the line says that all channels have the width 1.
+/// Checks that the line gives all channels the width 1.
 pub(crate) fn check_width(keyword: Keyword, line: &Line<'_, '_>) -> Result<(), ArchFaultKind>
     ensures { Finds (width_faults keyword line.now.words) result }
 {
@@ -100,7 +100,7 @@ pub(crate) fn check_width(keyword: Keyword, line: &Line<'_, '_>) -> Result<(), A
     }
 }
 
-/// How the numbers of tracks are meant.
+/// The line's way of giving numbers of tracks.
 pub(crate) fn fc_type(line: &Line<'_, '_>) -> Result<FcType, ArchFaultKind>
     ensures faults { Finds (word_faults Keyword.FcType is_fc_type (lone line.now.words)) result }
     ensures value { IfOk result (λ meant.
@@ -120,7 +120,7 @@ pub(crate) fn fc_type(line: &Line<'_, '_>) -> Result<FcType, ArchFaultKind>
     }
 }
 
-/// Whether the line names the one kind of switch blocks.
+/// Checks that the line names the one kind of switch block.
 pub(crate) fn check_switch_block(line: &Line<'_, '_>) -> Result<(), ArchFaultKind>
     ensures { Finds (word_faults Keyword.SwitchBlockType is_subset (lone line.now.words)) result }
 {
@@ -136,7 +136,7 @@ pub(crate) fn check_switch_block(line: &Line<'_, '_>) -> Result<(), ArchFaultKin
     }
 }
 
-/// How many of so many tracks a pin reaches.
+/// The number of tracks that a pin reaches, out of this many tracks.
 pub(crate) fn reach(meant: FcType, value: u64, tracks: u32) -> u32
     requires few { 1 ≤ tracks }
     requires many { tracks ≤ 64 }

@@ -6,7 +6,8 @@ ghost use Rattle.arch_file.specs.Words.{is_pin_keyword, is_unread, keyword_of, l
 use crate::fault::Keyword;
 use line_text::{Line, is_word};
 
-/// All keywords: the two of pins, and those that must stand, in the order in which a missing one is told.
+/// All keywords: the two for pins, and then the required ones in the order in which missing ones
+/// are reported.
 const KEYWORDS: [Keyword; 14] = [
     Keyword::Inpin,
     Keyword::Outpin,
@@ -25,7 +26,7 @@ const KEYWORDS: [Keyword; 14] = [
 ];
 
 impl Keyword {
-    /// How it is spelled.
+    /// Its spelling.
     fn text(self) -> &'static str
         ensures { result.now ≡ text_of self }
     {
@@ -47,7 +48,7 @@ impl Keyword {
         }
     }
 
-    /// Its place among all keywords.
+    /// Its index among all keywords, from 0.
     pub(crate) fn rank(self) -> usize
         ensures place { result ≡ rank_of self }
         ensures below { result < 14 }
@@ -70,14 +71,13 @@ impl Keyword {
         }
     }
 
-    /// Whether its lines are pins.
+    /// Whether its lines describe pins.
     pub(crate) fn is_pin(self) -> bool
         ensures { result ≡ is_pin_keyword self }
     {
         matches!(self, Keyword::Inpin | Keyword::Outpin)
     }
 
-    /// Whether it is `segment`.
     pub(crate) fn is_segment(self) -> bool
         ensures { result ≡ same_keyword self Keyword.Segment }
     {
@@ -85,14 +85,14 @@ impl Keyword {
     }
 }
 
-/// The keywords that must stand, in the order in which a missing one is told.
+/// The required keywords, in the order in which missing ones are reported.
 pub(crate) fn required() -> &'static [Keyword]
     ensures { result.now ≡ required }
 {
     &KEYWORDS[2..]
 }
 
-/// The keyword that the word is.
+/// The keyword with this spelling.
 #[tactic(auto, unfolding(crate::specs::Words::keyword_of))]
 pub(crate) fn keyword_of(word: &[u8]) -> Option<Keyword>
     ensures { result ≡ keyword_of word.now }
@@ -103,7 +103,7 @@ pub(crate) fn keyword_of(word: &[u8]) -> Option<Keyword>
         .find(|keyword| is_word(word, keyword.text()))
 }
 
-/// Whether lines that begin with the word aren't read.
+/// Whether lines that begin with this word are skipped.
 #[tactic(auto, unfolding(crate::specs::Words::is_unread))]
 pub(crate) fn is_unread(word: &[u8]) -> bool
     ensures { result ≡ is_unread word.now }
@@ -114,7 +114,7 @@ pub(crate) fn is_unread(word: &[u8]) -> bool
         || word.starts_with(b"T_")
 }
 
-/// The word that stands alone on the line.
+/// The only word of the line.
 pub(crate) fn lone<'t>(line: &Line<'_, 't>) -> Option<&'t [u8]>
     ensures { option_map (λ word. word.now) result ≡ lone line.now.words }
 {

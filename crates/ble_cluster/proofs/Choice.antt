@@ -1,4 +1,4 @@
--- The first of the greatest, as a relation.
+-- The first number with the greatest score, as a relation.
 use Rattle.std.proofs.Common.{◌≡◌, ◌≢◌, ℕ, suc, zero, eqb, ◌&&◌, ◌+◌, ◌<◌, ◌≤◌, ◌⊎◌, inl, inr, Bool, true, false, ◌||◌, ◌==◌, List, [], ◌∷◌, Some, None, filter, nat_lt, if◌then◌else◌, sym, refl, ap, ◌∙◌, arith}
 use Rattle.std.specs.Prelude.{⊤}
 use Rattle.std.specs.List.{range_with_len}
@@ -8,7 +8,7 @@ use Rattle.ble_cluster.specs.Choosing.{LeadsOver}
 use Rattle.ble_cluster.specs.Nets.{has}
 use Rattle.ble_cluster.specs.Clusters.{first_most, leading}
 
--- each number is below all later ones
+-- the number is below all later ones
 abbrev pub IsBelow : ℕ → List ℕ → Type 0
 IsBelow low [] = ⊤
 IsBelow low (number ∷ numbers) = (low < number) × IsBelow low numbers
@@ -39,7 +39,7 @@ not_later : (score : ℕ → ℕ) (number other : ℕ) → LeadsOver score numbe
 not_later score number other (inl more) least less = omega (arith, more, least)
 not_later score number other (inr same) least less = omega (arith, same.1, less)
 
--- the one that leads over all is the one that is found
+-- the number that leads over all is the one that is found
 leads : (score : ℕ → ℕ) (best number : ℕ) (numbers : List ℕ) → IsBelow best numbers → IsRising numbers → has (best ∷ numbers) number ≡ true
     → ((other : ℕ) → has (best ∷ numbers) other ≡ true → LeadsOver score number other) → leading score best numbers ≡ number
 leads score best number [] b r h l = eqb-true best number (grind (arith, h))
@@ -76,13 +76,13 @@ leads score best number (next ∷ numbers) b r h l =
         by_first other true same k = grind (arith, same)
         by_first other false same k = among best other (has (next ∷ numbers) other) (among next other (has numbers other) k)
 
--- the number that leads over all of rising numbers is the first of the greatest
+-- of increasing numbers, the one that leads over all is the first with the greatest score
 pub first_most-is : (score : ℕ → ℕ) (numbers : List ℕ) (number : ℕ) → IsRising numbers → has numbers number ≡ true
     → ((other : ℕ) → has numbers other ≡ true → LeadsOver score number other) → first_most score numbers ≡ Some number
 first_most-is score [] number r h l = absurd cc
 first_most-is score (first ∷ numbers) number r h l = ap Some (leads score first number numbers r.0 r.1 h l)
 
--- of none there is no greatest
+-- an empty list has no greatest
 pub first_most-none : (score : ℕ → ℕ) (numbers : List ℕ) → ((other : ℕ) → has numbers other ≡ true → ⊥) → first_most score numbers ≡ None
 first_most-none score [] h = refl
 first_most-none score (first ∷ numbers) h = absurd (h first (itself first (has numbers first)))

@@ -16,7 +16,7 @@ use Rattle.ble_cluster.specs.FreeBles.{free_in}
 use Rattle.ble_cluster.proofs.Choice.{IsRising, first_most-is, first_most-none, has-filter, rising-filter, rising-range}
 use Rattle.ble_cluster.proofs.Outside.{has-append}
 
--- it stands among the first of them
+-- the number is among the first ones of the list
 abbrev pub IsAmongFirst : List ℕ → ℕ → ℕ → Type 0
 IsAmongFirst numbers place number = has (take place numbers) number ≡ true
 
@@ -32,11 +32,12 @@ module _ (arch : Arch) (elements : List LogicElement) (taken : List Bool) (membe
   best_small Among None i = λ other is. absurd cc
   best_small Among (Some best) i = λ other is. let same : best ≡ other = cc in subst (λ number. number < length elements) same i.small
 
-  -- of none there is no best
+  -- an empty list has no best
   pub none_first : (numbers : List ℕ) → IsBestOf (IsAmongFirst numbers 0) None
   none_first numbers = λ other h. absurd cc
 
-  -- it leads where the other's score is no greater, and if as great its number no lesser
+  -- a number leads if the other's score is not greater, and if for equal scores the other's number
+  -- is not lesser
   leads : (number other : ℕ) → gain_at gains other ≤ gain_at gains number → (gain_at gains other ≡ gain_at gains number → number ≤ other) → LeadsOver (gain_at gains) number other
   leads number other least ties = elim (cases_lt (gain_at gains other) (gain_at gains number)) [
     | inl less ↦ inl less
@@ -63,7 +64,7 @@ module _ (arch : Arch) (elements : List LogicElement) (taken : List Bool) (membe
   misses_ties : (first next : ℕ) → beats gains first (Some next) ≡ false → gain_at gains first ≡ gain_at gains next → next ≤ first
   misses_ties first next b e = grind (arith, nat_tests, b, e)
 
-  -- what stands among one more stands among the others, or is that one
+  -- a number among the first ones and one more is among the first ones, or is that one
   split : (numbers : List ℕ) (place other : ℕ) → place < length numbers → IsAmongFirst numbers (place + 1) other → (IsAmongFirst numbers place other) ⊎ (get_or numbers place 0 ≡ other)
   split numbers place other small h = by (eqb_tells (get_or numbers place 0) other) (ap (λ front. has front other) (take_more numbers place 0 small) ∙ has-append (take place numbers) (get_or numbers place 0 ∷ []) other)
     where
@@ -72,7 +73,7 @@ module _ (arch : Arch) (elements : List LogicElement) (taken : List Bool) (membe
       by (inl same) more = inr same.1
       by (inr differs) more = inl (grind (arith, h, more, differs.0))
 
-  -- one that beats the best, and is a candidate, takes its place
+  -- a candidate that beats the best replaces it
   best_more : (numbers : List ℕ) (place : ℕ) (best : Option ℕ) → place < length numbers → get_or numbers place 0 < length elements → 0 < gain_at gains (get_or numbers place 0) → IsBestOf (IsAmongFirst numbers place) best
       → beats gains (get_or numbers place 0) best ≡ true → candidate (get_or numbers place 0) ≡ true → IsBestOf (IsAmongFirst numbers (place + 1)) (Some (get_or numbers place 0))
   best_more numbers place best small within shares i b c = record {
@@ -94,7 +95,7 @@ module _ (arch : Arch) (elements : List LogicElement) (taken : List Bool) (membe
           (λ e. let tied : gain_at gains other ≡ gain_at gains best = omega (arith, e, no_more best other l, beats_more (get_or numbers place 0) best b) in
           omega (arith, ties_later best other l tied, beats_ties (get_or numbers place 0) best b (omega (arith, e, tied))))
 
-  -- one that doesn't, leaves it
+  -- a number that doesn't beat the best, or isn't a candidate, leaves it unchanged
   best_still : (numbers : List ℕ) (place : ℕ) (best : Option ℕ) → place < length numbers → IsBestOf (IsAmongFirst numbers place) best
       → (beats gains (get_or numbers place 0) best && candidate (get_or numbers place 0)) ≡ false → IsBestOf (IsAmongFirst numbers (place + 1)) best
   best_still numbers place None small i h = λ other among. elim (split numbers place other small among) [
@@ -123,7 +124,7 @@ module _ (arch : Arch) (elements : List LogicElement) (taken : List Bool) (membe
   best_step numbers place best true small within shares i p = best_more numbers place best small within shares i (grind (arith, p)) (grind (arith, p))
   best_step numbers place best false small within shares i p = best_still numbers place best small i (sym p)
 
-  -- all that share a net are touched
+  -- all BLEs that share a net are touched
   pub best_of_all : (numbers : List ℕ) (best : Option ℕ) → length gains ≡ length elements → AreTouched gains numbers → IsBestOf (IsAmongFirst numbers (length numbers)) best → IsBestOf (SharesNet elements gains) best
   best_of_all numbers None count t i = λ other shares. i other (among numbers other count t shares)
     where
@@ -136,13 +137,13 @@ module _ (arch : Arch) (elements : List LogicElement) (taken : List Bool) (membe
     leads = λ other shares is. i.leads other (rw (take_all (length numbers) numbers (omega arith)) (t.touches other (omega (arith, shares.small, count)) ∙ grind (arith, nat_tests, shares.shares))) is;
   }
 
--- what stands at a place is there
+-- the number at an index of a list is in the list
 has_at : (numbers : List ℕ) (place : ℕ) → place < length numbers → has numbers (get_or numbers place 0) ≡ true
 has_at [] place small = absurd (omega (arith, small))
 has_at (number ∷ numbers) zero small = grind (arith, nat_tests)
 has_at (number ∷ numbers) (suc place) small = let ih = has_at numbers place (omega (arith, small)) in grind (arith, ih)
 
--- a touched element shares a net
+-- a touched BLE shares a net
 pub touched_shares : (gains numbers : List ℕ) (place : ℕ) → place < length numbers → AreTouched gains numbers → 0 < gain_at gains (get_or numbers place 0)
 touched_shares gains numbers place small t =
     let listed = t.touches (get_or numbers place 0) (t.within place 0 small) in
@@ -166,14 +167,14 @@ in-range start (suc count) number from to = by (eqb_tells start number) (in-rang
     by (inr differs) ih = let h = ih (omega (arith, from, differs.1)) (omega (arith, to)) in grind (arith, h, differs.0)
 
 module _ (arch : Arch) (elements : List LogicElement) (taken : List Bool) (members : List ℕ) (count : length taken ≡ length elements) where
-  -- the candidates in their order
+  -- the candidates, in order
   abbrev listed : List ℕ
   listed = filter (may_join arch elements members) (free_in taken)
 
   listed_rise : IsRising listed
   listed_rise = rising-filter (may_join arch elements members) (free_in taken) (rising-filter (λ number. not (taken_at taken number)) (range_with_len 0 (length taken)) (rising-range 0 (length taken)))
 
-  -- what is listed is a candidate
+  -- a listed number is a candidate
   pub record IsListed (number : ℕ) : Type 0 where
     pub small : number < length elements
     pub candidate : is_candidate arch elements taken members number ≡ true
@@ -215,7 +216,7 @@ module _ (arch : Arch) (elements : List LogicElement) (taken : List Bool) (membe
             moved (inl more) = inl (omega (arith, shared other small, shared best i.small, more))
             moved (inr same) = inr (omega (arith, shared other small, shared best i.small, same.0), same.1)
 
-    -- where none of these is a candidate, the least candidate is the next
+    -- if none of these is a candidate, the least candidate is the next
     pub next_first : (first : Option ℕ) → IsBest arch elements taken members gains (SharesNet elements gains) None → IsFirst arch elements taken members first → first ≡ next_member arch elements (free_in taken) members
     next_first None i f = sym (next_none f)
     next_first (Some number) i f = sym (next_leads number f.small f.candidate (λ other small c. inr (omega (arith, none other small c, none number f.small f.candidate), later other c)))

@@ -1,4 +1,4 @@
--- Counts, marks and latches by net, over one more that is read or driven.
+-- Counts, marks and latches by net, after one more read or driver.
 use Rattle.std.proofs.Common.{◌≡◌, ◌≢◌, ◌⊎◌, inl, inr, ℕ, ◌+◌, ◌<◌, Bool, true, false, not, cond, ◌==◌, ◌||◌, List, [], ◌∷◌, ◌++◌, Option, Some, None, length, get_or, set, take, min, refl, sym, ap, subst, ◌∙◌, arith, append_assoc, slice_get, get_or-set_other, length-set, zero-add}
 use Rattle.std.specs.Prelude.{replicate}
 use Rattle.std.specs.Option.{option_or, option_to_list, is_some}
@@ -13,14 +13,14 @@ use Rattle.blif.specs.declared.latches.Latch.{Latch}
 use Rattle.blif.specs.LookupTables.{LookupTable}
 use Rattle.ble_cluster.specs.Reads.{AreCounts, AreDriven, AreLatches, CountsOn}
 
--- the list up to the element at that place
+-- the list up to and including the element at an index
 pub take_place : {X : Type 0} (xs : List X) (i : ℕ) (x : X) → i < length xs → slice_get xs i ≡ Some x → take (i + 1) xs ≡ take i xs ++ x ∷ []
 take_place xs i x within at = take_more xs i x within ∙ ap (λ y. take i xs ++ y ∷ []) (get_or_from_slice_get xs i x x at)
 
 pub flat_map_push : {X A : Type 0} (f : X → List A) (xs : List X) (x : X) → flat_map f (xs ++ x ∷ []) ≡ flat_map f xs ++ f x
 flat_map_push f xs x = flat_map-append f xs (x ∷ []) ∙ ap (λ last. flat_map f xs ++ last) (append-nil (f x))
 
--- one more counts where it passes
+-- one more element is counted if it passes
 pub count_by-push : {X : Type 0} (p : X → Bool) (xs : List X) (x : X) → count_by p (xs ++ x ∷ []) ≡ count_by p xs + cond (p x) 1 0
 count_by-push p xs x = sum_by-append (λ y. cond (p y) 1 0) xs (x ∷ []) ∙ ap (λ n. count_by p xs + n) (zero-add (cond (p x) 1 0))
 
@@ -41,7 +41,7 @@ counts_more counts net more within is reads counted other inside =
         let here : get_or (set counts net more) other 0 ≡ get_or counts other 0 = get_or-set_other counts net other more 0 (λ h. e.1 (sym h)) in
         omega (arith, here, old, none)
 
--- counts that go on from counts that go on
+-- counts that are increased twice
 pub counts_on_none : (counts : List ℕ) → CountsOn counts [] counts
 counts_on_none counts reads counted = rw (append-nil reads) counted
 
@@ -49,11 +49,11 @@ pub counts_on : (old mid new some others all : List ℕ) → CountsOn old some m
 counts_on old mid new some others all first then is reads counted =
     subst (λ rs. AreCounts rs new) (append_assoc reads some others ∙ ap (λ rs. reads ++ rs) is) (then (reads ++ some) (first reads counted))
 
--- none is read yet
+-- nothing is read yet
 pub counts_none : (n : ℕ) → AreCounts [] (replicate n 0)
 counts_none n net within = let inner : net < n = omega (arith, within, length-replicate {A = ℕ}) in get_or-replicate n net 0 0 inner
 
--- what is read after a write
+-- the element read after a write
 pub read_same : {X : Type 0} (xs : List X) (i j : ℕ) (x : X) → i ≡ j → i < length xs → slice_get (set xs i x) j ≡ Some x
 read_same xs i j x is within =
     let inner : j < length (set xs i x) = omega (arith, length-set xs i x) in
@@ -64,12 +64,12 @@ read_other xs i j x is within =
     let inner : j < length (set xs i x) = omega (arith, length-set xs i x) in
     slice_get-get_or (set xs i x) j x inner ∙ ap Some (get_or-set_other xs i j x x (λ h. is (sym h))) ∙ sym (slice_get-get_or xs j x within)
 
--- what is there, or else nothing
+-- an option, or else nothing
 option_or-none : {X : Type 0} (o : Option X) → option_or o None ≡ o
 option_or-none None = refl
 option_or-none (Some x) = refl
 
--- the latch is the first at its net, where none was
+-- the latch is the first at its net, if there was none
 pub latches_more : (latches : List Latch) (behind : List (Option Latch)) (latch : Latch) → latch.input < length behind → slice_get behind latch.input ≡ Some None → AreLatches latches behind → AreLatches (latches ++ latch ∷ []) (set behind latch.input (Some latch))
 latches_more latches behind latch within free are net inside =
     let inner : net < length behind = omega (arith, inside, length-set behind latch.input (Some latch)) in
@@ -82,7 +82,7 @@ latches_more latches behind latch within free are net inside =
     by (inr e) inner old found =
         read_other behind latch.input net (Some latch) e.1 inner ∙ old ∙ ap Some (sym (found ∙ rw e.0 (option_or-none (find (λ (other : Latch). other.input == net) latches))))
 
--- and it is not, where one was
+-- the latch is not the first at its net, if there was one
 pub latches_same : (latches : List Latch) (behind : List (Option Latch)) (latch other : Latch) → slice_get behind latch.input ≡ Some (Some other) → AreLatches latches behind → AreLatches (latches ++ latch ∷ []) behind
 latches_same latches behind latch other taken are net inside =
     by (eqb_tells latch.input net) (are net inside) (find-append (λ stored. stored.input == net) latches (latch ∷ []))
@@ -114,7 +114,7 @@ driven_more tables driven table output is within are net inside =
     by (inr e) inner old found =
         read_other driven output net true (λ h. e.1 (sym is ∙ h)) inner ∙ old ∙ ap Some (sym (found ∙ rw e.0 (or-false (list_any (λ (other : LookupTable). other.output == net) tables))))
 
--- a control, where there is one
+-- a control, if there is one
 pub control_here : (control : Option ℕ) (net : ℕ) → control ≡ Some net → net ∷ [] ≡ option_to_list control
 control_here control net is = sym (ap option_to_list is)
 
@@ -122,7 +122,7 @@ pub control_none : (control : Option ℕ) → ((net : ℕ) → control ≡ Some 
 control_none None h = refl
 control_none (Some net) h = absurd (h net refl)
 
--- one more latch, at a net that has none yet
+-- one more latch, at a net that doesn't have one yet
 pub latches_free : (latches : List Latch) (behind : List (Option Latch)) (i : ℕ) (d : Latch) (read : Option Latch) (none : Bool) → i < length latches → (get_or latches i d).input < length behind → read ≡ get_or behind (get_or latches i d).input read → is_some read ≡ not none → none ≡ true → AreLatches (take i latches) behind → AreLatches (take (i + 1) latches) (set behind (get_or latches i d).input (Some (get_or latches i d)))
 latches_free latches behind i d read none within inside is some h are =
     let at : slice_get behind (get_or latches i d).input ≡ Some read = slice_get-get_or behind (get_or latches i d).input read inside ∙ ap Some (sym is) in
@@ -133,7 +133,7 @@ latches_free latches behind i d read none within inside is some h are =
     free None e = refl
     free (Some latch) e = absurd cc
 
--- and at one that has one
+-- one more latch, at a net that already has one
 pub latches_taken : (latches : List Latch) (behind : List (Option Latch)) (i : ℕ) (d : Latch) (read : Option Latch) (none : Bool) → i < length latches → (get_or latches i d).input < length behind → read ≡ get_or behind (get_or latches i d).input read → is_some read ≡ not none → none ≡ false → AreLatches (take i latches) behind → AreLatches (take (i + 1) latches) behind
 latches_taken latches behind i d read none within inside is some h are =
     let at : slice_get behind (get_or latches i d).input ≡ Some read = slice_get-get_or behind (get_or latches i d).input read inside ∙ ap Some (sym is) in

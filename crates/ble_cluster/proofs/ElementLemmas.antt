@@ -1,4 +1,4 @@
--- Elements with their nets.
+-- BLEs with their nets.
 use Rattle.std.proofs.Common.{◌≡◌, ◌≢◌, ℕ, suc, zero, ◌+◌, ◌<◌, ◌≤◌, Bool, true, false, ◌||◌, ◌==◌, eqb, List, [], ◌∷◌, ◌++◌, All, filter, length, map, if◌then◌else◌, sym, refl, ap, ◌∙◌, arith, inl, inr, ◌⊎◌}
 use Rattle.std.specs.List.{range_with_len}
 use Rattle.std.proofs.lemmas.Bool.Decides.{nat_tests, eqb_tells}
@@ -16,7 +16,7 @@ use Rattle.rows.specs.ByKey.{pairs_with}
 use Rattle.ble_cluster.specs.FreeBles.{IsElement}
 use Rattle.ble_cluster.proofs.Outside.{distinct-more, once-distinct}
 
--- the pairs of an element, once its inputs are there
+-- the pairs of a BLE, after those of its inputs were added
 pub all_pushed : (old now : List Keyed) (number output : ℕ) (inputs : List ℕ) (reads_own : Bool) → IsOnce inputs → now ≡ old ++ pairs_with number inputs → reads_own ≡ has inputs output → reads_own ≡ true
     → now ≡ old ++ pairs_with number (distinct (inputs ++ output ∷ []))
 all_pushed old now number output inputs reads_own once e own is =
@@ -32,7 +32,7 @@ last_pushed old now number output inputs reads_own once e own is =
     ∙ ap (λ last. old ++ last) (sym (map-append (λ net. record { key = net; item = number }) inputs (output ∷ [])))
     ∙ ap (λ list. old ++ pairs_with number list) (sym nets)
 
--- one element more
+-- one more BLE
 pub pairs_more : (number : ℕ) (elements : List LogicElement) (element : LogicElement) → pairs_from number (elements ++ element ∷ []) ≡ pairs_from number elements ++ pairs_with (number + length elements) (nets_of element)
 pairs_more number [] element = let at : number + 0 ≡ number = omega arith in rw at (append-nil (pairs_with number (nets_of element)))
 pairs_more number (first ∷ elements) element =
@@ -40,7 +40,7 @@ pairs_more number (first ∷ elements) element =
     let at : number + 1 + length elements ≡ number + suc (length elements) = omega arith in
     ap (λ rest. pairs_with number (nets_of first) ++ rest) (rw at at ih) ∙ sym (append_assoc (pairs_with number (nets_of first)) (pairs_from (number + 1) elements) _)
 
--- what of an element's nets stands with a net: the element, if it has the net
+-- of one BLE's pairs, the items with a net: the BLE, if it has the net
 own_items : (number net : ℕ) (nets : List ℕ) → IsOnce nets → items_with (pairs_with number nets) net ≡ (if has nets net then number ∷ [] else [])
 own_items number net [] once = refl
 own_items number net (other ∷ nets) once = by (eqb_tells other net) (own_items number net nets once.1)
@@ -54,7 +54,7 @@ items-append pairs others net =
     ap (map (λ (pair : Keyed). pair.item)) (filter-append (λ pair. eqb pair.key net) pairs others)
     ∙ map-append (λ (pair : Keyed). pair.item) (filter (λ pair. eqb pair.key net) pairs) (filter (λ pair. eqb pair.key net) others)
 
--- what stands with a net, element by element
+-- the items with a net, BLE by BLE
 abbrev numbers_from : ℕ → ℕ → List LogicElement → List ℕ
 numbers_from net number [] = []
 numbers_from net number (element ∷ elements) = (if has (nets_of element) net then number ∷ [] else []) ++ numbers_from net (number + 1) elements
@@ -66,7 +66,7 @@ items_are net number (element ∷ elements) =
     ∙ ap (λ front. front ++ items_with (pairs_from (number + 1) elements) net) (own_items number net (nets_of element) (once-distinct (element.inputs ++ element.output ∷ [])))
     ∙ ap (λ last. (if has (nets_of element) net then number ∷ [] else []) ++ last) (items_are net (number + 1) elements)
 
--- lesser numbers aren't there
+-- lesser numbers don't occur
 no_lesser : (net number : ℕ) (elements : List LogicElement) (lesser : ℕ) → lesser < number → has (numbers_from net number elements) lesser ≡ false
 no_lesser net number [] lesser less = refl
 no_lesser net number (element ∷ elements) lesser less = by (has (nets_of element) net) (no_lesser net (number + 1) elements lesser (omega (arith, less)))
@@ -110,7 +110,7 @@ numbers_listed net number (element ∷ elements) (suc place) small = by (has (ne
     by true ih = ap (λ n. has (number ∷ numbers_from net (number + 1) elements) n) same ∙ (let differs : (number == number + 1 + place) ≡ false = grind (arith, nat_tests) in ap (λ test. test || has (numbers_from net (number + 1) elements) (number + 1 + place)) differs ∙ ih)
     by false ih = ap (λ n. has (numbers_from net (number + 1) elements) n) same ∙ ih
 
--- the items of a net are the elements that have it
+-- the items with a net are the BLEs that have it
 pub having_are : (elements : List LogicElement) (net : ℕ) → AreHaving elements net (items_with (pairs_from 0 elements) net)
 having_are elements net = rw (items_are net 0 elements) (record {
   once = numbers_once net 0 elements;
@@ -118,7 +118,7 @@ having_are elements net = rw (items_are net 0 elements) (record {
   listed = λ number small. let at : 0 + number ≡ number = omega arith in rw at at (numbers_listed net 0 elements number small);
 })
 
--- the rows made of all pairs hold the elements
+-- the rows made of all pairs hold the BLEs of each net
 pub elements_are : (elements : List LogicElement) (nets : ℕ) → AreLawful (record { elements = elements; nets = nets }) → AreElements elements (items_by_key (pairs_from 0 elements) nets)
 elements_are elements nets lawful = record {
   few = rw count lawful.few;
@@ -144,7 +144,7 @@ with_within nets seen (net ∷ list) s h = with_within nets (with_net seen net) 
     by true = s
     by false = All-append (λ n. n < nets) seen (net ∷ []) s (All-cons (λ n. n < nets) net [] (h 0 net (omega arith)) (All-nil _))
 
--- an element's nets are lawful
+-- a BLE's nets are lawful
 pub nets_within : (nets : ℕ) (element : LogicElement) → IsElement nets element → All (λ net. net < nets) (nets_of element)
 nets_within nets element e =
     with_within nets [] (element.inputs ++ element.output ∷ []) (All-nil _)
@@ -158,6 +158,6 @@ pairs_within number nets (element ∷ elements) lawful =
     (own_within number nets (nets_of element) (nets_within nets element (lawful 0 element (omega arith))))
     (pairs_within (number + 1) nets elements (All-tail (IsElement nets) element elements lawful))
 
--- its inputs stand once
+-- each of a BLE's inputs occurs once
 pub inputs_once : {count : ℕ} (element : LogicElement) → IsElement count element → IsOnce element.inputs
 inputs_once element e = rw e.once at (once-distinct element.inputs)

@@ -1,4 +1,4 @@
--- The BLEs of a circuit: their nets are the circuit's, and each input stands once.
+-- The BLEs of a circuit: their nets are the circuit's, and each input occurs once.
 use Rattle.std.proofs.Common.{◌≡◌, ℕ, ◌<◌, Bool, true, false, not, ◌&&◌, ◌==◌, nat_le, List, [], ◌∷◌, ◌++◌, Option, Some, None, All, IfSome, filter, length, map, take, drop, refl, ap, ◌∙◌, arith, if◌then◌else◌}
 use Rattle.std.specs.List.{find, flat_map, prefix_len}
 use Rattle.std.specs.Option.{option_to_list}
@@ -20,7 +20,7 @@ use Rattle.ble_cluster.specs.FreeBles.{IsElement}
 use Rattle.ble_cluster.specs.Nets.{IsOnce}
 use Rattle.ble_cluster.proofs.Outside.{once-distinct, with_nets-new}
 
--- nets that stand once stay as they are
+-- nets that occur once are unchanged
 unseen : (nets : List ℕ) → filter (λ net. not (has [] net)) nets ≡ nets
 unseen [] = refl
 unseen (net ∷ nets) = ap (λ ns. net ∷ ns) (unseen nets)
@@ -28,7 +28,7 @@ unseen (net ∷ nets) = ap (λ ns. net ∷ ns) (unseen nets)
 pub distinct-once : (nets : List ℕ) → IsOnce nets → distinct nets ≡ nets
 distinct-once nets once = with_nets-new [] nets once ∙ unseen nets
 
--- nets within stay so
+-- a property of the old and the added nets holds for all of them
 with_nets_within : (P : ℕ → Type 0) (nets others : List ℕ) → All P nets → All P others → All P (with_nets nets others)
 with_nets_within P nets [] h k = h
 with_nets_within P nets (net ∷ others) h k = with_nets_within P (with_net nets net) others (by (has nets net)) (All-tail P net others k)
@@ -37,7 +37,7 @@ with_nets_within P nets (net ∷ others) h k = with_nets_within P (with_net nets
     by true = h
     by false = All-append P nets (net ∷ []) h (All-cons P net [] (k 0 net (omega arith)) (All-nil P))
 
--- what is found is one of the list
+-- the element that is found has a property that all elements have
 found_lawful : {X : Type 0} (P : X → Type 0) (test : X → Bool) (xs : List X) → All P xs → IfSome (find test xs) P
 found_lawful P test [] all = tt
 found_lawful P test (x ∷ xs) all = by (test x) (found_lawful P test xs (All-tail P x xs all))
@@ -80,7 +80,7 @@ pub elements_lawful : (circuit : Circuit) → IsCircuit circuit → All (IsEleme
 unfolding bles_of
 elements_lawful circuit lawful = order_lawful circuit lawful circuit.tables (filter (stands_alone circuit) circuit.latches) lawful.tables (All-filter (stands_alone circuit) (IsLatchWithin (length circuit.nets)) circuit.latches lawful.latches)
 
--- an element fits alone where its outside inputs are not more than the pins
+-- a BLE fits alone if its outside inputs are at most the number of pins
 pub alone_fits : (arch : Arch) (count : ℕ) (element : LogicElement) → IsArch arch → IsElement count element → fits_in_cluster arch (element ∷ []) ≡ nat_le (length (filter (λ net. not (net == element.output)) element.inputs)) (input_count arch.pins)
 alone_fits arch count element profile is =
     let room : nat_le 1 arch.cluster_size ≡ true = grind (arith, nat_tests, profile.cluster_size.0) in

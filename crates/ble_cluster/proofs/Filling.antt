@@ -1,4 +1,4 @@
--- A cluster that its last member makes full.
+-- A cluster that becomes full with its last member.
 use Rattle.std.proofs.Common.{◌≡◌, ℕ, suc, ◌+◌, ◌<◌, ◌≤◌, Bool, true, false, if◌then◌else◌, List, [], ◌∷◌, ◌++◌, All, None, Some, length, refl, sym, ap, ◌∙◌, arith, length-append}
 use Rattle.std.specs.Option.{option_to_list}
 use Rattle.std.proofs.lemmas.List.Elements.{All-nil, All-cons, All-append}
@@ -15,7 +15,7 @@ module _ (arch : Arch) (elements : List LogicElement) (taken : List Bool) (marks
   none_joins : (members : List ℕ) → arch.cluster_size ≤ length members → next_member arch elements (free_in taken) members ≡ None
   none_joins members full = next_none arch elements taken members marks (λ other small. full_refuses arch elements taken members other full)
 
-  -- a full cluster stays as it is
+  -- a full cluster no longer changes
   pub full_stays : (members : List ℕ) (additions : ℕ) → arch.cluster_size ≤ length members → grown arch elements (free_in taken) members additions ≡ members
   full_stays members additions full = grown_full arch elements (free_in taken) members 0 additions (omega arith) (none_joins members full)
 
@@ -33,7 +33,7 @@ module _ (arch : Arch) (elements : List LogicElement) (taken : List Bool) (marks
       let full : arch.cluster_size ≤ length (cleared ++ seed ∷ []) = omega (arith, one, length-append cleared (seed ∷ [])) in
       sym (full_stays (cleared ++ seed ∷ []) arch.cluster_size full) ∙ cluster_is arch elements (free_in taken) (cleared ++ seed ∷ []) cleared seed first nothing refl
 
--- what all members keep, where the last one may have been added
+-- a property of all members, when the last one may or may not have been added
 pub all_filled : (P : ℕ → Type 0) (members filled : List ℕ) (number : ℕ) (made : Bool) → filled ≡ (if made then members ++ number ∷ [] else members) → All P members → P number → All P filled
 all_filled P members filled number true is all one = rw is (All-append P members (number ∷ []) all (All-cons P number [] one (All-nil P)))
 all_filled P members filled number false is all one = rw is all

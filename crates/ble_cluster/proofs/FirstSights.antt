@@ -1,11 +1,11 @@
--- Nets, each at its first sight.
+-- Nets, each once, in the order in which they first appear.
 use Rattle.std.proofs.Common.{◌≡◌, ℕ, Bool, true, false, List, [], ◌∷◌, ◌++◌, refl, sym, ap, ◌∙◌, ◌+◌, ◌-◌, ◌<◌, ◌≤◌, length, take, drop, get_or, arith, length-append, append_assoc}
 use Rattle.std.proofs.lemmas.List.{drop_at, take_all, take_more}
 use Rattle.std.specs.Prelude.{if◌then◌else◌}
 use Rattle.ble_cluster.specs.Nets.{has, with_nets, distinct}
 use Rattle.ble_cluster.specs.NetSets.{with_net}
 
--- one more of the others
+-- one more of the added nets
 pub with_nets-push : (nets others : List ℕ) (net : ℕ) → with_nets nets (others ++ net ∷ []) ≡ with_net (with_nets nets others) net
 with_nets-push nets [] net = refl
 with_nets-push nets (other ∷ others) net = with_nets-push (with_net nets other) others net
@@ -14,21 +14,21 @@ with_nets-push nets (other ∷ others) net = with_nets-push (with_net nets other
 pub distinct-push : (nets : List ℕ) (net : ℕ) → distinct (nets ++ net ∷ []) ≡ with_net (distinct nets) net
 distinct-push nets net = with_nets-push [] nets net
 
--- a net that is new, and one that is not
+-- adding a net that is new, and one that is not
 pub with_net-new : (nets : List ℕ) (net : ℕ) → has nets net ≡ false → with_net nets net ≡ nets ++ net ∷ []
 with_net-new nets net new = ap (λ b. if b then nets else nets ++ net ∷ []) new
 
 pub with_net-old : (nets : List ℕ) (net : ℕ) → has nets net ≡ true → with_net nets net ≡ nets
 with_net-old nets net old = ap (λ b. if b then nets else nets ++ net ∷ []) old
 
--- whether the net is among the distinct nets that stand behind the old ones
+-- whether the net is among the distinct nets after the old ones
 seen_is : (old items nets : List ℕ) (start i net : ℕ) (seen : Bool) → start ≡ length old → items ≡ old ++ distinct (take i nets) → seen ≡ has (take (length items - start) (drop start items)) net → has (distinct (take i nets)) net ≡ seen
 seen_is old items nets start i net seen starts is test =
     let new : drop start items ≡ distinct (take i nets) = ap (drop start) is ∙ drop_at old (distinct (take i nets)) start (sym starts) in
     let long : length (distinct (take i nets)) ≤ length items - start = let sum : length items ≡ length old + length (distinct (take i nets)) = ap length is ∙ length-append old (distinct (take i nets)) in omega (arith, starts, sum) in
     sym (test ∙ ap (λ rest. has (take (length items - start) rest) net) new ∙ ap (λ rest. has rest net) (take_all (length items - start) (distinct (take i nets)) long))
 
--- one more net, seen or not
+-- one more net, new or not
 pub distinct_new : (old items nets : List ℕ) (start i d : ℕ) (seen : Bool) → i < length nets → start ≡ length old → items ≡ old ++ distinct (take i nets) → seen ≡ has (take (length items - start) (drop start items)) (get_or nets i d) → seen ≡ false → items ++ get_or nets i d ∷ [] ≡ old ++ distinct (take (i + 1) nets)
 distinct_new old items nets start i d seen within starts is test new =
     let fresh = seen_is old items nets start i (get_or nets i d) seen starts is test ∙ new in

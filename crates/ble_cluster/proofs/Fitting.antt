@@ -1,4 +1,4 @@
--- Whether an element fits with members, by their nets.
+-- Whether a BLE fits with members, from their nets.
 use Rattle.std.proofs.Common.{◌≡◌, ℕ, suc, zero, ◌+◌, ◌<◌, ◌≤◌, Bool, true, false, not, ◌&&◌, nat_le, List, [], ◌∷◌, ◌++◌, Some, None, All, length, get_or, refl, sym, ap, ◌∙◌, arith, length-append, if◌then◌else◌}
 use Rattle.std.proofs.lemmas.Bool.Decides.{nat_tests}
 use Rattle.ble_cluster.specs.Nets.{has}
@@ -23,7 +23,7 @@ may_join_full arch elements members number full =
     by true = refl
     by false = refl
 
--- where no element is unfit each fits alone
+-- if no BLE is unfit, each fits alone
 none_found : (test : ℕ → Bool) (numbers : List ℕ) → find test numbers ≡ None → All (λ number. test number ≡ false) numbers
 none_found test [] none = All-nil _
 none_found test (number ∷ numbers) none = by (test number) refl none (none_found test numbers)
@@ -44,12 +44,12 @@ fits_alone arch elements number none within =
     by true h = refl
     by false h = absurd cc
 
--- with no seed there is no free element
+-- if there is no seed, no BLE is free
 pub none_free : (score : ℕ → ℕ) (numbers : List ℕ) → None ≡ first_most score numbers → numbers ≡ []
 none_free score [] h = refl
 none_free score (number ∷ numbers) h = absurd cc
 
--- of no free elements no cluster is made
+-- if no BLE is free, no cluster is made
 nothing_grows : (arch : Arch) (elements : List LogicElement) (additions : ℕ) → grown arch elements [] [] additions ≡ []
 nothing_grows arch elements zero = refl
 nothing_grows arch elements (suc additions) = rw (nothing_grows arch elements additions) refl

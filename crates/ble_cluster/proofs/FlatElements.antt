@@ -1,4 +1,4 @@
--- BLEs whose inputs stand in one list that grows.
+-- BLEs whose inputs are stored in one list, to which inputs are appended.
 use Rattle.std.proofs.Common.{◌≡◌, ℕ, List, [], ◌∷◌, ◌++◌, Option, length, map, refl, ap, ◌∙◌}
 use Rattle.std.proofs.lemmas.List.{map_push}
 use Rattle.ble_cluster.specs.declared.bles.BleSpan.{BleSpan}
@@ -6,7 +6,7 @@ use Rattle.ble_cluster.specs.Bles.{LogicElement}
 use Rattle.ble_cluster.specs.FlatBles.{ble_at, AreBlesWithin}
 use Rattle.rows.proofs.Growing.{part_of-append, part_of-added}
 
--- the BLEs whose inputs are parts of the list stay
+-- the BLEs whose inputs are within the list are unchanged
 bles-append : (xs ys : List ℕ) (bles : List BleSpan) → AreBlesWithin (length xs) bles → map (ble_at (xs ++ ys)) bles ≡ map (ble_at xs) bles
 bles-append xs ys [] within = refl
 bles-append xs ys (ble ∷ bles) within =
@@ -14,7 +14,7 @@ bles-append xs ys (ble ∷ bles) within =
     let tail = bles-append xs ys bles within.1 in
     cc
 
--- the BLEs with one more, whose inputs were added to the list
+-- the BLEs with one more, whose inputs were appended to the list
 pub bles_push : (xs ys : List ℕ) (bles : List BleSpan) (start end output : ℕ) (clock : Option ℕ) → AreBlesWithin (length xs) bles → start ≡ length xs → end ≡ length (xs ++ ys) → map (ble_at (xs ++ ys)) (bles ++ record { inputs = record { start = start; end = end }; output = output; clock = clock } ∷ []) ≡ map (ble_at xs) bles ++ record { inputs = ys; output = output; clock = clock } ∷ []
 bles_push xs ys bles start end output clock within starts ends =
     map_push (ble_at (xs ++ ys)) bles (record { inputs = record { start = start; end = end }; output = output; clock = clock })

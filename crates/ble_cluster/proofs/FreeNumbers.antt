@@ -10,11 +10,11 @@ use Rattle.ble_cluster.specs.Choosing.{taken_at}
 use Rattle.ble_cluster.specs.Bles.{LogicElement}
 use Rattle.ble_cluster.specs.FirstFree.{AreAbove, AreByOutside, IsFirstFree, IsFirstWithin, IsKept, IsLowest, key_at}
 
--- one number more that is taken or above the bound
+-- one more number, which is taken or above the bound
 pub above_more : (taken : List Bool) (keys : List ℕ) (bound number : ℕ) → AreAbove taken keys bound number → false ≡ (not (taken_at taken number) && nat_le (key_at keys number) bound) → AreAbove taken keys bound (number + 1)
 above_more taken keys bound number above fails = below_more _ _ above (λ free. grind (arith, nat_tests, fails, free))
 
--- one that is neither is the least
+-- a free number within the bound is the least
 pub least_here : (taken : List Bool) (keys : List ℕ) (bound number : ℕ) → number < length keys → AreAbove taken keys bound number → true ≡ (not (taken_at taken number) && nat_le (key_at keys number) bound) → IsFirstWithin taken keys bound (Some number)
 least_here taken keys bound number small above passes = record {
   small = small;
@@ -23,20 +23,20 @@ least_here taken keys bound number small above passes = record {
   least = above;
 }
 
--- where all numbers are passed there is none
+-- if all numbers were passed over, no free number is within the bound
 pub none_within : (taken : List Bool) (keys : List ℕ) (bound end : ℕ) → length keys ≤ end → AreAbove taken keys bound end → IsFirstWithin taken keys bound None
 none_within taken keys bound end all above = λ number small free. above number (omega (arith, small, all)) free
 
--- of the free numbers none has a key below the bound
+-- no free number has a key below the bound
 abbrev pub AreFrom : List Bool → List ℕ → ℕ → Type 0
 AreFrom taken keys bound = (number : ℕ) → number < length keys → taken_at taken number ≡ false → bound ≤ key_at keys number
 
--- none has that key, and so all are from the next on
+-- if no free number has this key, all have keys from the next one on
 pub from_next : (taken : List Bool) (keys : List ℕ) (bound : ℕ) (first : Option ℕ) → is_some first ≡ false → IsFirstWithin taken keys bound first → AreFrom taken keys (bound + 1)
 from_next taken keys bound None none above = λ number small free. omega (arith, above number small free)
 from_next taken keys bound (Some number) none is = absurd cc
 
--- the first with it is the lowest
+-- if some free number has this key, the first of them is the lowest
 pub lowest_here : (taken : List Bool) (keys : List ℕ) (bound : ℕ) (first : Option ℕ) → is_some first ≡ true → AreFrom taken keys bound → IsFirstWithin taken keys bound first → IsLowest taken keys first
 lowest_here taken keys bound None some from is = absurd cc
 lowest_here taken keys bound (Some number) some from is = record {
@@ -53,7 +53,7 @@ lowest_here taken keys bound (Some number) some from is = record {
         later (inl less) = absurd (omega (arith, most, is.within, is.least other less free))
         later (inr from) = from
 
--- once all bounds are passed none is free
+-- once all bounds were passed, no number is free
 pub none_free : (taken : List Bool) (keys : List ℕ) (count : ℕ) → All (λ key. key < count) keys → AreFrom taken keys count → IsLowest taken keys None
 none_free taken keys count bounds from = λ number small. by number small (taken_at taken number) refl
   where
@@ -61,11 +61,11 @@ none_free taken keys count bounds from = λ number small. by number small (taken
     by number small true e = refl
     by number small false e = let key : key_at keys number < count = bounds number 0 small in absurd (omega (arith, key, from number small e))
 
--- the BLEs are found as before once a search has gone on
+-- the index finds the same BLEs after a search
 pub found_on : (bles : List LogicElement) (taken : List Bool) (old new : FirstFree) → AreByOutside bles taken old → new.keys.items ≡ old.keys.items → IsFirstFree taken new → AreByOutside bles taken new
 found_on bles taken old new found keys free = record { few = found.few; taken = found.taken; counts = rw keys found.counts; free = free }
 
--- what was passed over stays so where more is taken
+-- free numbers that were passed over are still passed over after more are taken
 pub kept_free : (old new : List Bool) (index : FirstFree) → IsKept old new → IsFirstFree old index → IsFirstFree new index
 kept_free old new index kept lawful = record {
   marks = kept.count ∙ lawful.marks;
@@ -78,7 +78,7 @@ kept_free old new index kept lawful = record {
     was_free number free true e = let wrong : true ≡ false = sym (kept.kept number e) ∙ free in absurd cc
     was_free number free false e = e
 
--- one number more is taken
+-- one more number is taken
 pub kept_more : (old now : List Bool) (number : ℕ) → IsKept old now → IsKept old (set now number true)
 kept_more old now number k = record {
   count = length-set now number true ∙ k.count;

@@ -1,4 +1,4 @@
--- A cluster under way with one element more.
+-- A growing cluster with one more BLE.
 use Rattle.std.proofs.Common.{◌≡◌, ◌≢◌, ℕ, ◌+◌, ◌-◌, ◌<◌, ◌≤◌, ◌^◌, ◌⊎◌, inl, inr, Bool, true, false, not, ◌||◌, ◌&&◌, ◌==◌, eqb, List, [], ◌∷◌, ◌++◌, All, Option, Some, None, filter, length, take, nat_le, nat_lt, if◌then◌else◌, sym, refl, ap, ◌∙◌, arith, length-append}
 use Rattle.std.specs.List.{flat_map, slice_index_or}
 use Rattle.std.specs.Option.{option_or, option_to_list}
@@ -28,7 +28,7 @@ use Rattle.ble_cluster.specs.FreeBles.{IsElement}
 use Rattle.ble_cluster.proofs.ElementLemmas.{inputs_once, nets_within}
 use Rattle.ble_cluster.proofs.Outside.{has-append, has-distinct, has-member_nets, has-with_net, once-distinct, outside_more, shared_more, shared_same, with_nets-append}
 
--- tests that answer the same keep the same
+-- tests that agree keep the same elements
 filter_agrees : (test other : ℕ → Bool) → ((net : ℕ) → test net ≡ other net) → (nets : List ℕ) → filter test nets ≡ filter other nets
 filter_agrees test other same [] = refl
 filter_agrees test other same (net ∷ nets) = let here = same net in let ih = filter_agrees test other same nets in grind (arith, here, ih)
@@ -42,7 +42,7 @@ unfolding IsDistinct
 once_distinct [] once = tt
 once_distinct (net ∷ nets) once = (apart net nets once.0, once_distinct nets once.1)
 
--- nets that stand once, below a count, are no more than that
+-- nets that occur once and are below a count are at most that many
 pub once_few : (nets : List ℕ) (count : ℕ) → IsOnce nets → All (λ net. net < count) nets → length nets ≤ count
 once_few nets count once within = length-le_from_distinct_below nets count (once_distinct nets once) (found (λ net. net < count) nets within)
 
@@ -56,14 +56,14 @@ module _ (elements : List LogicElement) (nets : ℕ) (growth : GrowingCluster) (
   pub drives_are : (net : ℕ) → has growth.drives.nets net ≡ has (outputs_of members) net
   drives_are net = rw g.drives (has-distinct (outputs_of members) net)
 
-  -- the new inputs are those that the members gain
+  -- the new inputs are those that the BLE adds to the members
   pub new_are : (element : LogicElement) → new_inputs_of growth.reads.nets growth.drives.nets element.output element.inputs ≡ gained members element
   new_are element = filter_agrees (is_new_input growth.reads.nets growth.drives.nets element.output) _ (λ net. let r = reads_are net in let d = drives_are net in grind (arith, r, d)) element.inputs
 
   pub members_more : (number : ℕ) → elements_at elements (growth.members.items ++ number ∷ []) ≡ members ++ element_at elements number ∷ []
   members_more number = map-append (element_at elements) growth.members.items (number ∷ [])
 
-  -- how many inputs from outside there are with one element more
+  -- the number of inputs from outside with one more BLE
   pub record OutsideWith (number new : ℕ) (lost : Bool) : Type 0 where
     pub enough : lost ≡ true → 1 ≤ growth.outside + new
     pub sum : length (outside_inputs (elements_at elements (growth.members.items ++ number ∷ []))) + (if lost then 1 else 0) ≡ growth.outside + new
@@ -82,11 +82,11 @@ module _ (elements : List LogicElement) (nets : ℕ) (growth : GrowingCluster) (
       rw (members_more number, same) (omega (arith, more, g.outside, counted ∙ ap length (new_are element))) in
       record { enough = λ is. let lost_one : lost ≡ true = is in omega (arith, rw lost_one at sum); sum = sum }
 
-  -- the element that a lookup gave
+  -- the BLE that a lookup returned
   pub element_is : (number : ℕ) (element : LogicElement) → slice_get elements number ≡ Some element → element_at elements number ≡ element
   element_is number element looked = get_or_from_slice_get elements number element _ looked
 
-  -- the same, for an element that a lookup gave
+  -- the number of inputs from outside, with a BLE that a lookup returned
   pub outside_of : (number new : ℕ) (lost : Bool) (element : LogicElement) → slice_get elements number ≡ Some element → IsElement nets element
       → new ≡ length (new_inputs_of growth.reads.nets growth.drives.nets element.output element.inputs)
       → lost ≡ (has growth.reads.nets element.output && not (has growth.drives.nets element.output))
@@ -95,11 +95,11 @@ module _ (elements : List LogicElement) (nets : ℕ) (growth : GrowingCluster) (
       let same = element_is number element looked in
       outside_with number new lost (rw same (inputs_once element lawful)) (rw same counted) (rw same loss)
 
-  -- new inputs are few
+  -- the number of new inputs is within the limit
   pub new_few : nets ≤ 8192 → (output : ℕ) (inputs : List ℕ) → IsOnce inputs → All (λ net. net < nets) inputs → length (new_inputs_of growth.reads.nets growth.drives.nets output inputs) ≤ 8192
   new_few few output inputs once within = omega (arith, once_few inputs nets once within, few, length-filter (is_new_input growth.reads.nets growth.drives.nets output) inputs, count_by-le-length (is_new_input growth.reads.nets growth.drives.nets output) inputs)
 
-  -- the clocks with one element more
+  -- the clocks with one more BLE
   pub clocks_more : (number : ℕ) → clocks_of (elements_at elements (growth.members.items ++ number ∷ [])) ≡ with_nets (option_to_list growth.clock) (option_to_list (element_at elements number).clock)
   clocks_more number =
       let element = element_at elements number in
@@ -127,7 +127,7 @@ module _ (elements : List LogicElement) (nets : ℕ) (growth : GrowingCluster) (
       length-map (growth.members.items ++ number ∷ []) (element_at elements) ∙ length-append growth.members.items (number ∷ []) in
       grind (arith, nat_tests, clocks, size, counted)
 
--- with no nets nothing is shared
+-- no BLE shares any of no nets
 none_shared : (list : List ℕ) → length (filter (has []) list) ≡ 0
 none_shared [] = refl
 none_shared (net ∷ list) = none_shared list
@@ -148,7 +148,7 @@ growth_none elements nets growth m r d o c l n = record {
   gains = λ number small. n number (omega (arith, small, l)) ∙ rw m (sym (none_shared (nets_of (element_at elements number))));
 }
 
--- a net that is there once counts once
+-- a net that occurs once is counted once
 counted_once : (nets : List ℕ) (net : ℕ) (list : List ℕ) → IsOnce list → has nets net ≡ false → length (filter (λ other. has (net ∷ []) other && not (has nets other)) list) ≡ (if has list net then 1 else 0)
 counted_once nets net [] once h = refl
 counted_once nets net (other ∷ list) once h = by (eqb_tells other net) (counted_once nets net list once.1 h)
@@ -158,7 +158,7 @@ counted_once nets net (other ∷ list) once h = by (eqb_tells other net) (counte
     by (inl same) ih = let none : has list net ≡ false = rw same.1 at once.0 in let new : has nets other ≡ false = rw (sym same.1) at h in let turned : (net == other) ≡ true = grind (arith, nat_tests, same.1) in grind (arith, same.0, none, new, turned, ih)
     by (inr differs) ih = let turned : (net == other) ≡ false = grind (arith, nat_tests, differs.0) in grind (arith, differs.0, turned, ih)
 
--- a net that enters is shared by those that have it
+-- a new net is shared by the BLEs that have it
 pub entered : (elements : List LogicElement) (nets : List ℕ) (net : ℕ) (old new : List ℕ) → length old ≡ length elements → AreShared elements nets old → has nets net ≡ false → IsEntering elements net old new → AreShared elements (nets ++ net ∷ []) new
 entered elements nets net old new count s h e = λ number small.
     let element = element_at elements number in
@@ -169,11 +169,11 @@ entered elements nets net old new count s h e = λ number small.
     let one = counted_once nets net (nets_of element) (once-distinct (element.inputs ++ element.output ∷ [])) h in
     grind (arith, raised, listed, before, more, one)
 
--- what is told stays so for lists that have the same nets
+-- the counts are the same for lists with the same nets
 pub told_same : (elements : List LogicElement) (nets others gains : List ℕ) → ((net : ℕ) → has nets net ≡ has others net) → AreShared elements nets gains → AreShared elements others gains
 told_same elements nets others gains same s = λ number small. s number small ∙ shared_same nets others same (nets_of (element_at elements number))
 
--- counts are small
+-- the counts are small enough to be increased
 pub have_room : (over : BlesOver) (nets gains : List ℕ) → AreLawful over → length gains ≡ length over.elements → AreShared over.elements nets gains → HaveRoom gains
 have_room over nets gains lawful count s = All-from_get_or (λ gain. gain < 2 ^ 32 - 1) gains 0 (λ number small.
     let element = element_at over.elements number in
@@ -188,7 +188,7 @@ reads_has reads drives net other = let a = has-append (with_net reads net) drive
 pub drives_has : (reads drives : List ℕ) (net other : ℕ) → has (reads ++ with_net drives net) other ≡ (has (reads ++ drives) other || (net == other))
 drives_has reads drives net other = let a = has-append reads (with_net drives net) other in let b = has-with_net drives net other in let c = has-append reads drives other in grind (arith, a, b, c)
 
--- one net more, among those that are read or driven
+-- one more net, among those that members read or drive
 pub told_more : (elements : List LogicElement) (reads drives later : List ℕ) (net : ℕ) (old new : List ℕ) → length old ≡ length elements → AreShared elements (reads ++ drives) old
     → EntersUnless (has reads net || has drives net) elements net old new → ((other : ℕ) → has later other ≡ (has (reads ++ drives) other || (net == other))) → AreShared elements later new
 told_more elements reads drives later net old new count s e same = by (has reads net || has drives net) refl e
@@ -209,7 +209,7 @@ told_more elements reads drives later net old new count s e same = by (has reads
         told_same elements ((reads ++ drives) ++ net ∷ []) later new (λ other. let a = has-append (reads ++ drives) (net ∷ []) other in let b = same other in grind (arith, a, b))
         (entered elements (reads ++ drives) net old new count s (has-append reads drives net ∙ h) e)
 
--- one more of the nets is read
+-- one more of the nets is added to those that members read
 pub reads_on : (old now new : GrowingCluster) (nets : List ℕ) (place : ℕ) → place < length nets
     → now ≡ record old { gains = now.gains; reads = record { count = old.reads.count; nets = with_nets old.reads.nets (take place nets) } }
     → new ≡ record now { gains = new.gains; reads = new.reads }
@@ -223,7 +223,7 @@ reads_on old now new nets place small before same read =
     read ∙ ap (λ (growth : GrowingCluster). record { count = growth.reads.count; nets = with_net growth.reads.nets here }) before ∙ ap (λ nets. record { count = old.reads.count; nets = nets }) more in
     same ∙ ap (λ (growth : GrowingCluster). record growth { gains = new.gains; reads = new.reads }) before ∙ ap (λ (set : NetsAmong). record old { gains = new.gains; reads = set }) reads
 
--- the clock with a member more
+-- the clock with one more member
 pub clock_more : (clock other : Option ℕ) (clocks : List ℕ) → clocks ≡ with_nets (option_to_list clock) (option_to_list other) → length clocks ≤ 1 → clocks ≡ option_to_list (later_clock clock other)
 clock_more clock None clocks e few = e
 clock_more None (Some other) clocks e few = e
@@ -233,7 +233,7 @@ clock_more (Some clock) (Some other) clocks e few = by (has (clock ∷ []) other
     by true s e = let same = eqb-true clock other (grind (arith, s)) in e ∙ ap (λ c. c ∷ []) same
     by false s e = let long : length clocks ≡ 2 = ap length e in absurd (omega (arith, long, few))
 
--- what fits into a cluster has room there
+-- BLEs that fit into a cluster are within its limits
 pub record HasRoom (arch : Arch) (elements : List LogicElement) : Type 0 where
   pub few_inputs : length (outside_inputs elements) ≤ input_count arch.pins
   pub few_clocks : length (clocks_of elements) ≤ 1
@@ -248,7 +248,7 @@ has_room arch elements fits =
     by true false eb c ec h = absurd cc
     by false b eb c ec h = absurd cc
 
--- what follows when an element is added that fits
+-- the effect of adding a BLE that fits
 pub record IsAdding (elements : List LogicElement) (nets : ℕ) (old new : GrowingCluster) (number outside : ℕ) : Type 0 where
   pub members : new.members.items ≡ old.members.items ++ number ∷ []
   pub reads : new.reads ≡ record { count = nets; nets = with_nets old.reads.nets (element_at elements number).inputs }
@@ -304,7 +304,7 @@ growth_more elements nets old new number outside g small fit counted adding = re
         ∙ ap (λ test. has (inputs_of (elements_at elements new.members.items)) net || test) (has-distinct (outputs_of (elements_at elements new.members.items)) net)
         ∙ sym (has-member_nets (elements_at elements new.members.items) net)
 
--- what the members share is told by what they read and drive
+-- the counts of shared nets follow from the nets that members read and drive
 pub old_told : (elements : List LogicElement) (nets : ℕ) (growth : GrowingCluster) → IsGrowingCluster elements nets growth → IsTold elements growth
 old_told elements nets growth g = told_same elements (flat_map nets_of (elements_at elements growth.members.items)) (growth.reads.nets ++ growth.drives.nets) growth.gains same g.gains
   where

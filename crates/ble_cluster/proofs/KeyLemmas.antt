@@ -1,4 +1,4 @@
--- The keys of elements, one after the other.
+-- The keys of BLEs, one after another.
 use Rattle.std.proofs.Common.{◌≡◌, ℕ, ◌+◌, ◌<◌, ◌≤◌, Bool, not, ◌==◌, List, All, Some, length, slice_get, ap, arith}
 use Rattle.std.proofs.lemmas.List.Elements.{All-from_get_or}
 use Rattle.std.proofs.lemmas.List.Sums.{length-filter, count_by-le-length}
@@ -10,7 +10,7 @@ use Rattle.ble_cluster.proofs.ElementLemmas.{inputs_once}
 use Rattle.ble_cluster.proofs.GrowingLemmas.{once_few}
 use Rattle.ble_cluster.proofs.Choosing.{element_is}
 
--- the element that a lookup gave has few inputs
+-- the number of inputs of a BLE that a lookup returned is within the limit
 pub inputs_few : (elements : List LogicElement) (nets number : ℕ) → nets ≤ 8192 → All (IsElement nets) elements → number < length elements → input_count_at elements number ≤ 8192
 inputs_few elements nets number few lawful small =
     let e : IsElement nets (element_at elements number) = lawful number _ small in
@@ -22,13 +22,13 @@ count_is elements number element at = ap (λ (e : LogicElement). length e.inputs
 pub outside_is : (elements : List LogicElement) (number : ℕ) (element : LogicElement) → slice_get elements number ≡ Some element → length (own_outside (element_at elements number)) ≡ length (own_outside element)
 outside_is elements number element at = ap (λ (e : LogicElement). length (own_outside e)) (element_is elements number element at)
 
--- no more nets are from outside than are read
+-- the nets read from outside are at most the nets that are read
 pub outside_few : (element : LogicElement) → length (own_outside element) ≤ length element.inputs
 outside_few element =
     let test : ℕ → Bool = λ net. not (net == element.output) in
     omega (arith, length-filter test element.inputs, count_by-le-length test element.inputs)
 
--- no key is above the most
+-- no key is above the greatest
 pub lacks_within : (elements : List LogicElement) (keys : List ℕ) (most : ℕ) → length keys ≡ length elements → ((number : ℕ) → number < length elements → key_at keys number + input_count_at elements number ≡ most) → All (λ key. key ≤ most) keys
 lacks_within elements keys most count sum = All-from_get_or (λ key. key ≤ most) keys 0 (λ number small. omega (arith, sum number (omega (arith, small, count))))
 

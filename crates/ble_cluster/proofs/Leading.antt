@@ -1,11 +1,12 @@
--- What holds of all numbers holds of the one that leads them, and of one that is found among them.
+-- A property of all numbers holds for the one that leads them, and for one that is found among
+-- them.
 use Rattle.std.proofs.Common.{◌≡◌, ◌≢◌, ℕ, Bool, true, false, List, [], ◌∷◌, All, if◌then◌else◌, arith, nat_lt, eqb, ◌⊎◌, inl, inr}
 use Rattle.std.specs.List.{list_any}
 use Rattle.std.proofs.lemmas.Bool.Decides.{eqb_tells}
 use Rattle.std.proofs.lemmas.List.Elements.{All-tail}
 use Rattle.ble_cluster.specs.Clusters.{leading}
 
--- what is chosen among lawful numbers is lawful
+-- the leading number has a property that all numbers have
 pub leading_lawful : (P : ℕ → Type 0) (score : ℕ → ℕ) (best : ℕ) (numbers : List ℕ) → P best → All P numbers → P (leading score best numbers)
 leading_lawful P score best [] b h = b
 leading_lawful P score best (number ∷ numbers) b h = leading_lawful P score (if nat_lt (score best) (score number) then number else best) numbers (by (nat_lt (score best) (score number))) (All-tail P number numbers h)
@@ -14,7 +15,7 @@ leading_lawful P score best (number ∷ numbers) b h = leading_lawful P score (i
     by true = h 0 number (omega arith)
     by false = b
 
--- what holds of all holds of one that is found
+-- a number that is found has a property that all numbers have
 pub found : (P : ℕ → Type 0) (numbers : List ℕ) → All P numbers → (number : ℕ) → list_any (eqb number) numbers ≡ true → P number
 found P [] h number e = absurd cc
 found P (other ∷ numbers) h number e = by (eqb_tells number other) (found P numbers (All-tail P other numbers h) number)

@@ -1,4 +1,4 @@
--- Marks of nets and of BLEs that are taken.
+-- Marks of taken BLEs.
 use Rattle.std.proofs.Common.{◌≡◌, ◌≢◌, ◌⊎◌, inl, inr, ℕ, ◌<◌, Bool, true, false, not, ◌||◌, ◌&&◌, ◌==◌, List, [], ◌∷◌, ◌++◌, filter, length, get_or, set, refl, sym, ap, ◌∙◌, arith, get_or-set_other, length-set, if◌then◌else◌}
 use Rattle.std.specs.List.{range_with_len}
 use Rattle.std.proofs.lemmas.Grind.{get_or-set_at}
@@ -8,7 +8,7 @@ use Rattle.ble_cluster.specs.Nets.{has}
 use Rattle.ble_cluster.specs.FreeBles.{free_in}
 use Rattle.ble_cluster.proofs.Outside.{has-append}
 
--- two filters, one after the other
+-- two filters, one after another
 pub filter_filter : {X : Type 0} (p q : X → Bool) (xs : List X) → filter q (filter p xs) ≡ filter (λ x. p x && q x) xs
 filter_filter p q [] = refl
 filter_filter p q (x ∷ xs) = by (p x) refl (q x) refl (filter_filter p q xs)
@@ -18,7 +18,7 @@ filter_filter p q (x ∷ xs) = by (p x) refl (q x) refl (filter_filter p q xs)
     by true e false f same = rw f same
     by false e b f same = same
 
--- one number more is taken
+-- one more number is taken
 free_without : (taken : List Bool) (number : ℕ) → number < length taken → free_in (set taken number true) ≡ filter (λ other. not (number == other)) (free_in taken)
 free_without taken number within =
     ap (λ n. filter (λ other. not (get_or (set taken number true) other true)) (range_with_len 0 n)) (length-set taken number true)
@@ -37,7 +37,7 @@ free_without taken number within =
     by other (inl e) = ap not (get_or-set_at taken number other true true (sym e.1) within) ∙ rw e.0 (and-false (not (get_or taken other true)))
     by other (inr e) = ap not (get_or-set_other taken number other true true (λ h. e.1 (sym h))) ∙ rw e.0 (and-true (not (get_or taken other true)))
 
--- members and one number more are taken
+-- one more member is taken
 pub free_more : (old new : List Bool) (members : List ℕ) (number : ℕ) → number < length new → free_in new ≡ filter (λ other. not (has members other)) (free_in old) → free_in (set new number true) ≡ filter (λ other. not (has (members ++ number ∷ []) other)) (free_in old)
 free_more old new members number within is =
     free_without new number within
@@ -50,7 +50,7 @@ free_more old new members number within is =
     by other false e true f more = grind (arith, nat_tests, e, f, more)
     by other false e false f more = grind (arith, nat_tests, e, f, more)
 
--- of no members all stay
+-- if no member is taken, the free numbers are unchanged
 pub free_same : (free : List ℕ) → free ≡ filter (λ other. not (has [] other)) free
 free_same [] = refl
 free_same (number ∷ free) = ap (λ ns. number ∷ ns) (free_same free)

@@ -5,11 +5,11 @@ use Rattle.std.proofs.lemmas.Bool.{cases_eq, cases_lt, ne_eqb, false≢true}
 use Rattle.ble_cluster.specs.Nets.{has}
 use Rattle.ble_cluster.specs.NetSets.{AreMarked}
 
--- of the nets from a place on some are marked, and no other nets
+-- only nets from an index of the list on are marked
 abbrev pub AreLeft : List ℕ → ℕ → List Bool → Type 0
 AreLeft nets place marks = (net : ℕ) → get_or marks net false ≡ true → has (drop place nets) net ≡ true
 
--- at first all marked nets are among them
+-- at first all marked nets are in the list
 pub left_none : (nets : List ℕ) (marks : List Bool) → AreMarked marks nets → AreLeft nets 0 marks
 left_none nets marks marked net is =
     elim (cases_lt net (length marks)) [
@@ -17,7 +17,7 @@ left_none nets marks marked net is =
       | inr past ↦ absurd (false≢true (sym (get_or_past marks net false past) ∙ is))
     ]
 
--- a net that lost its mark has none
+-- a net is unmarked after its mark is removed
 unmarked : (marks : List Bool) (net : ℕ) → get_or (set marks net false) net false ≡ false
 unmarked marks net =
     elim (cases_lt net (length marks)) [
@@ -25,7 +25,7 @@ unmarked marks net =
       | inr past ↦ get_or_past (set marks net false) net false (omega (arith, length-set marks net false))
     ]
 
--- the next net loses its mark
+-- the mark of the next net is removed
 pub left_more : (nets : List ℕ) (place : ℕ) (marks : List Bool) → place < length nets → AreLeft nets place marks → AreLeft nets (place + 1) (set marks (get_or nets place 0) false)
 left_more nets place marks h left net is =
     let here = get_or nets place 0 in
@@ -38,7 +38,7 @@ left_more nets place marks h left net is =
           ap (λ t. t || has (drop (place + 1) nets) net) (sym test) ∙ sym split ∙ before
     ]
 
--- at last no net is marked
+-- at the end no net is marked
 pub left_all : (nets : List ℕ) (place : ℕ) (marks : List Bool) → length nets ≤ place → AreLeft nets place marks → AreMarked marks []
 left_all nets place marks h left = record {
   marked = λ net within. no_mark (get_or marks net false) (λ is. sym (ap (λ rest. has rest net) (drop_all place nets h)) ∙ left net is);

@@ -1,4 +1,4 @@
--- The outside inputs of a cluster with one element more, and the nets that it shares.
+-- The outside inputs of a cluster with one more BLE, and the nets that it shares.
 use Rattle.std.proofs.Common.{◌≡◌, ℕ, ◌+◌, Bool, true, false, not, ◌||◌, ◌&&◌, ◌==◌, List, [], ◌∷◌, ◌++◌, filter, length, if◌then◌else◌, sym, refl, ◌∙◌, arith, length-append, ap}
 use Rattle.std.proofs.lemmas.List.{append-nil, append_assoc}
 use Rattle.std.specs.List.{flat_map}
@@ -36,11 +36,10 @@ pub with_nets-append : (nets xs ys : List ℕ) → with_nets nets (xs ++ ys) ≡
 with_nets-append nets [] ys = refl
 with_nets-append nets (x ∷ xs) ys = with_nets-append (with_net nets x) xs ys
 
--- the nets that are new
 abbrev pub new_nets : List ℕ → List ℕ → List ℕ
 new_nets nets others = filter (λ other. not (has nets other)) others
 
--- one net more that none of the others is
+-- one more net, which differs from the others
 new_unseen : (seen : List ℕ) (net : ℕ) (others : List ℕ) → has others net ≡ false → new_nets (seen ++ net ∷ []) others ≡ new_nets seen others
 new_unseen seen net [] h = refl
 new_unseen seen net (other ∷ others) h = by (other == net) refl (has seen other) refl (has-append seen (net ∷ []) other) (new_unseen seen net others)
@@ -50,7 +49,7 @@ new_unseen seen net (other ∷ others) h = by (other == net) refl (has seen othe
     by false e true f more ih = grind (arith, nat_tests, h, e, f, more, ih)
     by false e false f more ih = grind (arith, nat_tests, h, e, f, more, ih)
 
--- nets that stand once each come behind those that were seen, but for these
+-- nets that occur once are appended to those before, without those that already occur there
 pub with_nets-new : (seen nets : List ℕ) → IsOnce nets → with_nets seen nets ≡ seen ++ new_nets seen nets
 with_nets-new seen [] once = sym (append-nil seen)
 with_nets-new seen (net ∷ nets) once = by (has seen net) refl (with_nets-new seen nets once.1) (with_nets-new (seen ++ net ∷ []) nets once.1)
@@ -73,15 +72,15 @@ once-with_nets nets (net ∷ others) once = once-with_nets (with_net nets net) o
     by true e = once
     by false e = once-push nets net once e
 
--- each net once is once
+-- distinct nets occur once
 pub once-distinct : (nets : List ℕ) → IsOnce (distinct nets)
 once-distinct nets = once-with_nets [] nets tt
 
--- those that are not among the nets, nor that net
+-- the nets that are not in the list and differ from this net
 abbrev pub beyond : List ℕ → List ℕ → List ℕ
 beyond nets others = filter (λ other. not (has nets other)) others
 
--- one net more leaves out one more, where it is there
+-- excluding one more net removes one more input, if it is an input
 left_out : (driven : List ℕ) (net : ℕ) (inputs : List ℕ) → IsOnce inputs
     → length (beyond (driven ++ net ∷ []) inputs) + (if has inputs net && not (has driven net) then 1 else 0) ≡ length (beyond driven inputs)
 left_out driven net [] once = refl
@@ -107,7 +106,7 @@ gained-is inputs driven output (net ∷ nets) =
     by false ea false eb true ec same more ih = grind (arith, nat_tests, ea, eb, ec, same, more, ih)
     by false ea false eb false ec same more ih = grind (arith, nat_tests, ea, eb, ec, same, more, ih)
 
--- how many outside inputs there are with one element more
+-- the number of outside inputs with one more BLE
 pub outside_more : (members : List LogicElement) (element : LogicElement) → IsOnce element.inputs
     → length (outside_inputs (members ++ element ∷ [])) + (if loses members element then 1 else 0) ≡ length (outside_inputs members) + length (gained members element)
 outside_more members element once =
@@ -123,7 +122,7 @@ outside_more members element once =
     let same = has-distinct inputs element.output in
     grind (arith, sums, left, same)
 
--- how many nets an element shares with the members and one more
+-- the number of nets that a BLE shares with the members and one more
 pub shared_more : (nets added others : List ℕ) → length (filter (has (nets ++ added)) others) ≡ length (filter (has nets) others) + length (filter (λ net. has added net && not (has nets net)) others)
 shared_more nets added [] = refl
 shared_more nets added (net ∷ others) = by (has nets net) refl (has added net) refl (has-append nets added net) (shared_more nets added others)
@@ -135,7 +134,7 @@ shared_more nets added (net ∷ others) = by (has nets net) refl (has added net)
     by false ea true eb more ih = grind (arith, ea, eb, more, ih)
     by false ea false eb more ih = grind (arith, ea, eb, more, ih)
 
--- what the members have, they read or drive
+-- the members have the nets that they read or drive
 pub has-member_nets : (members : List LogicElement) (net : ℕ) → has (flat_map nets_of members) net ≡ (has (inputs_of members) net || has (outputs_of members) net)
 has-member_nets [] net = refl
 has-member_nets (element ∷ members) net =
@@ -146,7 +145,7 @@ has-member_nets (element ∷ members) net =
     let ih = has-member_nets members net in
     grind (arith, own, parts, nets, reads, ih)
 
--- lists that have the same nets share the same
+-- a list shares the same number of nets with lists that have the same nets
 pub shared_same : (nets others : List ℕ) → ((net : ℕ) → has nets net ≡ has others net) → (list : List ℕ) → length (filter (has nets) list) ≡ length (filter (has others) list)
 shared_same nets others same [] = refl
 shared_same nets others same (net ∷ list) = let here = same net in let ih = shared_same nets others same list in grind (arith, here, ih)
@@ -155,10 +154,10 @@ all_new : (nets : List ℕ) → new_nets [] nets ≡ nets
 all_new [] = refl
 all_new (net ∷ nets) = ap (λ rest. net ∷ rest) (all_new nets)
 
--- nets that stand once are distinct
+-- nets that occur once are unchanged by distinct
 pub distinct-once : (nets : List ℕ) → IsOnce nets → distinct nets ≡ nets
 distinct-once nets once = with_nets-new [] nets once ∙ all_new nets
 
--- and so are they with one that is new
+-- nets that occur once, with one more net
 pub distinct-more : (nets : List ℕ) (net : ℕ) → IsOnce nets → distinct (nets ++ net ∷ []) ≡ with_net nets net
 distinct-more nets net once = with_nets-append [] nets (net ∷ []) ∙ ap (λ front. with_net front net) (distinct-once nets once)

@@ -1,4 +1,4 @@
--- Counts that are raised.
+-- Counts that are increased.
 use Rattle.std.proofs.Common.{◌≡◌, ◌≢◌, ℕ, suc, zero, ◌+◌, ◌<◌, ◌≤◌, true, false, ◌||◌, ◌==◌, eqb, List, [], ◌∷◌, ◌++◌, length, take, drop, set, get_or, sym, refl, ◌∙◌, arith, inl, inr, ◌⊎◌, get_or-set_same, get_or-set_other, length-set}
 use Rattle.std.proofs.lemmas.List.{drop_all, drop_more, take_more}
 use Rattle.std.proofs.lemmas.Bool.Decides.{nat_tests, eqb_tells}
@@ -6,7 +6,7 @@ use Rattle.ble_cluster.specs.Nets.{IsOnce, has}
 use Rattle.ble_cluster.specs.SharedNets.{AreRaised, AreTouched, ShareNothing, gain_at, is_raised}
 use Rattle.ble_cluster.proofs.Outside.{has-append}
 
--- no element is a number that isn't among them
+-- a number that isn't in the list is not at any index
 pub not_at : (numbers : List ℕ) (place number : ℕ) → place < length numbers → has numbers number ≡ false → (get_or numbers place 0 == number) ≡ false
 not_at [] place number small h = absurd (omega (arith, small))
 not_at (other ∷ numbers) zero number small h = grind (arith, h)
@@ -15,7 +15,7 @@ not_at (other ∷ numbers) (suc place) number small h = not_at numbers place num
 turned : (a b : ℕ) → (a == b) ≡ false → (b == a) ≡ false
 turned a b h = grind (arith, nat_tests, h)
 
--- what stands once doesn't stand among those before it
+-- a number that occurs once doesn't occur among those before it
 pub once_before : (numbers : List ℕ) (place : ℕ) → place < length numbers → IsOnce numbers → has (take place numbers) (get_or numbers place 0) ≡ false
 once_before [] place small once = absurd (omega (arith, small))
 once_before (number ∷ numbers) zero small once = refl
@@ -24,7 +24,7 @@ once_before (number ∷ numbers) (suc place) small once =
     let among = turned (get_or numbers place 0) number (not_at numbers place number (omega (arith, small)) once.0) in
     grind (arith, ih, among)
 
--- one element more
+-- one more count is increased
 pub raised_more : (old now numbers : List ℕ) (place : ℕ) → place < length numbers → get_or numbers place 0 < length old → IsOnce numbers → AreRaised old now (take place numbers)
     → AreRaised old (set now (get_or numbers place 0) (gain_at now (get_or numbers place 0) + 1)) (take (place + 1) numbers)
 raised_more old now numbers place small within once r = record {
@@ -47,16 +47,16 @@ raised_more old now numbers place small within once r = record {
         let before = r.raised number inside in
         rw (take_more numbers place 0 small) (grind (arith, nat_tests, value, before, more, differs.0))
 
--- of the elements from a place on some share a net, and no others
+-- only BLEs from an index of the list on still share a net
 pub record AreLeft (touched : List ℕ) (place : ℕ) (old gains : List ℕ) : Type 0 where
   pub count : length gains ≡ length old
   pub others : (number : ℕ) → number < length old → has (drop place touched) number ≡ false → gain_at gains number ≡ 0
 
--- at first these are the touched ones
+-- at first these are all touched BLEs
 pub left_first : (touched gains : List ℕ) → AreTouched gains touched → AreLeft touched 0 gains gains
 left_first touched gains t = record { count = refl; others = λ number small h. let e = t.touches number small in grind (arith, nat_tests, e, h) }
 
--- the next one shares nothing
+-- the next count is set to 0
 pub left_next : (touched : List ℕ) (place : ℕ) (old gains : List ℕ) → place < length touched → get_or touched place 0 < length old → AreLeft touched place old gains → AreLeft touched (place + 1) old (set gains (get_or touched place 0) 0)
 left_next touched place old gains small within left = record {
   count = omega (arith, left.count, length-set gains (get_or touched place 0) 0);
@@ -69,6 +69,6 @@ left_next touched place old gains small within left = record {
         let value = get_or-set_other gains (get_or touched place 0) number 0 0 (λ e. differs.1 (sym e)) in
         value ∙ left.others number inside (rw (drop_more touched place 0 small) (grind (arith, h, differs.0)))
 
--- at last none does
+-- at the end no BLE shares a net
 pub left_none : (touched : List ℕ) (place : ℕ) (old gains : List ℕ) → length touched ≤ place → AreLeft touched place old gains → ShareNothing gains
 left_none touched place old gains past left = λ number small. left.others number (omega (arith, small, left.count)) (rw (drop_all place touched past) refl)

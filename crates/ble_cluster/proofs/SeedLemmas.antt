@@ -1,4 +1,4 @@
--- The seed: the first free element with most inputs.
+-- The seed: the first free BLE with most inputs.
 use Rattle.std.proofs.Common.{◌≡◌, ◌⊎◌, inl, inr, ℕ, ◌<◌, ◌≤◌, Bool, true, false, not, List, ◌++◌, take, drop, Option, Some, None, IfSome, length, sym, subst, ◌∙◌, arith}
 use Rattle.std.specs.List.{range_with_len}
 use Rattle.ble_cluster.specs.Nets.{has}
@@ -15,7 +15,7 @@ use Rattle.ble_cluster.proofs.Choice.{first_most-is, first_most-none, has-filter
 use Rattle.ble_cluster.proofs.Choosing.{first_most_lawful, free_within}
 use Rattle.ble_cluster.proofs.ChoosingLemmas.{has-range, in-range}
 
--- what is free
+-- the number is one of a BLE that is not taken
 pub record IsFree (taken : List Bool) (number : ℕ) : Type 0 where
   pub small : number < length taken
   pub free : taken_at taken number ≡ false
@@ -32,7 +32,7 @@ there_free taken number small free =
     let inside = in-range 0 (length taken) number (omega arith) (omega (arith, small)) in
     grind (arith, listed, inside, free)
 
--- the lowest of what the elements lack is the first with most inputs
+-- the free BLE with the lowest key is the first with most inputs
 pub seed_is : (elements : List LogicElement) (taken : List Bool) (keys : List ℕ) (seed : Option ℕ) → AreLacks elements keys → length taken ≡ length elements → IsLowest taken keys seed → seed ≡ first_most (input_count_at elements) (free_in taken)
 seed_is elements taken keys None lacks marks none = sym (first_most-none (input_count_at elements) (free_in taken) (λ other there.
     let f = free_of taken other there in
@@ -52,11 +52,11 @@ seed_is elements taken keys (Some number) lacks marks is = sym (first_most-is (i
         by small (inl less) = inl (omega (arith, less, lacks.sum number inside, lacks.sum other small))
         by small (inr same) = inr (omega (arith, same.0, lacks.sum number inside, lacks.sum other small), same.1)
 
--- the seed is one of the elements
+-- the seed is one of the BLEs
 pub seed_within : (score : ℕ → ℕ) (taken : List Bool) (seed : ℕ) → Some seed ≡ first_most score (free_in taken) → seed < length taken
 seed_within score taken seed is = subst (λ o. IfSome o (λ number. number < length taken)) (sym is) (first_most_lawful (λ number. number < length taken) score (free_in taken) (free_within taken))
 
--- what is kept where more is taken
+-- the indices are still correct after more BLEs are taken
 pub seeded_on : (elements : List LogicElement) (old new : List Bool) (by_lack now by_outside : FirstFree) (before seed : Option ℕ) → length old ≡ length elements → IsSeeded elements old by_lack by_outside before → IsKept old new
     → now.keys.items ≡ by_lack.keys.items → IsFirstFree new now → IsLowest new by_lack.keys.items seed → IsSeeded elements new now by_outside seed
 seeded_on elements old new by_lack now by_outside before seed marks seeded kept keys lawful lowest = record {
@@ -67,6 +67,6 @@ seeded_on elements old new by_lack now by_outside before seed marks seeded kept 
   first = seed_is elements new by_lack.keys.items seed seeded.lacks (kept.count ∙ marks) lowest;
 }
 
--- a slice that was written back
+-- a slice that is written back
 pub written : (new old : List Bool) (len : ℕ) → length new ≡ length old → len ≡ length old → take len (new ++ drop (length new) old) ≡ new
 written new old len same is = take-append-le len new (drop (length new) old) (omega (arith, same, is)) ∙ take_all len new (omega (arith, same, is))

@@ -1,4 +1,4 @@
--- What shares no net with the members brings all its outside inputs.
+-- A BLE that shares no net with the members adds all its outside inputs.
 use Rattle.std.proofs.Common.{◌≡◌, ◌≢◌, ◌⊎◌, inl, inr, ℕ, suc, zero, ◌+◌, ◌-◌, ◌<◌, ◌≤◌, Bool, true, false, not, ◌||◌, ◌&&◌, eqb, List, [], ◌∷◌, ◌++◌, None, filter, length, if◌then◌else◌, refl, sym, ap, ◌∙◌, arith}
 use Rattle.std.specs.List.{flat_map}
 use Rattle.std.proofs.lemmas.Bool.Decides.{eqb_tells, nat_tests}
@@ -20,7 +20,7 @@ use Rattle.ble_cluster.proofs.Fitting.{may_join_full}
 use Rattle.ble_cluster.proofs.GrowingLemmas.{has_room, members_more}
 use Rattle.ble_cluster.proofs.Outside.{has-append, has-distinct, has-member_nets, outside_more}
 
--- where no net is shared each of them is apart
+-- if no net is shared, none of the BLE's nets is among them
 none_shared : (nets list : List ℕ) → length (filter (has nets) list) ≡ 0 → (net : ℕ) → has list net ≡ true → has nets net ≡ false
 none_shared nets [] none net there = absurd cc
 none_shared nets (other ∷ list) none net there = by (has nets other) refl (eqb_tells other net) none (none_shared nets list)
@@ -31,7 +31,7 @@ none_shared nets (other ∷ list) none net there = by (has nets other) refl (eqb
     by false e (inl same) none rest = ap (has nets) (sym same.1) ∙ e
     by false e (inr differs) none rest = rest none net (grind (arith, there, differs.0))
 
--- tests that agree on a list keep the same of it
+-- tests that agree on a list keep the same of its elements
 same_kept : (test other : ℕ → Bool) (nets : List ℕ) → ((net : ℕ) → has nets net ≡ true → test net ≡ other net) → filter test nets ≡ filter other nets
 same_kept test other [] agree = refl
 same_kept test other (first ∷ nets) agree =
@@ -47,7 +47,7 @@ module _ (elements : List LogicElement) (nets : ℕ) (growth : GrowingCluster) (
   abbrev members : List LogicElement
   members = elements_at elements growth.members.items
 
-  -- no net of the element is read or driven by a member
+  -- no net of the BLE is read or driven by a member
   apart : (net : ℕ) → has (nets_of element) net ≡ true → (has (inputs_of members) net || has (outputs_of members) net) ≡ false
   apart net there = sym (has-member_nets members net) ∙ none_shared (flat_map nets_of members) (nets_of element) (sym (g.gains number small) ∙ none) net there
 
@@ -66,7 +66,7 @@ module _ (elements : List LogicElement) (nets : ℕ) (growth : GrowingCluster) (
       let gain = ap length gains_all in
       rw (members_more elements nets growth g number) (grind (arith, more, loses_none, gain, g.outside))
 
-  -- what may be added has room for them
+  -- the outside inputs of a candidate are within the number of pins
   pub has_place : (arch : Arch) (taken : List Bool) → is_candidate arch elements taken growth.members.items number ≡ true → growth.outside + length (own_outside element) ≤ input_count arch.pins
   has_place arch taken joins =
       let fits : fits_in_cluster arch (elements_at elements (growth.members.items ++ number ∷ [])) ≡ true = by (not (taken_at taken number)) (not (has growth.members.items number)) (fits_in_cluster arch (elements_at elements (growth.members.items ++ number ∷ []))) joins in
@@ -77,7 +77,8 @@ module _ (elements : List LogicElement) (nets : ℕ) (growth : GrowingCluster) (
       by true false c h = absurd cc
       by false b c h = absurd cc
 
--- where none of those that share a net may be added, what is free above the room isn't either
+-- if no BLE that shares a net may be added, no free BLE with more outside inputs than fit may be
+-- added either
 pub passed_over : (arch : Arch) (over : BlesOver) (growth : GrowingCluster) (taken : List Bool) (keys : List ℕ) (pins end : ℕ) → pins ≡ input_count arch.pins → IsGrowingCluster over.elements over.nets growth → AreLawful over → AreOutsideCounts over.elements keys
     → IsBest arch over.elements taken growth.members.items growth.gains (SharesNet over.elements growth.gains) None → AreAbove taken keys (pins - growth.outside) end → end ≤ length over.elements
     → (other : ℕ) → other < end → is_candidate arch over.elements taken growth.members.items other ≡ false

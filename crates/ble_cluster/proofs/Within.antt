@@ -4,6 +4,6 @@ use Rattle.std.proofs.lemmas.Option.{get_or_from_slice_get}
 use Rattle.blif.specs.LawfulCircuits.{IsTableWithin}
 use Rattle.blif.specs.LookupTables.{LookupTable}
 
--- the table at that place
+-- the table at this index
 pub table_at_place : (tables : List LookupTable) (place : ℕ) (table : LookupTable) (count : ℕ) → place < length tables → slice_get tables place ≡ Some table → All (IsTableWithin count) tables → IsTableWithin count table
 table_at_place tables place table count within at all = subst (IsTableWithin count) (get_or_from_slice_get tables place table table at) (all place table within)

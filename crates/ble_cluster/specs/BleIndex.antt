@@ -7,12 +7,12 @@ use Rattle.ble_cluster.specs.Bles.{LogicElement, element_at}
 use Rattle.ble_cluster.specs.Clusters.{nets_of}
 use Rattle.ble_cluster.specs.FreeBles.{IsElement}
 
--- BLEs over so many nets
+-- BLEs, and the number of nets that they are over
 pub record BlesOver : Type 0 where
   pub elements : List LogicElement
   pub nets : ℕ
 
--- the BLEs are few and lawful, and over few nets
+-- the numbers of nets and of BLEs are within their limits, and each BLE is lawful
 pub record AreLawful (over : BlesOver) : Type 0 where
   pub few : over.nets ≤ 8192
   pub count : length over.elements ≤ 8192
@@ -28,14 +28,14 @@ pub record AreHaving (elements : List LogicElement) (net : ℕ) (row : List ℕ)
 abbrev pub row_at : List (List ℕ) → ℕ → List ℕ
 row_at rows net = slice_index_or rows net []
 
--- the BLEs are lawful, and the rows hold for each net those that have it
+-- the BLEs are lawful, and the row of each net holds the BLEs that have it
 pub record AreElements (elements : List LogicElement) (rows : List (List ℕ)) : Type 0 where
   pub few : length rows ≤ 8192
   pub count : length elements ≤ 8192
   pub lawful : All (IsElement (length rows)) elements
   pub having : (net : ℕ) → net < length rows → AreHaving elements net (row_at rows net)
 
--- each of the nets of BLEs with the BLE's number, from that number on
+-- each of the nets of BLEs with the BLE's number, which is counted from `number`
 abbrev pub pairs_from : ℕ → List LogicElement → List Keyed
 pairs_from number [] = []
 pairs_from number (element ∷ elements) = pairs_with number (nets_of element) ++ pairs_from (number + 1) elements

@@ -1,4 +1,4 @@
--- Private: what reads the nets of a circuit, by net.
+-- Private: the readers of the nets of a circuit, by net.
 use Rattle.std.specs.Prelude.{ℕ, ◌≡◌, ◌<◌, length}
 use Rattle.blif.specs.declared.circuit.Circuit.{Circuit}
 use Rattle.blif.specs.LawfulCircuits.{IsCircuit}
@@ -6,7 +6,8 @@ use Rattle.ble_cluster.specs.declared.readers.Readers.{Readers}
 use Rattle.ble_cluster.specs.Bles.{reads_of}
 use Rattle.ble_cluster.specs.Reads.{AreCounts, AreDriven, AreLatches}
 
--- for each net of the lawful circuit how often it is read, the first latch that stores it, and whether a table drives it
+-- for each net of the lawful circuit the number of its reads, the first latch that stores it, and
+-- whether a table drives it
 pub record AreReaders (circuit : Circuit) (readers : Readers) : Type 0 where
   pub lawful : IsCircuit circuit
   pub counts_length : length readers.counts.items ≡ length circuit.nets

@@ -1,4 +1,5 @@
--- Clusters of BLEs, made one after another: a seed, and then what shares most nets with it (T-VPack).
+-- Clusters of BLEs, made one after another: first a seed, and then always the BLE that shares most
+-- nets with the members (T-VPack).
 use Rattle.std.specs.Prelude.{ℕ, suc, zero, Bool, not, ◌&&◌, nat_le, nat_lt, List, [], ◌∷◌, ◌++◌, map, filter, find, length, Option, Some, None, if◌then◌else◌}
 use Rattle.std.specs.List.{flat_map, list_any, range_with_len}
 use Rattle.std.specs.Option.{option_to_list}
@@ -8,28 +9,30 @@ use Rattle.blif.specs.declared.circuit.Circuit.{Circuit}
 use Rattle.ble_cluster.specs.Nets.{has, distinct}
 use Rattle.ble_cluster.specs.Bles.{LogicElement, bles_of, element_at}
 
--- what BLEs drive and are clocked by
+-- the outputs and the clocks of BLEs
 abbrev pub outputs_of : List LogicElement → List ℕ
 outputs_of elements = map (λ element. element.output) elements
 
 abbrev pub clocks_of : List LogicElement → List ℕ
 clocks_of elements = distinct (flat_map (λ element. option_to_list element.clock) elements)
 
--- the inputs that none of them drives, each once, at its first sight
+-- the inputs that none of these BLEs drives, each once, in the order in which they first appear
 abbrev pub outside_inputs : List LogicElement → List ℕ
 outside_inputs elements = filter (λ net. not (has (outputs_of elements) net)) (distinct (flat_map (λ element. element.inputs) elements))
 
--- the BLEs fit into one cluster: there are no more of them than places, of their outside inputs than pins, and of their clocks than one
+-- the BLEs fit into one cluster: there are at most as many BLEs as the cluster size, at most as
+-- many outside inputs as input pins, and at most one clock
 abbrev pub fits_in_cluster : Arch → List LogicElement → Bool
 fits_in_cluster arch elements =
     nat_le (length elements) arch.cluster_size
     && (nat_le (length (outside_inputs elements)) (input_count arch.pins) && nat_le (length (clocks_of elements)) 1)
 
--- the least BLE that doesn't fit alone
+-- the least BLE that doesn't fit into a cluster alone
 abbrev pub unfit_among : Arch → List LogicElement → Option ℕ
 unfit_among arch elements = find (λ number. not (fits_in_cluster arch (element_at elements number ∷ []))) (range_with_len 0 (length elements))
 
--- the least BLE of the circuit that doesn't fit alone: while there is one, nothing can be packed
+-- the least BLE of the circuit that doesn't fit into a cluster alone; a circuit that has one cannot
+-- be packed
 unfoldable pub unfit_of : Circuit → Arch → Option ℕ
 unfit_of circuit arch = unfit_among arch (bles_of circuit)
 
@@ -38,41 +41,42 @@ abbrev pub leading : (ℕ → ℕ) → ℕ → List ℕ → ℕ
 leading score best [] = best
 leading score best (number ∷ numbers) = leading score (if nat_lt (score best) (score number) then number else best) numbers
 
--- the first with the greatest score, if there is any
+-- the first number with the greatest score, if there is one
 abbrev pub first_most : (ℕ → ℕ) → List ℕ → Option ℕ
 first_most score [] = None
 first_most score (number ∷ numbers) = Some (leading score number numbers)
 
--- the nets of a BLE but for its clock, each once
+-- the nets of a BLE except its clock, each once
 abbrev pub nets_of : LogicElement → List ℕ
 nets_of element = distinct (element.inputs ++ element.output ∷ [])
 
--- the BLEs of these numbers
+-- the BLEs with these numbers
 abbrev pub elements_at : List LogicElement → List ℕ → List LogicElement
 elements_at elements numbers = map (element_at elements) numbers
 
--- how many inputs the BLE of that number has
+-- the number of inputs of the BLE with this number
 abbrev pub input_count_at : List LogicElement → ℕ → ℕ
 input_count_at elements number = length (element_at elements number).inputs
 
--- how many nets of the BLE of that number are nets of the members
+-- the number of nets that the BLE with this number has in common with the members
 abbrev pub shared_nets : List LogicElement → List ℕ → ℕ → ℕ
 shared_nets elements members number = length (filter (has (flat_map nets_of (elements_at elements members))) (nets_of (element_at elements number)))
 
--- the BLE of that number may be added to the members
+-- the BLE with this number may be added to the members
 abbrev pub may_join : Arch → List LogicElement → List ℕ → ℕ → Bool
 may_join arch elements members number = not (has members number) && fits_in_cluster arch (elements_at elements (members ++ number ∷ []))
 
--- the free BLE to add: of those that fit with the members the one that shares most nets with them, the least number deciding
+-- the free BLE to add: of those that fit with the members, the one that shares most nets with them;
+-- of several, the one with the least number
 abbrev pub next_member : Arch → List LogicElement → List ℕ → List ℕ → Option ℕ
 next_member arch elements free members = first_most (shared_nets elements members) (filter (may_join arch elements members) free)
 
--- the members after so many additions, of which each adds one where there is one to add
+-- the members after this number of additions; an addition adds nothing if no BLE may be added
 abbrev pub grown : Arch → List LogicElement → List ℕ → List ℕ → ℕ → List ℕ
 grown arch elements free seed zero = seed
 grown arch elements free seed (suc additions) = grown arch elements free seed additions ++ option_to_list (next_member arch elements free (grown arch elements free seed additions))
 
--- the seed: the free BLE with most inputs, the least number deciding
+-- the seed: the free BLE with most inputs; of several, the one with the least number
 abbrev pub seed_of : List LogicElement → List ℕ → List ℕ
 seed_of elements free = option_to_list (first_most (input_count_at elements) free)
 
@@ -80,16 +84,16 @@ seed_of elements free = option_to_list (first_most (input_count_at elements) fre
 unfoldable pub cluster_of : Arch → List LogicElement → List ℕ → List ℕ
 cluster_of arch elements free = grown arch elements free (seed_of elements free) arch.cluster_size
 
--- the BLEs that are in no cluster
+-- the BLEs that are not in a cluster
 abbrev pub free_of : List LogicElement → List (List ℕ) → List ℕ
 free_of elements clusters = filter (λ number. not (list_any (λ cluster. has cluster number) clusters)) (range_with_len 0 (length elements))
 
--- the clusters, and last this one, unless it has no member
+-- the clusters, with this one appended unless it has no member
 abbrev pub with_cluster : List (List ℕ) → List ℕ → List (List ℕ)
 with_cluster clusters [] = clusters
 with_cluster clusters (seed ∷ others) = clusters ++ (seed ∷ others) ∷ []
 
--- the clusters after so many steps, each of which makes one while BLEs are free
+-- the clusters after this number of steps; a step makes one as long as BLEs are free
 unfoldable pub clusters_after : Arch → List LogicElement → ℕ → List (List ℕ)
 clusters_after arch elements zero = []
 clusters_after arch elements (suc steps) = with_cluster (clusters_after arch elements steps) (cluster_of arch elements (free_of elements (clusters_after arch elements steps)))

@@ -1,4 +1,4 @@
--- BLEs that are free, and the members of a cluster of these.
+-- Free BLEs, and the members of a cluster made of them.
 use Rattle.std.specs.Prelude.{ℕ, ◌≡◌, ◌<◌, ◌≤◌, Bool, true, not, List, All, None, filter, length, slice_index_or}
 use Rattle.std.specs.List.{range_with_len}
 use Rattle.arch_file.specs.declared.arch.Arch.{Arch}
@@ -7,13 +7,13 @@ use Rattle.ble_cluster.specs.Nets.{distinct}
 use Rattle.ble_cluster.specs.Bles.{LogicElement}
 use Rattle.ble_cluster.specs.Clusters.{unfit_among}
 
--- the nets of the BLE are below the count, and each of its inputs stands once
+-- the nets of the BLE are below the count, and each of its inputs occurs once
 pub record IsElement (count : ℕ) (element : LogicElement) : Type 0 where
   pub inputs : All (λ net. net < count) element.inputs
   pub output : element.output < count
   pub once : distinct element.inputs ≡ element.inputs
 
--- few BLEs, whose nets are below the count
+-- at most 8,192 BLEs, whose nets are below the count
 pub record AreBles (count : ℕ) (bles : List LogicElement) : Type 0 where
   pub few : length bles ≤ 8192
   pub elements : All (IsElement count) bles
@@ -27,7 +27,7 @@ pub record AllFit (arch : Arch) (elements : List LogicElement) : Type 0 where
 abbrev pub free_in : List Bool → List ℕ
 free_in taken = filter (λ number. not (slice_index_or taken number true)) (range_with_len 0 (length taken))
 
--- BLEs, of which some are free, and some are the members of a cluster
+-- BLEs, the numbers of the free ones, and the members of a cluster
 pub record FreeBlesState : Type 0 where
   pub elements : List LogicElement
   pub free : List ℕ

@@ -1,4 +1,4 @@
--- Private: a cluster under way.
+-- Private: a growing cluster.
 use Rattle.std.specs.Prelude.{ℕ, ◌≡◌, ◌<◌, ◌≤◌, Bool, true, false, not, ◌||◌, ◌&&◌, ◌==◌, List, [], ◌∷◌, ◌++◌, All, filter, length, Option, Some, None}
 use Rattle.std.specs.List.{flat_map}
 use Rattle.std.specs.Option.{option_to_list}
@@ -15,24 +15,24 @@ use Rattle.ble_cluster.specs.BleIndex.{AreHaving, BlesOver}
 use Rattle.ble_cluster.specs.FirstFree.{AreLacks, AreOutsideCounts, IsFirstFree}
 use Rattle.ble_cluster.specs.FreeBles.{free_in}
 
--- the net is an input from outside that is new, beside a BLE that drives that output
+-- the net is a new input from outside, for a BLE that drives that output
 abbrev pub is_new_input : List ℕ → List ℕ → ℕ → ℕ → Bool
 is_new_input reads drives output net = not (has reads net) && (not (has drives net) && not (net == output))
 
 abbrev pub new_inputs_of : List ℕ → List ℕ → ℕ → List ℕ → List ℕ
 new_inputs_of reads drives output inputs = filter (is_new_input reads drives output) inputs
 
--- what each BLE shares with these nets
+-- the number of these nets that each BLE has
 abbrev pub AreShared : List LogicElement → List ℕ → List ℕ → Type 0
 AreShared elements nets gains = (number : ℕ) → number < length elements → gain_at gains number ≡ length (filter (has nets) (nets_of (element_at elements number)))
 
--- there is room for those BLEs and their nets
+-- the growing cluster has the size for these BLEs and their nets
 pub record IsRoomFor (over : BlesOver) (growth : GrowingCluster) : Type 0 where
   pub reads : growth.reads.count ≡ over.nets
   pub drives : growth.drives.count ≡ over.nets
   pub gains : length growth.gains ≡ length over.elements
 
--- the cluster under way has these members
+-- the growing cluster has the data of its members
 pub record IsGrowingCluster (elements : List LogicElement) (count : ℕ) (growth : GrowingCluster) : Type 0 where
   pub members : All (λ number. number < length elements) growth.members.items
   pub reads_count : growth.reads.count ≡ count
@@ -45,19 +45,19 @@ pub record IsGrowingCluster (elements : List LogicElement) (count : ℕ) (growth
   pub clock : clocks_of (elements_at elements growth.members.items) ≡ option_to_list growth.clock
   pub gains : AreShared elements (flat_map nets_of (elements_at elements growth.members.items)) growth.gains
 
--- two clocks are the same, or one of them is none
+-- two clocks are equal, or there is at most one
 abbrev pub agree : Option ℕ → Option ℕ → Bool
 agree None other = true
 agree (Some clock) None = true
 agree (Some clock) (Some other) = clock == other
 
--- each BLE that has the net shares one net more
+-- each BLE that has the net shares one more net
 pub record IsEntering (elements : List LogicElement) (net : ℕ) (old new : List ℕ) : Type 0 where
   pub row : List ℕ
   pub having : AreHaving elements net row
   pub raised : AreRaised old new row
 
--- the net counts for the BLEs that have it, unless it is there already
+-- the net is counted for the BLEs that have it, unless a member already has it
 abbrev pub EntersUnless : Bool → List LogicElement → ℕ → List ℕ → List ℕ → Type 0
 EntersUnless true elements net old new = new ≡ old
 EntersUnless false elements net old new = IsEntering elements net old new
@@ -65,52 +65,53 @@ EntersUnless false elements net old new = IsEntering elements net old new
 abbrev pub IsEntered : BlesOver → GrowingCluster → ℕ → List ℕ → Type 0
 IsEntered over old net gains = EntersUnless (has old.reads.nets net || has old.drives.nets net) over.elements net old.gains gains
 
--- the counts are those of all nets that a member has
+-- the counts are those of all nets that members have
 abbrev pub IsTold : List LogicElement → GrowingCluster → Type 0
 IsTold elements growth = AreShared elements (growth.reads.nets ++ growth.drives.nets) growth.gains
 
--- the BLE of that number is one of those of the cluster under way
+-- the number is that of one of the growing cluster's BLEs
 pub record IsBeside (over : BlesOver) (cluster : GrowingCluster) (one : ℕ) : Type 0 where
   pub growth : IsGrowingCluster over.elements over.nets cluster
   pub number : one < length over.elements
 
--- the net may enter the cluster, whose counts are those of its nets
+-- the net may be added to the growing cluster, whose counts are those of its nets
 pub record MayEnter (over : BlesOver) (cluster : GrowingCluster) (net : ℕ) : Type 0 where
   pub within : net < over.nets
   pub room : IsRoomFor over cluster
   pub told : IsTold over.elements cluster
 
--- the same of each of the nets
+-- each of the nets may be added to the growing cluster, whose counts are those of its nets
 pub record MayAllEnter (over : BlesOver) (cluster : GrowingCluster) (nets : List ℕ) : Type 0 where
   pub within : All (λ net. net < over.nets) nets
   pub room : IsRoomFor over cluster
   pub told : IsTold over.elements cluster
 
--- some architecture has place for the BLEs in a cluster
+-- the BLEs fit into a cluster of some architecture
 pub record MayFit (elements : List LogicElement) : Type 0 where
   pub arch : Arch
   pub lawful : IsArch arch
   pub fits : fits_in_cluster arch elements ≡ true
 
--- the BLE of that number may be added to the cluster under way
+-- the BLE with this number may be added to the growing cluster
 pub record MayAdd (over : BlesOver) (cluster : GrowingCluster) (one : ℕ) : Type 0 where
   pub growth : IsGrowingCluster over.elements over.nets cluster
   pub number : one < length over.elements
   pub fits : MayFit (elements_at over.elements (cluster.members.items ++ one ∷ []))
 
--- the clock once that of one more member is known
+-- the clock of the cluster after one more member
 abbrev pub later_clock : Option ℕ → Option ℕ → Option ℕ
 later_clock clock None = clock
 later_clock clock (Some other) = Some other
 
--- what a grower keeps: a mark for each of few BLEs, and room for a cluster of them
+-- the invariant of a grower: a mark for each of at most 8,192 BLEs, and a cluster of the size for
+-- them
 pub record AreFreeBles (over : BlesOver) (taken : List Bool) (growth : GrowingCluster) : Type 0 where
   pub marks : length taken ≡ length over.elements
   pub few : length over.elements ≤ 8192
   pub members : All (λ number. number < length over.elements) growth.members.items
   pub room : IsRoomFor over growth
 
--- where the free BLEs begin, and the seed of the next cluster
+-- the indices of the free BLEs are correct, and this is the seed of the next cluster
 pub record IsSeeded (elements : List LogicElement) (taken : List Bool) (by_lack by_outside : FirstFree) (seed : Option ℕ) : Type 0 where
   pub lacks : AreLacks elements by_lack.keys.items
   pub outside : AreOutsideCounts elements by_outside.keys.items

@@ -1,7 +1,7 @@
--- Private: which latches come before a table.
+-- Private: the latches that come before a table.
 use Rattle.std.specs.Prelude.{ℕ, Bool, nat_lt}
 use Rattle.blif.specs.declared.latches.Latch.{Latch}
 
--- the latch stands above the line
+-- the latch is above the line
 abbrev pub is_above : ℕ → Latch → Bool
 is_above line latch = nat_lt latch.line line

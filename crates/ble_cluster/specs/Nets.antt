@@ -6,16 +6,16 @@ use Rattle.std.specs.List.{list_any}
 abbrev pub has : List ℕ → ℕ → Bool
 has nets net = list_any (λ other. other == net) nets
 
--- the nets, and then each of the others at its first sight
+-- the nets, with each new net of the others appended in order
 abbrev pub with_nets : List ℕ → List ℕ → List ℕ
 with_nets nets [] = nets
 with_nets nets (net ∷ others) = with_nets (if has nets net then nets else nets ++ net ∷ []) others
 
--- each of the nets once, at its first sight
+-- each of the nets once, in the order in which they first appear
 abbrev pub distinct : List ℕ → List ℕ
 distinct nets = with_nets [] nets
 
--- no net stands in the list twice
+-- no net occurs in the list twice
 abbrev pub IsOnce : List ℕ → Type 0
 IsOnce [] = ⊤
 IsOnce (net ∷ nets) = (has nets net ≡ false) × IsOnce nets

@@ -1,4 +1,4 @@
--- Private: what a table of nets says of a circuit.
+-- Private: tables of a circuit's nets.
 use Rattle.std.specs.Prelude.{ℕ, ◌≡◌, ◌<◌, Bool, List, ◌++◌, min, count_by, find, length, slice_index, slice_get, Option, Some, ◌==◌}
 use Rattle.std.specs.List.{list_any}
 use Rattle.blif.specs.declared.circuit.Circuit.{Circuit}
@@ -6,7 +6,7 @@ use Rattle.blif.specs.declared.latches.Latch.{Latch}
 use Rattle.blif.specs.LawfulCircuits.{IsCircuit}
 use Rattle.blif.specs.LookupTables.{LookupTable}
 
--- how often each net is read: by number of times, as far as they can be counted
+-- the number of reads of each net, counted up to 255
 abbrev pub AreCounts : List ℕ → List ℕ → Type 0
 AreCounts reads counts = (net : ℕ) → net < length counts → slice_index counts net ≡ min 255 (count_by (λ read. read == net) reads)
 
@@ -23,6 +23,6 @@ pub record HasCounts (circuit : Circuit) (counts : List ℕ) : Type 0 where
   pub lawful : IsCircuit circuit
   pub long : length counts ≡ length circuit.nets
 
--- the new counts count these reads on from the old ones
+-- the new counts are the old ones plus these reads
 abbrev pub CountsOn : List ℕ → List ℕ → List ℕ → Type 0
 CountsOn old more new = (reads : List ℕ) → AreCounts reads old → AreCounts (reads ++ more) new

@@ -1,8 +1,8 @@
--- Private: how many nets each BLE shares with the cluster under way.
+-- Private: the number of nets that each BLE shares with the growing cluster.
 use Rattle.std.specs.Prelude.{ℕ, ◌≡◌, ◌+◌, ◌-◌, ◌^◌, ◌<◌, List, All, nat_lt, length, slice_index_or, if◌then◌else◌}
 use Rattle.ble_cluster.specs.Nets.{IsOnce, has}
 
--- what the BLE of that number shares
+-- the number of nets that the BLE with this number shares
 abbrev pub gain_at : List ℕ → ℕ → ℕ
 gain_at gains number = slice_index_or gains number 0
 
@@ -10,21 +10,21 @@ gain_at gains number = slice_index_or gains number 0
 abbrev pub ShareNothing : List ℕ → Type 0
 ShareNothing gains = (number : ℕ) → number < length gains → gain_at gains number ≡ 0
 
--- one more for each of these BLEs, no two of which are the same
+-- 1 for each of these BLEs, which are all different, 0 for the others
 abbrev pub is_raised : List ℕ → ℕ → ℕ
 is_raised numbers number = if has numbers number then 1 else 0
 
--- each count may rise
+-- each count can be increased
 abbrev pub HaveRoom : List ℕ → Type 0
 HaveRoom gains = All (λ gain. gain < 2 ^ 32 - 1) gains
 
--- the counts of these BLEs, no two of which are the same, may rise by one
+-- the counts of these BLEs, which are all different, can be increased by one
 pub record MayRise (gains numbers : List ℕ) : Type 0 where
   pub within : All (λ number. number < length gains) numbers
   pub once : IsOnce numbers
   pub room : HaveRoom gains
 
--- the count of the BLE may rise by one
+-- the count of the BLE can be increased by one
 pub record MayRiseAt (gains : List ℕ) (number : ℕ) : Type 0 where
   pub within : number < length gains
   pub room : gain_at gains number < 2 ^ 32 - 1
@@ -34,7 +34,7 @@ pub record AreTouched (gains touched : List ℕ) : Type 0 where
   pub touches : (number : ℕ) → number < length gains → has touched number ≡ nat_lt 0 (gain_at gains number)
   pub within : All (λ number. number < length gains) touched
 
--- each of these BLEs shares one net more
+-- each of these BLEs shares one more net
 pub record AreRaised (old new numbers : List ℕ) : Type 0 where
   pub count : length new ≡ length old
   pub raised : (number : ℕ) → number < length old → gain_at new number ≡ gain_at old number + is_raised numbers number

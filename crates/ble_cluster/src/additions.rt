@@ -1,4 +1,4 @@
-//! How a cluster grows from its seed.
+//! Grows a cluster from its seed.
 ghost use Rattle.std.specs.Prelude.{◌≡◌, ◌<◌, All, length, IfOk};
 ghost use Rattle.arch_file.specs.Arch.{IsArch};
 ghost use Rattle.ble_cluster.specs.Clusters.{cluster_of, first_most, grown, input_count_at};
@@ -15,7 +15,7 @@ use arch_file::Arch;
 use std::alloc::AllocError;
 
 impl GrowingCluster {
-    /// Adds members while there is one to add.
+    /// Adds members as long as a BLE may be added.
     fn grow(
         &mut self,
         arch: &Arch,
@@ -55,7 +55,8 @@ impl GrowingCluster {
         Ok(())
     }
 
-    /// Chooses the members of a cluster among the BLEs that are not taken, of which that is the seed.
+    /// Chooses the members of a cluster among the BLEs that are not taken. `seed` must be the seed
+    /// for these BLEs.
     pub(crate) fn choose(
         &mut self,
         arch: &Arch,

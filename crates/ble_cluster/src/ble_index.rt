@@ -10,8 +10,8 @@ use rows::{Keyed, Rows};
 use std::alloc::{AllocError, Global};
 use std::marker::Model;
 
-/// The BLEs of a circuit, and for each net those that have it. Its value is the list of the BLEs, and the
-/// number of the nets.
+/// The BLEs of a circuit, and for each net the BLEs that have it. Its value is the list of the BLEs
+/// and the number of nets.
 #[derive(Drop)]
 pub(crate) struct BleIndex {
     bles: Bles,
@@ -30,7 +30,7 @@ impl Model for BleIndex {
 }
 
 impl BleIndex {
-    /// These BLEs, over so many nets.
+    /// An index of these BLEs, whose nets are numbered below `nets`.
     pub(crate) fn new(alloc: Global, bles: Bles, nets: usize) -> Result<Self, AllocError>
         requires { AreLawful (record { elements = bles; nets = nets }) }
         ensures { IfOk result (λ elements. elements ≡ record { elements = bles; nets = nets }) }
@@ -40,14 +40,13 @@ impl BleIndex {
         Ok(BleIndex { bles, by_net })
     }
 
-    /// The BLEs.
     pub(crate) fn bles(&self) -> &Bles
         ensures { result.now ≡ self.now.elements }
     {
         &self.bles
     }
 
-    /// How many BLEs there are.
+    /// The number of BLEs.
     pub(crate) fn len(&self) -> usize
         ensures count { result ≡ length self.now.elements }
         ensures all { AreLawful self.now }
@@ -55,14 +54,14 @@ impl BleIndex {
         self.bles.len()
     }
 
-    /// How many nets they are over.
+    /// The number of nets.
     pub(crate) fn nets(&self) -> usize
         ensures { result ≡ self.now.nets }
     {
         self.by_net.len()
     }
 
-    /// The BLE of that number.
+    /// The BLE with this number.
     pub(crate) fn ble(&self, number: usize) -> Ble<'_>
         requires { number < length self.now.elements }
         ensures found { slice_get self.now.elements number
@@ -88,7 +87,7 @@ impl BleIndex {
         self.by_net.row(net as usize)
     }
 
-    /// The BLEs alone.
+    /// The BLEs, without the index.
     pub(crate) fn into_bles(self) -> Bles
         ensures { result ≡ self.elements }
     {
@@ -97,7 +96,7 @@ impl BleIndex {
     }
 }
 
-/// Each BLE's number with each of its nets.
+/// Each BLE's number, once with each of its nets.
 fn nets_with_elements(alloc: Global, bles: &Bles) -> Result<Vec<Keyed>, AllocError>
     requires { (nets : ℕ) × AreLawful (record { elements = bles.now; nets = nets }) }
     ensures { IfOk result (λ pairs. pairs.items ≡ pairs_from 0 bles.now) }
@@ -110,7 +109,7 @@ fn nets_with_elements(alloc: Global, bles: &Bles) -> Result<Vec<Keyed>, AllocErr
     Ok(pairs)
 }
 
-/// Adds the BLE's number with each of its nets.
+/// Appends the BLE's number, once with each of its nets.
 fn push_nets(
     pairs: &mut Vec<Keyed>,
     number: u32,

@@ -12,18 +12,18 @@ use rows::Span;
 use std::alloc::{AllocError, Global};
 use std::marker::Model;
 
-/// A basic logic element (BLE): a table, a latch, or a table with the latch behind it.
+/// A basic logic element (BLE): a table, a latch, or a table with the latch that stores its output.
 #[derive(Clone, Copy)]
 pub struct Ble<'a> {
-    /// The nets that it reads, each once, in first-seen order.
+    /// The nets that it reads, each once, in the order in which they first appear.
     pub inputs: &'a [u32],
-    /// The net that it drives, and is named after.
+    /// The net that it drives and that gives it its name.
     pub output: u32,
-    /// The net that clocks it, if one does.
+    /// The net that clocks it, if there is one.
     pub clock: Option<u32>,
 }
 
-/// A BLE, without its inputs, and where these stand.
+/// A BLE without its inputs, and the span of these among all inputs.
 #[derive(Clone, Copy)]
 pub(crate) struct BleSpan {
     pub(crate) inputs: Span,
@@ -31,7 +31,7 @@ pub(crate) struct BleSpan {
     pub(crate) clock: Option<u32>,
 }
 
-/// BLEs, by number. Its value is the list of them.
+/// BLEs, by number. Its value is their list.
 #[derive(Drop)]
 pub struct Bles {
     inputs: Vec<u32>,
@@ -81,14 +81,14 @@ impl Bles {
         }
     }
 
-    /// How many BLEs there are.
+    /// The number of BLEs.
     pub fn len(&self) -> usize
         ensures { result ≡ length self.now }
     {
         self.bles.len()
     }
 
-    /// The BLE of that number.
+    /// The BLE with this number.
     pub fn ble(&self, number: usize) -> Ble<'_>
         requires { number < length self.now }
         ensures { slice_get self.now number
@@ -106,7 +106,7 @@ impl Bles {
         }
     }
 
-    /// Adds a BLE that reads these nets, of which each counts once.
+    /// Adds a BLE that reads these nets, each of which is kept once.
     fn push(&mut self, nets: &[u32], output: u32, clock: Option<u32>) -> Result<(), AllocError>
         ensures { IfOk result (λ _. self.new
             ≡ self.old ++ record { inputs = distinct nets.now; output = output; clock = clock }
@@ -139,7 +139,7 @@ impl Bles {
         pushed
     }
 
-    /// Adds the tables of the circuit and these latches, in the order of their lines.
+    /// Adds the circuit's tables and these latches, in the order of their lines.
     fn push_in_order(
         &mut self,
         circuit: &Circuit,
@@ -161,7 +161,7 @@ impl Bles {
         self.push_latches(rest)
     }
 
-    /// Adds a table with the latch behind it, if there is one.
+    /// Adds a table, with the latch that stores its output if there is one.
     fn push_table(&mut self, table: Table<'_>, behind: Option<Latch>) -> Result<(), AllocError>
         ensures { IfOk result (λ _. self.new
             ≡ self.old ++ element_of_table
@@ -177,7 +177,7 @@ impl Bles {
         }
     }
 
-    /// Adds the latches, each alone.
+    /// Adds each latch as a BLE of its own.
     fn push_latches(&mut self, latches: &[Latch]) -> Result<(), AllocError>
         ensures { IfOk result (λ _. self.new ≡ self.old ++ map element_of_latch latches.now) }
     {
@@ -188,14 +188,14 @@ impl Bles {
     }
 }
 
-/// How many of the first latches stand above the line.
+/// The number of latches at the front that are above the line.
 fn count_above(line: u32, latches: &[Latch]) -> usize
     ensures { result ≡ length (take_while (is_above line) latches.now) }
 {
     latches.iter().take_while(|latch| latch.line < line).count()
 }
 
-/// Adds each of the nets once, at its first sight.
+/// Appends each of the nets once, in the order in which they first appear.
 fn push_distinct(inputs: &mut Vec<u32>, nets: &[u32]) -> Result<(), AllocError>
     ensures added { IfOk result (λ _. inputs.new.items ≡ inputs.old.items ++ distinct nets.now) }
     ensures longer { OnErr result (length inputs.old.items ≤ length inputs.new.items) }

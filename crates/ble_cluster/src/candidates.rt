@@ -1,4 +1,4 @@
-//! Which BLE a cluster under way takes next.
+//! Chooses the BLE that a growing cluster takes next.
 ghost use Rattle.std.specs.Prelude.{◌≡◌, ◌<◌, ◌++◌, [], ◌∷◌, length, ◌&&◌, IfSome, IsTrue, None};
 ghost use Rattle.arch_file.specs.Arch.{input_count};
 ghost use Rattle.ble_cluster.specs.Clusters.{elements_at, fits_in_cluster, may_join, next_member};
@@ -13,11 +13,11 @@ use crate::growing_cluster::GrowingCluster;
 use arch_file::Arch;
 use std::ops::Range;
 
-/// What may be added to the cluster under way: the BLEs that are not taken, and fit with its members.
+/// The candidates for the growing cluster: BLEs that are not taken and fit with its members.
 #[derive(Drop)]
 pub(crate) struct Candidates<'a> {
     pub(crate) arch: &'a Arch,
-    /// How many input pins a cluster has.
+    /// The number of a cluster's input pins.
     pub(crate) pins: usize,
     pub(crate) elements: &'a BleIndex,
     pub(crate) is_taken: &'a [bool],
@@ -30,7 +30,7 @@ pub(crate) struct Candidates<'a> {
 impl Candidates<'_> {
     ghost use Rattle.ble_cluster.specs.Taking.{AreLeft, IsBestSharing, IsFirstTaken, may_take};
 
-    /// Whether the BLE is free, and fits with the members.
+    /// Whether the BLE is free and fits with the members.
     fn is_candidate(&self, number: u32) -> bool
         requires { number < length self.now.elements.now.elements }
         ensures { result ≡ may_take self.now number }
@@ -57,7 +57,8 @@ impl Candidates<'_> {
         self.growth.outside_with(self.elements, number) <= self.pins
     }
 
-    /// Whether the BLE shares more nets with the members than the best so far, or as many and is lesser.
+    /// Whether the BLE shares more nets with the members than the best so far, or equally many and
+    /// has a lesser number.
     fn beats(&self, number: u32, best: Option<u32>) -> bool
         requires { AreCompared (length self.now.growth.now.gains) number best }
         ensures { result ≡ beats self.now.growth.now.gains number best }
@@ -72,7 +73,7 @@ impl Candidates<'_> {
         }
     }
 
-    /// Whether the BLE is to be taken rather than the best so far.
+    /// Whether the BLE is a candidate and is better than the best so far.
     fn prefers(&self, number: u32, best: Option<u32>) -> bool
         requires { AreCompared (length self.now.elements.now.elements) number best }
         ensures { result ≡ (beats self.now.growth.now.gains number best
@@ -81,7 +82,7 @@ impl Candidates<'_> {
         self.beats(number, best) && self.is_candidate(number)
     }
 
-    /// Of the BLEs that share a net with the members, the one to take next, if one is free and fits.
+    /// The best candidate among the BLEs that share a net with the members, if there is one.
     fn best_touched(&self) -> Option<u32>
         ensures { IsBestSharing self.now result }
     {
@@ -94,7 +95,8 @@ impl Candidates<'_> {
         best
     }
 
-    /// The least BLE from the start on that is free and fits.
+    /// The least candidate in the range, whose end is the number of BLEs; no BLE before the range
+    /// is a candidate.
     fn fitting_from(&self, numbers: Range<u32>) -> Option<u32>
         requires { AreLeft self.now numbers.start numbers.end }
         ensures { IsFirstTaken self.now result }
@@ -107,8 +109,9 @@ impl Candidates<'_> {
         None
     }
 
-    /// The least BLE that is free and fits, where none fits that shares a net with the members. What shares none
-    /// brings all its outside inputs, so the search begins at the first that has few enough of them.
+    /// The least candidate. No BLE that shares a net with the members may be a candidate. A BLE
+    /// that shares none adds all its outside inputs, so the search begins at the first free BLE
+    /// whose outside inputs fit.
     fn first_fitting(&self, by_outside: &mut FirstFree) -> Option<u32>
         requires by_outside { AreByOutside self.now.elements.now.elements self.now.is_taken.now
             by_outside.old }
@@ -125,8 +128,8 @@ impl Candidates<'_> {
         }
     }
 
-    /// The BLE to take next: of those that are free and fit the one that shares most nets with the members, the
-    /// least number deciding.
+    /// The BLE to take next: of the candidates the one that shares most nets with the members; of
+    /// several, the one with the least number.
     pub(crate) fn next_member(&self, by_outside: &mut FirstFree) -> Option<u32>
         requires { AreByOutside self.now.elements.now.elements self.now.is_taken.now
             by_outside.old }

@@ -1,21 +1,21 @@
-//! The least free number within a bound.
+//! Finds the least free number whose key is within a bound.
 ghost use Rattle.std.specs.Prelude.{◌≡◌, ◌<◌, ◌&&◌, length, min, nat_le, not, IfOk};
 ghost use Rattle.ble_cluster.specs.Choosing.{taken_at};
 ghost use Rattle.ble_cluster.specs.FirstFree.{AreKeysUpTo, ArePassed, IsFirstFree, IsFirstOf, IsFirstWithin, IsLowest, key_at};
 
 use std::alloc::{AllocError, Global};
 
-/// Numbers, each with a key, of which more and more are taken. Where the free ones within a bound begin is kept, so that
-/// all searches for one bound together go over the numbers once.
+/// Numbers, each with a key, of which more and more are taken. For each bound it keeps the start of
+/// the free numbers within it, so that all searches for one bound together read the numbers once.
 #[derive(Drop)]
 pub(crate) struct FirstFree {
     keys: Vec<usize>,
-    /// For each bound, no free number below this has a key within the bound.
+    /// For each bound: no free number before this one has a key within the bound.
     firsts: Vec<usize>,
 }
 
 impl FirstFree {
-    /// Numbers with these keys, of which none is greater than that.
+    /// Numbers with these keys, none of which is greater than `most`.
     pub(crate) fn new(alloc: Global, keys: Vec<usize>, most: usize) -> Result<Self, AllocError>
         requires { AreKeysUpTo keys.items most }
         ensures keys { IfOk result (λ index. index.keys.items ≡ keys.items) }
@@ -25,7 +25,7 @@ impl FirstFree {
         Ok(FirstFree { keys, firsts })
     }
 
-    /// Whether the number is free, and its key within the bound.
+    /// Whether the number is free and its key is within the bound.
     fn is_within(&self, taken: &[bool], bound: usize, number: usize) -> bool
         requires { number < min (length taken.now) (length self.now.keys.items) }
         ensures { result ≡ (not (taken_at taken.now number)
@@ -34,7 +34,7 @@ impl FirstFree {
         !taken[number] && self.keys[number] <= bound
     }
 
-    /// The least free number from the start on whose key is within the bound.
+    /// The least free number from `start` on whose key is within the bound.
     fn first_from(&self, taken: &[bool], bound: usize, start: usize) -> Option<usize>
         requires { ArePassed taken.now self.now.keys.items bound start }
         ensures { IsFirstWithin taken.now self.now.keys.items bound result }
@@ -60,7 +60,7 @@ impl FirstFree {
         first
     }
 
-    /// Of the free numbers with the least key the least.
+    /// The free number with the least key; of several, the least number.
     pub(crate) fn lowest(&mut self, taken: &[bool]) -> Option<usize>
         requires { IsFirstFree taken.now self.old }
         ensures first { IsLowest taken.now self.old.keys.items result }

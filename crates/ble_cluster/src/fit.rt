@@ -1,4 +1,4 @@
-//! Which BLEs fit into a cluster alone.
+//! Finds BLEs that don't fit into a cluster alone.
 ghost use Rattle.std.specs.Prelude.{◌≡◌};
 ghost use Rattle.arch_file.specs.Arch.{IsArch};
 ghost use Rattle.ble_cluster.specs.Clusters.{unfit_among};
@@ -9,7 +9,8 @@ use crate::keys::outside_inputs;
 use crate::pins::input_count;
 use arch_file::Arch;
 
-/// The least BLE that doesn't fit into a cluster alone. Their nets are below the count.
+/// The least BLE that doesn't fit into a cluster alone. The numbers of the BLEs' nets are below
+/// `count`.
 pub fn unfit(bles: &Bles, count: usize, arch: &Arch) -> Option<u32>
     requires bles { AreBles count bles.now }
     requires arch { IsArch arch.now }

@@ -1,4 +1,4 @@
-//! One cluster of free BLEs after another.
+//! Makes clusters of free BLEs, one after another.
 ghost use Rattle.std.specs.Prelude.{◌≡◌, ◌<◌, [], All, length, filter, not, IfOk, IsTrue, ◌↔◌, false, replicate};
 ghost use Rattle.std.specs.List.{range_with_len};
 ghost use Rattle.ble_cluster.specs.Nets.{has};
@@ -16,14 +16,15 @@ use arch_file::Arch;
 use std::alloc::{AllocError, Global};
 use std::marker::Model;
 
-/// BLEs, of which some are free, and the members of a cluster of free ones. Its value is the record of these.
+/// BLEs, those of them that are free, and the members of a cluster of free ones. Its value is the
+/// record of these.
 #[derive(Drop)]
 pub struct FreeBles {
     elements: BleIndex,
     taken: Vec<bool>,
-    /// The free BLEs by how many inputs they lack of the most.
+    /// Finds free BLEs by the largest number of inputs minus their own.
     by_lack: FirstFree,
-    /// The free BLEs by how many nets they read from outside.
+    /// Finds free BLEs by the number of nets that they read from outside.
     by_outside: FirstFree,
     /// The first free BLE with most inputs.
     seed: Option<usize>,
@@ -43,7 +44,7 @@ impl Model for FreeBles {
 }
 
 impl FreeBles {
-    /// These BLEs, all free, whose nets are below the count.
+    /// These BLEs, all free. The numbers of their nets are below `count`.
     pub fn new(alloc: Global, bles: Bles, count: usize) -> Result<Self, AllocError>
         requires { AreLawful (record { elements = bles; nets = count }) }
         ensures { IfOk result (λ grower.
@@ -65,7 +66,7 @@ impl FreeBles {
         }
     }
 
-    /// BLEs, all free, with where those begin.
+    /// BLEs, all free, with the indices that find them.
     fn all_free(
         alloc: Global,
         elements: BleIndex,
@@ -108,7 +109,7 @@ impl FreeBles {
         self.elements.bles()
     }
 
-    /// The BLEs alone.
+    /// The BLEs, without the rest.
     pub fn into_bles(self) -> Bles
         ensures { result ≡ self.elements }
     {
@@ -123,7 +124,7 @@ impl FreeBles {
         self.growth.members.as_slice()
     }
 
-    /// Whether a BLE is free.
+    /// Whether some BLE is free.
     pub fn has_free(&self) -> bool
         ensures { IsTrue result ↔ (0 < length self.now.free) }
     {
@@ -147,7 +148,7 @@ impl FreeBles {
         )
     }
 
-    /// The members are no longer free.
+    /// Takes the members, which are then no longer free.
     pub fn take(&mut self)
         ensures elements { self.new.elements ≡ self.old.elements }
         ensures free { self.new.free ≡ filter (λ number. not (has self.old.members number))
@@ -158,8 +159,8 @@ impl FreeBles {
     }
 }
 
-/// The BLEs by how many inputs they lack of the most, and by how many nets they read from outside. Their nets are below
-/// the count.
+/// Finds the BLEs by the largest number of inputs minus their own, and by the number of nets that
+/// they read from outside. The numbers of their nets are below `count`.
 fn by_keys(alloc: Global, bles: &Bles, count: usize) -> Result<(FirstFree, FirstFree), AllocError>
     requires { AreLawful (record { elements = bles.now; nets = count }) }
     ensures lacks { IfOk result (λ made. AreLacks bles.now made.0.keys.items) }
@@ -178,7 +179,8 @@ fn by_keys(alloc: Global, bles: &Bles, count: usize) -> Result<(FirstFree, First
     }
 }
 
-/// The BLEs by how many nets they read from outside, where none has more inputs than the most.
+/// Finds the BLEs by the number of nets that they read from outside; none has more than `most`
+/// inputs.
 fn by_outside(alloc: Global, bles: &Bles, most: usize) -> Result<FirstFree, AllocError>
     requires { HaveAtMost bles.now most }
     ensures outside { IfOk result (λ index. AreOutsideCounts bles.now index.keys.items) }
@@ -188,7 +190,8 @@ fn by_outside(alloc: Global, bles: &Bles, most: usize) -> Result<FirstFree, Allo
     FirstFree::new(alloc, keys, most)
 }
 
-/// A mark for each of so many BLEs, none of which is taken, and a cluster without members for them and so many nets.
+/// A mark for each of `elements` BLEs, none of which is taken, and a cluster without members for
+/// them and `nets` nets.
 fn room_for(
     alloc: Global,
     elements: usize,

@@ -1,4 +1,4 @@
-//! A cluster under way.
+//! A growing cluster.
 ghost use Rattle.std.specs.Prelude.{◌≡◌, ◌<◌, ◌+◌, ◌++◌, [], ◌∷◌, All, length, min, IfOk, OnErr, not, ◌&&◌, ◌||◌, is_ok, if◌then◌else◌};
 ghost use Rattle.ble_cluster.specs.Nets.{has, with_nets};
 ghost use Rattle.ble_cluster.specs.NetSets.{with_net};
@@ -10,7 +10,7 @@ use crate::net_set::NetSet;
 use crate::shared_nets::SharedNets;
 use std::alloc::{AllocError, Global};
 
-/// A cluster under way: its members, and what follows from them.
+/// A growing cluster: its members, and data derived from them.
 #[derive(Drop)]
 pub(crate) struct GrowingCluster {
     pub(crate) members: Vec<u32>,
@@ -18,15 +18,15 @@ pub(crate) struct GrowingCluster {
     pub(crate) reads: NetSet,
     /// The nets that a member drives.
     pub(crate) drives: NetSet,
-    /// How many nets are read and not driven.
+    /// The number of nets that members read and don't drive.
     pub(crate) outside: usize,
     pub(crate) clock: Option<u32>,
-    /// How many nets each BLE has that a member has too.
+    /// The number of nets that each BLE shares with the members.
     pub(crate) gains: SharedNets,
 }
 
 impl GrowingCluster {
-    /// A cluster without members, for so many BLEs and nets.
+    /// A cluster without members, for this number of BLEs and nets.
     pub(crate) fn new(alloc: Global, elements: usize, nets: usize) -> Result<Self, AllocError>
         ensures members { IfOk result (λ growth. growth.members.items ≡ []) }
         ensures room { IfOk result (λ growth. (growth.reads.count ≡ nets)
@@ -49,7 +49,7 @@ impl GrowingCluster {
         }
     }
 
-    /// Lets all members go.
+    /// Removes all members.
     pub(crate) fn clear(&mut self, elements: &BleIndex)
         requires { IsRoomFor elements.now self.old }
         ensures members { self.new.members.items ≡ [] }
@@ -64,7 +64,8 @@ impl GrowingCluster {
         self.gains.clear();
     }
 
-    /// Whether a BLE that drives `output` has this net as an input from outside that the members don't have yet.
+    /// Whether a BLE that drives `output` has this net as an input from outside that the members
+    /// don't have yet.
     fn gains_input(&self, net: u32, output: u32) -> bool
         requires { net < min self.now.reads.count self.now.drives.count }
         ensures { result ≡ is_new_input self.now.reads.nets self.now.drives.nets output net }
@@ -80,7 +81,7 @@ impl GrowingCluster {
         self.reads.has(net) && !self.drives.has(net)
     }
 
-    /// How many of the BLE's inputs come from outside and are new to the members.
+    /// The number of the BLE's inputs that come from outside and that the members don't have yet.
     fn new_inputs(&self, inputs: &[u32], output: u32) -> usize
         requires { All (λ net. net < min self.now.reads.count self.now.drives.count) inputs.now }
         ensures { result ≡ length (new_inputs_of self.now.reads.nets self.now.drives.nets output
@@ -95,7 +96,7 @@ impl GrowingCluster {
         count
     }
 
-    /// How many inputs from outside the members and this BLE have together.
+    /// The number of inputs from outside that the members and this BLE have together.
     pub(crate) fn outside_with(&self, elements: &BleIndex, number: u32) -> usize
         requires { IsBeside elements.now self.now number }
         ensures { result ≡ length (outside_inputs
@@ -110,7 +111,7 @@ impl GrowingCluster {
         }
     }
 
-    /// Whether the BLE has no clock, or that of the members, or they have none.
+    /// Whether the BLE and the members together have at most one clock.
     pub(crate) fn agrees_on_clock(&self, clock: Option<u32>) -> bool
         ensures { result ≡ agree self.now.clock clock }
     {
@@ -128,7 +129,8 @@ impl GrowingCluster {
         self.reads.has(net) || self.drives.has(net)
     }
 
-    /// Counts, for each BLE that has the net, one net more that it shares, unless a member has the net already.
+    /// Adds one to the count of shared nets of each BLE that has the net, unless a member already
+    /// has the net.
     fn enter(&mut self, elements: &BleIndex, net: u32) -> Result<(), AllocError>
         requires { MayEnter elements.now self.old net }
         ensures same { self.new ≡ record self.old { gains = self.new.gains } }
@@ -141,7 +143,7 @@ impl GrowingCluster {
         self.gains.raise(elements.having(net))
     }
 
-    /// A member to come reads the net.
+    /// Adds the net to those that members read.
     fn read(&mut self, elements: &BleIndex, net: u32) -> Result<(), AllocError>
         requires { MayEnter elements.now self.old net }
         ensures same { self.new ≡ record self.old {
@@ -158,7 +160,7 @@ impl GrowingCluster {
         Ok(())
     }
 
-    /// A member to come reads these nets.
+    /// Adds these nets to those that members read.
     fn read_all(&mut self, elements: &BleIndex, nets: &[u32]) -> Result<(), AllocError>
         requires { MayAllEnter elements.now self.old nets.now }
         ensures same { self.new ≡ record self.old {
@@ -179,7 +181,7 @@ impl GrowingCluster {
         Ok(())
     }
 
-    /// A member to come drives the net.
+    /// Adds the net to those that members drive.
     fn drive(&mut self, elements: &BleIndex, net: u32) -> Result<(), AllocError>
         requires { MayEnter elements.now self.old net }
         ensures same { self.new ≡ record self.old {
@@ -196,8 +198,8 @@ impl GrowingCluster {
         Ok(())
     }
 
-    /// Adds a member that fits with the others. Where memory lacks, the cluster under way is spoilt, and has to be
-    /// cleared.
+    /// Adds a member that fits with the others. If memory runs out, the growing cluster is
+    /// inconsistent and must be cleared.
     pub(crate) fn add(&mut self, elements: &BleIndex, number: u32) -> Result<(), AllocError>
         requires { MayAdd elements.now self.old number }
         ensures room { IsRoomFor elements.now self.new }
@@ -217,7 +219,8 @@ impl GrowingCluster {
         Ok(())
     }
 
-    /// Adds the last member of a cluster. What others share with it isn't asked any more, so it isn't told.
+    /// Adds the last member of a cluster. The shared nets are not updated, since they are not
+    /// needed any more.
     pub(crate) fn fill(&mut self, number: u32) -> Result<(), AllocError>
         ensures same { self.new ≡ record self.old { members = self.new.members } }
         ensures added { IfOk result (λ _. self.new.members.items
@@ -231,7 +234,7 @@ impl GrowingCluster {
     }
 }
 
-/// Two empty sets of so many nets.
+/// Two empty sets for nets with numbers below `nets`.
 fn two_sets(alloc: Global, nets: usize) -> Result<(NetSet, NetSet), AllocError>
     ensures { IfOk result (λ both. (both.0.count ≡ nets) × (both.1.count ≡ nets)) }
 {

@@ -1,4 +1,5 @@
-//! The keys by which free BLEs are found: the seed has most inputs, and what joins a cluster reads few nets from outside.
+//! The keys by which free BLEs are found: the seed is the BLE with most inputs, and a BLE that
+//! joins a cluster must read few nets from outside.
 ghost use Rattle.std.specs.Prelude.{◌≡◌, ◌==◌, filter, length, not, IfOk};
 ghost use Rattle.ble_cluster.specs.BleIndex.{AreLawful};
 ghost use Rattle.ble_cluster.specs.FirstFree.{AreKeysUpTo, AreLacks, AreOutsideCounts, HaveAtMost};
@@ -6,7 +7,7 @@ ghost use Rattle.ble_cluster.specs.FirstFree.{AreKeysUpTo, AreLacks, AreOutsideC
 use crate::bles::{Ble, Bles};
 use std::alloc::{AllocError, Global};
 
-/// The most inputs that a BLE has. Their nets are below the count.
+/// The largest number of inputs of a BLE. The numbers of the BLEs' nets are below `count`.
 pub(crate) fn most_inputs(bles: &Bles, count: usize) -> usize
     requires { AreLawful (record { elements = bles.now; nets = count }) }
     ensures { HaveAtMost bles.now result }
@@ -21,7 +22,7 @@ pub(crate) fn most_inputs(bles: &Bles, count: usize) -> usize
     most
 }
 
-/// How many inputs each BLE lacks of the most.
+/// For each BLE, `most` minus the number of its inputs.
 pub(crate) fn lacks(alloc: Global, bles: &Bles, most: usize) -> Result<Vec<usize>, AllocError>
     requires { HaveAtMost bles.now most }
     ensures lacks { IfOk result (λ keys. AreLacks bles.now keys.items) }
@@ -34,14 +35,14 @@ pub(crate) fn lacks(alloc: Global, bles: &Bles, most: usize) -> Result<Vec<usize
     Ok(keys)
 }
 
-/// How many nets the BLE reads that it doesn't drive itself.
+/// The number of nets that the BLE reads and doesn't drive itself.
 pub(crate) fn outside_inputs(ble: Ble<'_>) -> usize
     ensures { result ≡ length (filter (λ net. not (net == ble.entry.output)) ble.entry.inputs.now) }
 {
     ble.inputs.iter().filter(|net| **net != ble.output).count()
 }
 
-/// How many nets each BLE reads that it doesn't drive itself.
+/// For each BLE, the number of nets that it reads and doesn't drive itself.
 pub(crate) fn outside_counts(
     alloc: Global,
     bles: &Bles,

@@ -1,7 +1,8 @@
-//! The tables and latches of a circuit as basic logic elements (BLEs), and clusters of these, as T-VPack makes them.
+//! The tables and latches of a circuit as basic logic elements (BLEs), and clusters of these, as
+//! T-VPack makes them.
 //!
-//! - `Bles` are the BLEs of a circuit, `unfit` says which doesn't fit into a cluster alone.
-//! - `FreeBles` makes one cluster after another of those that are free.
+//! - `Bles` are the BLEs of a circuit; `unfit` finds one that doesn't fit into a cluster alone.
+//! - `FreeBles` makes clusters of the free BLEs, one after another.
 //! - `NetSet` is a set of nets.
 #![tactic(auto)]
 

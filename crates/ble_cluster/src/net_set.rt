@@ -6,8 +6,8 @@ ghost use Rattle.ble_cluster.specs.NetSets.{AreMarked, with_net};
 use std::alloc::{AllocError, Global};
 use std::marker::Model;
 
-/// Nets, each once, in the order in which they came, among so many. Its value is the list of them, and how many there
-/// may be. Whether a net is there is answered at once.
+/// Nets, each once, in the order in which they were added, with numbers below a count. Its value is
+/// their list and the count. Whether a net is in the set is looked up in constant time.
 #[derive(Drop)]
 pub struct NetSet {
     nets: Vec<u32>,
@@ -26,7 +26,7 @@ impl Model for NetSet {
 }
 
 impl NetSet {
-    /// No nets, of that many.
+    /// An empty set for nets with numbers below `count`.
     pub fn new(alloc: Global, count: usize) -> Result<Self, AllocError>
         ensures { IfOk result (λ set. set ≡ record { count = count; nets = [] }) }
     {
@@ -36,7 +36,7 @@ impl NetSet {
         })
     }
 
-    /// The nets.
+    /// The nets, in the order in which they were added.
     pub fn nets(&self) -> &[u32]
         ensures value { result.now ≡ self.now.nets }
         ensures within { All (λ net. net < self.now.count) self.now.nets }
@@ -44,7 +44,7 @@ impl NetSet {
         self.nets.as_slice()
     }
 
-    /// Whether the net is there.
+    /// Whether the set has the net.
     pub fn has(&self, net: u32) -> bool
         requires { net < self.now.count }
         ensures { result ≡ has self.now.nets net }
@@ -52,7 +52,7 @@ impl NetSet {
         self.marks[net as usize]
     }
 
-    /// Adds the net at the end, unless it is there.
+    /// Appends the net, unless the set has it.
     pub fn insert(&mut self, net: u32) -> Result<(), AllocError>
         requires { net < self.old.count }
         ensures count { self.new.count ≡ self.old.count }
@@ -66,7 +66,7 @@ impl NetSet {
         Ok(())
     }
 
-    /// Adds each of the nets that isn't there yet.
+    /// Appends each of the nets that the set doesn't have yet.
     pub fn insert_all(&mut self, nets: &[u32]) -> Result<(), AllocError>
         requires { All (λ net. net < self.old.count) nets.now }
         ensures { IfOk result (λ _. self.new
@@ -78,7 +78,7 @@ impl NetSet {
         Ok(())
     }
 
-    /// Adds each of the nets that is in neither set yet.
+    /// Appends each of the nets that neither set has yet.
     pub fn insert_others(&mut self, nets: &[u32], known: &NetSet) -> Result<(), AllocError>
         requires within { All (λ net. net < self.old.count) nets.now }
         requires same_count { known.now.count ≡ self.old.count }
@@ -97,7 +97,7 @@ impl NetSet {
         Ok(())
     }
 
-    /// Takes all nets out.
+    /// Removes all nets.
     pub fn clear(&mut self)
         ensures { self.new ≡ record { count = self.old.count; nets = [] } }
     {
@@ -106,7 +106,7 @@ impl NetSet {
     }
 }
 
-/// Takes the marks from the nets, which are all that have one.
+/// Removes the marks of these nets, which are all marked nets.
 fn unmark(marks: &mut [bool], nets: &[u32])
     requires { AreMarked marks.old nets.now }
     ensures { AreMarked marks.new [] }

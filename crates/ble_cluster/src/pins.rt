@@ -4,7 +4,7 @@ ghost use Rattle.arch_file.specs.Arch.{input_count};
 
 use arch_file::{Arch, PinClass};
 
-/// How many input pins a cluster has.
+/// The number of a cluster's input pins.
 pub(crate) fn input_count(arch: &Arch) -> usize
     ensures { result ≡ input_count arch.now.pins }
 {

@@ -1,4 +1,4 @@
-//! What reads the nets of a circuit.
+//! The readers of the nets of a circuit.
 ghost use Rattle.std.specs.Prelude.{◌≡◌, ◌<◌, [], ◌∷◌, All, filter, map, length, IfOk};
 ghost use Rattle.std.specs.List.{flat_map};
 ghost use Rattle.std.specs.Option.{option_to_list};
@@ -9,10 +9,11 @@ ghost use Rattle.ble_cluster.specs.Reads.{AreCounts, AreDriven, AreLatches, Coun
 use blif::{Circuit, Latch, Tables};
 use std::alloc::{AllocError, Global};
 
-/// For each net of a circuit how often it is read, the first latch that stores it, and whether a table drives it.
+/// For each net of a circuit the number of its reads, the first latch that stores it, and whether a
+/// table drives it.
 #[derive(Drop)]
 pub(crate) struct Readers {
-    /// From 255 on they are not counted any more.
+    /// Counted up to 255.
     counts: Vec<u8>,
     latches: Vec<Option<Latch>>,
     is_driven: Vec<bool>,
@@ -21,7 +22,7 @@ pub(crate) struct Readers {
 impl Readers {
     ghost use Rattle.ble_cluster.specs.CircuitReaders.{AreReaders, HasReaders};
 
-    /// What reads the nets of the circuit.
+    /// The readers of the nets of this circuit.
     pub(crate) fn new(alloc: Global, circuit: &Circuit) -> Result<Self, AllocError>
         requires { IsCircuit circuit.now }
         ensures { IfOk result (AreReaders circuit.now) }
@@ -33,7 +34,7 @@ impl Readers {
         })
     }
 
-    /// The latch that alone reads the net.
+    /// The latch that is the only reader of the net, if there is one.
     pub(crate) fn latch_behind(&self, circuit: &Circuit, net: u32) -> Option<Latch>
         requires { HasReaders circuit.now self.now net }
         ensures { result ≡ latch_behind circuit.now net }
@@ -45,7 +46,7 @@ impl Readers {
         }
     }
 
-    /// The latches that no table is one with.
+    /// The latches that are not joined with a table.
     pub(crate) fn lone_latches(
         &self,
         alloc: Global,
@@ -64,7 +65,7 @@ impl Readers {
         Ok(latches)
     }
 
-    /// Whether no table is one with the latch.
+    /// Whether the latch is not joined with a table.
     fn stands_alone(&self, circuit: &Circuit, latch: &Latch) -> bool
         requires { HasReaders circuit.now self.now latch.now.input }
         ensures { result ≡ stands_alone circuit.now latch.now }
@@ -74,7 +75,7 @@ impl Readers {
     }
 }
 
-/// For each net how often it is read.
+/// The number of reads of each net, counted up to 255.
 fn count_reads(alloc: Global, circuit: &Circuit) -> Result<Vec<u8>, AllocError>
     requires { IsCircuit circuit.now }
     ensures length { IfOk result (λ counts. length counts.items ≡ length circuit.now.nets) }
@@ -85,7 +86,7 @@ fn count_reads(alloc: Global, circuit: &Circuit) -> Result<Vec<u8>, AllocError>
     Ok(counts)
 }
 
-/// Counts all that is read.
+/// Counts all reads of the circuit.
 fn count_circuit(counts: &mut [u8], circuit: &Circuit)
     requires { HasCounts circuit.now counts.old }
     ensures { CountsOn counts.old (reads_of circuit.now) counts.new }
@@ -96,7 +97,7 @@ fn count_circuit(counts: &mut [u8], circuit: &Circuit)
     count_all(counts, circuit.outputs.as_slice());
 }
 
-/// Counts the inputs of tables.
+/// Counts the reads by tables.
 fn count_tables(counts: &mut [u8], tables: &Tables)
     requires { All (IsTableWithin (length counts.old)) tables.now }
     ensures { CountsOn counts.old (flat_map (λ table. table.inputs) tables.now) counts.new }
@@ -106,7 +107,7 @@ fn count_tables(counts: &mut [u8], tables: &Tables)
     }
 }
 
-/// Counts what latches store.
+/// Counts the reads by latches that store a net.
 fn count_latches(counts: &mut [u8], latches: &[Latch])
     requires { All (IsLatchWithin (length counts.old)) latches.now }
     ensures { CountsOn counts.old (map (λ latch. latch.input) latches.now) counts.new }
@@ -116,7 +117,7 @@ fn count_latches(counts: &mut [u8], latches: &[Latch])
     }
 }
 
-/// Counts what controls latches.
+/// Counts the reads by controls of latches.
 fn count_controls(counts: &mut [u8], latches: &[Latch])
     requires { All (IsLatchWithin (length counts.old)) latches.now }
     ensures { CountsOn counts.old (flat_map (λ latch. option_to_list latch.control) latches.now)
@@ -129,7 +130,7 @@ fn count_controls(counts: &mut [u8], latches: &[Latch])
     }
 }
 
-/// Counts each of the nets.
+/// Counts one read of each of the nets.
 fn count_all(counts: &mut [u8], nets: &[u32])
     requires { All (λ net. net < length counts.old) nets.now }
     ensures { CountsOn counts.old nets.now counts.new }
@@ -139,7 +140,7 @@ fn count_all(counts: &mut [u8], nets: &[u32])
     }
 }
 
-/// Counts the net.
+/// Counts one read of the net.
 fn count(counts: &mut [u8], net: u32)
     requires { net < length counts.old }
     ensures { CountsOn counts.old (net ∷ []) counts.new }
@@ -148,7 +149,7 @@ fn count(counts: &mut [u8], net: u32)
     counts[net] = counts[net].saturating_add(1);
 }
 
-/// For each of so many nets the first of the latches that stores it.
+/// For each of `nets` nets the first of the latches that stores it.
 fn first_latches(
     alloc: Global,
     nets: usize,
@@ -168,7 +169,7 @@ fn first_latches(
     Ok(behind)
 }
 
-/// For each of so many nets whether one of the tables drives it.
+/// For each of `nets` nets whether one of the tables drives it.
 fn mark_driven(alloc: Global, nets: usize, tables: &Tables) -> Result<Vec<bool>, AllocError>
     requires { All (IsTableWithin nets) tables.now }
     ensures length { IfOk result (λ driven. length driven.items ≡ nets) }

@@ -1,11 +1,12 @@
-//! What BLEs share with the cluster under way.
+//! The nets that BLEs share with the growing cluster.
 ghost use Rattle.std.specs.Prelude.{◌≡◌, ◌<◌, ◌+◌, length, IfErr, IfOk, slice_set};
 ghost use Rattle.ble_cluster.specs.SharedNets.{AreRaised, AreTouched, MayRise, MayRiseAt, ShareNothing, gain_at};
 
 use std::alloc::{AllocError, Global};
 use std::marker::Model;
 
-/// How many nets each BLE shares with the cluster under way. Its value is the list of these counts.
+/// The number of nets that each BLE shares with the growing cluster. Its value is the list of these
+/// counts.
 #[derive(Drop)]
 pub(crate) struct SharedNets {
     gains: Vec<u32>,
@@ -24,7 +25,7 @@ impl Model for SharedNets {
 }
 
 impl SharedNets {
-    /// So many BLEs that share nothing.
+    /// The counts of this number of BLEs, all 0.
     pub(crate) fn new(alloc: Global, count: usize) -> Result<Self, AllocError>
         ensures count { IfOk result (λ gains. length gains ≡ count) }
         ensures none { IfOk result ShareNothing }
@@ -35,7 +36,7 @@ impl SharedNets {
         })
     }
 
-    /// What the BLE shares.
+    /// The number of nets that the BLE shares.
     pub(crate) fn of(&self, number: u32) -> u32
         requires { number < length self.now }
         ensures { result ≡ gain_at self.now number }
@@ -43,14 +44,15 @@ impl SharedNets {
         self.gains[number as usize]
     }
 
-    /// The BLEs that share a net.
+    /// The BLEs that share at least one net.
     pub(crate) fn touched(&self) -> &[u32]
         ensures { AreTouched self.now result.now }
     {
         self.touched.as_slice()
     }
 
-    /// One net more for each of these BLEs, no two of which are the same. Where memory lacks, some have it.
+    /// Adds one to the counts of these BLEs, which are all different. If memory runs out, some of
+    /// the counts may have been increased.
     pub(crate) fn raise(&mut self, numbers: &[u32]) -> Result<(), AllocError>
         requires { MayRise self.old numbers.now }
         ensures count { length self.new ≡ length self.old }
@@ -62,7 +64,7 @@ impl SharedNets {
         Ok(())
     }
 
-    /// One net more for the BLE.
+    /// Adds one to the count of the BLE. If memory runs out nothing changes.
     fn raise_one(&mut self, number: u32) -> Result<(), AllocError>
         requires { MayRiseAt self.old number }
         ensures ok { IfOk result (λ _. self.new
@@ -76,7 +78,7 @@ impl SharedNets {
         Ok(())
     }
 
-    /// Nothing is shared any more.
+    /// Sets all counts to 0.
     pub(crate) fn clear(&mut self)
         ensures count { length self.new ≡ length self.old }
         ensures none { ShareNothing self.new }
@@ -86,7 +88,7 @@ impl SharedNets {
     }
 }
 
-/// Sets the counts of these BLEs to 0, which are all that are not.
+/// Sets the counts of these BLEs to 0; all other counts are already 0.
 fn forget(gains: &mut [u32], touched: &[u32])
     requires { AreTouched gains.old touched.now }
     ensures count { length gains.new ≡ length gains.old }

@@ -1,4 +1,4 @@
--- From the faults of the lines, and of the end, to the answer.
+-- From the faults of the lines and of the end to the returned result.
 use Rattle.std.proofs.Common.{◌≡◌, ℕ, ◌<◌, ◌≤◌, if◌then◌else◌, List, [], None, Result, Ok, Err, MatchResult, IfOk, length, sym, ap, ◌∙◌}
 use Rattle.std.proofs.lemmas.Bool.Decides.{Decides-ltb}
 use Rattle.std.proofs.lemmas.Bool.{le-ltb}
@@ -25,7 +25,7 @@ use Rattle.blif.proofs.FaultOrder.{least_is_first}
 use Rattle.blif.proofs.Faultless.{nil_from_first}
 use Rattle.blif.proofs.Lawful.{is_circuit, is_narrow}
 
--- what a checker says is declared
+-- the checker's declared inputs are those of the text
 pub declared_is : (checked : Sights) (declared : List (List ℕ)) (lines : List JoinedLine) → checked ≡ sights_of declared lines → checked.declared ≡ declared
 unfolding sights_of
 declared_is checked declared lines sights = ap (λ s. let t : Sights = s in t.declared) sights
@@ -40,7 +40,7 @@ gives_line_fault lut_size lines declared (Fault fault) rises is fails =
     ∙ first_append (line_faults lut_size (declared_in lines) [] lines) (final_faults (declared_in lines) lines) fault
     (ap (λ d. first_fault (line_faults lut_size d [] lines)) (sym is) ∙ fails))
 
--- without one the end decides
+-- if no line has a fault, the end decides
 pub gives_built : (lut_size : ℕ) (lines : List JoinedLine) (declared : List (List ℕ)) (result : Result Circuit (TextError BlifFault)) → RisesFrom 1 lines → declared ≡ declared_in lines → first_fault (line_faults lut_size declared [] lines) ≡ None → MatchResult result (λ circuit. (first_fault (final_faults declared lines) ≡ None) × (circuit ≡ circuit_from declared lines)) (Fails (first_fault (final_faults declared lines))) → Gives (circuit_of_lines lut_size lines) result
 unfolding circuit_of_lines
 gives_built lut_size lines declared (Err NoMemory) rises is none built = tt
@@ -64,7 +64,7 @@ lawful_built lut_size lines declared (Ok circuit) rises few none built = (
   rw built.1 (is_narrow lut_size declared lines (nil_from_first _ none)),
 )
 
--- what a text says that has these lines
+-- the meaning of a text that was split into these lines
 abbrev pub circuit_of_read : ℕ → Result (List JoinedLine) LineFault → Result Circuit BlifFault
 circuit_of_read lut_size read = result_flatten (result_map_both (circuit_of_lines lut_size) fault_of_lines read)
 
@@ -80,7 +80,7 @@ circuit_of-short text lut_size read short is =
     ap (λ b. if b then Err (record { line = 0; kind = OverLimit }) else circuit_of_read lut_size (lines_of text)) (le-ltb MAX_TEXT (length text) short)
     ∙ ap (circuit_of_read lut_size) is
 
--- a fault of lines is the least
+-- a fault of splitting into lines is the least
 pub gives_error_of_lines : (text : List ℕ) (lut_size : ℕ) (error : TextError LineFault) (told : TextError BlifFault) → length text ≤ MAX_TEXT → Gives (lines_of text) (Err error) → IsToldAs (λ lines fault. fault ≡ fault_of_lines lines) error told → Gives (circuit_of text lut_size) (Err told)
 gives_error_of_lines text lut_size NoMemory NoMemory short is so = tt
 gives_error_of_lines text lut_size (Fault fault) (Fault told) short is so = circuit_of-short text lut_size (Err fault) short is ∙ ap Err (sym so)

@@ -1,4 +1,5 @@
--- The parts of a circuit that one more line brings, and what the line reads that is not driven.
+-- The parts of a circuit that one more line adds, and the nets that the line reads and that are not
+-- driven.
 use Rattle.std.proofs.Common.{◌≡◌, ℕ, ◌+◌, ◌<◌, ◌≤◌, true, false, not, cond, suc, arith, List, [], ◌∷◌, ◌++◌, Option, None, Some, Result, Ok, Err, MatchResult, length, take, drop, slice_get, map, refl, sym, ap, ◌∙◌, subst}
 use Rattle.std.specs.List.{flat_map, position_or_len}
 use Rattle.std.proofs.lemmas.List.{map-append, drop_all}
@@ -22,7 +23,7 @@ use Rattle.blif.proofs.Places.{flat_map_push, first_found, first_none, take_plac
 use Rattle.blif.proofs.PlacedNames.{first_placed}
 use Rattle.blif.proofs.Sightings.{with_names-append}
 
--- the parts with those of one more line
+-- the parts after one more line
 pub parts_push : (nets : List (List ℕ)) (lines : List JoinedLine) (line : JoinedLine) → parts_of nets (lines ++ line ∷ []) ≡ parts_after nets line.number (kind_of line) line.words (parts_of nets lines)
 unfolding parts_of
 parts_push nets lines line =
@@ -34,7 +35,7 @@ parts_push nets lines line =
     let latches = flat_map_push (λ (l : JoinedLine). latches_in nets l.number (kind_of l) l.words) lines line in
     λ i. record { inputs = inputs i; outputs = outputs i; tables = tables i; latches = latches i }
 
--- the first of the faults of the lines, where the first line reads this net undriven
+-- the first fault of the lines is at their first line, if that reads this net undriven
 found_first : (drivers : List (List ℕ)) (line : JoinedLine) (rest : List JoinedLine) (net : List ℕ) → Some net ≡ first (undriven drivers (reads_in (kind_of line) line.words)) → first_fault (flat_map (undriven_faults drivers) (line ∷ rest)) ≡ Some (record { line = line.number; kind = Undriven net })
 unfolding undriven_faults
 found_first drivers line rest net h =
@@ -46,7 +47,7 @@ found_first drivers line rest net h =
     of_kinds [] h = absurd cc
     of_kinds (n ∷ nets) h = cc
 
--- and where it reads driven nets alone
+-- if the first line reads driven nets only, the first fault is one of the rest
 none_first : (drivers : List (List ℕ)) (line : JoinedLine) (rest : List JoinedLine) → None ≡ first (undriven drivers (reads_in (kind_of line) line.words)) → first_fault (flat_map (undriven_faults drivers) (line ∷ rest)) ≡ first_fault (flat_map (undriven_faults drivers) rest)
 unfolding undriven_faults
 none_first drivers line rest h =
@@ -60,24 +61,24 @@ none_first drivers line rest h =
 
 module _ (nets drivers : List (List ℕ)) (lines : List JoinedLine) (place : ℕ) (line : JoinedLine)
     (within : place < length lines) (at : slice_get lines place ≡ Some line) where
-  -- the line at that place adds its parts
+  -- the line at this index adds its parts
   pub parts_at : (old new : Parts) → old ≡ parts_of nets (take place lines) → new ≡ parts_after nets line.number (kind_of line) line.words old → new ≡ parts_of nets (take (place + 1) lines)
   parts_at old new so_far after =
       after ∙ ap (parts_after nets line.number (kind_of line) line.words) so_far
       ∙ sym (parts_push nets (take place lines) line) ∙ ap (parts_of nets) (sym (take_place lines place line within at))
 
-  -- its undriven net is the first one
+  -- the line's undriven net is the first one
   pub undriven_at : (net : List ℕ) → Some net ≡ first (undriven drivers (reads_in (kind_of line) line.words)) → first_fault (flat_map (undriven_faults drivers) (drop place lines)) ≡ first_fault (flat_map (undriven_faults drivers) lines) → first_fault (flat_map (undriven_faults drivers) lines) ≡ Some (record { line = line.number; kind = Undriven net })
   undriven_at net found left =
       sym left ∙ ap (λ rest. first_fault (flat_map (undriven_faults drivers) rest)) (drop_place lines place line within at)
       ∙ found_first drivers line _ net found
 
-  -- without one the first is among those of the lines below
+  -- if the line has none, the first one is among those of the later lines
   pub no_undriven_at : None ≡ first (undriven drivers (reads_in (kind_of line) line.words)) → first_fault (flat_map (undriven_faults drivers) (drop place lines)) ≡ first_fault (flat_map (undriven_faults drivers) lines) → first_fault (flat_map (undriven_faults drivers) (drop (place + 1) lines)) ≡ first_fault (flat_map (undriven_faults drivers) lines)
   no_undriven_at none left =
       sym (none_first drivers line _ none) ∙ ap (λ rest. first_fault (flat_map (undriven_faults drivers) rest)) (sym (drop_place lines place line within at)) ∙ left
 
--- the faults that are found at the end, where there is a line
+-- the faults found at the end, if there is a line
 final_faults_lines : (declared : List (List ℕ)) (lines : List JoinedLine) → 0 < length lines → final_faults declared lines ≡ flat_map (undriven_faults (driven (sights_of declared lines))) lines
 unfolding final_faults
 final_faults_lines declared [] h = absurd (omega (arith, h))
@@ -98,16 +99,16 @@ module _ (checked : Sights) (lines : List JoinedLine) (nets clocks drivers : Lis
       ∙ (λ i. circuit_with (same_nets i) (same_clocks i) lines (parts_of (same_nets i) lines))
       ∙ ap (λ s. let t : Sights = s in circuit_with t.nets t.clocks lines (parts_of t.nets lines)) sights
 
-  -- the answer over these nets is that over all that the lines bring
+  -- the result over these nets is that over the state after all lines
   pub built_is : 0 < length lines → (built : Result Circuit (TextError BlifFault)) → MatchResult built (λ circuit. (first_fault (flat_map (undriven_faults (clocks ++ drivers)) lines) ≡ None) × (circuit ≡ circuit_with nets clocks lines (parts_of nets lines))) (Fails (first_fault (flat_map (undriven_faults (clocks ++ drivers)) lines))) → MatchResult built (λ circuit. (first_fault (final_faults checked.declared lines) ≡ None) × (circuit ≡ circuit_from checked.declared lines)) (Fails (first_fault (final_faults checked.declared lines)))
   built_is some (Ok circuit) h = (ap first_fault (final_faults_is some) ∙ h.0, h.1 ∙ circuit_is (parts_of nets lines) refl)
   built_is some (Err error) h = subst (λ (faults : List (Found BlifFault)). Fails (first_fault faults) error) (sym (final_faults_is some)) h
 
--- an error that tells a fault tells the first one, where it is that
+-- an error for this fault is an error for the first fault, if they are equal
 pub fails_as : (error : TextError BlifFault) (fault : BlifFault) (found : Option BlifFault) → Fails (Some fault) error → found ≡ Some fault → Fails found error
 fails_as error fault found fails is = subst (λ (first : Option BlifFault). Fails first error) (sym is) fails
 
--- the lines before the end, one line further
+-- the lines before the end, by one more line
 module _ (line : JoinedLine) (lines : List JoinedLine) where
   abbrev more : ℕ
   more = position_or_len (λ l. is_end (kind_of l)) lines
@@ -120,7 +121,7 @@ module _ (line : JoinedLine) (lines : List JoinedLine) where
   stops : is_end (kind_of line) ≡ true → lines_to_end (line ∷ lines) ≡ []
   stops ends = ap (λ b. take (cond (not b) (1 + more) 0) (line ∷ lines)) ends
 
--- the inputs that lines declare, one line further
+-- the inputs that lines declare, by one more line
 module _ (lines : List JoinedLine) (place : ℕ) (line : JoinedLine) (within : place < length lines) (at : slice_get lines place ≡ Some line) where
   pub declared_at : is_end (kind_of line) ≡ false → (old new all : List (List ℕ)) → new ≡ with_names old (inputs_of line) → with_names old (flat_map inputs_of (lines_to_end (drop place lines))) ≡ all → with_names new (flat_map inputs_of (lines_to_end (drop (place + 1) lines))) ≡ all
   declared_at goes old new all after left =

@@ -1,4 +1,4 @@
--- How often a name or a number stands in a list.
+-- The number of occurrences of a name or a number in a list.
 use Rattle.std.proofs.Common.{◌≡◌, ◌≢◌, ℕ, ◌+◌, ◌≤◌, Bool, true, false, ◌&&◌, ◌||◌, cond, nat_eq, List, [], ◌∷◌, ◌++◌, All, AllPairs, map, filter, get_or, if◌then◌else◌, refl, ap, ◌∙◌, append_assoc, arith}
 use Rattle.std.proofs.Common.{eq-eqb}
 use Rattle.std.specs.List.{count_by, flat_map, list_any, list_all}
@@ -14,11 +14,11 @@ use Rattle.blif.specs.Repeats.{repeats}
 use Rattle.blif.proofs.Named.{and_left, and_right, name_at}
 use Rattle.blif.proofs.Faultless.{nil_left, nil_right}
 
--- how often the name stands among the names
+-- the number of occurrences of the name among the names
 abbrev pub times : List ℕ → List (List ℕ) → ℕ
 times name names = count_by (bytes_eq name) names
 
--- how often the number stands among the numbers
+-- the number of occurrences of the number among the numbers
 abbrev pub count_of : ℕ → List ℕ → ℕ
 count_of n numbers = count_by (nat_eq n) numbers
 
@@ -28,7 +28,7 @@ count_by-append p xs ys = sum_by-append (λ x. cond (p x) 1 0) xs ys
 count_by-cons : {X : Type 0} (p : X → Bool) (x : X) (xs : List X) (b : Bool) → p x ≡ b → count_by p (x ∷ xs) ≡ cond b 1 0 + count_by p xs
 count_by-cons p x xs b e = count_by-append p (x ∷ []) xs ∙ ap (λ c. 0 + cond c 1 0 + count_by p xs) e ∙ ap (λ n. n + count_by p xs) (omega arith)
 
--- what is there is counted, and what is counted is there
+-- an element that passes is counted, and if one is counted some element passes
 pub counted_if_there : {X : Type 0} (p : X → Bool) (xs : List X) → list_any p xs ≡ true → 1 ≤ count_by p xs
 counted_if_there p [] h = absurd cc
 counted_if_there p (x ∷ xs) h = by (p x) refl h (λ there. counted_if_there p xs there)
@@ -45,7 +45,7 @@ there_if_counted p (x ∷ xs) h = by (p x) refl (λ counted. there_if_counted p 
     by true e rest = refl
     by false e rest = rest (omega (arith, count_by-cons p x xs false e, h))
 
--- a name that is not there is not counted
+-- a name that doesn't occur is counted 0 times
 pub none_counted : (names : List (List ℕ)) (name : List ℕ) → has_name names name ≡ false → times name names ≡ 0
 none_counted [] name h = refl
 none_counted (x ∷ names) name h = by (bytes_eq name x) refl h (λ rest. none_counted names name rest)
@@ -54,7 +54,7 @@ none_counted (x ∷ names) name h = by (bytes_eq name x) refl h (λ rest. none_c
     by true e there rest = absurd cc
     by false e there rest = omega (arith, count_by-cons (bytes_eq name) x names false e, rest there)
 
--- one more name that is free
+-- one more name, which doesn't occur yet
 once_with : (name : List ℕ) (before after : List (List ℕ)) (added : List ℕ) → has_name before added ≡ false → has_name after added ≡ false → times name (before ++ after) ≤ 1 → times name ((before ++ added ∷ []) ++ after) ≤ 1
 once_with name before after added free_before free_after once = by (bytes_eq name added) refl
   where
@@ -74,7 +74,7 @@ free_if : {X : Type 0} (b : Bool) (x : X) → (if b then x ∷ [] else []) ≡ [
 free_if true x h = absurd cc
 free_if false x h = refl
 
--- names that repeat none stand once
+-- names without repeats occur at most once
 pub once_more : (name : List ℕ) (taken names : List (List ℕ)) → repeats taken names ≡ [] → times name taken ≤ 1 → times name (taken ++ names) ≤ 1
 once_more name taken [] h once = rw append-nil once
 once_more name taken (added ∷ names) h once =
@@ -84,7 +84,7 @@ once_more name taken (added ∷ names) h once =
     let all = once_more name (taken ++ added ∷ []) names (nil_right _ _ h) grown in
     rw append_assoc at all
 
--- names that are added to a set, none of which stands behind it
+-- names that are added to a set and don't occur in the list after it occur at most once
 pub once_in_set : (name : List ℕ) (set after names : List (List ℕ)) → filter (has_name after) names ≡ [] → times name (set ++ after) ≤ 1 → times name (with_names set names ++ after) ≤ 1
 once_in_set name set after [] h once = once
 once_in_set name set after (added ∷ names) h once =
@@ -98,7 +98,7 @@ once_in_set name set after (added ∷ names) h once =
     by true e none rest = absurd cc
     by false e none rest = rest (with_name set added) none (grows (has_name set added) refl e)
 
--- where none passes both tests, none of those that pass the first passes the second
+-- if no element passes both tests, no element that passes the first passes the second
 pub none_of_filtered : {X : Type 0} (p q : X → Bool) (xs : List X) → filter (λ x. p x && q x) xs ≡ [] → filter q (filter p xs) ≡ []
 none_of_filtered p q [] h = refl
 none_of_filtered p q (x ∷ xs) h = by (p x) (q x) refl h (λ rest. none_of_filtered p q xs rest)
@@ -108,7 +108,7 @@ none_of_filtered p q (x ∷ xs) h = by (p x) (q x) refl h (λ rest. none_of_filt
     by true false e none rest = ap (λ d. cond d (x ∷ filter q (filter p xs)) (filter q (filter p xs))) e ∙ rest none
     by true true e none rest = absurd cc
 
--- numbers that each stand at most once are different
+-- numbers that each occur at most once are different
 none_there : (x : ℕ) (xs : List ℕ) → count_of x xs ≡ 0 → All (λ y. x ≢ y) xs
 none_there x [] h = All-nil _
 none_there x (y ∷ ys) h =
@@ -124,7 +124,7 @@ different (x ∷ xs) once =
     (different xs (λ n. omega (arith, once n, count_by-cons (nat_eq n) x xs (nat_eq n x) refl)))
 
 module _ (nets : List (List ℕ)) where
-  -- the number of a net that stands among the names' numbers is that of its name
+  -- the number of a net among the names' numbers belongs to the name of the net
   pub numbers_counted : (n : ℕ) (names : List (List ℕ)) → list_all (has_name nets) names ≡ true → count_of n (map (number_of nets) names) ≤ times (get_or nets n []) names
   numbers_counted n [] h = omega arith
   numbers_counted n (name ∷ names) h = by (nat_eq n (number_of nets name)) refl (numbers_counted n names (and_right _ _ h))
@@ -137,7 +137,7 @@ module _ (nets : List (List ℕ)) where
           omega (arith, count_by-cons (nat_eq n) (number_of nets name) (map (number_of nets) names) true e, count_by-cons (bytes_eq (get_or nets n [])) name names true same, rest)
       by false e rest = omega (arith, count_by-cons (nat_eq n) (number_of nets name) (map (number_of nets) names) false e, count_by-cons (bytes_eq (get_or nets n [])) name names _ refl, rest)
 
-  -- a name's number stands at least as often as the name
+  -- a name's number occurs at least as often as the name
   pub names_counted : (name : List ℕ) (names : List (List ℕ)) → times name names ≤ count_of (number_of nets name) (map (number_of nets) names)
   names_counted name [] = omega arith
   names_counted name (other ∷ names) = by (bytes_eq name other) refl (names_counted name names)
@@ -148,6 +148,6 @@ module _ (nets : List (List ℕ)) where
           omega (arith, count_by-cons (bytes_eq name) other names true e, count_by-cons (nat_eq (number_of nets name)) (number_of nets other) (map (number_of nets) names) true same, rest)
       by false e rest = omega (arith, count_by-cons (bytes_eq name) other names false e, count_by-cons (nat_eq (number_of nets name)) (number_of nets other) (map (number_of nets) names) _ refl, rest)
 
--- the numbers of what one more line brings
+-- the numbers that one more line adds
 pub counted_more : {X A : Type 0} (p : ℕ → Bool) (f : A → ℕ) (g : X → List A) (x : X) (xs : List X) → count_by p (map f (flat_map g (x ∷ xs))) ≡ count_by p (map f (g x)) + count_by p (map f (flat_map g xs))
 counted_more p f g x xs = ap (count_by p) (map-append f (g x) (flat_map g xs)) ∙ count_by-append p (map f (g x)) (map f (flat_map g xs))

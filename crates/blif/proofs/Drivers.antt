@@ -1,4 +1,4 @@
--- The numbers of a circuit's drivers are those of the nets that its lines drive, and of its clocks.
+-- The numbers of a circuit's drivers are those of its clocks and of the nets that its lines drive.
 use Rattle.std.proofs.Common.{◌≡◌, ℕ, ◌+◌, ◌≤◌, Bool, true, false, List, [], ◌∷◌, ◌++◌, Option, None, Some, All, map, get_or, nat_eq, if◌then◌else◌, refl, append_assoc, arith}
 use Rattle.std.specs.List.{AllPass, flat_map, list_all}
 use Rattle.std.specs.Option.{ForSome, option_map, option_to_list}
@@ -38,7 +38,7 @@ driven_once_after lut_size above Latch words h once = λ name. rw (← append_as
 driven_once_after lut_size above Clock words h once = λ name. rw append-nil (once_in_set name above.clocks above.drivers _ (none_of_filtered _ _ (args_of words) (none_placed _ (args_of words) (nil_from_map _ _ h))) (once name))
 driven_once_after lut_size above keyword words h once = λ name. rw append-nil (once name)
 
--- no net is shown twice
+-- no net is an output twice
 abbrev pub ShownOnce : Sights → Type 0
 ShownOnce sights = (name : List ℕ) → times name sights.outputs ≤ 1
 
@@ -50,7 +50,7 @@ module _ (nets : List (List ℕ)) where
   abbrev numbers : List (List ℕ) → List ℕ
   numbers names = map (number_of nets) names
 
-  -- the nets that a line drives are nets
+  -- the nets that a line drives are among the nets
   output_named : (names : List (List ℕ)) → list_all (has_name nets) names ≡ true → AllPass (has_name nets) (output_of names)
   output_named [] h = All-nil _
   output_named (name ∷ names) h = All-cons (λ n. has_name nets n ≡ true) (last_of (name ∷ names)) [] (last_passes (has_name nets) name names h) (All-nil _)
@@ -70,7 +70,7 @@ module _ (nets : List (List ℕ)) where
   drives_named Latch words h = latch_output_named (args_of words) h
   drives_named keyword words h = All-nil _
 
-  -- how often the number stands among the outputs of tables, and of latches
+  -- the number of occurrences among the outputs of tables, and among those of latches
   abbrev table_count : ℕ → List LookupTable → ℕ
   table_count n tables = count_of n (map (λ (table : LookupTable). table.output) tables)
 
@@ -105,7 +105,7 @@ module _ (nets : List (List ℕ)) where
       omega
       (arith, counted_more (λ m. nat_eq n m) (number_of nets) inputs_of line lines, counted_more (λ m. nat_eq n m) (λ table. table.output) tables line lines, counted_more (λ m. nat_eq n m) (λ latch. latch.output) latches line lines, counted_more (λ m. nat_eq n m) (number_of nets) drives_of line lines, line_drives n line.number (kind_of line) line.words, lines_drive n lines)
 
--- the drivers of a circuit are its clocks and what its lines drive
+-- the drivers of a circuit are its clocks and the nets that its lines drive
 pub drivers_counted : (declared : List (List ℕ)) (lines : List JoinedLine) (n : ℕ) → count_of n (drivers_of (circuit_from declared lines)) ≡ count_of n (map (number_of (sights_of declared lines).nets) (sights_of declared lines).clocks) + count_of n (map (number_of (sights_of declared lines).nets) (sights_of declared lines).drivers)
 unfolding circuit_from sights_of
 drivers_counted declared lines n =
@@ -125,7 +125,7 @@ module _ (nets clocks drivers : List (List ℕ)) (all : List ℕ)
       there_if_counted (nat_eq (number_of nets name)) all
       (omega (arith, counted (number_of nets name), counted_if_there (bytes_eq name) (clocks ++ drivers) h, count_by-append (bytes_eq name) clocks drivers, names_counted nets name clocks, names_counted nets name drivers))
 
-  -- and stands there once
+  -- a net that is driven occurs once among the drivers
   pub is_once : list_all (has_name nets) clocks ≡ true → list_all (has_name nets) drivers ≡ true → ((name : List ℕ) → times name (clocks ++ drivers) ≤ 1) → (n : ℕ) → count_of n all ≤ 1
   is_once clocks_named drivers_named once n =
       let name : List ℕ = get_or nets n [] in

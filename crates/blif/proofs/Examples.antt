@@ -1,4 +1,4 @@
--- The definition at small netlists.
+-- The definition, computed on small netlists.
 use Rattle.std.proofs.Common.{◌≡◌, ℕ, List, [], ◌∷◌, Some, Ok, Err, codes, refl}
 use Rattle.std.specs.Fmt.{digits}
 use Rattle.std.proofs.Math.Utf8.{encode}
@@ -22,7 +22,7 @@ and_gate : circuit_of_lines 2 (model ∷ line 2 (codes ".inputs" ∷ codes "a" �
 unfolding circuit_of_lines line_faults final_faults undriven_faults declared_in sights_of circuit_from
 and_gate = refl
 
--- a latch whose clock is no declared input
+-- a latch whose clock is not a declared input
 clocked : circuit_of_lines 2 (model ∷ line 2 (codes ".clock" ∷ codes "c" ∷ []) ∷ line 3 (codes ".inputs" ∷ codes "d" ∷ []) ∷ line 4 (codes ".latch" ∷ codes "d" ∷ codes "q" ∷ codes "re" ∷ codes "c" ∷ []) ∷ [])
     ≡ Ok (record { model = codes "t"; nets = codes "c" ∷ codes "d" ∷ codes "q" ∷ []; inputs = 1 ∷ 0 ∷ []; outputs = []; tables = []; latches = record { line = 4; input = 1; output = 2; control = Some 0 } ∷ [] })
 unfolding circuit_of_lines line_faults final_faults undriven_faults declared_in sights_of circuit_from
@@ -34,7 +34,7 @@ mixed : circuit_of_lines 2 (model ∷ line 2 (codes ".inputs" ∷ codes "a" ∷ 
 unfolding circuit_of_lines line_faults final_faults undriven_faults declared_in sights_of circuit_from
 mixed = refl
 
--- of two faults of one line the lesser number
+-- of two faults of one line, the one with the lesser number
 wide_before_driven : circuit_of_lines 1 (model ∷ line 2 (codes ".inputs" ∷ codes "a" ∷ codes "b" ∷ []) ∷ line 3 (codes ".names" ∷ codes "a" ∷ codes "b" ∷ codes "a" ∷ []) ∷ [])
     ≡ Err (record { line = 3; kind = TooWide })
 unfolding circuit_of_lines line_faults final_faults undriven_faults declared_in sights_of circuit_from
@@ -46,7 +46,7 @@ driven_twice : circuit_of_lines 2 (model ∷ line 2 (codes ".inputs" ∷ codes "
 unfolding circuit_of_lines line_faults final_faults undriven_faults declared_in sights_of circuit_from
 driven_twice = refl
 
--- what the end shows stands at the first line that reads the net
+-- a fault that only the end shows is reported at the first line that reads the net
 read_first : circuit_of_lines 2 (model ∷ line 2 (codes ".outputs" ∷ codes "z" ∷ []) ∷ line 3 (codes ".names" ∷ codes "z" ∷ codes "f" ∷ []) ∷ [])
     ≡ Err (record { line = 2; kind = Undriven (codes "z") })
 unfolding circuit_of_lines line_faults final_faults undriven_faults declared_in sights_of circuit_from
@@ -57,7 +57,7 @@ nothing : circuit_of_lines 2 [] ≡ Err (record { line = 0; kind = NoModel })
 unfolding circuit_of_lines line_faults final_faults undriven_faults declared_in sights_of circuit_from
 nothing = refl
 
--- how a fault with a net is told
+-- the printed text of a fault that names a net
 told : printed_fault (record { line = 3; kind = Undriven (codes "z") }) ≡ codes "6 Undriven 3 z"
 unfolding digits encode
 told = refl

@@ -1,4 +1,4 @@
--- The faults of a text stand in their order, so the first of them is the least.
+-- The faults of a text are listed in order, so the first of them is the least.
 use Rattle.std.proofs.Common.{◌≡◌, ◌∙◌, ℕ, ◌+◌, ◌<◌, ◌≤◌, Bool, true, false, not, ◌||◌, if◌then◌else◌, nat_lt, nat_le, length, List, [], ◌∷◌, ◌++◌, Option, Some, None, option_map, refl, sym, ap, arith}
 use Rattle.std.proofs.lemmas.Bool.Decides.{nat_tests}
 use Rattle.std.specs.List.{flat_map}
@@ -29,14 +29,14 @@ use Rattle.blif.proofs.PlacedNames.{Rise, all_placed_rise, repeats_rise}
 abbrev Tells : WordFault → WordFault → Type 0
 Tells first second = by_number (number_of first.kind) (number_of second.kind) (nat_le first.word second.word) ≡ true
 
--- its number is below a bound, or at least the bound
+-- the fault's number is below a bound, or at least the bound
 abbrev Below : ℕ → WordFault → Type 0
 Below bound fault = number_of fault.kind < bound
 
 abbrev From : ℕ → WordFault → Type 0
 From bound fault = bound ≤ number_of fault.kind
 
--- faults below a number and faults from it on
+-- faults with numbers below a bound, followed by faults with numbers from it on
 joined_order : (bound : ℕ) (xs ys : List WordFault) → InOrder Tells xs → InOrder Tells ys → Each (Below bound) xs → Each (From bound) ys → InOrder Tells (xs ++ ys)
 joined_order bound xs ys first second below from =
     InOrder-append Tells xs ys first second
@@ -55,7 +55,7 @@ each_word : (P : WordFault → Type 0) (kind : List ℕ → BlifFaultKind) (name
 each_word P kind [] h = tt
 each_word P kind (name ∷ names) h = (h name.0 name.1, each_word P kind names h)
 
--- faults of one number, whose words rise
+-- faults with one number, at increasing words
 words_order : (kind : List ℕ → BlifFaultKind) (number : ℕ) (names : List (ℕ × List ℕ)) → ((name : List ℕ) → number_of (kind name) ≡ number) → InOrder Rise names → InOrder Tells (at_words kind names)
 words_order kind number names is rise =
     InOrder-map Rise Tells _ names
@@ -102,7 +102,7 @@ kind_order lut_size above Other words = (tt, tt)
 kind_order lut_size above Row words = row_order above.cover words
 kind_order lut_size above keyword words = tt
 
--- a line without NoModel and OverLimit has lesser numbers
+-- without NoModel and OverLimit a line's faults have lesser numbers
 table_below : (lut_size : ℕ) (taken names : List (List ℕ)) → Each (Below 9) (table_faults lut_size taken names)
 table_below lut_size taken [] = (omega arith, tt)
 table_below lut_size taken (name ∷ names) =
@@ -133,7 +133,7 @@ kind_below lut_size above Other words = (omega arith, tt)
 kind_below lut_size above Row words = row_below above.cover words
 kind_below lut_size above keyword words = tt
 
--- the faults of a line
+-- the faults of a line are in order
 faults_order : (lut_size : ℕ) (above : Sights) (keyword : Keyword) (words : List (List ℕ)) → InOrder Tells (faults_in lut_size above keyword words)
 faults_order lut_size above keyword words = by above.ended
   where
@@ -163,11 +163,11 @@ each_found : (P : Found BlifFault → Type 0) (at_end : Bool) (number : ℕ) (fa
 each_found P at_end number [] h = tt
 each_found P at_end number (fault ∷ faults) h = (h fault, each_found P at_end number faults h)
 
--- found at a line from that number on, and at the end or not
+-- found at a line from this number on, at the line or at the end
 abbrev Stands : Bool → ℕ → Found BlifFault → Type 0
 Stands at_end low found = (found.at_end ≡ at_end) × (low ≤ found.line)
 
--- the faults of a line and those from the next line on
+-- the faults of a line, followed by those from the next line on
 line_and_rest : (at_end : Bool) (number : ℕ) (faults : List WordFault) (rest : List (Found BlifFault)) → InOrder Tells faults → InOrder Precedes rest → Each (Stands at_end (number + 1)) rest → InOrder Precedes (at_line at_end number faults ++ rest)
 line_and_rest at_end number faults rest told order stand =
     InOrder-append Precedes (at_line at_end number faults) rest (line_order at_end number faults told) order

@@ -1,4 +1,4 @@
--- What holds of lines that have no fault.
+-- Properties of lines that have no fault.
 use Rattle.std.proofs.Common.{◌≡◌, ℕ, Bool, true, false, not, ◌&&◌, ◌||◌, cond, nat_lt, length, List, [], ◌∷◌, ◌++◌, None, map, if◌then◌else◌, refl, ◌∙◌, append_assoc}
 use Rattle.std.proofs.lemmas.List.{append-nil}
 use Rattle.std.proofs.lemmas.List.Folds.{list_all-append}
@@ -45,7 +45,7 @@ kind_faultless lut_size above keyword words h = by above.ended h
     by true none = absurd cc
     by false none = nil_left _ _ none
 
--- what each line without a fault keeps holds after lines without a fault
+-- a property that each line without a fault preserves holds after lines without a fault
 module _ (lut_size : ℕ) (declared : List (List ℕ)) (Kept : List JoinedLine → Type 0)
     (step : (above : List JoinedLine) (line : JoinedLine) → kind_faults lut_size (sights_of declared above) (kind_of line) line.words ≡ [] → Kept above → Kept (above ++ line ∷ [])) where
   pub kept_by_lines : (above lines : List JoinedLine) → Kept above → line_faults lut_size declared above lines ≡ [] → Kept (above ++ lines)
@@ -56,19 +56,20 @@ module _ (lut_size : ℕ) (declared : List (List ℕ)) (Kept : List JoinedLine �
       let further = kept_by_lines (above ++ line ∷ []) lines (step above line (kind_faultless lut_size (sights_of declared above) (kind_of line) line.words kinds) start) (nil_right _ _ h) in
       rw append_assoc at further
 
--- the same for what the lines have brought
+-- a property of the state that each line without a fault preserves holds after lines without a
+-- fault
 pub kept_by_sights : (lut_size : ℕ) (declared : List (List ℕ)) (Kept : Sights → Type 0) → ((above : Sights) (keyword : Keyword) (words : List (List ℕ)) → kind_faults lut_size above keyword words ≡ [] → Kept above → Kept (sights_after keyword words above)) → (lines : List JoinedLine) → Kept (sights_of declared []) → line_faults lut_size declared [] lines ≡ [] → Kept (sights_of declared lines)
 kept_by_sights lut_size declared Kept step lines start h =
     kept_by_lines lut_size declared (λ above. Kept (sights_of declared above))
     (λ above line none kept. rw (sights_push declared above line) (step (sights_of declared above) (kind_of line) line.words none kept))
     [] lines start h
 
--- a table without a fault drives what is free
+-- a table without a fault drives a net that was not driven
 pub table_output_free : (lut_size : ℕ) (taken names : List (List ℕ)) → table_faults lut_size taken names ≡ [] → repeats taken (output_of names) ≡ []
 table_output_free lut_size taken [] h = absurd cc
 table_output_free lut_size taken (name ∷ names) h = no_repeats taken (output_of (name ∷ names)) (nil_from_map _ (repeats_from 0 taken (output_of (name ∷ names))) (nil_right _ _ h))
 
--- a latch does
+-- a latch without a fault drives a net that was not driven
 pub latch_output_free : (taken args : List (List ℕ)) → (if is_latch args then driver_faults taken (latch_output args) else of_line BadLatch) ≡ [] → repeats taken (latch_output args) ≡ []
 latch_output_free taken args h = by (is_latch args) h
   where
@@ -76,7 +77,7 @@ latch_output_free taken args h = by (is_latch args) h
     by true none = no_repeats taken (latch_output args) (nil_from_map _ _ none)
     by false none = absurd cc
 
--- where no undriven net is read, all that is read is driven
+-- if no undriven net is read, all nets that are read are driven
 all_driven : (drivers names : List (List ℕ)) → undriven drivers names ≡ [] → list_all (has_name drivers) names ≡ true
 all_driven drivers [] h = refl
 all_driven drivers (name ∷ names) h = by (has_name drivers name) h (λ rest. all_driven drivers names rest)
@@ -94,7 +95,7 @@ reads_driven drivers (line ∷ lines) h =
     let tail = reads_driven drivers lines (nil_right _ _ h) in
     list_all-append (has_name drivers) reads _ ∙ (λ i. head i && tail i)
 
--- at the end no line reads an undriven net
+-- if there is no fault at the end, no line reads an undriven net
 pub end_faultless : (declared : List (List ℕ)) (lines : List JoinedLine) → final_faults declared lines ≡ [] → flat_map (undriven_faults (driven (sights_of declared lines))) lines ≡ []
 unfolding final_faults
 end_faultless declared [] h = absurd cc

@@ -24,7 +24,7 @@ use Rattle.blif.proofs.Drivers.{DrivenOnce, ShownOnce, drivers_counted, driven_o
 use Rattle.blif.proofs.LawfulNets.{clocks_named, each_line, inputs_named, latches_within, names_pass, numbers_within, outputs_named, tables_within}
 use Rattle.blif.proofs.LineParts.{all_narrow, apart, latches_at, one_part, rising, tables_at}
 
--- the circuit of lines that name few nets is lawful
+-- the circuit of lines that name at most MAX_NETS nets is lawful
 pub is_circuit : (lut_size : ℕ) (declared : List (List ℕ)) (lines : List JoinedLine) → RisesFrom 1 lines → length (sights_of declared lines).nets ≤ MAX_NETS → line_faults lut_size declared [] lines ≡ [] → final_faults declared lines ≡ [] → IsCircuit (circuit_from declared lines)
 unfolding circuit_from sights_of
 is_circuit lut_size declared lines rises few line_faultless faultless =
@@ -74,7 +74,7 @@ is_circuit lut_size declared lines rises few line_faultless faultless =
       lines_apart = apart tables (λ (table : LookupTable). table.line) on_tables latches (λ (latch : StoredLatch). latch.line) on_latches one 1 lines rises;
     }
 
--- and its tables are narrow
+-- the circuit's tables have at most lut_size inputs
 pub is_narrow : (lut_size : ℕ) (declared : List (List ℕ)) (lines : List JoinedLine) → line_faults lut_size declared [] lines ≡ [] → IsNarrow lut_size (circuit_from declared lines)
 unfolding circuit_from
 is_narrow lut_size declared lines faultless = all_narrow (sights_of declared lines).nets lut_size declared lines faultless

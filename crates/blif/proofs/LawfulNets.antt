@@ -1,4 +1,4 @@
--- Each number of a circuit is that of a net, since the lines name the nets that they bring.
+-- Each number in a circuit is that of a net, since the lines name all nets that they use.
 use Rattle.std.proofs.Common.{◌≡◌, ℕ, ◌-◌, ◌<◌, Bool, true, false, List, [], ◌∷◌, ◌++◌, Option, None, Some, All, length, map, if◌then◌else◌, sym, ◌∙◌, arith}
 use Rattle.std.specs.List.{AllPass, flat_map, list_all}
 use Rattle.std.specs.Option.{ForSome, option_map, option_to_list}
@@ -16,19 +16,19 @@ use Rattle.blif.specs.LawfulCircuits.{IsLatchWithin, IsTableWithin}
 use Rattle.line_text.proofs.NameLemmas.{number_of-within}
 use Rattle.blif.proofs.Named.{and_left, and_right, list_all-take}
 
--- what holds of all that each line brings holds of all that the lines bring
+-- a property of everything that each line adds holds for everything that all lines add
 pub each_line : {X A : Type 0} (p : List ℕ → Bool) (P : A → Type 0) (f : X → List (List ℕ)) (g : X → List A) → ((x : X) → list_all p (f x) ≡ true → All P (g x)) → (xs : List X) → list_all p (flat_map f xs) ≡ true → All P (flat_map g xs)
 each_line p P f g each [] h = All-nil P
 each_line p P f g each (x ∷ xs) h =
     let both = sym (list_all-append p (f x) (flat_map f xs)) ∙ h in
     All-append P (g x) (flat_map g xs) (each x (and_left _ _ both)) (each_line p P f g each xs (and_right _ _ both))
 
--- the last word passes where all do
+-- the last word passes if all words do
 pub last_passes : (p : List ℕ → Bool) (name : List ℕ) (names : List (List ℕ)) → list_all p (name ∷ names) ≡ true → p (last_of (name ∷ names)) ≡ true
 last_passes p name [] h = and_left _ _ h
 last_passes p name (next ∷ names) h = last_passes p next names (and_right _ _ h)
 
--- names that pass stay so among others that pass
+-- if names pass, they still pass after others that pass are added
 pub names_pass : (p : List ℕ → Bool) (names others : List (List ℕ)) → AllPass p names → AllPass p others → AllPass p (with_names names others)
 names_pass p names [] old new = old
 names_pass p names (name ∷ others) old new = names_pass p (with_name names name) others (by (has_name names name)) (All-tail (λ n. p n ≡ true) name others new)

@@ -1,4 +1,4 @@
--- Tables and latches stand in the order of their lines, and no line brings two of them.
+-- Tables and latches are in the order of their lines, and no line has two of them.
 use Rattle.std.proofs.Common.{◌≡◌, ◌≢◌, ℕ, ◌+◌, ◌-◌, ◌<◌, ◌≤◌, Bool, true, false, List, [], ◌∷◌, ◌++◌, All, AllPairs, length, if◌then◌else◌, refl, arith}
 use Rattle.std.specs.List.{flat_map}
 use Rattle.std.proofs.lemmas.Bool.{ltb-false}
@@ -23,7 +23,7 @@ use Rattle.blif.specs.CircuitOf.{line_faults}
 use Rattle.blif.proofs.Faultless.{kept_by_lines, nil_left}
 use Rattle.blif.proofs.Places.{flat_map_push}
 
--- what holds of each pair of two lists of which the facts are known
+-- a relation of each pair of elements of two lists, from properties of the elements
 across : {X Y : Type 0} (P : X → Type 0) (Q : Y → Type 0) (R : X → Y → Type 0) → ((x : X) (y : Y) → P x → Q y → R x y) → (xs : List X) (ys : List Y) → All P xs → All Q ys → All (λ x. All (R x) ys) xs
 across P Q R joins xs ys p q = λ k d within i e inside. joins _ _ (p k d within) (q i e inside)
 
@@ -31,7 +31,7 @@ beside : {X Y : Type 0} (R : X → Y → Type 0) (xs : List X) (ys zs : List Y) 
 beside R xs ys zs p q = λ k d within. All-append (R _) ys zs (p k d within) (q k d within)
 
 module _ {X : Type 0} (parts : JoinedLine → List X) (line_of : X → ℕ) (at : (line : JoinedLine) → All (λ x. line_of x ≡ line.number) (parts line)) where
-  -- what the lines bring stands on their numbers
+  -- the parts that lines add have line numbers from this one on
   pub from_number : (low : ℕ) (lines : List JoinedLine) → RisesFrom low lines → All (λ x. low ≤ line_of x) (flat_map parts lines)
   from_number low [] h = All-nil _
   from_number low (line ∷ lines) h =
@@ -46,7 +46,7 @@ module _ {X : Type 0} (parts : JoinedLine → List X) (line_of : X → ℕ) (at 
   rising_more number (x ∷ []) rest few here above pairs = AllPairs-cons (λ y z. line_of y < line_of z) x rest (λ k d within. omega (arith, here 0 x (omega arith), above k d within)) pairs
   rising_more number (x ∷ y ∷ xs) rest few here above pairs = absurd (omega (arith, few))
 
-  -- and in their order, where no line brings two
+  -- the parts are in the order of their lines, if no line adds two
   pub rising : ((line : JoinedLine) → length (parts line) ≤ 1) → (low : ℕ) (lines : List JoinedLine) → RisesFrom low lines → AllPairs (λ x y. line_of x < line_of y) (flat_map parts lines)
   rising few low [] h = λ i j d before within. absurd (omega arith)
   rising few low (line ∷ lines) h = rising_more line.number (parts line) (flat_map parts lines) (few line) (at line) (from_number (line.number + 1) lines h.1) (rising few (line.number + 1) lines h.1)
@@ -54,7 +54,7 @@ module _ {X : Type 0} (parts : JoinedLine → List X) (line_of : X → ℕ) (at 
 module _ {X Y : Type 0} (parts : JoinedLine → List X) (line_of : X → ℕ) (at : (line : JoinedLine) → All (λ x. line_of x ≡ line.number) (parts line))
     (others : JoinedLine → List Y) (other_line : Y → ℕ) (others_at : (line : JoinedLine) → All (λ y. other_line y ≡ line.number) (others line))
     (few : (line : JoinedLine) → length (parts line) + length (others line) ≤ 1) where
-  -- where a line brings one thing, no two of them stand on one line
+  -- if each line adds at most one part, no two parts are on one line
   pub apart : (low : ℕ) (lines : List JoinedLine) → RisesFrom low lines → All (λ x. All (λ y. line_of x ≢ other_line y) (flat_map others lines)) (flat_map parts lines)
   apart low [] h = All-nil _
   apart low (line ∷ lines) h =
@@ -101,7 +101,7 @@ module _ (nets : List (List ℕ)) where
       by true latch = omega arith
       by false latch = omega arith
 
-  -- a line brings one table or one latch or none
+  -- a line adds at most one table or latch
   pub one_part : (number : ℕ) (keyword : Keyword) (words : List (List ℕ)) → length (tables_in nets number keyword words) + length (latches_in nets number keyword words) ≤ 1
   one_part number Names words = omega (arith, one_table number (args_of words))
   one_part number Latch words = omega (arith, one_latch number (args_of words))
@@ -124,7 +124,7 @@ module _ (nets : List (List ℕ)) where
   tables_narrow lut_size number above Names words h = table_narrow lut_size number _ (args_of words) h
   tables_narrow lut_size number above keyword words h = All-nil _
 
-  -- each table of lines without a fault has at most so many inputs
+  -- each table of lines without a fault has at most lut_size inputs
   pub all_narrow : (lut_size : ℕ) (declared : List (List ℕ)) (lines : List JoinedLine) → line_faults lut_size declared [] lines ≡ [] → All (λ table. length table.inputs ≤ lut_size) (flat_map (λ line. tables_in nets line.number (kind_of line) line.words) lines)
   all_narrow lut_size declared lines h =
       let tables : JoinedLine → List LookupTable = λ line. tables_in nets line.number (kind_of line) line.words in

@@ -1,4 +1,4 @@
--- A name that is there: its mark, and that it stays there.
+-- A name that is among the names: its mark, and that it remains among them.
 use Rattle.std.proofs.Common.{◌≡◌, ℕ, zero, suc, ◌+◌, ◌<◌, Bool, true, false, ◌&&◌, ◌||◌, List, [], ◌∷◌, ◌++◌, Some, length, get_or, take, drop, map, slice_get, if◌then◌else◌, refl, sym, ap, ◌∙◌}
 use Rattle.std.specs.Borrow.{Bor}
 use Rattle.std.specs.List.{flat_map, list_all}
@@ -24,7 +24,7 @@ or_true : (a : Bool) → (a || (true || false)) ≡ true
 or_true true = refl
 or_true false = refl
 
--- what a function of the names gives at a name's number is what it gives of the name
+-- the value of a function at a name's number is its value for the name
 pub mark_at : (f : List ℕ → Bool) (names : List (List ℕ)) (name : List ℕ) (d : Bool) → has_name names name ≡ true → get_or (map f names) (number_of names name) d ≡ f name
 mark_at f [] name d h = absurd cc
 mark_at f (first ∷ names) name d h = by (bytes_eq name first) refl (λ there. mark_at f names name d there)
@@ -37,7 +37,7 @@ mark_at f (first ∷ names) name d h = by (bytes_eq name first) refl (λ there. 
         ap (λ k. get_or (map f (first ∷ names)) k d) (number_of-later first names name e ∙ one-add (number_of names name))
         ∙ rest (has_name-rest name first names e h)
 
--- at its number stands the name
+-- the name at a name's number is that name
 pub name_at : (names : List (List ℕ)) (name : List ℕ) → has_name names name ≡ true → get_or names (number_of names name) [] ≡ name
 name_at [] name h = absurd cc
 name_at (first ∷ names) name h = by (bytes_eq name first) refl (λ there. name_at names name there)
@@ -48,7 +48,7 @@ name_at (first ∷ names) name h = by (bytes_eq name first) refl (λ there. name
         ap (λ k. get_or (first ∷ names) k []) (number_of-later first names name e ∙ one-add (number_of names name))
         ∙ rest (has_name-rest name first names e h)
 
--- a name that is there stays when another is added
+-- a name is still among the names after another is added
 pub has_name-with_name : (names : List (List ℕ)) (added name : List ℕ) → has_name names name ≡ true → has_name (with_name names added) name ≡ true
 has_name-with_name names added name h = by (has_name names added)
   where
@@ -60,7 +60,7 @@ has_name-with_names : (names others : List (List ℕ)) (name : List ℕ) → has
 has_name-with_names names [] name h = h
 has_name-with_names names (added ∷ others) name h = has_name-with_names (with_name names added) others name (has_name-with_name names added name h)
 
--- the added one is there
+-- the added name is among the names
 pub has_name-added : (names : List (List ℕ)) (name : List ℕ) → has_name (with_name names name) name ≡ true
 has_name-added names name = by (has_name names name) refl
   where
@@ -71,7 +71,7 @@ has_name-added names name = by (has_name names name) refl
         ∙ ap (λ c. has_name names name || (c || false)) ((bytes_eq-Decides name name).1 refl)
         ∙ or_true (has_name names name)
 
--- all that were added are there
+-- all added names are among the names
 pub all_named : (names others : List (List ℕ)) → list_all (has_name (with_names names others)) others ≡ true
 all_named names [] = refl
 all_named names (added ∷ others) =
@@ -79,7 +79,7 @@ all_named names (added ∷ others) =
     let tail = all_named (with_name names added) others in
     λ i. head i && tail i
 
--- what passes on all joined lists passes on each
+-- if all elements of the joined lists pass, so do those of each list
 pub list_all-part : {X : Type 0} (p : List ℕ → Bool) (f : X → List (List ℕ)) (xs : List X) (i : ℕ) (x : X) → list_all p (flat_map f xs) ≡ true → slice_get xs i ≡ Some x → list_all p (f x) ≡ true
 list_all-part p f [] i x h at = absurd cc
 list_all-part p f (y ∷ xs) zero x h at =
@@ -87,11 +87,11 @@ list_all-part p f (y ∷ xs) zero x h at =
     ap (λ z. list_all p (f z)) (sym same) ∙ and_left _ _ (sym (list_all-append p (f y) (flat_map f xs)) ∙ h)
 list_all-part p f (y ∷ xs) (suc i) x h at = list_all-part p f xs i x (and_right _ _ (sym (list_all-append p (f y) (flat_map f xs)) ∙ h)) at
 
--- and on a front of a list
+-- if all elements of a list pass, so do those of a front of it
 pub list_all-take : (p : List ℕ → Bool) (n : ℕ) (xs : List (List ℕ)) → list_all p xs ≡ true → list_all p (take n xs) ≡ true
 list_all-take p n xs h = and_left _ _ (sym (list_all-append p (take n xs) (drop n xs)) ∙ ap (list_all p) (take-append-drop n xs) ∙ h)
 
--- and on each text
+-- if all names pass, so does the name at an index
 pub named_at : (p : List ℕ → Bool) (slices : List (Bor (List ℕ))) (i : ℕ) (d : Bor (List ℕ)) → i < length slices → list_all p (texts slices) ≡ true → p (get_or slices i d).now ≡ true
 named_at p slices i d within h = and_at (λ xs. list_all p (texts xs)) (λ slice. p slice.now) refl (λ _ _. refl) slices i d within h
 

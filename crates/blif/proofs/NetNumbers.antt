@@ -1,4 +1,4 @@
--- Numbers of nets, put at the end one after another.
+-- Numbers of nets, appended one after another.
 use Rattle.std.proofs.Common.{◌≡◌, ℕ, ◌+◌, ◌-◌, ◌<◌, List, [], ◌∷◌, ◌++◌, length, get_or, take, map, sym, ap, ◌∙◌, append_assoc, slice_get, Some, refl, arith}
 use Rattle.std.proofs.lemmas.List.{length-map, map_push, take-map}
 use Rattle.blif.proofs.Places.{take_place}
@@ -24,7 +24,7 @@ last_number f (name ∷ names) numbers are some =
     let count : length numbers - 1 ≡ length names = omega (arith, ap length are, length-map (name ∷ names) f) in
     ap (λ n. get_or numbers n 0) count ∙ ap (λ ns. get_or ns (length names) 0) are ∙ last_map f name names
 
--- a table with names is one table
+-- the table with names is a single table
 pub table_with_names : (nets : List (List ℕ)) (line : ℕ) (names : List (List ℕ)) → 0 < length names → table_with nets line names ≡ record { line = line; inputs = map (number_of nets) (front_of names); output = number_of nets (last_of names) } ∷ []
 table_with_names nets line [] h = absurd (omega (arith, h))
 table_with_names nets line (name ∷ names) h = refl

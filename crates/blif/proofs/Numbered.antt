@@ -16,7 +16,7 @@ use Rattle.line_text.proofs.NameLemmas.{number_of-within}
 use Rattle.blif.proofs.Named.{has_name-with_name, has_name-added, name_at, named_at}
 use Rattle.blif.proofs.Places.{drop_place}
 
--- a name that is there keeps its number
+-- a name that is among the names keeps its number
 number_of-with_name : (names : List (List ℕ)) (added name : List ℕ) → has_name names name ≡ true → number_of (with_name names added) name ≡ number_of names name
 number_of-with_name names added name h = by (has_name names added)
   where
@@ -32,7 +32,7 @@ number_of-with_name names added name h = by (has_name names added)
         position_or_len_push (bytes_eq name) names added
         ∙ ap (λ b. cond b (length names + cond (bytes_eq name added) 0 1) place) unlike
 
--- a name has the same number once it is there
+-- a new name's number is the same before and after it is added
 number_of-added : (names : List (List ℕ)) (name : List ℕ) → number_of (with_name names name) name ≡ number_of names name
 number_of-added names name = by (has_name names name)
   where
@@ -56,7 +56,7 @@ number_of-with_names names (added ∷ others) name h =
     number_of-with_names (with_name names added) others name (has_name-with_name names added name h)
     ∙ number_of-with_name names added name h
 
--- the numbers that names get are those that they have in the end
+-- the numbers of names when they are added are their final numbers
 pub numbered_all : (names others : List (List ℕ)) → numbered names others ≡ map (number_of (with_names names others)) others
 numbered_all names [] = refl
 numbered_all names (added ∷ others) =
@@ -68,7 +68,7 @@ pub numbered-append : (names xs ys : List (List ℕ)) → numbered names (xs ++ 
 numbered-append names [] ys = refl
 numbered-append names (x ∷ xs) ys = ap (λ rest. number_of names x ∷ rest) (numbered-append (with_name names x) xs ys)
 
--- the numbers of the nets of the lines below, parted into those of one line and the others
+-- the numbers of the nets of the remaining lines, split into those of one line and of the others
 module _ (f : List ℕ → ℕ) (lines : List JoinedLine) (place : ℕ) (line : JoinedLine) (within : place < length lines) (at : slice_get lines place ≡ Some line)
     (rest : List ℕ) (count : ℕ) (so_far : rest ≡ map f (flat_map names_of (drop place lines))) (counted : count ≡ length (names_of line)) where
   parted : rest ≡ map f (names_of line) ++ map f (flat_map names_of (drop (place + 1) lines))
@@ -88,7 +88,7 @@ module _ (f : List ℕ → ℕ) (lines : List JoinedLine) (place : ℕ) (line : 
   pub later_numbers : (back : List ℕ) → back ≡ drop count rest → back ≡ map f (flat_map names_of (drop (place + 1) lines))
   later_numbers back is = is ∙ ap (drop count) parted ∙ drop_at (map f (names_of line)) (map f (flat_map names_of (drop (place + 1) lines))) count long
 
--- the number of a name that is a net's
+-- the number of a name that is a net
 module _ (nets : List (List ℕ)) (slices : List (Bor (List ℕ))) (numbers : List ℕ) (i d : ℕ) (e : Bor (List ℕ))
     (within : i < length slices) (named : list_all (has_name nets) (texts slices) ≡ true) (numbers_are : numbers ≡ map (number_of nets) (texts slices)) where
   pub number_there : get_or numbers i d ≡ number_of nets (get_or slices i e).now
@@ -106,7 +106,7 @@ module _ (nets : List (List ℕ)) (slices : List (Bor (List ℕ))) (numbers : Li
   pub net_there : get_or nets (get_or numbers i d) [] ≡ (get_or slices i e).now
   net_there = ap (λ n. get_or nets n []) number_there ∙ name_at nets (get_or slices i e).now name_there
 
--- the first of the names that is not driven, one name further
+-- the first of the names that is not driven, by one more name
 module _ (drivers : List (List ℕ)) (slices : List (Bor (List ℕ))) (i : ℕ) (e : Bor (List ℕ)) (within : i < length slices)
     (left : first (undriven drivers (texts (drop i slices))) ≡ first (undriven drivers (texts slices))) where
   pub undriven_here : has_name drivers (get_or slices i e).now ≡ false → Some (get_or slices i e).now ≡ first (undriven drivers (texts slices))

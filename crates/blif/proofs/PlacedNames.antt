@@ -1,4 +1,4 @@
--- Names with their places, and the names alone.
+-- Names with their indices, and the names alone.
 use Rattle.std.proofs.Common.{◌≡◌, ◌∙◌, ℕ, ◌+◌, ◌≤◌, Bool, true, false, not, ◌&&◌, cond, List, [], ◌∷◌, ◌++◌, map, filter, refl, sym, ap, arith}
 use Rattle.std.specs.List.{enumerate_from}
 use Rattle.line_text.proofs.InOrder.{Each, InOrder}
@@ -28,7 +28,7 @@ placed_alone test place (name ∷ names) = by (test name) (placed_alone test (pl
     by true rest = ap (λ ns. name ∷ ns) rest
     by false rest = rest
 
--- the first fault of placed names is that of the names alone
+-- the first fault of names with indices is that of the names alone
 first_alone : (kind : List ℕ → BlifFaultKind) (placed : List (ℕ × List ℕ)) → first (map kind (names_of placed)) ≡ first_kind (at_words kind placed)
 first_alone kind [] = refl
 first_alone kind (name ∷ rest) = refl
@@ -50,14 +50,14 @@ first_output taken names = first_repeat RepeatedOutput taken names
 pub first_clock : (declared drivers names : List (List ℕ)) → first (map TwoDrivers (filter (λ name. not (has_name declared name) && has_name drivers name) names)) ≡ first_kind (at_words TwoDrivers (placed (λ name. not (has_name declared name) && has_name drivers name) names))
 first_clock declared drivers names = first_placed TwoDrivers (λ name. not (has_name declared name) && has_name drivers name) names
 
--- where no placed name is, no name is
+-- if no name with its index repeats, no name repeats
 pub no_repeats : (taken names : List (List ℕ)) → repeats_from 0 taken names ≡ [] → repeats taken names ≡ []
 no_repeats taken names none = sym (repeats_alone 0 taken names) ∙ ap names_of none
 
 pub none_placed : (test : List ℕ → Bool) (names : List (List ℕ)) → placed test names ≡ [] → filter test names ≡ []
 none_placed test names none = sym (placed_alone test 0 names) ∙ ap names_of none
 
--- the places rise
+-- the indices increase
 abbrev pub Rise : ℕ × List ℕ → ℕ × List ℕ → Type 0
 Rise first second = first.0 ≤ second.0
 

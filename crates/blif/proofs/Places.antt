@@ -1,4 +1,4 @@
--- One element further into a list.
+-- Lists up to an index, by one more element.
 use Rattle.std.proofs.Common.{◌≡◌, ℕ, ◌+◌, ◌<◌, Bool, List, [], ◌∷◌, ◌++◌, None, Some, option_map, length, take, drop, slice_get, refl, sym, ap, ◌∙◌}
 use Rattle.std.specs.List.{flat_map}
 use Rattle.std.proofs.lemmas.List.{take_more, drop_more, append-nil}
@@ -25,7 +25,7 @@ pub first_found : (at_end : Bool) (number : ℕ) (faults : List WordFault) (othe
 first_found at_end number [] others kind h = absurd cc
 first_found at_end number (fault ∷ faults) others kind h = ap (option_map (λ k. record { line = number; kind = k })) (sym h)
 
--- and else that of the others
+-- if the line has no fault, the first fault is that of the others
 pub first_none : (at_end : Bool) (number : ℕ) (faults : List WordFault) (others : List (Found BlifFault)) → None ≡ first_kind faults → first_fault (at_line at_end number faults ++ others) ≡ first_fault others
 first_none at_end number [] others h = refl
 first_none at_end number (fault ∷ faults) others h = absurd cc

@@ -1,4 +1,4 @@
--- What one more line brings, and its faults.
+-- The contributions of one more line, and its faults.
 use Rattle.std.proofs.Common.{◌≡◌, ℕ, ◌+◌, ◌<◌, Bool, true, false, ◌||◌, List, [], ◌∷◌, ◌++◌, Option, None, Some, length, take, drop, slice_get, refl, sym, ap, ◌∙◌}
 use Rattle.std.specs.List.{flat_map, list_any}
 use Rattle.std.proofs.lemmas.List.Elements.{filter-append}
@@ -32,7 +32,7 @@ or_false true c = refl
 or_false false true = refl
 or_false false false = refl
 
--- what the lines have brought with one more
+-- the state after one more line
 pub sights_push : (declared : List (List ℕ)) (lines : List JoinedLine) (line : JoinedLine) → sights_of declared (lines ++ line ∷ []) ≡ sights_after (kind_of line) line.words (sights_of declared lines)
 unfolding sights_of
 sights_push declared lines line =
@@ -47,13 +47,13 @@ sights_push declared lines line =
     let cover = fold-append below None lines (line ∷ []) in
     λ i. record { declared = declared; begun = begun i; ended = ended i; nets = nets i; drivers = drivers i; clocks = clocks i; outputs = outputs i; cover = cover i }
 
--- the fault of a line with one
+-- a line that has a fault
 pub line_faults_found : (lut_size : ℕ) (declared : List (List ℕ)) (above : List JoinedLine) (line : JoinedLine) (rest : List JoinedLine) (kind : BlifFaultKind) → Some kind ≡ first_kind (faults_in lut_size (sights_of declared above) (kind_of line) line.words) → first_fault (line_faults lut_size declared above (line ∷ rest)) ≡ Some (record { line = line.number; kind = kind })
 unfolding line_faults
 line_faults_found lut_size declared above line rest kind h =
     first_found false line.number (faults_in lut_size (sights_of declared above) (kind_of line) line.words) (line_faults lut_size declared (above ++ line ∷ []) rest) kind h
 
--- a line without one leaves the faults to those that follow
+-- after a line without a fault, the faults are those of the lines that follow
 pub line_faults_none : (lut_size : ℕ) (declared : List (List ℕ)) (above : List JoinedLine) (line : JoinedLine) (rest : List JoinedLine) → None ≡ first_kind (faults_in lut_size (sights_of declared above) (kind_of line) line.words) → first_fault (line_faults lut_size declared above (line ∷ rest)) ≡ first_fault (line_faults lut_size declared (above ++ line ∷ []) rest)
 unfolding line_faults
 line_faults_none lut_size declared above line rest h =
@@ -61,13 +61,13 @@ line_faults_none lut_size declared above line rest h =
 
 module _ (lut_size : ℕ) (declared : List (List ℕ)) (lines : List JoinedLine) (place : ℕ) (line : JoinedLine) (checked : Sights)
     (within : place < length lines) (at : slice_get lines place ≡ Some line) (sights : checked ≡ sights_of declared (take place lines)) where
-  -- the line at that place brings what it brings
+  -- the line at this index is added to the state
   pub sights_at : (new : Sights) → new ≡ sights_after (kind_of line) line.words checked → new ≡ sights_of declared (take (place + 1) lines)
   sights_at new after =
       after ∙ ap (sights_after (kind_of line) line.words) sights
       ∙ sym (sights_push declared (take place lines) line) ∙ ap (sights_of declared) (sym (take_place lines place line within at))
 
-  -- and the numbers of its nets follow those of the lines above
+  -- the numbers of the line's nets follow those of the lines above
   pub numbers_so_far : (old new : List ℕ) → old ≡ numbered [] (flat_map names_of (take place lines)) → new ≡ old ++ numbered checked.nets (names_of line) → new ≡ numbered [] (flat_map names_of (take (place + 1) lines))
   unfolding sights_of
   numbers_so_far old new so_far added =
@@ -77,14 +77,14 @@ module _ (lut_size : ℕ) (declared : List (List ℕ)) (lines : List JoinedLine)
       ∙ ap (numbered []) (sym (flat_map_push names_of (take place lines) line))
       ∙ ap (λ ls. numbered [] (flat_map names_of ls)) (sym (take_place lines place line within at))
 
-  -- its fault is the first one
+  -- the line's fault is the first one
   pub fault_at : (kind : BlifFaultKind) → Some kind ≡ first_kind (faults_in lut_size checked (kind_of line) line.words) → first_fault (line_faults lut_size declared (take place lines) (drop place lines)) ≡ first_fault (line_faults lut_size declared [] lines) → first_fault (line_faults lut_size declared [] lines) ≡ Some (record { line = line.number; kind = kind })
   fault_at kind found left =
       sym left
       ∙ ap (λ rest. first_fault (line_faults lut_size declared (take place lines) rest)) (drop_place lines place line within at)
       ∙ line_faults_found lut_size declared (take place lines) line _ kind (found ∙ ap (λ s. first_kind (faults_in lut_size s (kind_of line) line.words)) sights)
 
-  -- without a fault the first one is among those of the lines below
+  -- if the line has no fault, the first one is among those of the later lines
   pub no_fault_at : None ≡ first_kind (faults_in lut_size checked (kind_of line) line.words) → first_fault (line_faults lut_size declared (take place lines) (drop place lines)) ≡ first_fault (line_faults lut_size declared [] lines) → first_fault (line_faults lut_size declared (take (place + 1) lines) (drop (place + 1) lines)) ≡ first_fault (line_faults lut_size declared [] lines)
   no_fault_at none left =
       ap (λ above. first_fault (line_faults lut_size declared above (drop (place + 1) lines))) (take_place lines place line within at)

@@ -1,4 +1,4 @@
--- Facts on the words of a line.
+-- Facts about the words of a line.
 use Rattle.std.proofs.Common.{◌≡◌, ℕ, ◌-◌, ◌<◌, List, [], ◌∷◌, length, get_or, refl, arith, take}
 use Rattle.std.specs.Borrow.{Bor}
 use Rattle.blif.specs.Names.{texts}

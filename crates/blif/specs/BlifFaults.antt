@@ -13,7 +13,8 @@ use Rattle.blif.specs.LineNets.{names_in, output_of, latch_output}
 use Rattle.blif.specs.Covers.{is_row, is_mixed}
 use Rattle.blif.specs.Sights.{Sights}
 
--- a fault of a line, and the place of its word among the nets that are looked at, 0 where it is the whole line's
+-- a fault of a line, and the index of its word among the nets that are checked, 0 if the whole line
+-- is at fault
 pub record WordFault : Type 0 where
   pub word : ℕ
   pub kind : BlifFaultKind
@@ -22,11 +23,11 @@ pub record WordFault : Type 0 where
 abbrev pub of_line : BlifFaultKind → List WordFault
 of_line kind = record { word = 0; kind = kind } ∷ []
 
--- the same where the test holds
+-- this fault of the whole line, if the test is met
 abbrev pub fault_where : Bool → BlifFaultKind → List WordFault
 fault_where test kind = if test then of_line kind else []
 
--- a fault for each of these names at its place
+-- a fault for each of these names, at the name's index
 abbrev pub at_words : (List ℕ → BlifFaultKind) → List (ℕ × List ℕ) → List WordFault
 at_words kind names = map (λ name. record { word = name.0; kind = kind name.1 }) names
 
@@ -34,22 +35,22 @@ at_words kind names = map (λ name. record { word = name.0; kind = kind name.1 }
 abbrev pub driven : Sights → List (List ℕ)
 driven above = above.clocks ++ above.drivers
 
--- a fault for each of the names that is driven above, or earlier among them
+-- a fault for each of the names that is driven above, or occurs earlier among them
 abbrev pub driver_faults : List (List ℕ) → List (List ℕ) → List WordFault
 driver_faults driven_above names = at_words TwoDrivers (repeats_from 0 driven_above names)
 
--- the faults of a table: its inputs are at most lut_size
+-- the faults of a table, which has at most lut_size inputs
 abbrev pub table_faults : ℕ → List (List ℕ) → List (List ℕ) → List WordFault
 table_faults lut_size driven_above [] = of_line BadCover
 table_faults lut_size driven_above (name ∷ names) = fault_where (nat_lt lut_size (length names)) TooWide ++ driver_faults driven_above (output_of (name ∷ names))
 
--- the faults of a row below this cover
+-- the faults of a row that follows this cover
 abbrev pub row_faults : Option Cover → List (List ℕ) → List WordFault
 row_faults None words = of_line Unknown
 row_faults (Some cover) words = fault_where (not (is_row cover.inputs words)) BadCover ++ fault_where (is_mixed cover.output words) MixedCover
 
--- the faults that a line of this kind has by itself or with the lines above it; a clock that is not a declared input is driven by
--- its lines of clocks, so nothing else drives it
+-- the faults that a line of this kind has by itself or with the lines above it; a clock that is not
+-- a declared input is driven by its `.clock` lines, so nothing else may drive it
 abbrev pub kind_faults : ℕ → Sights → Keyword → List (List ℕ) → List WordFault
 kind_faults lut_size above Model words = fault_where above.begun Unknown
 kind_faults lut_size above Inputs words = driver_faults (driven above) (args_of words)
@@ -66,8 +67,9 @@ abbrev pub is_model : Keyword → Bool
 is_model Model = true
 is_model keyword = false
 
--- all faults of a line of this kind: after the end it is Unknown and nothing else; before, the faults of its kind, and the
--- first line begins the model, and the nets of the lines so far, with its own, are not more than the most
+-- all faults of a line of this kind. After the end it is Unknown and has no other fault. Before the
+-- end it has the faults of its kind; the first line must begin the model, and the nets of the lines
+-- up to this one must not exceed the limit.
 abbrev pub faults_in : ℕ → Sights → Keyword → List (List ℕ) → List WordFault
 faults_in lut_size above keyword words =
     if above.ended then of_line Unknown else

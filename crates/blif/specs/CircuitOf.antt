@@ -1,4 +1,4 @@
--- What a netlist text says: its circuit, or its least fault.
+-- The meaning of a netlist text: its circuit, or its least fault.
 use Rattle.std.specs.Prelude.{ℕ, Bool, true, false, not, List, [], ◌∷◌, ◌++◌, Result, Ok, Err, map, length, nat_lt, if◌then◌else◌}
 use Rattle.std.specs.List.{before_first, flat_map}
 use Rattle.std.specs.Option.{option_map_or}
@@ -17,15 +17,15 @@ use Rattle.blif.specs.BlifFaults.{WordFault, at_words, driven, faults_in, of_lin
 use Rattle.blif.specs.Circuits.{circuit_from}
 use Rattle.blif.specs.LawfulCircuits.{IsCircuit, IsNarrow}
 
--- the inputs that lines of inputs declare before the end, each once
+-- the inputs that `.inputs` lines declare before the end, each once
 unfoldable pub declared_in : List JoinedLine → List (List ℕ)
 declared_in lines = with_names [] (flat_map inputs_of (before_first (λ line. is_end (kind_of line)) lines))
 
--- these faults of the line of that number, found at it or only at the end
+-- these faults of the line with this number, found at the line or only at the end
 abbrev pub at_line : Bool → ℕ → List WordFault → List (Found BlifFault)
 at_line at_end number faults = map (λ fault. record { at_end = at_end; line = number; number = number_of fault.kind; word = fault.word; fault = record { line = number; kind = fault.kind } }) faults
 
--- the faults of the lines, below those that stand above them
+-- the faults of the lines that follow the lines above
 unfoldable pub line_faults : ℕ → List (List ℕ) → List JoinedLine → List JoinedLine → List (Found BlifFault)
 line_faults lut_size declared above [] = []
 line_faults lut_size declared above (line ∷ lines) =
@@ -45,16 +45,17 @@ final_faults declared (line ∷ lines) = flat_map (undriven_faults (driven (sigh
 abbrev pub all_faults : ℕ → List JoinedLine → List (Found BlifFault)
 all_faults lut_size lines = line_faults lut_size (declared_in lines) [] lines ++ final_faults (declared_in lines) lines
 
--- what the lines say: their least fault, or their circuit where there is none
+-- the meaning of the lines: their least fault, or their circuit if they have no fault
 unfoldable pub circuit_of_lines : ℕ → List JoinedLine → Result Circuit BlifFault
 circuit_of_lines lut_size lines = option_map_or Err (least_fault (all_faults lut_size lines)) (Ok (circuit_from (declared_in lines) lines))
 
--- the circuit, or the least fault: first the text's size, then a fault of its lines, then what the lines say
+-- the circuit, or the least fault: first the text's size, then a fault of splitting it into lines,
+-- then a fault of the netlist
 unfoldable pub circuit_of : List ℕ → ℕ → Result Circuit BlifFault
 circuit_of text lut_size =
     if nat_lt MAX_TEXT (length text) then Err (record { line = 0; kind = OverLimit })
     else result_flatten (result_map_both (circuit_of_lines lut_size) fault_of_lines (lines_of text))
 
--- a circuit that is lawful, and whose tables have at most so many inputs
+-- a circuit that is lawful, and whose tables have at most lut_size inputs
 abbrev pub IsLawfulFor : ℕ → Circuit → Type 0
 IsLawfulFor lut_size circuit = IsCircuit circuit × IsNarrow lut_size circuit

@@ -19,7 +19,7 @@ abbrev pub table_with : List (List ℕ) → ℕ → List (List ℕ) → List Loo
 table_with nets number [] = []
 table_with nets number (name ∷ names) = record { line = number; inputs = map (number_of nets) (front_of (name ∷ names)); output = number_of nets (last_of (name ∷ names)) } ∷ []
 
--- the tables that a line of this kind brings
+-- the tables that a line of this kind adds
 abbrev pub tables_in : List (List ℕ) → ℕ → Keyword → List (List ℕ) → List LookupTable
 tables_in nets number Names words = table_with nets number (args_of words)
 tables_in nets number keyword words = []
@@ -29,17 +29,17 @@ abbrev pub latch_with : List (List ℕ) → ℕ → List (List ℕ) → List Sto
 latch_with nets number args =
     if is_latch args then record { line = number; input = number_of nets (slice_index_or args 0 []); output = number_of nets (slice_index_or args 1 []); control = option_map (number_of nets) (control_of args) } ∷ [] else []
 
--- the latches that a line of this kind brings
+-- the latches that a line of this kind adds
 abbrev pub latches_in : List (List ℕ) → ℕ → Keyword → List (List ℕ) → List StoredLatch
 latches_in nets number Latch words = latch_with nets number (args_of words)
 latches_in nets number keyword words = []
 
--- the name of the model that the first line begins, which may leave it out
+-- the name of the model that the first line begins, `top` if it has no name
 abbrev pub model_of : List JoinedLine → List ℕ
 model_of [] = codes "top"
 model_of (line ∷ lines) = slice_index_or (args_of line.words) 0 (codes "top")
 
--- the circuit of these lines, whose clocks come after the inputs that lines of inputs name
+-- the circuit of these lines, whose clocks come after the inputs of its `.inputs` lines
 unfoldable pub circuit_from : List (List ℕ) → List JoinedLine → Circuit
 circuit_from declared lines =
     let sights = sights_of declared lines in record {

@@ -1,4 +1,4 @@
--- How replies tell a fault.
+-- How replies report a fault.
 use Rattle.std.specs.Prelude.{ℕ, List, [], ◌++◌, Option, None, Some, codes, encode_utf8_all}
 use Rattle.std.specs.Fmt.{decimal}
 use Rattle.line_text.specs.declared.fault.LineFault.{LineFault}
@@ -7,7 +7,7 @@ use Rattle.blif.specs.declared.fault.BlifFaultKind.{BlifFaultKind}
 use Rattle.blif.specs.declared.fault.BlifFaultKind.TheVariants.{Unknown, BadCover, MixedCover, TooWide, TwoDrivers, Undriven, RepeatedOutput, BadLatch, NoModel, OverLimit, NotAscii, LineTooLong}
 use Rattle.blif.specs.declared.fault.BlifFault.{BlifFault}
 
--- its number
+-- the number of a kind of fault in replies
 abbrev pub number_of : BlifFaultKind → ℕ
 number_of Unknown = 1
 number_of BadCover = 2
@@ -22,7 +22,7 @@ number_of OverLimit = 10
 number_of NotAscii = 11
 number_of LineTooLong = 12
 
--- its name
+-- the name of a kind of fault in replies
 abbrev pub name_of : BlifFaultKind → List ℕ
 name_of Unknown = codes "Unknown"
 name_of BadCover = codes "BadCover"
@@ -52,16 +52,16 @@ net_of OverLimit = None
 net_of NotAscii = None
 net_of LineTooLong = None
 
--- a blank and the net, each byte as the character of its number, where there is a net
+-- a blank and the net, with each byte as the character of its number; nothing if there is no net
 abbrev pub printed_net : Option (List ℕ) → List ℕ
 printed_net None = []
 printed_net (Some net) = codes " " ++ encode_utf8_all net
 
--- number, name, line, and the net where the fault names one, parted by blanks
+-- number, name and line, and the net if the fault names one, separated by blanks
 abbrev pub printed_fault : BlifFault → List ℕ
 printed_fault fault = decimal (number_of fault.kind) ++ codes " " ++ name_of fault.kind ++ codes " " ++ decimal fault.line ++ printed_net (net_of fault.kind)
 
--- a fault of lines as a fault of the netlist
+-- a fault of splitting into lines, as a fault of the netlist
 abbrev pub fault_of_lines : LineFault → BlifFault
 fault_of_lines (LineNotAscii number) = record { line = number; kind = NotAscii }
 fault_of_lines (LineLineTooLong number) = record { line = number; kind = LineTooLong }

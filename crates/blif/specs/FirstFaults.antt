@@ -1,4 +1,4 @@
--- Private: the first of the faults that a line or a text has in this order.
+-- Private: the first fault of a line or of a text, in the order of the list.
 use Rattle.std.specs.Prelude.{List, Option, option_map}
 use Rattle.line_text.specs.LeastFault.{Found}
 use Rattle.blif.specs.declared.fault.BlifFault.{BlifFault}

@@ -1,4 +1,4 @@
--- What a line is, by its first word.
+-- The kind of a line, by its first word.
 use Rattle.std.specs.Prelude.{ℕ, Bool, List, [], ◌∷◌, ◌==◌, codes, drop, slice_index, if◌then◌else◌}
 use Rattle.std.specs.List.{list_any}
 use Rattle.std.specs.Str.{bytes_eq}
@@ -12,7 +12,7 @@ is_skipped word = list_any (bytes_eq word) (
     ∷ codes ".output_required" ∷ codes ".default_output_required" ∷ codes ".input_drive" ∷ codes ".default_input_drive" ∷ codes ".output_load"
     ∷ codes ".default_output_load" ∷ codes ".max_input_load" ∷ codes ".default_max_input_load" ∷ codes ".cycle" ∷ codes ".clock_event" ∷ [])
 
--- what a word with a point begins
+-- the kind of a line whose first word begins with a point
 abbrev pub command_of : List ℕ → Keyword
 command_of word =
     if bytes_eq word (codes ".names") then Names else
@@ -25,7 +25,8 @@ command_of word =
     if is_skipped word then Skipped else
     Other
 
--- what the line with these words is: a command where a point stands in front, else a row
+-- the kind of a line with these words: a command if the first word begins with a point, otherwise a
+-- row
 abbrev pub keyword_of : List (List ℕ) → Keyword
 keyword_of [] = Row
 keyword_of (word ∷ words) = if slice_index word 0 == 46 then command_of word else Row

@@ -1,12 +1,13 @@
--- The words of a latch's line: its input, its output, perhaps its type and control, perhaps its first value.
+-- The words of a latch's line: its input, its output, optionally its type and control, optionally
+-- its initial value.
 use Rattle.std.specs.Prelude.{ℕ, Bool, true, false, ◌&&◌, ◌||◌, ◌==◌, List, [], ◌∷◌, Option, None, Some, codes, if◌then◌else◌}
 use Rattle.std.specs.Str.{bytes_eq}
 
--- falling edge, rising edge, active high, active low, asynchronous
+-- falling edge, rising edge, active high, active low, or asynchronous
 abbrev pub is_type : List ℕ → Bool
 is_type word = bytes_eq word (codes "fe") || (bytes_eq word (codes "re") || (bytes_eq word (codes "ah") || (bytes_eq word (codes "al") || bytes_eq word (codes "as"))))
 
--- 0, 1, of no matter, unknown
+-- 0, 1, don't care, or unknown
 abbrev pub is_init : List ℕ → Bool
 is_init (byte ∷ []) = (byte == 48) || ((byte == 49) || ((byte == 50) || (byte == 51)))
 is_init word = false

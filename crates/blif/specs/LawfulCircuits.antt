@@ -1,4 +1,4 @@
--- What each circuit of a text keeps.
+-- The invariant of every circuit that is read from a text.
 use Rattle.std.specs.Prelude.{ℕ, ◌≡◌, ◌≢◌, ◌<◌, ◌≤◌, Bool, true, List, ◌++◌, All, AllPairs, length, map, nat_eq}
 use Rattle.std.specs.List.{AllPass, list_any}
 use Rattle.std.specs.Option.{ForSome}
@@ -12,7 +12,7 @@ pub record IsTableWithin (count : ℕ) (table : LookupTable) : Type 0 where
   pub inputs : All (λ net. net < count) table.inputs
   pub output : table.output < count
 
--- the latch stores, drives and is controlled by nets below the count
+-- the latch reads, drives and is controlled by nets below the count
 pub record IsLatchWithin (count : ℕ) (latch : Latch) : Type 0 where
   pub input : latch.input < count
   pub output : latch.output < count
@@ -26,14 +26,14 @@ has_net nets net = list_any (nat_eq net) nets
 abbrev pub drivers_of : Circuit → List ℕ
 drivers_of circuit = circuit.inputs ++ (map (λ table. table.output) circuit.tables ++ map (λ latch. latch.output) circuit.latches)
 
--- what the latch reads is driven
+-- the nets that the latch reads are driven
 pub record IsLatchDriven (drivers : List ℕ) (latch : Latch) : Type 0 where
   pub input : has_net drivers latch.input ≡ true
   pub control : ForSome latch.control (λ net. has_net drivers net ≡ true)
 
--- the circuit has few nets, no two of one name, and each number that it holds is that of a net; no net is driven twice,
--- none is shown twice, and each that is read is driven; tables and latches stand in the order of their lines, none on a
--- line of another
+-- the number of nets is within the limit, all their names differ, and each number in the circuit is
+-- that of a net. No net is driven twice or is an output twice, and each net that is read is driven.
+-- Tables and latches are in the order of their lines, and each has a line of its own.
 pub record IsCircuit (circuit : Circuit) : Type 0 where
   pub few : length circuit.nets ≤ MAX_NETS
   pub named_once : AllPairs (λ name other. name ≢ other) circuit.nets
@@ -50,6 +50,6 @@ pub record IsCircuit (circuit : Circuit) : Type 0 where
   pub latches_rise : AllPairs (λ latch later. latch.line < later.line) circuit.latches
   pub lines_apart : All (λ table. All (λ latch. table.line ≢ latch.line) circuit.latches) circuit.tables
 
--- each table has at most so many inputs
+-- each table has at most lut_size inputs
 abbrev pub IsNarrow : ℕ → Circuit → Type 0
 IsNarrow lut_size circuit = All (λ table. length table.inputs ≤ lut_size) circuit.tables

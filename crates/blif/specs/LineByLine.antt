@@ -1,4 +1,4 @@
--- Private: what lines bring, one line after another.
+-- Private: the contributions of lines, one line after another.
 use Rattle.std.specs.Prelude.{ℕ, ◌≡◌, true, not, ◌||◌, List, [], ◌++◌, map, filter}
 use Rattle.std.specs.List.{before_first, flat_map}
 use Rattle.line_text.specs.Lines.{JoinedLine}
@@ -12,15 +12,16 @@ use Rattle.blif.specs.LookupTables.{LookupTable}
 use Rattle.blif.specs.Sights.{Sights, inputs_of, is_end, kind_of, names_of, outputs_of}
 use Rattle.blif.specs.Circuits.{latches_in, model_of, tables_in}
 
--- the nets that the line drives, if it is no line of clocks
+-- the nets that the line drives, if it is not a `.clock` line
 abbrev pub drives_of : JoinedLine → List (List ℕ)
 drives_of line = drives_in (kind_of line) line.words
 
--- the clocks that it names
+-- the clocks that the line names
 abbrev pub clocks_of : JoinedLine → List (List ℕ)
 clocks_of line = clocks_in (kind_of line) line.words
 
--- these are all nets of the lines, and these the numbers of what the lines name
+-- these are all nets of the lines, and these are the numbers of the nets that the lines name, in
+-- order
 pub record AreNetsOf (lines : List JoinedLine) (all : List (List ℕ)) (given : List ℕ) : Type 0 where
   pub nets : all ≡ with_names [] (flat_map names_of lines)
   pub numbers : given ≡ map (number_of all) (flat_map names_of lines)
@@ -33,7 +34,7 @@ lines_to_end lines = before_first (λ line. is_end (kind_of line)) lines
 abbrev pub undeclared : List (List ℕ) → List (List ℕ) → List (List ℕ)
 undeclared declared names = filter (λ name. not (has_name declared name)) names
 
--- what they have brought with one more line, of this kind and with these words
+-- the state after one more line, of this kind and with these words
 abbrev pub sights_after : Keyword → List (List ℕ) → Sights → Sights
 sights_after keyword words old = record {
   declared = old.declared;
@@ -46,14 +47,14 @@ sights_after keyword words old = record {
   cover = cover_after keyword words old.cover;
 }
 
--- the parts of a circuit that lines bring
+-- the parts of a circuit that lines add
 pub record Parts : Type 0 where
   pub inputs : List ℕ
   pub outputs : List ℕ
   pub tables : List LookupTable
   pub latches : List StoredLatch
 
--- the parts that these lines bring
+-- the parts that these lines add
 unfoldable pub parts_of : List (List ℕ) → List JoinedLine → Parts
 parts_of nets lines = record {
   inputs = map (number_of nets) (flat_map inputs_of lines);
@@ -73,7 +74,7 @@ circuit_with nets clocks lines parts = record {
   latches = parts.latches;
 }
 
--- the parts with those that one more line brings
+-- the parts after one more line
 abbrev pub parts_after : List (List ℕ) → ℕ → Keyword → List (List ℕ) → Parts → Parts
 parts_after nets number keyword words old = record {
   inputs = old.inputs ++ map (number_of nets) (inputs_in keyword words);

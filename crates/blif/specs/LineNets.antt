@@ -6,7 +6,7 @@ use Rattle.blif.specs.declared.keyword.Keyword.TheVariants.{Inputs, Outputs, Clo
 use Rattle.blif.specs.Keywords.{args_of, last_of}
 use Rattle.blif.specs.LatchLines.{is_latch, control_of}
 
--- of the nets of a latch, its input and its output, the first so many, and its control
+-- the nets of a latch: the first `count` of its input and output, and its control
 abbrev pub latch_nets : ℕ → List (List ℕ) → List (List ℕ)
 latch_nets count args = if is_latch args then take count args ++ option_to_list (control_of args) else []
 
@@ -19,23 +19,23 @@ names_in Names words = args_of words
 names_in Latch words = latch_nets 2 (args_of words)
 names_in keyword words = []
 
--- the last word, of a list that has one
+-- the last word, if the list has one
 abbrev pub output_of : List (List ℕ) → List (List ℕ)
 output_of [] = []
 output_of (word ∷ words) = last_of (word ∷ words) ∷ []
 
--- the output of a latch
 abbrev pub latch_output : List (List ℕ) → List (List ℕ)
 latch_output args = if is_latch args then drop 1 (take 2 args) else []
 
--- the nets that a line of this kind drives by itself; of a line of clocks the lines of inputs of the whole text decide
+-- the nets that a line of this kind drives by itself; which nets a `.clock` line drives depends on
+-- the `.inputs` lines of the whole text
 abbrev pub drives_in : Keyword → List (List ℕ) → List (List ℕ)
 drives_in Inputs words = args_of words
 drives_in Names words = output_of (args_of words)
 drives_in Latch words = latch_output (args_of words)
 drives_in keyword words = []
 
--- the inputs that a line of this kind names
+-- the inputs that a line of this kind declares
 abbrev pub inputs_in : Keyword → List (List ℕ) → List (List ℕ)
 inputs_in Inputs words = args_of words
 inputs_in keyword words = []
@@ -45,7 +45,7 @@ abbrev pub clocks_in : Keyword → List (List ℕ) → List (List ℕ)
 clocks_in Clock words = args_of words
 clocks_in keyword words = []
 
--- the outputs that a line of this kind names
+-- the outputs that a line of this kind declares
 abbrev pub outputs_in : Keyword → List (List ℕ) → List (List ℕ)
 outputs_in Outputs words = args_of words
 outputs_in keyword words = []

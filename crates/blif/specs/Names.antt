@@ -9,11 +9,12 @@ abbrev pub first : {A : Type 0} → List A → Option A
 first [] = None
 first (x ∷ xs) = Some x
 
--- those of the names that are taken, or that stand earlier among them, each with its place, the first one's being this
+-- those of the names that are taken or occur earlier among them, each with its index, counted from
+-- `place`
 abbrev pub repeats_from : ℕ → List (List ℕ) → List (List ℕ) → List (ℕ × List ℕ)
 repeats_from place taken [] = []
 repeats_from place taken (name ∷ names) = (if has_name taken name then (place, name) ∷ [] else []) ++ repeats_from (place + 1) (taken ++ name ∷ []) names
 
--- those of the names that meet the test, each with its place
+-- those of the names that pass the test, each with its index
 abbrev pub placed : (List ℕ → Bool) → List (List ℕ) → List (ℕ × List ℕ)
 placed test names = filter (λ name. test name.1) (enumerate_from 0 names)

@@ -1,4 +1,4 @@
--- Private: the numbers that names get, one after another.
+-- Private: the numbers of names, in the order in which the names are added.
 use Rattle.std.specs.Prelude.{ℕ, ◌≡◌, List, [], ◌∷◌, IsTrue, map}
 use Rattle.std.specs.List.{list_all}
 use Rattle.blif.specs.Names.{has_name, number_of, with_name}
@@ -8,7 +8,7 @@ pub record AreNumbered (nets names : List (List ℕ)) (given : List ℕ) : Type 
   pub named : IsTrue (list_all (has_name nets) names)
   pub numbers : given ≡ map (number_of nets) names
 
--- the number of each of the others, where they are added one after another
+-- the number of each of the others, when they are added one after another
 abbrev pub numbered : List (List ℕ) → List (List ℕ) → List ℕ
 numbered names [] = []
 numbered names (name ∷ others) = number_of names name ∷ numbered (with_name names name) others

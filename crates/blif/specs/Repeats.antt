@@ -1,8 +1,8 @@
--- Private: names that repeat or are not driven, without their places.
+-- Private: names that repeat or are not driven, without their indices.
 use Rattle.std.specs.Prelude.{ℕ, not, List, [], ◌∷◌, ◌++◌, filter, if◌then◌else◌}
 use Rattle.blif.specs.Names.{has_name}
 
--- those of the names that are taken, or that stand earlier among them
+-- those of the names that are taken or occur earlier among them
 abbrev pub repeats : List (List ℕ) → List (List ℕ) → List (List ℕ)
 repeats taken [] = []
 repeats taken (name ∷ names) = (if has_name taken name then name ∷ [] else []) ++ repeats (taken ++ name ∷ []) names

@@ -1,4 +1,4 @@
--- What the lines of a text bring, as lists over all of them.
+-- The contributions of a text's lines, as lists over all of them.
 use Rattle.std.specs.Prelude.{ℕ, Bool, true, false, not, List, [], Option, None, filter, fold}
 use Rattle.std.specs.List.{flat_map, list_any}
 use Rattle.line_text.specs.Lines.{JoinedLine}
@@ -11,9 +11,10 @@ use Rattle.blif.specs.Keywords.{keyword_of}
 use Rattle.blif.specs.LineNets.{names_in, drives_in, inputs_in, clocks_in, outputs_in}
 use Rattle.blif.specs.Covers.{cover_after}
 
--- what lines have brought: the inputs that the whole text declares by lines of inputs; whether a line has come, and whether the
--- end has; the nets, in the order of first sight; what inputs, tables and latches drive, and the clocks that are not declared
--- inputs; the circuit's outputs; the cover that a row would go on with
+-- the state after some lines: the inputs that the whole text declares in `.inputs` lines; whether
+-- there was a line, and whether the end was reached; the nets, in the order in which they first
+-- appear; the nets that inputs, tables and latches drive, and the clocks that are not declared
+-- inputs; the circuit's outputs; the cover that a row would continue
 pub record Sights : Type 0 where
   pub declared : List (List ℕ)
   pub begun : Bool
@@ -29,7 +30,7 @@ abbrev pub is_end : Keyword → Bool
 is_end End = true
 is_end keyword = false
 
--- what the line is
+-- the kind of the line
 abbrev pub kind_of : JoinedLine → Keyword
 kind_of line = keyword_of line.words
 
@@ -37,15 +38,15 @@ kind_of line = keyword_of line.words
 abbrev pub names_of : JoinedLine → List (List ℕ)
 names_of line = names_in (kind_of line) line.words
 
--- the inputs that it names
+-- the inputs that the line declares
 abbrev pub inputs_of : JoinedLine → List (List ℕ)
 inputs_of line = inputs_in (kind_of line) line.words
 
--- the outputs that it names
+-- the outputs that the line declares
 abbrev pub outputs_of : JoinedLine → List (List ℕ)
 outputs_of line = outputs_in (kind_of line) line.words
 
--- what these lines have brought
+-- the state after these lines
 unfoldable pub sights_of : List (List ℕ) → List JoinedLine → Sights
 sights_of declared lines = record {
   declared = declared;

@@ -1,4 +1,4 @@
-//! The faults of the lines, one line after another.
+//! Finds the faults of the lines, one line after another.
 ghost use Rattle.std.specs.Prelude.{◌≡◌, ◌≤◌, ◌||◌, ◌&&◌, ◌++◌, [], not, if◌then◌else◌, length, None, true, false, IfOk, IfNone, IsTrue};
 ghost use Rattle.blif.specs.LineByLine.{sights_after, undeclared};
 ghost use Rattle.blif.specs.Numbering.{numbered};
@@ -22,7 +22,7 @@ use line_text::{Line, NameSet, Text};
 use std::alloc::{AllocError, Global};
 use std::marker::Model;
 
-/// What the lines so far have brought. Its value is the record of it.
+/// The state after the lines so far. Its value is the record of it.
 #[derive(Drop)]
 pub struct Checker<'t> {
     declared: NameSet<'t>,
@@ -44,7 +44,7 @@ impl<'t> Model for Checker<'t> {
 }
 
 impl<'t> Checker<'t> {
-    /// No line has come of a text that declares these inputs.
+    /// The state before the first line of a text that declares these inputs.
     #[tactic(auto, unfolding(crate::specs::Sights::sights_of))]
     pub fn new(alloc: Global, declared: NameSet<'t>) -> Self
         ensures { result ≡ sights_of declared.entry [] }
@@ -61,7 +61,7 @@ impl<'t> Checker<'t> {
         }
     }
 
-    /// The nets of the lines that have come, and which of them are driven.
+    /// The nets of the lines so far, and which of them are driven.
     pub fn into_driven(self, alloc: Global) -> Result<Driven<'t>, AllocError>
         requires { length self.nets ≤ MAX_NETS }
         ensures { IfOk result (λ driven.
@@ -74,8 +74,8 @@ impl<'t> Checker<'t> {
         Driven::new(alloc, self.nets, self.clocks, self.drivers)
     }
 
-    /// The least fault of the line; without one it has come, and the numbers of the nets that it
-    /// names stand at the end.
+    /// The least fault of the line. If the line has none, it is added to the state, and the numbers
+    /// of the nets that it names are appended to `numbers`.
     pub fn check(
         &mut self,
         alloc: Global,
@@ -111,7 +111,8 @@ impl<'t> Checker<'t> {
         Ok(None)
     }
 
-    /// The least fault that the line has by itself or with the lines above it; without one it has come, but for what it names.
+    /// The least fault that the line has by itself or with the lines above it. If it has none, the
+    /// line is added to the state, except the nets that it names.
     fn kind_fault(
         &mut self,
         alloc: Global,
@@ -149,7 +150,7 @@ impl<'t> Checker<'t> {
     }
 }
 
-/// Adds the nets that the line names, and puts their numbers at the end.
+/// Adds the nets that the line names, and appends their numbers.
 fn name_nets<'t>(
     nets: &mut NameSet<'t>,
     numbers: &mut Nets,
@@ -171,7 +172,8 @@ fn name_nets<'t>(
     }
 }
 
-/// The first of the names that is driven already; without one they all are now.
+/// The first of the names that is already driven. If no name is, all of them are marked as
+/// driven.
 fn drive<'t>(
     alloc: Global,
     clocks: &NameSet<'t>,
@@ -191,7 +193,7 @@ fn drive<'t>(
     Ok(None)
 }
 
-/// The first of the names that is an output already; without one they all are now.
+/// The first of the names that is already an output. If no name is, all of them become outputs.
 fn show<'t>(
     alloc: Global,
     outputs: &mut NameSet<'t>,
@@ -209,7 +211,8 @@ fn show<'t>(
     }
 }
 
-/// The first of the names that is no declared input and is driven already; without one the others are clocks now.
+/// The first of the names that is not a declared input and is already driven. If no name is, those
+/// that are not declared inputs become clocks.
 fn clock<'t>(
     alloc: Global,
     declared: &NameSet<'t>,
@@ -236,7 +239,7 @@ fn clock<'t>(
     Ok(None)
 }
 
-/// The least fault of the table whose names this line has; without one its output is driven now.
+/// The least fault of the table on this line. If it has none, its output is marked as driven.
 fn table<'t>(
     alloc: Global,
     lut_size: u32,
@@ -259,7 +262,7 @@ fn table<'t>(
     drive(alloc, clocks, drivers, &[last_of(args)])
 }
 
-/// The least fault of the latch that this line is; without one its output is driven now.
+/// The least fault of the latch on this line. If it has none, its output is marked as driven.
 fn latch<'t>(
     alloc: Global,
     clocks: &NameSet<'t>,
@@ -279,7 +282,7 @@ fn latch<'t>(
     drive(alloc, clocks, drivers, &args.words()[1..2])
 }
 
-/// Adds the nets of a latch, and puts their numbers at the end.
+/// Adds the nets of a latch, and appends their numbers.
 fn name_latch<'t>(
     nets: &mut NameSet<'t>,
     numbers: &mut Nets,
@@ -297,7 +300,7 @@ fn name_latch<'t>(
     }
 }
 
-/// The least fault of a row below this cover.
+/// The least fault of a row that follows this cover.
 fn row_fault(cover: Option<Cover>, line: &Line<'_, '_>) -> Option<BlifFaultKind>
     ensures { result ≡ first_kind (row_faults cover line.now.words) }
 {

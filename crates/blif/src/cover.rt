@@ -1,4 +1,4 @@
-//! The cover of a table: the rows below its line, of which only the form is checked.
+//! The cover of a table: the rows after its line, of which only the form is checked.
 ghost use Rattle.std.specs.Prelude.{◌≡◌, ◌<◌};
 ghost use Rattle.std.specs.List.{list_all};
 ghost use Rattle.blif.specs.Covers.{cover_after, gives_one, is_literal, is_output, is_mixed, is_row};
@@ -6,14 +6,16 @@ ghost use Rattle.blif.specs.Covers.{cover_after, gives_one, is_literal, is_outpu
 use crate::keyword::{Keyword, last_of};
 use line_text::{Line, is_word};
 
-/// A table whose rows may follow: how many inputs it has, and whether its first row gives 1, once there is one.
+/// A table whose rows may follow: its number of inputs, and whether its first row gives 1, once
+/// that row was read.
 #[derive(Clone, Copy)]
 pub struct Cover {
     pub inputs: usize,
     pub output: Option<bool>,
 }
 
-/// Whether the line is a row for so many inputs: a character `0`, `1` or `-` for each, and the output.
+/// Whether the line is a row for this many inputs: a character `0`, `1` or `-` for each, and the
+/// output.
 pub fn is_row(inputs: usize, line: &Line<'_, '_>) -> bool
     ensures { result ≡ is_row inputs line.now.words }
 {
@@ -49,7 +51,7 @@ fn gives_one(line: &Line<'_, '_>) -> bool
     is_word(last_of(line), "1")
 }
 
-/// Whether the row's output is another than that of the cover's first row.
+/// Whether the row's output differs from that of the cover's first row.
 pub fn is_mixed(first: Option<bool>, line: &Line<'_, '_>) -> bool
     ensures { result ≡ is_mixed first line.now.words }
 {
@@ -60,7 +62,7 @@ pub fn is_mixed(first: Option<bool>, line: &Line<'_, '_>) -> bool
     }
 }
 
-/// The cover that a line of this kind begins or goes on with, where `above` stands above the line.
+/// The cover after a line of this kind, which begins it or continues the cover `above` the line.
 pub fn cover_after(keyword: Keyword, line: &Line<'_, '_>, above: Option<Cover>) -> Option<Cover>
     ensures { result ≡ cover_after keyword line.now.words above }
 {

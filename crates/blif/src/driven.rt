@@ -1,4 +1,4 @@
-//! Which nets of a text are driven.
+//! Records which nets of a text are driven.
 ghost use Rattle.std.specs.Prelude.{◌≡◌, ◌≤◌, ◌<◌, ◌++◌, [], map, length, IfOk, option_map, slice_index_or};
 ghost use Rattle.blif.specs.Names.{first, has_name, number_of, texts};
 ghost use Rattle.blif.specs.Numbering.{AreNumbered};
@@ -9,8 +9,8 @@ use line_text::NameSet;
 use std::alloc::{AllocError, Global};
 use std::marker::Model;
 
-/// The nets of a whole text, the clocks among them that are inputs, and the nets that other inputs, tables and latches
-/// drive. Its value is the record of these.
+/// The nets of a whole text, the clocks among them that are inputs, and the nets that other inputs,
+/// tables and latches drive. Its value is the record of these.
 #[derive(Drop)]
 pub struct Driven<'t> {
     nets: NameSet<'t>,
@@ -57,7 +57,7 @@ impl<'t> Driven<'t> {
         }
     }
 
-    /// The nets, by number.
+    /// The nets, in the order of their numbers.
     pub fn nets(&self) -> &NameSet<'t>
         ensures { result.now ≡ self.now.nets }
     {
@@ -71,14 +71,14 @@ impl<'t> Driven<'t> {
         &self.clocks
     }
 
-    /// The number of a net, or of the next net where it is none.
+    /// The number of a net, or the number of nets if the name is not a net.
     pub fn number(&self, net: &[u8]) -> u32
         ensures { result ≡ number_of self.now.nets net.now }
     {
         self.nets.number(net) as u32
     }
 
-    /// Whether the net of a number is driven.
+    /// Whether the net with this number is driven.
     pub fn is_driven(&self, net: u32) -> bool
         requires { net < length self.now.nets }
         ensures { result ≡ has_name (self.now.clocks ++ self.now.drivers)
@@ -87,7 +87,7 @@ impl<'t> Driven<'t> {
         self.is_driven[net as usize]
     }
 
-    /// The first of the names that is no driven net's, where these are the numbers of their nets.
+    /// The first of the names whose net is not driven; `nets` are the numbers of the names' nets.
     pub fn first_undriven(&self, names: &[&'t [u8]], nets: &[u32]) -> Option<&'t [u8]>
         requires { AreNumbered self.now.nets (texts names.now) nets.now }
         ensures { option_map (λ n. n.now) result
@@ -102,7 +102,7 @@ impl<'t> Driven<'t> {
     }
 }
 
-/// For each net whether it is driven.
+/// Whether each net is driven, by net number.
 fn marks<'t>(
     alloc: Global,
     nets: &NameSet<'t>,

@@ -1,4 +1,4 @@
-//! What can be wrong with a netlist, and how it is told.
+//! What can be wrong with a netlist, and how it is reported.
 ghost use Rattle.std.specs.Prelude.{◌≡◌, ◌++◌, codes, encode_utf8_all};
 ghost use Rattle.std.specs.Fmt.{WritesOnOk};
 ghost use Rattle.std.specs.Option.{option_copied};
@@ -12,34 +12,35 @@ use thiserror::Error;
 /// What is wrong with a netlist. Three faults name their net.
 #[derive(Debug, Drop)]
 pub enum BlifFaultKind {
-    /// The first word begins with a point and is no keyword, a second model, a row without a table, or a line after the end.
+    /// The first word begins with a point and is not a keyword, or there is a second model, a row
+    /// without a table, or a line after the end.
     Unknown,
-    /// A table without a word, or a row that is none for its inputs.
+    /// A table without a word, or a row of the wrong form for its number of inputs.
     BadCover,
-    /// A row whose output is another than that of the first row.
+    /// A row whose output differs from that of the first row.
     MixedCover,
-    /// A table of more inputs than there may be.
+    /// A table with more inputs than allowed.
     TooWide,
-    /// The net is driven already.
+    /// The net is already driven.
     TwoDrivers(Text),
-    /// The net is read and not driven. This is found at the end, at its first reader's line.
+    /// The net is read and not driven. This is found at the end, at the line of its first reader.
     Undriven(Text),
-    /// The net is an output already.
+    /// The net is already an output.
     RepeatedOutput(Text),
-    /// Not two to five words of a latch's form.
+    /// The words of a latch are not two to five words of its form.
     BadLatch,
     /// The first line does not begin the model, or there is no line.
     NoModel,
-    /// The text is too long, or the line brings one net too many.
+    /// The text is too long, or with this line there are too many nets.
     OverLimit,
-    /// A byte outside comments is neither blank nor a printing ASCII character.
+    /// A byte outside comments is neither a blank nor a printing ASCII character.
     NotAscii,
     /// A joined line is too long.
     LineTooLong,
 }
 
 impl BlifFaultKind {
-    /// The number by which replies tell it, 1 to 12.
+    /// Its number in replies, 1 to 12.
     pub fn number(&self) -> u32
         ensures { result ≡ number_of self.now }
     {
@@ -59,7 +60,7 @@ impl BlifFaultKind {
         }
     }
 
-    /// The name by which replies tell it.
+    /// Its name in replies.
     pub fn name(&self) -> &'static str
         ensures { result.now ≡ name_of self.now }
     {
@@ -113,7 +114,7 @@ impl Clone for BlifFaultKind {
     }
 }
 
-/// A fault, with the number of its line from 1, or 0 where it is the text's.
+/// A fault, with the number of its line from 1, or 0 if it concerns the whole text.
 #[derive(Debug, Drop, Error)]
 pub struct BlifFault {
     pub line: u32,
@@ -121,21 +122,21 @@ pub struct BlifFault {
 }
 
 impl BlifFault {
-    /// The number by which replies tell what is wrong, 1 to 12.
+    /// The fault's number in replies, 1 to 12.
     pub fn number(&self) -> u32
         ensures { result ≡ number_of self.now.kind }
     {
         self.kind.number()
     }
 
-    /// The name by which replies tell what is wrong.
+    /// The fault's name in replies.
     pub fn name(&self) -> &'static str
         ensures { result.now ≡ name_of self.now.kind }
     {
         self.kind.name()
     }
 
-    /// The net that is wrong, if it is one.
+    /// The net that the fault names, if it names one.
     pub fn net(&self) -> Option<&Text>
         ensures { option_copied result ≡ net_of self.now.kind }
     {
@@ -143,7 +144,7 @@ impl BlifFault {
     }
 }
 
-/// The number, the name, the line, and the net where the fault names one, parted by blanks.
+/// The number, the name, the line, and the net if the fault names one, separated by blanks.
 impl fmt::Display for BlifFault {
     ghost use Rattle.std.specs.Prelude.{Some};
     ghost use Rattle.blif.specs.Faults.{printed_fault};
@@ -162,7 +163,7 @@ impl fmt::Display for BlifFault {
     }
 }
 
-/// Writes a blank, and each byte of the net as the character of its number.
+/// Writes a blank, and each byte of the net as the character with its number.
 fn write_net<W: fmt::Write>(net: &[u8], f: &mut fmt::Formatter<W>) -> fmt::Result
     ensures { WritesOnOk W.write_str_gives f.old result (codes " " ++ encode_utf8_all net.now)
         f.new }
@@ -185,7 +186,7 @@ impl Clone for BlifFault {
     }
 }
 
-/// Why a text has no circuit.
+/// Why a text describes no circuit.
 pub type BlifError = TextError<BlifFault>;
 
 impl From<LineFault> for BlifFault {

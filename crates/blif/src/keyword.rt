@@ -1,4 +1,4 @@
-//! What a line is, by its first word.
+//! The kind of a line, by its first word.
 ghost use Rattle.std.specs.Prelude.{◌≡◌};
 ghost use Rattle.blif.specs.Names.{texts};
 ghost use Rattle.blif.specs.Keywords.{command_of, is_skipped, last_of};
@@ -7,7 +7,7 @@ ghost use Rattle.blif.specs.Sights.{is_end, kind_of};
 
 use line_text::{Line, is_word};
 
-/// The kinds of lines. A line whose first word has no point in front is a row of a cover.
+/// The kinds of lines. A line whose first word doesn't begin with a point is a row of a cover.
 #[derive(Clone, Copy, PartialEq, Eq)]
 pub enum Keyword {
     Model,
@@ -17,7 +17,7 @@ pub enum Keyword {
     Names,
     Latch,
     End,
-    /// Delays, areas and loads, which have no meaning here.
+    /// Delays, areas and loads, which have no meaning in this profile.
     Skipped,
     Other,
     Row,
@@ -81,7 +81,7 @@ fn is_skipped(word: &[u8]) -> bool
         || is_word(word, ".clock_event")
 }
 
-/// The last of the line's words, or no bytes where there is none.
+/// The last of the line's words, or no bytes if the line has no word.
 pub fn last_of<'t>(line: &Line<'_, 't>) -> &'t [u8]
     ensures { result.now ≡ last_of line.now.words }
 {
@@ -109,7 +109,7 @@ pub fn is_end(keyword: Keyword) -> bool
     matches!(keyword, Keyword::End)
 }
 
-/// The inputs that a line of this kind names.
+/// The inputs that a line of this kind declares.
 pub fn inputs_in<'a, 't>(keyword: Keyword, line: &Line<'a, 't>) -> &'a [&'t [u8]]
     ensures { texts result.now ≡ inputs_in keyword line.now.words }
 {

@@ -5,7 +5,7 @@ ghost use Rattle.blif.specs.LatchLines.{control_of, is_init, is_latch, is_type};
 
 use line_text::{Line, is_word};
 
-/// Whether the line's words are a latch.
+/// Whether the line's words describe a latch.
 pub fn is_latch(line: &Line<'_, '_>) -> bool
     ensures { result ≡ is_latch line.now.words }
 {
@@ -18,7 +18,7 @@ pub fn is_latch(line: &Line<'_, '_>) -> bool
     }
 }
 
-/// The net that controls the latch with the line's words, if one does.
+/// The net that controls the latch with the line's words, if there is one.
 pub fn control_of<'t>(line: &Line<'_, 't>) -> Option<&'t [u8]>
     ensures { option_map (λ net. net.now) result ≡ control_of line.now.words }
 {

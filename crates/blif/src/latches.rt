@@ -4,8 +4,8 @@ ghost use Rattle.std.specs.Prelude.{◌≡◌, ◌++◌, [], ◌∷◌, IfOk};
 use std::alloc::{AllocError, Global};
 use std::marker::Model;
 
-/// A latch: the number of its `.latch` line, the net that it stores, the net that it drives, and the net that controls
-/// it, if one does.
+/// A latch: the number of its `.latch` line, the net that it stores, the net that it drives, and
+/// the net that controls it, if there is one.
 #[derive(Clone, Copy, PartialEq, Eq)]
 pub struct Latch {
     pub line: u32,
@@ -14,7 +14,7 @@ pub struct Latch {
     pub control: Option<u32>,
 }
 
-/// Latches, in the order of their lines. Its value is the list of them.
+/// Latches, in the order of their lines. Its value is their list.
 #[derive(Drop)]
 pub struct Latches {
     latches: Vec<Latch>,

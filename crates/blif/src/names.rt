@@ -1,4 +1,4 @@
-//! Names of nets, added to those of the lines above.
+//! Adds names of nets to those of the lines above.
 ghost use Rattle.std.specs.Prelude.{◌≡◌, ◌++◌, [], ◌∷◌, IfOk, IfNone, option_map};
 ghost use Rattle.blif.specs.Numbering.{numbered};
 ghost use Rattle.blif.specs.Names.{first, number_of, texts, with_name, with_names};
@@ -8,7 +8,8 @@ use crate::nets::Nets;
 use line_text::NameSet;
 use std::alloc::AllocError;
 
-/// Adds the name where it is new, and puts its number at the end. More names than there are numbers find no memory.
+/// Adds the name if it is new, and appends its number. Returns an error if memory runs out or the
+/// number doesn't fit.
 fn number_new<'t>(
     nets: &mut NameSet<'t>,
     name: &'t [u8],
@@ -26,7 +27,7 @@ fn number_new<'t>(
     Ok(())
 }
 
-/// Adds each of the names that is new, and puts the numbers of all at the end.
+/// Adds those of the names that are new, and appends the numbers of all.
 pub fn number_all<'t>(
     nets: &mut NameSet<'t>,
     names: &[&'t [u8]],
@@ -42,7 +43,7 @@ pub fn number_all<'t>(
     Ok(())
 }
 
-/// Adds the names up to the first that is there already, and gives that one.
+/// Adds the names up to the first that is already in the set, and returns that one.
 pub fn add_different<'t>(
     set: &mut NameSet<'t>,
     names: &[&'t [u8]],

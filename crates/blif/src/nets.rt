@@ -4,7 +4,7 @@ ghost use Rattle.std.specs.Prelude.{◌≡◌, ◌++◌, [], ◌∷◌, IfOk};
 use std::alloc::{AllocError, Global};
 use std::marker::Model;
 
-/// Nets, by number. Its value is the list of the numbers.
+/// Nets, by number. Its value is the list of their numbers.
 #[derive(Drop)]
 pub struct Nets {
     nets: Vec<u32>,

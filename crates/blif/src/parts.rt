@@ -1,4 +1,4 @@
-//! The parts of a circuit, line after line, with nets by number.
+//! Builds the parts of a circuit, line by line, with nets by number.
 ghost use Rattle.std.specs.Prelude.{◌≡◌, List, ℕ, ◌++◌, [], map, option_map, IfOk, IfNone};
 ghost use Rattle.blif.specs.LineByLine.{parts_after, parts_of};
 ghost use Rattle.blif.specs.Names.{first, number_of};
@@ -51,7 +51,7 @@ impl CircuitParts {
         }
     }
 
-    /// The circuit of these parts, the model and the nets.
+    /// The circuit of these parts, with this model and these nets.
     pub fn into_circuit(self, model: Text, nets: NetNames) -> Circuit
         ensures { result ≡ record {
           model = model;
@@ -82,8 +82,8 @@ impl CircuitParts {
         number_names(driven.clocks(), driven, &mut self.inputs)
     }
 
-    /// The first net that a line of this kind reads and that is not driven, where the nets that it names have these numbers;
-    /// without one the line's parts are added.
+    /// The first net that a line of this kind reads and that is not driven. If no net is, the
+    /// line's parts are added. `nets` are the numbers of the nets that the line names.
     pub fn add_line<'t>(
         &mut self,
         driven: &Driven<'t>,
@@ -120,7 +120,8 @@ impl CircuitParts {
     }
 }
 
-/// Of the table whose names this line has, the first input that is not driven; without one the table is added.
+/// The first input of the table on this line that is not driven. If no input is, the table is
+/// added.
 fn add_table<'t>(
     tables: &mut Tables,
     driven: &Driven<'t>,
@@ -151,7 +152,8 @@ fn add_table<'t>(
     Ok(None)
 }
 
-/// Of the latch that this line is, the first net that it reads and that is not driven; without one the latch is added.
+/// The first net that the latch on this line reads and that is not driven. If no net is, the
+/// latch is added.
 fn add_latch<'t>(
     latches: &mut Latches,
     driven: &Driven<'t>,
@@ -190,7 +192,7 @@ fn add_latch<'t>(
     Ok(None)
 }
 
-/// Puts the numbers of the names at the end.
+/// Appends the numbers of the names.
 fn number_names(
     names: &NameSet<'_>,
     driven: &Driven<'_>,

@@ -1,4 +1,4 @@
-//! From the text to the circuit.
+//! Reads the text of a netlist.
 ghost use Rattle.std.specs.Prelude.{◌≡◌, ◌≤◌, ◌++◌, [], length, map, None, Some, IfOk, MatchResult};
 ghost use Rattle.std.specs.List.{flat_map};
 ghost use Rattle.line_text.specs.TextErrors.{Fails, Gives};
@@ -27,7 +27,7 @@ use crate::parts::CircuitParts;
 use line_text::{Line, Lines, MAX_TEXT, NameSet, Text, logical_lines};
 use std::alloc::{AllocError, Global};
 
-/// The circuit of a text whose tables have at most that many inputs, or its least fault.
+/// The circuit of a text whose tables have at most `lut_size` inputs, or the text's least fault.
 pub fn read_blif(alloc: Global, text: &[u8], lut_size: u32) -> Result<Circuit, BlifError>
     ensures gives { Gives (circuit_of text.now lut_size) result }
     ensures lawful { IfOk result (IsLawfulFor lut_size) }
@@ -45,7 +45,7 @@ pub fn read_blif(alloc: Global, text: &[u8], lut_size: u32) -> Result<Circuit, B
     read_lines(alloc, &lines, lut_size)
 }
 
-/// The circuit of these lines, whose numbers rise, or their least fault.
+/// The circuit of these lines, whose numbers increase, or their least fault.
 fn read_lines(alloc: Global, lines: &Lines<'_>, lut_size: u32) -> Result<Circuit, BlifError>
     requires { RisesFrom 1 lines.now }
     ensures gives { Gives (circuit_of_lines lut_size lines.now) result }
@@ -57,7 +57,7 @@ fn read_lines(alloc: Global, lines: &Lines<'_>, lut_size: u32) -> Result<Circuit
     build(alloc, lines, checker, numbers.as_slice())
 }
 
-/// The inputs that lines of inputs declare before the end.
+/// The inputs that `.inputs` lines declare before the end.
 fn declared_inputs<'t>(alloc: Global, lines: &Lines<'t>) -> Result<NameSet<'t>, AllocError>
     ensures { IfOk result (λ names. names ≡ declared_in lines.now) }
 {
@@ -71,7 +71,7 @@ fn declared_inputs<'t>(alloc: Global, lines: &Lines<'t>) -> Result<NameSet<'t>, 
     }
 }
 
-/// Adds the inputs that lines of inputs declare before the end.
+/// Adds the inputs that `.inputs` lines declare before the end.
 fn declare_inputs<'t>(declared: &mut NameSet<'t>, lines: &Lines<'t>) -> Result<(), AllocError>
     requires { declared.old ≡ [] }
     ensures { IfOk result (λ _. declared.new ≡ declared_in lines.now) }
@@ -87,7 +87,8 @@ fn declare_inputs<'t>(declared: &mut NameSet<'t>, lines: &Lines<'t>) -> Result<(
     Ok(())
 }
 
-/// What the lines bring, with the number of each net that they name, or the least of their own faults.
+/// The state after all lines, with the number of each net that they name appended to `numbers`; or
+/// the least of the lines' own faults.
 fn check_lines<'t>(
     alloc: Global,
     lines: &Lines<'t>,
@@ -138,15 +139,15 @@ fn check_each<'t>(
     Ok(())
 }
 
-/// That fault, on the line of that number.
+/// This fault, on the line with this number.
 fn fault_at(line: u32, kind: BlifFaultKind) -> BlifError
     ensures { result ≡ Fault (record { line = line; kind = kind }) }
 {
     BlifError::Fault(BlifFault { line, kind })
 }
 
-/// The circuit of lines without a fault of their own, whose nets have these numbers, or the first net that is read and not
-/// driven.
+/// The circuit of lines that have no fault of their own, or the first net that is read and not
+/// driven. `numbers` are the numbers of the nets that the lines name.
 fn build<'t>(
     alloc: Global,
     lines: &Lines<'t>,
@@ -192,7 +193,8 @@ fn build_driven<'t>(
     built
 }
 
-/// The same of nets that are kept.
+/// Builds the circuit over borrowed nets: the circuit, or the first net that is read and not
+/// driven.
 fn build_over<'t>(
     alloc: Global,
     lines: &Lines<'t>,
@@ -231,7 +233,7 @@ fn assemble<'t>(
     }
 }
 
-/// Adds the clocks to these parts. The model's name and those of the nets.
+/// Adds the clocks to these parts. Returns the model's name and the names of the nets.
 fn name_parts<'t>(
     alloc: Global,
     lines: &Lines<'t>,
@@ -309,7 +311,7 @@ fn add_lines<'t>(
     Ok(())
 }
 
-/// The fault that the net is read on the line of that number, and not driven.
+/// The fault that this net is read on the line with this number, and not driven.
 fn undriven_at(alloc: Global, line: u32, net: &[u8]) -> BlifError
     ensures { Fails (Some (record { line = line; kind = Undriven net.now })) result }
 {
@@ -319,7 +321,7 @@ fn undriven_at(alloc: Global, line: u32, net: &[u8]) -> BlifError
     }
 }
 
-/// How many nets a line of this kind names.
+/// The number of nets that a line of this kind names.
 fn net_count(keyword: Keyword, line: &Line<'_, '_>) -> usize
     ensures { result ≡ length (names_in keyword line.now.words) }
 {
@@ -333,7 +335,7 @@ fn net_count(keyword: Keyword, line: &Line<'_, '_>) -> usize
     }
 }
 
-/// The model's name.
+/// The model's name, `top` if the first line has none.
 fn model_of(alloc: Global, lines: &Lines<'_>) -> Result<Text, AllocError>
     ensures { IfOk result (λ model. model ≡ model_of lines.now) }
 {
@@ -346,7 +348,7 @@ fn model_of(alloc: Global, lines: &Lines<'_>) -> Result<Text, AllocError>
     }
 }
 
-/// The names, as the circuit keeps them.
+/// The names in the circuit's form.
 fn net_names(alloc: Global, names: &NameSet<'_>) -> Result<NetNames, AllocError>
     ensures { IfOk result (λ nets. nets ≡ names.now) }
 {

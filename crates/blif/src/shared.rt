@@ -1,4 +1,4 @@
-//! A circuit that many own.
+//! A circuit with many owners.
 ghost use Rattle.std.specs.Prelude.{◌≡◌, IfErr, IfOk};
 ghost use Rattle.blif.specs.LawfulCircuits.{IsCircuit};
 
@@ -7,7 +7,7 @@ use std::alloc::{AllocError, AllocFailed, Global};
 use std::marker::Model;
 use std::sync::Arc;
 
-/// A circuit with many owners, which do not copy it. Its value is the circuit.
+/// A circuit with many owners, who share one copy. Its value is the circuit.
 #[derive(Drop)]
 pub struct SharedCircuit {
     circuit: Arc<Circuit>,
@@ -26,7 +26,7 @@ impl Model for SharedCircuit {
 }
 
 impl SharedCircuit {
-    /// The circuit, to be shared. Without memory it comes back.
+    /// Makes the circuit shared. If memory runs out the circuit is handed back.
     pub fn new(alloc: Global, circuit: Circuit) -> Result<Self, AllocFailed<Circuit>>
         requires { IsCircuit circuit }
         ensures ok { IfOk result (λ shared. shared ≡ circuit) }
@@ -49,7 +49,7 @@ impl SharedCircuit {
 impl Clone for SharedCircuit {
     ghost is_clone = { λ shared copy. copy ≡ shared };
 
-    /// One more owner. Copies nothing, and is refused only where the owners can't be counted any more.
+    /// Adds an owner, without copying. Fails only if the number of owners overflows.
     fn clone(&self) -> Result<Self, AllocError> {
         Ok(SharedCircuit {
             circuit: self.circuit.clone()?,

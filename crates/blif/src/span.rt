@@ -1,6 +1,6 @@
 //! A part of a flat list.
 
-/// Where a part begins, and where what follows it begins.
+/// The index at which a part begins, and the index after its last item.
 #[derive(Clone, Copy)]
 pub struct Span {
     pub start: usize,

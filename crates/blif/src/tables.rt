@@ -5,7 +5,8 @@ use crate::span::Span;
 use std::alloc::{AllocError, Global};
 use std::marker::Model;
 
-/// A table: the number of its `.names` line, the nets that it reads, in order, and the net that it drives.
+/// A table: the number of its `.names` line, the nets that it reads, in order, and the net that it
+/// drives.
 #[derive(Clone, Copy)]
 pub struct Table<'a> {
     pub line: u32,
@@ -13,7 +14,7 @@ pub struct Table<'a> {
     pub output: u32,
 }
 
-/// A table, without its inputs, and where these stand.
+/// A table without its inputs, and the span of these among all inputs.
 #[derive(Clone, Copy)]
 pub(crate) struct TableSpan {
     pub(crate) line: u32,
@@ -21,7 +22,7 @@ pub(crate) struct TableSpan {
     pub(crate) output: u32,
 }
 
-/// Tables, in the order of their lines. Its value is the list of them.
+/// Tables, in the order of their lines. Its value is their list.
 #[derive(Drop)]
 pub struct Tables {
     inputs: Vec<u32>,
@@ -50,14 +51,14 @@ impl Tables {
         }
     }
 
-    /// How many tables there are.
+    /// The number of tables.
     pub fn len(&self) -> usize
         ensures { result ≡ length self.now }
     {
         self.tables.len()
     }
 
-    /// The table at that place, from 0.
+    /// The table at this index, from 0.
     pub fn table(&self, place: usize) -> Table<'_>
         requires { place < length self.now }
         ensures { slice_get self.now place

@@ -1,4 +1,4 @@
--- How many blocks there are of each kind.
+-- The number of blocks of each kind.
 use Rattle.std.proofs.Common.{◌≡◌, ℕ, ◌+◌, Bool, true, false, List, [], ◌∷◌, ◌++◌, map, length, count_by, cond, refl, sym, ap, ◌∙◌, arith}
 use Rattle.std.specs.List.{range_with_len}
 use Rattle.std.proofs.lemmas.List.Sums.{sum_by-append, sum_by-cons}
@@ -10,11 +10,11 @@ use Rattle.grid.specs.declared.Strip.{Strip}
 use Rattle.grid.specs.Places.{places_of}
 use Rattle.block_places.specs.Fits.{block_count, compared, fit_of, is_for}
 
--- the blocks of both
+-- the count of two lists is the sum of their counts
 count_append : {X : Type 0} (p : X → Bool) (xs ys : List X) → count_by p (xs ++ ys) ≡ count_by p xs + count_by p ys
 count_append p xs ys = sum_by-append (λ x. cond (p x) 1 0) xs ys
 
--- all of them
+-- every element is counted
 count_all : {X Y : Type 0} (p : Y → Bool) (f : X → Y) (xs : List X) → ((x : X) → p (f x) ≡ true) → count_by p (map f xs) ≡ length xs
 count_all p f [] all = refl
 count_all p f (x ∷ xs) all =
@@ -22,7 +22,7 @@ count_all p f (x ∷ xs) all =
     let rest = count_all p f xs all in
     omega (arith, one, rest, sum_by-cons (λ y. cond (p y) 1 0) (f x) (map f xs))
 
--- none of them
+-- no element is counted
 count_none : {X Y : Type 0} (p : Y → Bool) (f : X → Y) (xs : List X) → ((x : X) → p (f x) ≡ false) → count_by p (map f xs) ≡ 0
 count_none p f [] none = refl
 count_none p f (x ∷ xs) none =
@@ -30,7 +30,7 @@ count_none p f (x ∷ xs) none =
     let rest = count_none p f xs none in
     omega (arith, one, rest, sum_by-cons (λ y. cond (p y) 1 0) (f x) (map f xs))
 
--- the clusters are for logic places
+-- clusters need logic places
 pub logic_count : (packed : PackedCircuit) → block_count packed Logic ≡ length packed.clusters
 logic_count packed =
     let inputs = map InputPad packed.circuit.inputs in
@@ -42,7 +42,7 @@ logic_count packed =
     let from_clusters : count_by p clusters ≡ length (range_with_len 0 (length packed.clusters)) = count_all p Cluster (range_with_len 0 (length packed.clusters)) (λ cluster. refl) in
     omega (arith, count_append p (inputs ++ outputs) clusters, count_append p inputs outputs, length-range_with_len 0 (length packed.clusters))
 
--- the others are for pads
+-- the other blocks need pads
 pub pad_count : (packed : PackedCircuit) → block_count packed Pad ≡ length packed.circuit.inputs + length packed.circuit.outputs
 pad_count packed =
     let inputs = map InputPad packed.circuit.inputs in
@@ -54,7 +54,7 @@ pad_count packed =
     let from_clusters : count_by p clusters ≡ 0 = count_none p Cluster (range_with_len 0 (length packed.clusters)) (λ cluster. refl) in
     omega (arith, count_append p (inputs ++ outputs) clusters, count_append p inputs outputs)
 
--- the comparison, by the numbers that are found
+-- the comparison, with the numbers that the code computed
 pub fit_found : (strip : Strip) (packed : PackedCircuit) (logic_places blocks pad_places pads : ℕ)
     → logic_places ≡ length (places_of strip Logic) → blocks ≡ length packed.clusters → pad_places ≡ length (places_of strip Pad) → pads ≡ block_count packed Pad
     → compared logic_places blocks pad_places pads ≡ fit_of strip packed

@@ -1,4 +1,4 @@
--- What fits small strips.
+-- Circuits that fit small strips, and circuits that don't.
 use Rattle.std.proofs.Common.{◌≡◌, ℕ, List, [], ◌∷◌, refl}
 use Rattle.arch_file.specs.declared.arch.Arch.{Arch}
 use Rattle.cluster.specs.Clusters.{PackedCircuit}

@@ -6,7 +6,7 @@ ghost use Rattle.block_places.specs.Fits.{compared, fit_of};
 use cluster::Packed;
 use grid::{Kind, Strip};
 
-/// Whether the blocks of a circuit have places enough. Clusters of logic are looked at first.
+/// Whether there are enough places for the blocks of a circuit. Clusters are compared first.
 #[derive(Clone, Copy, PartialEq, Eq)]
 pub enum Fit {
     Fits,
@@ -29,7 +29,8 @@ pub fn fit_of(strip: Strip, packed: &Packed) -> Fit
     )
 }
 
-/// Compares the places for logic blocks with the clusters, and then those for pads with the pads.
+/// Compares the places for logic blocks with the clusters, and then the places for pads with the
+/// pads.
 fn compared(logic_places: usize, blocks: usize, pad_places: usize, pads: usize) -> Fit
     ensures { result ≡ compared logic_places blocks pad_places pads }
 {

@@ -1,11 +1,11 @@
-//! What kind of place a block goes to.
+//! The kind of place that a block needs.
 ghost use Rattle.std.specs.Prelude.{◌≡◌};
 ghost use Rattle.block_places.specs.Fits.{kind_of};
 
 use cluster::Block;
 use grid::Kind;
 
-/// The kind of places that the block goes to.
+/// The kind of place that the block needs.
 pub fn kind_of(block: Block) -> Kind
     ensures { result ≡ kind_of block }
 {

@@ -1,9 +1,10 @@
-//! The blocks of a packed circuit and the places of a strip: which kind of place a block goes to, whether there are enough for
-//! all, and what it is that each has one.
+//! The blocks of a packed circuit and the places of a strip: the kind of place that a block needs,
+//! whether there are enough for all blocks, and what a placement of all blocks is.
 //!
-//! [`kind_of`] tells the kind, [`fit_of`] compares blocks with places, by arithmetic and without memory. `ArePlaced` says of a list of places that
-//! each block has one of its kind in the strip, by the block's number, and no two have the same: placing ends with such a list, and
-//! routing begins with one.
+//! [`kind_of`] returns the kind. [`fit_of`] compares blocks with places, by arithmetic and without
+//! memory. `ArePlaced` means that a list of places has for each block, by its number, a place of
+//! its kind in the strip, and that no two blocks have the same place. Placing ends with such a
+//! list, and routing begins with one.
 #![tactic(auto)]
 
 mod fit;

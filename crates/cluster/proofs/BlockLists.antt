@@ -21,7 +21,7 @@ use Rattle.ble_cluster.proofs.Outside.{has-distinct, has-with_nets}
 use Rattle.cluster.proofs.ReaderLists.{flat_map-range_more}
 use Rattle.cluster.proofs.FewBlocks.{elements_within}
 
--- a list in two parts, numbered
+-- numbering a list that has two parts
 enumerate_from-append : {X : Type 0} (start : ℕ) (xs ys : List X) → enumerate_from start (xs ++ ys) ≡ enumerate_from start xs ++ enumerate_from (start + length xs) ys
 enumerate_from-append start [] ys = ap (λ (n : ℕ). enumerate_from n ys) (omega arith)
 enumerate_from-append {X} start (x ∷ xs) ys =
@@ -29,7 +29,6 @@ enumerate_from-append {X} start (x ∷ xs) ys =
     let next : start + 1 + length xs ≡ start + length (x ∷ xs) = omega arith in
     ap (λ (rest : List (ℕ × X)). head ∷ rest) (enumerate_from-append (start + 1) xs ys ∙ ap (λ (n : ℕ). enumerate_from (start + 1) xs ++ enumerate_from n ys) next)
 
--- a `flat_map` of a `map`
 flat_map-map : {X Y A : Type 0} (g : Y → List A) (f : X → Y) (xs : List X) → flat_map g (map f xs) ≡ flat_map (λ (x : X). g (f x)) xs
 flat_map-map g f [] = refl
 flat_map-map {X} {Y} {A} g f (x ∷ xs) = ap (λ (rest : List A). g (f x) ++ rest) (flat_map-map g f xs)
@@ -43,7 +42,7 @@ flat_map_same {A} f g (suc count) same =
     let last = same count (omega arith) in
     subst (λ (n : ℕ). flat_map f (range_with_len 0 n) ≡ flat_map g (range_with_len 0 n)) (sym one) (flat_map-range_more f count ∙ ap (λ (front : List A). front ++ f count) rest ∙ ap (λ (end : List A). flat_map g (range_with_len 0 count) ++ end) last ∙ sym (flat_map-range_more g count))
 
--- a function that gives nothing
+-- a function that always returns the empty list
 pub flat_map_none : {A : Type 0} (f : ℕ → List A) (count : ℕ) → ((k : ℕ) → f k ≡ []) → flat_map f (range_with_len 0 count) ≡ []
 flat_map_none {A} f count none = flat_map_same f (λ k. []) count (λ k lt. none k) ∙ nothing (range_with_len 0 count)
   where
@@ -51,7 +50,7 @@ flat_map_none {A} f count none = flat_map_same f (λ k. []) count (λ k lt. none
     nothing [] = refl
     nothing (x ∷ xs) = nothing xs
 
--- a numbered list by its places
+-- a numbered list, by index
 by_place : {A : Type 0} (g : ℕ × Block → List A) (start count : ℕ) (blocks : List Block) (f : ℕ → ℕ × Block) → length blocks ≡ count → ((k : ℕ) → k < count → ◌≡◌ {A = ℕ × Block} (start + k, get_or blocks k (InputPad 0)) (f k)) → flat_map g (enumerate_from start blocks) ≡ flat_map (λ k. g (f k)) (range_with_len 0 count)
 by_place g start count blocks f long same =
     let none : ℕ × Block = (0, InputPad 0) in
@@ -81,7 +80,7 @@ by_kind {A} g packed =
     ∙ append_assoc (flat_map g (enumerate_from 0 first)) (flat_map g (enumerate_from (length inputs) second)) (flat_map g (enumerate_from (length inputs + length outputs) third))
     ∙ cc (first_is, second_is, third_is)
 
--- the numbers of what passes
+-- the numbers of the blocks that pass
 numbers_passing : (test : ℕ × Block → Bool) (blocks : List (ℕ × Block)) → map (λ (block : ℕ × Block). block.0) (filter test blocks) ≡ flat_map (λ (block : ℕ × Block). cond (test block) (block.0 ∷ []) []) blocks
 numbers_passing test [] = refl
 numbers_passing test (block ∷ blocks) = by (test block) (numbers_passing test blocks)
@@ -90,12 +89,12 @@ numbers_passing test (block ∷ blocks) = by (test block) (numbers_passing test 
     by true rest = ap (λ (numbers : List ℕ). block.0 ∷ numbers) rest
     by false rest = rest
 
--- a filter goes into a `flat_map`
+-- a filter moves into a `flat_map`
 filter-flat_map : (test : ℕ → Bool) (f : ℕ → List ℕ) (xs : List ℕ) → filter test (flat_map f xs) ≡ flat_map (λ (x : ℕ). filter test (f x)) xs
 filter-flat_map test f [] = refl
 filter-flat_map test f (x ∷ xs) = filter-append test (f x) (flat_map f xs) ∙ ap (λ (rest : List ℕ). filter test (f x) ++ rest) (filter-flat_map test f xs)
 
--- a number that two tests pass
+-- a number that passes two tests
 both_tests : (test : ℕ → Bool) (a b : Bool) (number : ℕ) → test number ≡ a → cond (a && b) (number ∷ []) [] ≡ filter test (cond b (number ∷ []) [])
 both_tests test true true number is = ap (λ (t : Bool). cond t (number ∷ []) []) (sym is)
 both_tests test true false number is = refl
@@ -128,12 +127,12 @@ readers_gathered packed driver net =
     ∙ ap (λ (end : List ℕ). filter other (flat_map pads (range_with_len 0 (length circuit.outputs))) ++ end) (clusters ∙ sym (filter-flat_map other read (range_with_len 0 (length packed.clusters))))
     ∙ sym (filter-append other (flat_map pads (range_with_len 0 (length circuit.outputs))) (flat_map read (range_with_len 0 (length packed.clusters))))
 
--- what is known of the uses of the nets of a packed circuit
+-- facts about the uses of the nets of a packed circuit
 pub record AreUsesOf (packed : PackedCircuit) (uses : NetUses) : Type 0 where
   pub globals : uses.globals ≡ record { count = length packed.circuit.nets; nets = distinct (controls_of packed.circuit.latches) }
   pub readers : uses.readers ≡ readers_by_net packed.circuit (bles_of packed.circuit) packed.clusters
 
--- the readers by the uses
+-- the readers, from the uses
 readers_by : (packed : PackedCircuit) (uses : NetUses) (driver net : ℕ) → AreUsesOf packed uses → net < length packed.circuit.nets → others driver (get_or uses.readers net []) ≡ readers_of packed driver net
 readers_by packed uses driver net are within =
     let f : ℕ → List ℕ = λ net. pads_with packed.circuit net (length packed.circuit.outputs) ++ clusters_with packed.circuit (bles_of packed.circuit) packed.clusters net (length packed.clusters) in
@@ -141,23 +140,23 @@ readers_by packed uses driver net are within =
     ∙ ap (others driver) (get_or-map-range_with_len f 0 (length packed.circuit.nets) net net [] within (omega arith))
     ∙ sym (readers_gathered packed driver net)
 
--- whether a net is global by the uses
+-- whether a net is global, from the uses
 pub global_by : (packed : PackedCircuit) (uses : NetUses) (net : ℕ) → AreUsesOf packed uses → has uses.globals.nets net ≡ is_global packed.circuit net
 global_by packed uses net are = ap (λ (set : NetsAmong). has set.nets net) are.globals ∙ has-distinct (controls_of packed.circuit.latches) net
 
--- the net by the uses
+-- a net, from the uses
 pub net_by_uses : (packed : PackedCircuit) (uses : NetUses) (driver net : ℕ) → AreUsesOf packed uses → net < length packed.circuit.nets → net_by uses driver net ≡ block_net packed driver net
 net_by_uses packed uses driver net are within =
     ap (λ (readers : List ℕ). let n : BlockNet = record { net = net; driver = driver; readers = readers; global = has uses.globals.nets net } in n) (readers_by packed uses driver net are within)
     ∙ ap (λ (global : Bool). let n : BlockNet = record { net = net; driver = driver; readers = readers_of packed driver net; global = global } in n) (global_by packed uses net are)
 
--- whether a net leaves its block by the uses
+-- whether a net leaves its block, from the uses
 pub leaves_by_uses : (packed : PackedCircuit) (uses : NetUses) (driver net : ℕ) → AreUsesOf packed uses → net < length packed.circuit.nets → leaves_by uses driver net ≡ leaves_block packed driver net
 leaves_by_uses packed uses driver net are within =
     ap (λ (readers : List ℕ). has uses.globals.nets net || nat_lt 0 (length readers)) (readers_by packed uses driver net are within)
     ∙ ap (λ (global : Bool). global || nat_lt 0 (length (readers_of packed driver net))) (global_by packed uses net are)
 
--- what the block drives by the uses
+-- the nets that a block drives, from the uses
 driven_by : (packed : PackedCircuit) (uses : NetUses) (driver : ℕ) (outputs : List ℕ) → AreUsesOf packed uses → All (λ net. net < length packed.circuit.nets) outputs → map (block_net packed driver) (filter (leaves_block packed driver) outputs) ≡ map (net_by uses driver) (filter (leaves_by uses driver) outputs)
 driven_by packed uses driver [] are within = refl
 driven_by packed uses driver (net ∷ outputs) are within =
@@ -171,14 +170,14 @@ driven_by packed uses driver (net ∷ outputs) are within =
     by false true same head rest = absurd cc
     by false false same head rest = rest
 
--- what the members of a cluster drive
+-- the nets that the members of a cluster drive
 pub outputs_within : (elements : List LogicElement) (members : List ℕ) (count : ℕ) → All (IsElementWithin count) elements → All (λ number. number < length elements) members → All (λ net. net < count) (outputs_of (elements_at elements members))
 outputs_within elements members count within are =
     let none : LogicElement = record { inputs = []; output = 0; clock = None } in
     All-map (λ net. net < count) (λ (element : LogicElement). element.output) (elements_at elements members)
     (All-map (λ (element : LogicElement). element.output < count) (element_at elements) members (All-weaker (λ number. number < length elements) (λ number. (element_at elements number).output < count) (λ number lt. (within number none lt).output) members are))
 
--- the nets between blocks, by the uses
+-- the nets between blocks, from the uses
 pub nets_by_uses : (packed : PackedCircuit) (uses : NetUses) → IsPacked packed → AreUsesOf packed uses → input_nets packed.circuit uses (length packed.circuit.inputs) ++ cluster_nets packed.circuit uses (bles_of packed.circuit) packed.clusters (length packed.clusters) ≡ block_nets packed
 nets_by_uses packed uses lawful are =
     let circuit = packed.circuit in

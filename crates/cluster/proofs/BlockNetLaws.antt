@@ -1,4 +1,4 @@
--- The nets between blocks: their drivers and readers, and how many there are.
+-- The nets between blocks: their drivers and readers, and their number.
 use Rattle.std.proofs.Common.{◌≡◌, ◌≢◌, ℕ, suc, zero, ◌+◌, ◌<◌, ◌≤◌, Bool, true, false, not, ◌&&◌, ◌==◌, cond, List, [], ◌∷◌, ◌++◌, All, filter, length, get_or, map, slice_index, refl, ap, arith, length-append}
 use Rattle.std.specs.Prelude.{AllPairs, Contains}
 use Rattle.std.specs.List.{concat, enumerate_from, flat_map, range_with_len}
@@ -27,7 +27,7 @@ has_itself : (numbers : List ℕ) → All (λ number. has numbers number ≡ tru
 has_itself [] = All-nil (λ number. has [] number ≡ true)
 has_itself (number ∷ numbers) = All-cons (λ other. has (number ∷ numbers) other ≡ true) number numbers (grind (arith, nat_tests)) (All-weaker (λ other. has numbers other ≡ true) (λ other. has (number ∷ numbers) other ≡ true) (λ other h. grind (arith, h)) numbers (has_itself numbers))
 
--- what the test finds is in the list
+-- a number that the test finds is in the list
 pub contained : (numbers : List ℕ) (number : ℕ) → has numbers number ≡ true → Contains numbers number
 contained [] number h = absurd cc
 contained (first ∷ numbers) number h = by (first == number) refl (contained numbers number)
@@ -36,11 +36,11 @@ contained (first ∷ numbers) number h = by (first == number) refl (contained nu
     by true same rest = (0, omega arith, eqb-true first number same)
     by false other rest = let r = rest (grind (arith, h, other)) in (suc r.0, omega (arith, r.1), r.2)
 
--- and the other way
+-- a number in the list is found by the test
 found : (numbers : List ℕ) (number : ℕ) → Contains numbers number → has numbers number ≡ true
 found numbers number in' = All-contains (λ number. has numbers number ≡ true) numbers number (has_itself numbers) in'
 
--- without repeats no two are the same
+-- without repeats no two numbers are equal
 unlike : (number : ℕ) (numbers : List ℕ) → has numbers number ≡ false → All (λ other. number ≢ other) numbers
 unlike number [] h = All-nil (λ other. number ≢ other)
 unlike number (other ∷ numbers) h = All-cons (λ other. number ≢ other) other numbers (λ same. absurd (grind (arith, nat_tests, h, same))) (unlike number numbers (grind (arith, h)))
@@ -49,7 +49,7 @@ pub apart : (numbers : List ℕ) → IsOnce numbers → AllPairs (λ number othe
 apart [] once = λ i j d before small. absurd (omega (arith, small))
 apart (number ∷ numbers) once = AllPairs-cons (λ number other. number ≢ other) number numbers (unlike number numbers once.0) (apart numbers once.1)
 
--- the numbers of those that pass a test
+-- the numbers of the elements that pass a test
 abbrev passing : {X : Type 0} → (ℕ × X → Bool) → ℕ → List X → List ℕ
 passing test start xs = map (λ x. x.0) (filter test (enumerate_from start xs))
 
@@ -69,7 +69,7 @@ passing_rise test start (x ∷ xs) = by (test (start, x)) (passing_rise test (st
     by true rest = AllPairs-cons (λ a b. a < b) start (passing test (start + 1) xs) (passing_all test (λ k. start < k) (start + 1) xs (λ k y low high passes. omega (arith, low))) rest
     by false rest = rest
 
--- one net
+-- one net is lawful
 net_lawful : (packed : PackedCircuit) (driver net : ℕ) → driver < length (blocks_of packed) → net < length packed.circuit.nets → IsBlockNet packed (block_net packed driver net)
 net_lawful packed driver net small within =
     let blocks = blocks_of packed in
@@ -86,7 +86,7 @@ net_lawful packed driver net small within =
     apart_from : (k : ℕ) (reads : Bool) → k ≡ driver → (not (k == driver) && reads) ≡ true → ⊥
     apart_from k reads same passes = grind (arith, nat_tests, same, passes)
 
--- what each block drives are nets of the circuit
+-- each block drives nets of the circuit
 abbrev DrivesNets : PackedCircuit → Block → Type 0
 DrivesNets packed block = (driver : ℕ) → All (λ net. net < length packed.circuit.nets) (nets_from packed driver block)
 
@@ -105,7 +105,7 @@ drive_nets packed lawful =
     All-filter (leaves_block packed driver) P (outputs_of (elements_in packed cluster)) (outputs_within bles (get_or packed.clusters cluster []) (length circuit.nets) (elements_within circuit lawful.circuit) (lawful.members cluster [] small)))
     clusters (ranged packed.arch bles 0 (length packed.clusters) (length packed.clusters) (omega arith))))
 
--- of blocks numbered on from one, each drives lawful nets
+-- each of the blocks numbered from `start` drives lawful nets
 nets_on : (packed : PackedCircuit) (start : ℕ) (blocks : List Block) → start + length blocks ≤ length (blocks_of packed) → All (DrivesNets packed) blocks → All (IsBlockNet packed) (flat_map (λ block. map (block_net packed block.0) (nets_from packed block.0 block.1)) (enumerate_from start blocks))
 nets_on packed start [] few drive = All-nil (IsBlockNet packed)
 nets_on packed start (block ∷ blocks) few drive =
@@ -116,11 +116,11 @@ nets_on packed start (block ∷ blocks) few drive =
     (All-map P (block_net packed start) (nets_from packed start block) (All-weaker (λ net. net < length packed.circuit.nets) (λ net. P (block_net packed start net)) (λ net within. net_lawful packed start net small within) (nets_from packed start block) here))
     (nets_on packed (start + 1) blocks (omega (arith, few)) (All-tail (DrivesNets packed) block blocks drive))
 
--- all nets between blocks
+-- all nets between blocks are lawful
 pub nets_lawful : (packed : PackedCircuit) → IsPacked packed → All (IsBlockNet packed) (block_nets packed)
 nets_lawful packed lawful = nets_on packed 0 (blocks_of packed) (omega arith) (drive_nets packed lawful)
 
--- at most as many as in lists that are as long
+-- the elements of a `flat_map` are at most those of lists that are as long
 no_longer : {A : Type 0} (f : ℕ → List A) (start : ℕ) (lists : List (List ℕ)) → ((k : ℕ) → k < length lists → length (f (start + k)) ≤ length (get_or lists k [])) → length (flat_map f (range_with_len start (length lists))) ≤ length (concat lists)
 no_longer f start [] short = omega arith
 no_longer {A} f start (list ∷ lists) short =
@@ -135,7 +135,7 @@ no_longer {A} f start (list ∷ lists) short =
     shift : (n k : ℕ) → n + 1 + k ≡ n + suc k
     shift n k = omega arith
 
--- one for each
+-- a `flat_map` with one element for each number
 one_each : {A : Type 0} (f : ℕ → List A) (start count : ℕ) → ((k : ℕ) → length (f k) ≡ 1) → length (flat_map f (range_with_len start count)) ≡ count
 one_each f start zero one = refl
 one_each f start (suc count) one = omega (arith, one start, one_each f (start + 1) count one, length-append (f start) (flat_map f (range_with_len (start + 1) count)))

@@ -12,14 +12,14 @@ use Rattle.cluster.specs.Blocks.{BlockNet}
 use Rattle.cluster.specs.NetUses.{others, leaves_by, net_by, input_nets, driven_nets, cluster_nets}
 use Rattle.cluster.proofs.ReaderLists.{flat_map-range_more}
 
--- the net that is made of its uses
+-- the net that is built from its uses
 pub net_made : (uses : NetUses) (driver net : ℕ) (readers : List ℕ) (global : Bool) (old new : List BlockNet) → readers ≡ get_or uses.readers net [] → global ≡ has uses.globals.nets net → new ≡ old ++ record { net = net; driver = driver; readers = others driver readers; global = global } ∷ [] → new ≡ old ++ net_by uses driver net ∷ []
 net_made uses driver net readers global old new reads is more =
     more
     ∙ ap (λ (readers : List ℕ). let n : BlockNet = record { net = net; driver = driver; readers = others driver readers; global = global } in old ++ n ∷ []) reads
     ∙ ap (λ (global : Bool). let n : BlockNet = record { net = net; driver = driver; readers = others driver (get_or uses.readers net []); global = global } in old ++ n ∷ []) is
 
--- one input pad more
+-- one more input pad
 pub inputs_more : (circuit : Circuit) (uses : NetUses) (pad net : ℕ) (start old new : List BlockNet) → net ≡ slice_index circuit.inputs pad → old ≡ start ++ input_nets circuit uses pad → new ≡ old ++ net_by uses pad net ∷ [] → new ≡ start ++ input_nets circuit uses (pad + 1)
 inputs_more circuit uses pad net start old new is before more =
     more
@@ -28,7 +28,7 @@ inputs_more circuit uses pad net start old new is before more =
     ∙ append_assoc start (input_nets circuit uses pad) (net_by uses pad (slice_index circuit.inputs pad) ∷ [])
     ∙ ap (λ (last : List BlockNet). start ++ last) (sym (flat_map-range_more (λ pad. net_by uses pad (slice_index circuit.inputs pad) ∷ []) pad))
 
--- one cluster more
+-- one more cluster
 pub clusters_more : (circuit : Circuit) (uses : NetUses) (elements : List LogicElement) (clusters : List (List ℕ)) (cluster driver : ℕ) (members : List ℕ) (start old new : List BlockNet) → slice_get clusters cluster ≡ Some members → driver ≡ length circuit.inputs + length circuit.outputs + cluster → old ≡ start ++ cluster_nets circuit uses elements clusters cluster → new ≡ old ++ driven_nets uses driver (elements_at elements members) → new ≡ start ++ cluster_nets circuit uses elements clusters (cluster + 1)
 clusters_more circuit uses elements clusters cluster driver members start old new found is before more =
     let f : ℕ → List BlockNet = λ cluster. driven_nets uses (length circuit.inputs + length circuit.outputs + cluster) (elements_at elements (get_or clusters cluster [])) in
@@ -39,7 +39,7 @@ clusters_more circuit uses elements clusters cluster driver members start old ne
     ∙ append_assoc start (cluster_nets circuit uses elements clusters cluster) (f cluster)
     ∙ ap (λ (last : List BlockNet). start ++ last) (sym (flat_map-range_more f cluster))
 
--- what one member more drives
+-- the net that one more member drives
 driven_more : (uses : NetUses) (driver : ℕ) (elements : List LogicElement) (members : List ℕ) (i : ℕ) (element : LogicElement) (b : Bool) → i < length members → slice_get elements (get_or members i 0) ≡ Some element → leaves_by uses driver element.output ≡ b → driven_nets uses driver (elements_at elements (take (i + 1) members)) ≡ driven_nets uses driver (elements_at elements (take i members)) ++ map (net_by uses driver) (cond b (element.output ∷ []) [])
 driven_more uses driver elements members i element b h read is =
     let none : LogicElement = record { inputs = []; output = 0; clock = None } in

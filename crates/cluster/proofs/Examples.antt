@@ -1,4 +1,4 @@
--- The definitions at small circuits.
+-- The definitions, computed on small circuits.
 use Rattle.std.proofs.Common.{◌≡◌, ℕ, List, [], ◌∷◌, Option, Some, None, true, false, codes, refl}
 use Rattle.arch_file.specs.declared.arch.Arch.{Arch}
 use Rattle.arch_file.specs.declared.arch.PinClass.TheVariants.{Input, Output, Clock}
@@ -23,11 +23,11 @@ small = record {
   fc_pad = 2;
 }
 
--- and of two
+-- clusters of two tables with two inputs
 abbrev wide : Arch
 wide = record small { cluster_size = 2 }
 
--- a table of a and a latch behind it, clocked by that net, with these outputs
+-- a table that reads net a and a latch that stores its output, with this control and these outputs
 abbrev stored : Option ℕ → List ℕ → Circuit
 stored control outputs = record {
   model = codes "r";
@@ -38,17 +38,17 @@ stored control outputs = record {
   latches = record { line = 6; input = 3; output = 2; control = control } ∷ [];
 }
 
--- read by the latch alone
+-- if only the latch reads the table's output, they are one BLE
 one_element : bles_of (stored (Some 1) (2 ∷ [])) ≡ record { inputs = 0 ∷ []; output = 2; clock = Some 1 } ∷ []
 unfolding bles_of
 one_element = refl
 
--- read by the latch and an output
+-- if the latch and an output read it, they are two BLEs
 two_elements : bles_of (stored (Some 1) (2 ∷ 3 ∷ [])) ≡ record { inputs = 0 ∷ []; output = 3; clock = None } ∷ record { inputs = 3 ∷ []; output = 2; clock = Some 1 } ∷ []
 unfolding bles_of
 two_elements = refl
 
--- the latch is controlled by what it stores
+-- the latch is controlled by the net that it stores
 controlled_by_table : bles_of (stored (Some 3) (2 ∷ [])) ≡ record { inputs = 0 ∷ []; output = 3; clock = None } ∷ record { inputs = 3 ∷ []; output = 2; clock = Some 3 } ∷ []
 unfolding bles_of
 controlled_by_table = refl
@@ -66,12 +66,12 @@ own_output : bles_of (record {
 unfolding bles_of
 own_output = refl
 
--- a cluster each
+-- each BLE has a cluster of its own
 apart : (packed_of (stored (Some 1) (2 ∷ 3 ∷ [])) small).clusters ≡ (0 ∷ []) ∷ (1 ∷ []) ∷ []
 unfolding packed_of bles_of clusters_after cluster_of
 apart = refl
 
--- two tables of which one reads the other
+-- two tables, one of which reads the other
 abbrev chain : Circuit
 chain = record {
   model = codes "n";
@@ -90,7 +90,7 @@ one_step : packing_steps chain wide ≡ 1
 unfolding packed_of bles_of clusters_after cluster_of
 one_step = refl
 
--- three inputs, and two pins for them
+-- a table has three inputs, and the cluster two input pins
 too_wide : unfit_of (record {
   model = codes "m";
   nets = codes "a" ∷ codes "b" ∷ codes "c" ∷ codes "f" ∷ [];

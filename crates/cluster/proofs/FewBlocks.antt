@@ -1,4 +1,4 @@
--- A packed circuit has few blocks, and its elements have nets of the circuit.
+-- The number of blocks of a packed circuit is small, and its BLEs have nets of the circuit.
 use Rattle.std.proofs.Common.{◌≡◌, ◌≢◌, ℕ, suc, zero, ◌+◌, ◌^◌, ◌<◌, ◌≤◌, Bool, true, false, List, [], ◌∷◌, ◌++◌, Option, None, Some, All, filter, length, map, drop, if◌then◌else◌, refl, ap, subst, arith, length-append, eqb}
 use Rattle.std.specs.List.{AllPairs, take_while, prefix_len, find}
 use Rattle.std.specs.Option.{ForSome}
@@ -22,11 +22,11 @@ use Rattle.cluster.specs.LawfulPackings.{IsPacked}
 use Rattle.ble_cluster.proofs.Leading.{found}
 use Rattle.cluster.proofs.Members.{within}
 
--- numbers below a bound, each once, are no more than the bound
+-- numbers below a bound, each once, are at most as many as the bound
 pub few_distinct : (numbers : List ℕ) (bound : ℕ) → AllPairs (λ number other. number ≢ other) numbers → All (λ number. number < bound) numbers → length numbers ≤ bound
 few_distinct numbers bound apart below = length-le_from_distinct_below numbers bound (IsDistinct-from_AllPairs Decides-eqb numbers apart) (found (λ number. number < bound) numbers below)
 
--- each step makes one cluster at most
+-- each step makes at most one cluster
 one_more : (clusters : List (List ℕ)) (cluster : List ℕ) → length (with_cluster clusters cluster) ≤ length clusters + 1
 one_more clusters [] = omega arith
 one_more clusters (seed ∷ others) = omega (arith, length-append clusters ((seed ∷ others) ∷ []))
@@ -38,7 +38,7 @@ few_clusters arch elements (suc steps) =
     let before = few_clusters arch elements steps in
     omega (arith, one_more (clusters_after arch elements steps) (cluster_of arch elements (free_of elements (clusters_after arch elements steps))))
 
--- the blocks of a packed circuit
+-- the number of blocks of a packed circuit fits into 32 bits
 pub few_blocks : (packed : PackedCircuit) → IsPacked packed → length packed.circuit.inputs + length packed.circuit.outputs + length packed.clusters < 2 ^ 32
 unfolding packed_of
 few_blocks packed lawful =
@@ -51,7 +51,7 @@ few_blocks packed lawful =
     let clusters = few_clusters packed.arch (bles_of circuit) (length (bles_of circuit)) in
     omega (arith, drivers, outputs, inputs, clusters_are, clusters, c.few, lawful.few_elements)
 
--- and its pads alone
+-- the number of pads of a circuit fits into 32 bits
 pub few_pads : (circuit : Circuit) → IsCircuit circuit → length circuit.inputs + length circuit.outputs < 2 ^ 32
 few_pads circuit c =
     let drivers = few_distinct (drivers_of circuit) (length circuit.nets) c.driven_once (within circuit c) in
@@ -59,7 +59,7 @@ few_pads circuit c =
     let inputs = length-append circuit.inputs (map (λ (table : LookupTable). table.output) circuit.tables ++ map (λ (latch : Latch). latch.output) circuit.latches) in
     omega (arith, drivers, outputs, inputs, c.few)
 
--- what holds of all holds of each once
+-- a property of all nets still holds with one more net
 All-with_net : (P : ℕ → Type 0) (nets : List ℕ) (net : ℕ) → All P nets → P net → All P (with_net nets net)
 All-with_net P nets net all one = by (has nets net)
   where
@@ -72,7 +72,7 @@ All-with_nets P nets [] all more = all
 All-with_nets P nets (other ∷ others) all more =
     All-with_nets P (with_net nets other) others (All-with_net P nets other all (All-head P other others more)) (All-tail P other others more)
 
--- what is found among lawful latches is lawful
+-- a latch that is found among lawful latches is lawful
 found_latch : (count : ℕ) (test : Latch → Bool) (latches : List Latch) → All (IsLatchWithin count) latches → ForSome (find test latches) (IsLatchWithin count)
 found_latch count test [] all = λ latch is. absurd cc
 found_latch count test (first ∷ latches) all = by (test first) (found_latch count test latches (All-tail (IsLatchWithin count) first latches all))
@@ -126,7 +126,7 @@ module _ (circuit : Circuit) (lawful : IsCircuit circuit) where
       (table_element nets table (latch_behind circuit table.output) (All-head (IsTableWithin nets) table tables t) (behind_lawful circuit table.output lawful))
       (ordered tables late (All-tail (IsTableWithin nets) table tables t) (All-drop (IsLatchWithin nets) (prefix_len (is_above table.line) latches) latches l)))
 
-  -- the elements of a circuit have nets of it
+  -- the BLEs of a circuit have nets of it
   pub elements_within : All (IsElementWithin (length circuit.nets)) (bles_of circuit)
   unfolding bles_of
   elements_within = ordered circuit.tables (filter (stands_alone circuit) circuit.latches) lawful.tables (All-filter (stands_alone circuit) (IsLatchWithin nets) circuit.latches lawful.latches)

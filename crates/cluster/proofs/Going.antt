@@ -1,4 +1,4 @@
--- A packing that goes on by one cluster.
+-- One more cluster of a packing in progress.
 use Rattle.std.proofs.Common.{◌≡◌, ℕ, suc, ◌+◌, ◌<◌, Bool, true, false, not, ◌||◌, ◌&&◌, List, Option, [], ◌∷◌, ◌++◌, ◌==◌, None, IsTrue, filter, length, max, refl, sym, ap, subst, ◌∙◌, arith}
 use Rattle.std.specs.List.{list_any, range_with_len}
 use Rattle.std.proofs.lemmas.List.Elements.{filter_agree}
@@ -20,7 +20,7 @@ use Rattle.cluster.proofs.Members.{packed_lawful}
 use Rattle.cluster.proofs.Steps.{Going, going_first, last_step, one_of_more}
 use Rattle.ble_cluster.proofs.Fitting.{no_cluster}
 
--- what is free of one cluster more
+-- the BLEs that are free after one more cluster
 free_with : (elements : List LogicElement) (clusters : List (List ℕ)) (cluster : List ℕ) → filter (λ number. not (has cluster number)) (free_of elements clusters) ≡ free_of elements (with_cluster clusters cluster)
 free_with elements clusters [] = sym (free_same (free_of elements clusters))
 free_with elements clusters (seed ∷ others) =
@@ -36,7 +36,7 @@ free_with elements clusters (seed ∷ others) =
     by number false e true f more = grind (arith, e, f, more)
     by number false e false f more = grind (arith, e, f, more)
 
--- a packing under way whose next step has made its cluster
+-- a packing in progress whose next step has made its cluster
 pub record IsStepped (circuit : Circuit) (arch : Arch) (growth : FreeBlesState) (clusters : List (List ℕ)) (made : ℕ) : Type 0 where
   pub fit : unfit_of circuit arch ≡ None
   pub elements : growth.elements ≡ bles_of circuit
@@ -45,7 +45,7 @@ pub record IsStepped (circuit : Circuit) (arch : Arch) (growth : FreeBlesState) 
   pub going : Going arch (bles_of circuit) made
   pub begun : free_of (bles_of circuit) (clusters_after arch (bles_of circuit) made) ≡ [] → made ≡ 0
 
--- the clusters with one more are those of one step more
+-- the clusters with one more are those after one more step
 exact_more : (arch : Arch) (elements : List LogicElement) (free : List ℕ) (clusters : List (List ℕ)) (made : ℕ) → free ≡ free_of elements clusters → clusters ≡ clusters_after arch elements (steps_reached free made) → with_cluster clusters (cluster_of arch elements free) ≡ clusters_after arch elements (suc made)
 unfolding clusters_after
 exact_more arch elements [] clusters made is exact = ap (with_cluster clusters) (no_cluster arch elements) ∙ exact
@@ -62,7 +62,7 @@ stepped circuit arch old new clusters later made way same added left = record {
   begun = way.begun;
 }
 
--- the packed circuit that packing leads to
+-- the packed circuit that results from packing
 pub packed_is : (circuit : Circuit) (arch : Arch) (clusters : List (List ℕ)) → clusters ≡ clusters_after arch (bles_of circuit) (length (bles_of circuit)) → packed_of circuit arch ≡ record { circuit = circuit; arch = arch; clusters = clusters }
 unfolding packed_of
 packed_is circuit arch clusters is = let make : List (List ℕ) → PackedCircuit = λ cs. record { circuit = circuit; arch = arch; clusters = cs } in ap make (sym is)
@@ -71,7 +71,7 @@ steps_are : (circuit : Circuit) (arch : Arch) → packing_steps circuit arch ≡
 unfolding packed_of
 steps_are circuit arch = refl
 
--- more steps are to come while something is free
+-- further steps follow as long as a BLE is free
 pub record GoesFurther (circuit : Circuit) (arch : Arch) (growth : FreeBlesState) (clusters : List (List ℕ)) (made : ℕ) : Type 0 where
   pub way : IsUnderWay circuit arch growth clusters (made + 1)
   pub more : made + 1 < packing_steps circuit arch
@@ -99,7 +99,7 @@ goes_further circuit arch growth clusters made s some = by growth.free refl some
           more = rw (steps_are circuit arch) m.more;
         }
 
--- nothing is free any more
+-- no BLE is free any more
 pub record Ends (circuit : Circuit) (arch : Arch) (growth : FreeBlesState) (clusters : List (List ℕ)) (made : ℕ) : Type 0 where
   pub way : IsUnderWay circuit arch growth clusters made
   pub packed : packed_of circuit arch ≡ record { circuit = circuit; arch = arch; clusters = clusters }
@@ -125,11 +125,11 @@ ends circuit arch growth clusters made s none =
       steps = l.steps ∙ sym (steps_are circuit arch);
     }
 
--- what is packed is lawful
+-- the packed circuit is lawful
 pub ends_lawful : (circuit : Circuit) (arch : Arch) (clusters : List (List ℕ)) → IsCircuit circuit → IsArch arch → unfit_of circuit arch ≡ None → packed_of circuit arch ≡ record { circuit = circuit; arch = arch; clusters = clusters } → IsPacked (record { circuit = circuit; arch = arch; clusters = clusters })
 ends_lawful circuit arch clusters lawful profile fit is = subst IsPacked is (packed_lawful circuit arch lawful profile fit)
 
--- at first
+-- the state before the first step
 begins_exact : (arch : Arch) (elements : List LogicElement) (free : List ℕ) → free ≡ free_of elements [] → [] ≡ clusters_after arch elements (steps_reached free 0)
 unfolding clusters_after
 begins_exact arch elements [] is = sym (ap (with_cluster []) (ap (cluster_of arch elements) (sym is) ∙ no_cluster arch elements))
@@ -150,22 +150,22 @@ begins circuit arch growth clusters fit same free none =
       begun = λ h. refl;
     }
 
--- all elements fit alone
+-- all BLEs fit alone
 pub fit_among : (circuit : Circuit) (arch : Arch) (elements : List LogicElement) → unfit_of circuit arch ≡ None → elements ≡ bles_of circuit → unfit_among arch elements ≡ None
 unfolding unfit_of
 fit_among circuit arch elements fit is = rw is fit
 
--- the least that is unfit of the BLEs is the circuit's
+-- the least BLE that doesn't fit alone is the circuit's
 pub unfit_is : (circuit : Circuit) (arch : Arch) (elements : List LogicElement) (number : Option ℕ) → elements ≡ bles_of circuit → number ≡ unfit_among arch elements → unfit_of circuit arch ≡ number
 unfolding unfit_of
 unfit_is circuit arch elements number is found = ap (unfit_among arch) (sym is) ∙ sym found
 
--- nothing is free where the test fails
+-- if the test fails, no BLE is free
 pub none_left : (free : List ℕ) (found : Bool) → (0 < length free → IsTrue found) → found ≡ false → free ≡ []
 none_left [] found says is = refl
 none_left (number ∷ free) found says is = let yes = says (omega arith) in absurd cc
 
--- without members nothing is taken
+-- if the cluster has no members, nothing is taken
 pub none_taken : (free cluster : List ℕ) → (length cluster == 0) ≡ true → free ≡ filter (λ number. not (has cluster number)) free
 none_taken free [] is = free_same free
 none_taken free (number ∷ cluster) is = absurd (grind (arith, nat_tests, is))

@@ -1,4 +1,4 @@
--- No two blocks are told by the same.
+-- No two blocks have the same key.
 use Rattle.std.proofs.Common.{◌≡◌, ◌≢◌, ℕ, ◌<◌, ◌⊎◌, inl, inr, List, [], ◌∷◌, ◌++◌, All, Option, Some, None, slice_get, length, get_or, map, refl, sym, ap, subst, ◌∙◌, arith}
 use Rattle.std.specs.Prelude.{AllPairs}
 use Rattle.std.specs.List.{concat, range_with_len}
@@ -39,11 +39,11 @@ seed_named packed cluster some = by (get_or packed.clusters cluster []) refl som
     by [] is some = absurd (omega (arith, some))
     by (seed ∷ others) is some = rw is refl
 
--- seeds are elements
+-- seeds are BLEs
 pub seed_within : (packed : PackedCircuit) → IsPacked packed → (cluster : ℕ) → cluster < length packed.clusters → seed_at packed.clusters cluster < length (bles_of packed.circuit)
 seed_within packed lawful cluster lt = lawful.members cluster [] lt 0 0 (lawful.seeds cluster [] lt)
 
--- nets of one name are one
+-- nets with equal names are equal
 pub named_apart : (circuit : Circuit) → IsCircuit circuit → (net other : ℕ) → net < length circuit.nets → other < length circuit.nets → net ≢ other → net_name circuit net ≢ net_name circuit other
 named_apart circuit lawful net other small also differs same = by (cases_order net other)
   where
@@ -52,7 +52,7 @@ named_apart circuit lawful net other small also differs same = by (cases_order n
     by (inr (inl less)) = lawful.named_once net other [] less also same
     by (inr (inr more)) = lawful.named_once other net [] more small (sym same)
 
--- the first of each list, where lists have no common member
+-- the first elements of lists that have no common member are different
 firsts_apart : (lists : List (List ℕ)) → All (λ list. 0 < length list) lists → AllPairs (λ number other. number ≢ other) (concat lists) → AllPairs (λ list other. get_or list 0 0 ≢ get_or other 0 0) lists
 firsts_apart [] some apart = λ i j d before lt. absurd (omega (arith, lt))
 firsts_apart ([] ∷ lists) some apart = absurd (let none = All-head (λ (list : List ℕ). 0 < length list) [] lists some in omega (arith, none))
@@ -89,7 +89,7 @@ module _ (packed : PackedCircuit) (lawful : IsPacked packed) where
   abbrev no_element : LogicElement
   no_element = record { inputs = []; output = 0; clock = None }
 
-  -- two elements drive two nets
+  -- two BLEs drive different nets
   outputs_differ : (number other : ℕ) → number < length (bles_of packed.circuit) → other < length (bles_of packed.circuit) → number ≢ other → (element_at (bles_of packed.circuit) number).output ≢ (element_at (bles_of packed.circuit) other).output
   outputs_differ number other small also differs same = by (cases_order number other)
     where
@@ -120,11 +120,11 @@ module _ (packed : PackedCircuit) (lawful : IsPacked packed) where
           named_apart packed.circuit lawful.circuit (seed_net packed i) (seed_net packed j) (seed_nets_inside i earlier) (seed_nets_inside j later)
           (outputs_differ (seed_at packed.clusters i) (seed_at packed.clusters j) (seed_within packed lawful i earlier) (seed_within packed lawful j later) seeds) names
 
-  -- keys of a kind
+  -- keys of one kind
   of_kind : (k : BlockKind) (make : ℕ → Block) (nets : List ℕ) → ((net : ℕ) → (key_of packed (make net)).kind ≡ k) → All (λ key. key.kind ≡ k) (map (key_of packed) (map make nets))
   of_kind k make nets is = All-map (λ key. key.kind ≡ k) (key_of packed) (map make nets) (All-map (λ block. (key_of packed block).kind ≡ k) make nets (λ i d lt. is (get_or nets i d)))
 
-  -- of two kinds
+  -- keys of two kinds
   kinds_differ : (k l : BlockKind) (keys others : List BlockKey) → k ≢ l → All (λ key. key.kind ≡ k) keys → All (λ key. key.kind ≡ l) others → All (λ key. All (Differ key) others) keys
   kinds_differ k l keys others differs one two i d lt j e small same = differs (sym (one i d lt) ∙ (ap (λ (key : BlockKey). key.kind) same ∙ two j e small))
 
@@ -146,7 +146,7 @@ module _ (packed : PackedCircuit) (lawful : IsPacked packed) where
       All-append (λ key. All (Differ key) clusters) inputs outputs (kinds_differ kind.InputPad kind.Cluster inputs clusters (λ e. cc) of_inputs of_clusters) (kinds_differ kind.OutputPad kind.Cluster outputs clusters (λ e. cc) of_outputs of_clusters) in
       subst (λ (keys : List BlockKey). AllPairs Differ keys) (sym parts) (pairs_append Differ (inputs ++ outputs) clusters pads (clusters_differ once) across)
 
-  -- what a block's number stands for is there
+  -- the block's number is that of an input, an output or a cluster
   abbrev IsThere : Block → Type 0
   IsThere (InputPad net) = net < length packed.circuit.nets
   IsThere (OutputPad net) = net < length packed.circuit.nets
@@ -168,7 +168,7 @@ key_at packed number block is =
     slice_get-get_or (keys_of packed) number (key_of packed block) (omega (arith, lt, length-map (blocks_of packed) (key_of packed)))
     ∙ ap (λ (key : BlockKey). let o : Option BlockKey = Some key in o) (get_or-map (key_of packed) (blocks_of packed) number block (key_of packed block) lt ∙ ap (key_of packed) (get_or_from_slice_get (blocks_of packed) number block block is))
 
--- what the seed of a cluster drives
+-- the net that the seed of a cluster drives
 pub seed_drives : (packed : PackedCircuit) (elements : List LogicElement) (cluster : ℕ) (members : List ℕ) (element : LogicElement) → elements ≡ bles_of packed.circuit → slice_get packed.clusters cluster ≡ Some members → slice_get elements (get_or members 0 0) ≡ Some element → element.output ≡ seed_net packed cluster
 seed_drives packed elements cluster members element are found read =
     let at : get_or packed.clusters cluster [] ≡ members = get_or_from_slice_get packed.clusters cluster members [] found in

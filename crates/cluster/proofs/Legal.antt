@@ -1,4 +1,4 @@
--- Each cluster fits, and no element stands in it twice.
+-- Each cluster fits, and no BLE occurs in it twice.
 use Rattle.std.proofs.Common.{◌≡◌, ℕ, suc, zero, ◌<◌, Bool, true, false, List, [], ◌∷◌, ◌++◌, All, Option, None, Some, filter, length, refl, subst, arith}
 use Rattle.std.specs.Option.{ForSome, option_to_list}
 use Rattle.std.proofs.lemmas.List.{append-nil}
@@ -12,20 +12,20 @@ use Rattle.ble_cluster.proofs.Fitting.{fits_alone}
 use Rattle.ble_cluster.proofs.Leading.{leading_lawful}
 use Rattle.ble_cluster.proofs.Outside.{once-push}
 
--- what holds of all numbers holds of one that is chosen among them
+-- a chosen number has a property that all numbers have
 pub chosen : (P : ℕ → Type 0) (score : ℕ → ℕ) (numbers : List ℕ) → All P numbers → ForSome (first_most score numbers) P
 chosen P score [] all = λ number is. absurd cc
 chosen P score (number ∷ numbers) all = λ found is.
     let same : leading score number numbers ≡ found = cc in
     subst P same (leading_lawful P score number numbers (All-head P number numbers all) (All-tail P number numbers all))
 
--- a cluster that fits, of elements that keep something, each once
+-- a cluster that fits, of different BLEs that have a property
 pub record IsLegal (arch : Arch) (elements : List LogicElement) (P : ℕ → Type 0) (members : List ℕ) : Type 0 where
   pub once : IsOnce members
   pub all : All P members
   pub fits : fits_in_cluster arch (elements_at elements members) ≡ true
 
--- the two tests of one that may be added
+-- the two tests of a BLE that may be added
 joins : (arch : Arch) (elements : List LogicElement) (members : List ℕ) (number : ℕ) → may_join arch elements members number ≡ true → (has members number ≡ false) × (fits_in_cluster arch (elements_at elements (members ++ number ∷ [])) ≡ true)
 joins arch elements members number may = by (has members number) refl (fits_in_cluster arch (elements_at elements (members ++ number ∷ []))) refl
   where
@@ -54,7 +54,7 @@ module _ (arch : Arch) (elements : List LogicElement) (P : ℕ → Type 0) (free
       let members = grown arch elements free seed additions in
       added members (legal_grown seed additions legal) (next_member arch elements free members) refl
 
-  -- the cluster made of free elements is one, where each fits alone
+  -- the cluster made of free BLEs is legal, if each fits alone
   pub cluster_legal : unfit_among arch elements ≡ None → All (λ number. number < length elements) free → IsLegal arch elements P (cluster_of arch elements free)
   unfolding cluster_of
   cluster_legal fit within = legal_grown (seed_of elements free) arch.cluster_size (by (first_most (input_count_at elements) free) refl)

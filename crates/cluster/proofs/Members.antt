@@ -1,4 +1,5 @@
--- What every packing keeps: clusters have members, and these are elements, of which there are few.
+-- The invariant of every packing: clusters have members, these are BLEs, and the number of BLEs is
+-- small.
 use Rattle.std.proofs.Common.{◌≡◌, ℕ, suc, zero, ◌+◌, ◌<◌, ◌≤◌, List, [], ◌∷◌, ◌++◌, All, filter, length, map, drop, sym, refl, ◌∙◌, arith, None, length-append, ap}
 use Rattle.std.specs.Option.{option_to_list}
 use Rattle.std.proofs.lemmas.List.{append-nil, length-map, take-append-drop}
@@ -26,7 +27,7 @@ with_lawful P score members [] h k = rw (append-nil members) h
 with_lawful P score members (number ∷ numbers) h k = All-append P members _ h (All-cons P _ [] (leading_lawful P score number numbers (k 0 number (omega arith)) (All-tail P number numbers k)) (All-nil P))
 
 module _ (arch : Arch) (elements : List LogicElement) where
-  -- an element's number
+  -- the number of a BLE
   abbrev IsElement : ℕ → Type 0
   IsElement number = number < length elements
 
@@ -60,7 +61,7 @@ module _ (arch : Arch) (elements : List LogicElement) where
   seeded_one clusters [] h = h
   seeded_one clusters (seed ∷ others) h = All-append (λ c. 0 < length c) clusters _ h (All-cons (λ c. 0 < length c) (seed ∷ others) [] (omega arith) (All-nil _))
 
-  -- the members of clusters are elements
+  -- the members of clusters are BLEs
   pub all_members : (steps : ℕ) → All (λ cluster. All (λ number. number < length elements) cluster) (clusters_after arch elements steps)
   unfolding clusters_after
   all_members zero = All-nil _
@@ -72,7 +73,7 @@ module _ (arch : Arch) (elements : List LogicElement) where
   all_seeded zero = All-nil _
   all_seeded (suc steps) = seeded_one (clusters_after arch elements steps) (cluster_of arch elements (free_of elements (clusters_after arch elements steps))) (all_seeded steps)
 
--- at most as many elements as tables and latches
+-- there are at most as many BLEs as tables and latches
 module _ (circuit : Circuit) where
   kept_few : (latches : List Latch) → length (filter (stands_alone circuit) latches) ≤ length latches
   kept_few latches = omega (arith, length-filter (stands_alone circuit) latches, count_by-le-length (stands_alone circuit) latches)
@@ -94,7 +95,7 @@ module _ (circuit : Circuit) where
       (All-map (λ net. net < length circuit.nets) (λ table. table.output) circuit.tables (λ k d small. (c.tables k d small).output))
       (All-map (λ net. net < length circuit.nets) (λ latch. latch.output) circuit.latches (λ k d small. (c.latches k d small).output)))
 
-  -- what is driven: inputs, and each BLE's output
+  -- the nets that are driven: inputs, and each BLE's output
   pub few_driven : IsCircuit circuit → length circuit.inputs + length (bles_of circuit) ≤ 8192
   unfolding bles_of
   few_driven c =
@@ -108,7 +109,7 @@ module _ (circuit : Circuit) where
   pub few_bles : IsCircuit circuit → length (bles_of circuit) ≤ 8192
   few_bles c = omega (arith, few_driven c)
 
--- the packing of a lawful circuit keeps all of it
+-- the packing of a lawful circuit satisfies the invariant
 pub packed_lawful : (circuit : Circuit) (arch : Arch) → IsCircuit circuit → IsArch arch → unfit_of circuit arch ≡ None → IsPacked (packed_of circuit arch)
 unfolding packed_of
 packed_lawful circuit arch c a fit = record {

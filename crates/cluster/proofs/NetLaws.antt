@@ -1,4 +1,4 @@
--- Who uses which nets.
+-- The users of each net.
 use Rattle.std.proofs.Common.{◌≡◌, ◌<◌, ℕ, ◌+◌, Bool, true, false, nat_lt, ◌||◌, cond, Option, List, [], ◌∷◌, ◌++◌, length, take, get_or, filter, sym, ap, refl, ◌∙◌, arith, lt-ltb}
 use Rattle.std.specs.List.{list_any}
 use Rattle.std.specs.Option.{option_to_list}
@@ -10,7 +10,7 @@ use Rattle.ble_cluster.specs.NetSets.{NetsAmong}
 use Rattle.cluster.specs.NetUses.{controls_of}
 use Rattle.ble_cluster.proofs.Outside.{with_nets-append}
 
--- what passes somewhere leaves something
+-- some element passes if and only if the filtered list is not empty
 pub some_left : (p : ℕ → Bool) (xs : List ℕ) → list_any p xs ≡ nat_lt 0 (length (filter p xs))
 some_left p [] = refl
 some_left p (x ∷ xs) = by (p x) (some_left p xs)
@@ -23,7 +23,7 @@ some_left p (x ∷ xs) = by (p x) (some_left p xs)
 pub second_test : (a b c : Bool) → a ≡ false → c ≡ b → c ≡ (a || b)
 second_test a b c first second = second ∙ ap (λ (t : Bool). t || b) (sym first)
 
--- the controls of one latch more
+-- the controls of one more latch
 pub controls_more : (latches : List Latch) (i count : ℕ) (d : Latch) (control : Option ℕ) (old new : NetsAmong) → i < length latches → (get_or latches i d).control ≡ control → old ≡ record { count = count; nets = distinct (controls_of (take i latches)) } → new ≡ record { count = old.count; nets = with_nets old.nets (option_to_list control) } → new ≡ record { count = count; nets = distinct (controls_of (take (i + 1) latches)) }
 controls_more latches i count d control old new h is before after =
     let f : Latch → List ℕ = λ latch. option_to_list latch.control in

@@ -16,7 +16,7 @@ use Rattle.ble_cluster.specs.OutsideInputs.{inputs_of}
 use Rattle.cluster.specs.ClusterPins.{all_clocks_of}
 use Rattle.ble_cluster.proofs.Outside.{has-with_net, has-with_nets, with_nets-append}
 
--- the nets of one element more
+-- the nets of one more BLE
 gathered_more : (f : LogicElement → List ℕ) (elements : List LogicElement) (members : List ℕ) (i : ℕ) (start : List ℕ) (element : LogicElement) → i < length members → slice_get elements (get_or members i 0) ≡ Some element → with_nets (with_nets start (flat_map f (elements_at elements (take i members)))) (f element) ≡ with_nets start (flat_map f (elements_at elements (take (i + 1) members)))
 gathered_more f elements members i start element h read =
     let none : LogicElement = record { inputs = []; output = 0; clock = None } in
@@ -27,17 +27,17 @@ gathered_more f elements members i start element h read =
     ∙ ap (with_nets start) (sym (flat_map-append f (elements_at elements (take i members)) (element ∷ [])))
     ∙ ap (λ (all : List LogicElement). with_nets start (flat_map f all)) (sym more)
 
--- a `flat_map` of one net each
+-- a `flat_map` with one net for each BLE
 outputs_flat : (elements : List LogicElement) → flat_map (λ (element : LogicElement). element.output ∷ []) elements ≡ outputs_of elements
 outputs_flat [] = refl
 outputs_flat (element ∷ elements) = ap (λ (nets : List ℕ). element.output ∷ nets) (outputs_flat elements)
 
--- a filter goes into a `flat_map`
+-- a filter moves into a `flat_map`
 inputs_flat : (p : ℕ → Bool) (elements : List LogicElement) → flat_map (λ (element : LogicElement). filter p element.inputs) elements ≡ filter p (inputs_of elements)
 inputs_flat p [] = refl
 inputs_flat p (element ∷ elements) = ap (λ (nets : List ℕ). filter p element.inputs ++ nets) (inputs_flat p elements) ∙ sym (filter-append p element.inputs (inputs_of elements))
 
--- what one member more drives
+-- the net that one more member drives
 pub outputs_more : (elements : List LogicElement) (members : List ℕ) (i count : ℕ) (start : List ℕ) (old new : NetsAmong) (element : LogicElement) → i < length members → slice_get elements (get_or members i 0) ≡ Some element → old ≡ record { count = count; nets = with_nets start (outputs_of (elements_at elements (take i members))) } → new ≡ record { count = old.count; nets = with_net old.nets element.output } → new ≡ record { count = count; nets = with_nets start (outputs_of (elements_at elements (take (i + 1) members))) }
 outputs_more elements members i count start old new element h read before after =
     let f : LogicElement → List ℕ = λ element. element.output ∷ [] in
@@ -48,7 +48,7 @@ outputs_more elements members i count start old new element h read before after 
     ∙ ap (λ (nets : List ℕ). let set : NetsAmong = record { count = old.count; nets = nets } in set) more
     ∙ ap (λ (number : ℕ). let set : NetsAmong = record { count = number; nets = with_nets start (outputs_of (elements_at elements (take (i + 1) members))) } in set) count_is
 
--- what one member more reads, but for known nets
+-- the nets that one more member reads, without known nets
 pub inputs_more : (elements : List LogicElement) (known members : List ℕ) (i count : ℕ) (start : List ℕ) (old new : NetsAmong) (element : LogicElement) → i < length members → slice_get elements (get_or members i 0) ≡ Some element → old ≡ record { count = count; nets = with_nets start (filter (λ net. not (has known net)) (inputs_of (elements_at elements (take i members)))) } → new ≡ record { count = old.count; nets = with_nets old.nets (filter (λ net. not (has known net)) element.inputs) } → new ≡ record { count = count; nets = with_nets start (filter (λ net. not (has known net)) (inputs_of (elements_at elements (take (i + 1) members)))) }
 inputs_more elements known members i count start old new element h read before after =
     let p : ℕ → Bool = λ net. not (has known net) in
@@ -60,7 +60,7 @@ inputs_more elements known members i count start old new element h read before a
     ∙ ap (λ (nets : List ℕ). let set : NetsAmong = record { count = old.count; nets = nets } in set) more
     ∙ ap (λ (number : ℕ). let set : NetsAmong = record { count = number; nets = with_nets start (filter p (inputs_of (elements_at elements (take (i + 1) members)))) } in set) count_is
 
--- the clock of one member more
+-- the clock of one more member
 pub clocks_more : (elements : List LogicElement) (members : List ℕ) (i count : ℕ) (start : List ℕ) (old new : NetsAmong) (element : LogicElement) → i < length members → slice_get elements (get_or members i 0) ≡ Some element → old ≡ record { count = count; nets = with_nets start (all_clocks_of (elements_at elements (take i members))) } → new ≡ record { count = old.count; nets = with_nets old.nets (option_to_list element.clock) } → new ≡ record { count = count; nets = with_nets start (all_clocks_of (elements_at elements (take (i + 1) members))) }
 clocks_more elements members i count start old new element h read before after =
     let f : LogicElement → List ℕ = λ element. option_to_list element.clock in
@@ -77,7 +77,7 @@ has_filter_by p false nets other net is pass rest =
     let differs : eqb other net ≡ false = ne_eqb other net (λ e. false≢true (sym is ∙ ap p e ∙ pass)) in
     rest ∙ ap (λ (t : Bool). t || has nets net) (sym differs)
 
--- a filter keeps whether a net that passes is there
+-- a filter doesn't change whether a net that passes is in the list
 has-filter : (p : ℕ → Bool) (nets : List ℕ) (net : ℕ) → p net ≡ true → has (filter p nets) net ≡ has nets net
 has-filter p [] net pass = refl
 has-filter p (other ∷ nets) net pass = has_filter_by p (p other) nets other net refl pass (has-filter p nets net pass)
@@ -100,7 +100,7 @@ with_nets_by : (b : Bool) (nets : List ℕ) (net : ℕ) (others : List ℕ) → 
 with_nets_by true nets net others = refl
 with_nets_by false nets net others = refl
 
--- what passes of the nets is made of what passes
+-- filtering a set of nets is building it from the filtered nets
 pub filter-with_nets : (p : ℕ → Bool) (nets others : List ℕ) → filter p (with_nets nets others) ≡ with_nets (filter p nets) (filter p others)
 filter-with_nets p nets [] = refl
 filter-with_nets p nets (other ∷ others) =
@@ -108,14 +108,14 @@ filter-with_nets p nets (other ∷ others) =
     ∙ ap (λ (first : List ℕ). with_nets first (filter p others)) (filter-with_net p nets other)
     ∙ with_nets_by (p other) (filter p nets) other (filter p others)
 
--- the outside inputs, with the driven nets left out from the start
+-- the outside inputs, if driven nets are left out from the start
 pub outside_gathered : (elements : List LogicElement) (outputs : List ℕ) → outputs ≡ with_nets [] (outputs_of elements) → with_nets [] (filter (λ net. not (has outputs net)) (inputs_of elements)) ≡ outside_inputs elements
 outside_gathered elements outputs are =
     sym (filter-with_nets (λ net. not (has outputs net)) [] (inputs_of elements))
     ∙ filter_agree (λ net. not (has outputs net)) (λ net. not (has (outputs_of elements) net))
     (λ net. ap not (ap (λ (nets : List ℕ). has nets net) are ∙ has-with_nets [] (outputs_of elements) net)) (distinct (inputs_of elements))
 
--- the outside inputs in a set
+-- the outside inputs as a set
 pub inputs_gathered : (elements : List LogicElement) (count : ℕ) (no_outputs outputs no_inputs inputs : NetsAmong) → no_outputs.nets ≡ [] → outputs ≡ record { count = no_outputs.count; nets = with_nets no_outputs.nets (outputs_of elements) } → no_inputs ≡ record { count = count; nets = [] } → inputs ≡ record { count = no_inputs.count; nets = with_nets no_inputs.nets (filter (λ net. not (has outputs.nets net)) (inputs_of elements)) } → inputs ≡ record { count = count; nets = outside_inputs elements }
 inputs_gathered elements count no_outputs outputs no_inputs inputs none driven cleared read =
     let outputs_are : outputs.nets ≡ with_nets [] (outputs_of elements) = ap (λ (set : NetsAmong). set.nets) driven ∙ ap (λ (nets : List ℕ). with_nets nets (outputs_of elements)) none in
@@ -123,7 +123,7 @@ inputs_gathered elements count no_outputs outputs no_inputs inputs none driven c
     ∙ ap (λ (set : NetsAmong). let new : NetsAmong = record { count = set.count; nets = with_nets set.nets (filter (λ net. not (has outputs.nets net)) (inputs_of elements)) } in new) cleared
     ∙ ap (λ (nets : List ℕ). let new : NetsAmong = record { count = count; nets = nets } in new) (outside_gathered elements outputs.nets outputs_are)
 
--- the net stands in the list once at most
+-- the net occurs in the list at most once
 abbrev pub StandsOnce : List ℕ → ℕ → Type 0
 StandsOnce nets net = filter (λ other. eqb other net) nets ≡ cond (has nets net) (net ∷ []) []
 
@@ -140,7 +140,7 @@ once_with_net nets net other once =
     ∙ once_by (eqb other net) (has nets net) net other refl
     ∙ ap (λ (t : Bool). cond t (net ∷ []) []) (sym (has-with_net nets other net))
 
--- still so with others added
+-- a net still occurs at most once after others are added
 pub once_with_nets : (nets others : List ℕ) (net : ℕ) → StandsOnce nets net → StandsOnce (with_nets nets others) net
 once_with_nets nets [] net once = once
 once_with_nets nets (other ∷ others) net once = once_with_nets (with_net nets other) others net (once_with_net nets net other once)

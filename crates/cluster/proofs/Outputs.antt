@@ -21,7 +21,7 @@ use Rattle.ble_cluster.specs.LineOrder.{is_above}
 use Rattle.ble_cluster.specs.Clusters.{outputs_of}
 use Rattle.cluster.proofs.Pairs.{pairs_across, pairs_append, pairs_back, pairs_front, pairs_map, pairs_of_map, pairs_with}
 
--- what a table drives, itself or by the latch behind it
+-- the net that a table drives, itself or through the latch that stores its output
 abbrev out : Circuit → LookupTable → ℕ
 out circuit table = (element_of_table table (latch_behind circuit table.output)).output
 
@@ -32,7 +32,7 @@ lone_outputs : (latches : List Latch) → outputs_of (map element_of_latch latch
 lone_outputs [] = refl
 lone_outputs (latch ∷ latches) = ap (λ rest. latch.output ∷ rest) (lone_outputs latches)
 
--- in another order: what tables drive, and what latches do
+-- in another order: the nets that tables drive, and then those that latches drive
 in_order : (circuit : Circuit) (tables : List LookupTable) (latches : List Latch) → IsPermutation (outputs_of (in_line_order circuit tables latches)) (map (out circuit) tables ++ map latch_out latches)
 in_order circuit [] latches = rw (lone_outputs latches) (IsPermutation-refl (map latch_out latches))
 in_order circuit (table ∷ tables) latches =
@@ -53,7 +53,7 @@ in_order circuit (table ∷ tables) latches =
     IsPermutation-trans _ _ _ later (subst (λ xs. IsPermutation xs (behind ++ map latch_out latches)) (sym left) (subst (λ ys. IsPermutation ((map latch_out early ++ behind) ++ map latch_out late) ys) right swapped)) in
     subst (λ xs. IsPermutation xs (first ∷ (behind ++ map latch_out latches))) (sym parts) (IsPermutation-trans _ _ _ front (IsPermutation-cons first _ _ moved))
 
--- what is found stands in the list, and passes
+-- an element that is found is in the list, and passes
 find_in : {X : Type 0} (p : X → Bool) (xs : List X) (x : X) → find p xs ≡ Some x → ((k : ℕ) × (k < length xs) × (get_or xs k x ≡ x)) × (p x ≡ true)
 find_in p [] x is = absurd cc
 find_in p (first ∷ xs) x is = by (p first) refl (find_in p xs x)
@@ -75,7 +75,7 @@ module _ (circuit : Circuit) (lawful : IsCircuit circuit) where
   latches_apart : AllPairs (λ (latch other : Latch). latch.output ≢ other.output) circuit.latches
   latches_apart = pairs_of_map (λ net other. net ≢ other) latch_out circuit.latches (pairs_back (λ net other. net ≢ other) (map (λ (table : LookupTable). table.output) circuit.tables) (map latch_out circuit.latches) driven)
 
-  -- what stands in a list keeps what all keep
+  -- an element of a list has a property that all have
   kept_in : {X : Type 0} (P : X → Type 0) (xs : List X) (x : X) → All P xs → IsIn xs x → P x
   kept_in P xs x all in' = subst P (in'.2 x) (all in'.0 x in'.1)
 
@@ -97,7 +97,7 @@ module _ (circuit : Circuit) (lawful : IsCircuit circuit) where
       by (inr (inl less)) = absurd (latches_apart in_one.0 in_other.0 latch less in_other.1 (ap latch_out (in_one.2 latch) ∙ (same ∙ sym (ap latch_out (in_other.2 latch)))))
       by (inr (inr more)) = absurd (latches_apart in_other.0 in_one.0 latch more in_one.1 (ap latch_out (in_other.2 latch) ∙ (sym same ∙ sym (ap latch_out (in_one.2 latch)))))
 
-  -- the latch behind a table
+  -- the latch that stores a table's output
   pub record IsBehind (net : ℕ) (latch : Latch) : Type 0 where
     pub there : IsIn circuit.latches latch
     pub input : latch.input ≡ net
@@ -112,7 +112,7 @@ module _ (circuit : Circuit) (lawful : IsCircuit circuit) where
           record { there = (found.0.0, found.0.1, λ d. get_or_default circuit.latches found.0.0 d latch found.0.1 ∙ found.0.2); input = eqb-true latch.input net found.1; once = once }
       by false often = absurd (let wrong = sym (ap (λ (b : Bool). cond b (find (λ (latch : Latch). latch.input == net) circuit.latches) None) often) ∙ is in cc)
 
-  -- two tables drive two nets
+  -- two tables drive different nets
   tables_differ : (table other : LookupTable) → IsIn circuit.tables table → IsIn circuit.tables other → table.output ≢ other.output → out circuit table ≢ out circuit other
   tables_differ table other in_one in_other differs = by (latch_behind circuit table.output) refl (latch_behind circuit other.output) refl
     where
@@ -128,7 +128,7 @@ module _ (circuit : Circuit) (lawful : IsCircuit circuit) where
           let outputs : latch.output ≡ second.output = sym (ap (λ (o : Option Latch). (element_of_table table o).output) is) ∙ (same ∙ ap (λ (o : Option Latch). (element_of_table other o).output) also) in
           differs (sym one.input ∙ (ap (λ (l : Latch). l.input) (one_latch latch second one.there two.there outputs) ∙ two.input))
 
-  -- a latch that stands alone drives what no table does
+  -- a latch that isn't joined with a table drives a net that no table's BLE drives
   alone_differs : (table : LookupTable) (latch : Latch) → IsIn circuit.tables table → IsIn circuit.latches latch → stands_alone circuit latch ≡ true → out circuit table ≢ latch.output
   alone_differs table latch in_tables in_latches alone = by (latch_behind circuit table.output) refl
     where

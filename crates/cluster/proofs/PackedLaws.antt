@@ -1,4 +1,4 @@
--- What a packed circuit tells of its blocks and pins.
+-- The blocks and pins of a packed circuit.
 use Rattle.std.proofs.Common.{◌≡◌, refl, sym, ap, ◌∙◌, ℕ, ◌+◌, ◌-◌, ◌<◌, ◌≤◌, Bool, true, false, Option, Some, None, List, [], ◌++◌, if◌then◌else◌, length, get_or, map, option_and_then, slice_get, slice_index, arith, length-append}
 use Rattle.std.specs.List.{range_with_len, enumerate_from}
 use Rattle.std.proofs.lemmas.List.{length-map, get_or-map, get_or_append_left, get_or-append_right}
@@ -17,7 +17,7 @@ use Rattle.cluster.specs.PackedTables.{AreTablesOf}
 use Rattle.cluster.specs.Blocks.{blocks_of, carried, leaves_block, pins_of}
 use Rattle.cluster.specs.ClusterPins.{cluster_block, if_leaving, pin_ranks, rank_of}
 
--- how many blocks there are
+-- the number of blocks
 pub length-blocks_of : (packed : PackedCircuit) → length (blocks_of packed) ≡ length packed.circuit.inputs + length packed.circuit.outputs + length packed.clusters
 length-blocks_of packed =
     let inputs = map InputPad packed.circuit.inputs in
@@ -60,7 +60,7 @@ cluster_at packed number within past_inputs past_outputs =
     ∙ get_or-map Cluster numbers (number - pads) 0 none (omega (arith, length-range_with_len 0 (length packed.clusters)))
     ∙ ap Cluster (get_or-range_with_len 0 (length packed.clusters) (number - pads) 0 here ∙ omega arith))
 
--- what a pin carries
+-- the net on a pin
 pub pin_at : (packed : PackedCircuit) (cluster pin rank : ℕ) (class : PinClass) (ranks : List ℕ) (d : Pin) (net : Option ℕ) → pin < length packed.arch.pins → (get_or packed.arch.pins pin d).class ≡ class → ranks ≡ pin_ranks packed.arch.pins → rank ≡ get_or ranks pin rank → net ≡ carried packed cluster class rank → slice_get (pins_of packed cluster) pin ≡ Some net
 pin_at packed cluster pin rank class ranks d net h is ranks_are read net_is =
     let pins = packed.arch.pins in
@@ -74,7 +74,7 @@ pin_at packed cluster pin rank class ranks d net h is ranks_are read net_is =
     slice_get-get_or (pins_of packed cluster) pin None (omega (arith, length-map (enumerate_from 0 pins) f, length-enumerate_from 0 pins))
     ∙ ap (λ (net : Option ℕ). Some net) (get_or-map f (enumerate_from 0 pins) pin first None numbered ∙ ap f here ∙ carries)
 
--- as many ranks as pins
+-- there are as many ranks as pins
 pub length-pin_ranks : (pins : List Pin) → length (pin_ranks pins) ≡ length pins
 length-pin_ranks pins = length-map (enumerate_from 0 pins) (λ (pin : ℕ × Pin). rank_of pins pin.0 pin.1.class) ∙ length-enumerate_from 0 pins
 
@@ -83,7 +83,7 @@ pub row_at : (f : List ℕ → List ℕ) (clusters rows : List (List ℕ)) (clus
 row_at f clusters rows cluster row h are found =
     sym (get_or_from_slice_get rows cluster row [] found) ∙ ap (λ (rows : List (List ℕ)). get_or rows cluster []) are ∙ get_or-map f clusters cluster [] [] h
 
--- what an output pin carries
+-- the net on an output pin
 output_at : (packed : PackedCircuit) (cluster place : ℕ) → place < length (get_or packed.clusters cluster []) → carried packed cluster Output place ≡ if_leaving packed (cluster_block packed cluster) (element_at (bles_of packed.circuit) (get_or (get_or packed.clusters cluster []) place 0)).output
 output_at packed cluster place h =
     let members = get_or packed.clusters cluster [] in
@@ -109,7 +109,7 @@ if_stays packed block net is = by (leaves_block packed block net) is
     by true e = absurd cc
     by false e = refl
 
--- the output of the element at a place
+-- the output of the BLE at an index
 pub output_of_member : (packed : PackedCircuit) (elements : List LogicElement) (cluster place : ℕ) (members : List ℕ) (element : LogicElement) → elements ≡ bles_of packed.circuit → slice_get packed.clusters cluster ≡ Some members → place < length members → slice_get elements (get_or members place 0) ≡ Some element → carried packed cluster Output place ≡ if_leaving packed (cluster_block packed cluster) element.output
 output_of_member packed elements cluster place members element elements_are found h read =
     let none : LogicElement = record { inputs = []; output = 0; clock = None } in
@@ -128,7 +128,7 @@ pub output_stays : (packed : PackedCircuit) (elements : List LogicElement) (clus
 output_stays packed elements cluster place members element elements_are found h read stays =
     sym (output_of_member packed elements cluster place members element elements_are found h read ∙ if_stays packed (cluster_block packed cluster) element.output stays)
 
--- what an input pin and the clock pin carry
+-- the nets on an input pin and on the clock pin
 pub input_entry : (packed : PackedCircuit) (tables : PackedTables) (cluster rank : ℕ) (row : List ℕ) → cluster < length packed.clusters → AreTablesOf packed tables → slice_get tables.inputs cluster ≡ Some row → slice_get row rank ≡ carried packed cluster Input rank
 input_entry packed tables cluster rank row h kept found =
     ap (λ (row : List ℕ). slice_get row rank) (row_at (λ members. outside_inputs (elements_at (bles_of packed.circuit) members)) packed.clusters tables.inputs cluster row h kept.inputs found)

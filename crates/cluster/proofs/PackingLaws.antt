@@ -18,7 +18,7 @@ use Rattle.cluster.proofs.Pairs.{pairs_front}
 use Rattle.cluster.proofs.PackedLaws.{length-blocks_of}
 use Rattle.cluster.proofs.Partition.{ArePacked, all_in, all_packed}
 
--- each packed circuit keeps the laws
+-- each packed circuit satisfies the laws
 pub packing_lawful : (packed : PackedCircuit) → IsPacked packed → IsLawfulPacking packed
 unfolding packed_of
 packing_lawful packed lawful =

@@ -29,7 +29,7 @@ pub pairs_front : {X : Type 0} (R : X → X → Type 0) (xs ys : List X) → All
 pairs_front R [] ys pairs = pairs_nil R
 pairs_front R (x ∷ xs) ys pairs = AllPairs-cons R x xs (all_front (R x) xs ys (pairs_head R x (xs ++ ys) pairs)) (pairs_front R xs ys (pairs_tail R x (xs ++ ys) pairs))
 
--- each of the front with each behind it
+-- each element of the front with each that follows the front
 pub pairs_across : {X : Type 0} (R : X → X → Type 0) (xs ys : List X) → AllPairs R (xs ++ ys) → All (λ x. All (R x) ys) xs
 pairs_across R [] ys pairs = All-nil (λ x. All (R x) ys)
 pairs_across R (x ∷ xs) ys pairs = All-cons (λ x. All (R x) ys) x xs (all_back (R x) xs ys (pairs_head R x (xs ++ ys) pairs)) (pairs_across R xs ys (pairs_tail R x (xs ++ ys) pairs))
@@ -39,7 +39,7 @@ pairs_append R [] ys first second across = second
 pairs_append R (x ∷ xs) ys first second across =
     AllPairs-cons R x (xs ++ ys) (All-append (R x) xs ys (pairs_head R x xs first) (All-head (λ x. All (R x) ys) x xs across)) (pairs_append R xs ys (pairs_tail R x xs first) second (All-tail (λ x. All (R x) ys) x xs across))
 
--- pairs of what is made of each
+-- pairs of the images of elements
 pub pairs_map : {X Y : Type 0} (R : Y → Y → Type 0) (f : X → Y) (xs : List X) → AllPairs (λ x other. R (f x) (f other)) xs → AllPairs R (map f xs)
 pairs_map R f [] pairs = pairs_nil R
 pairs_map R f (x ∷ xs) pairs = AllPairs-cons R (f x) (map f xs) (all_map xs (pairs_head (λ x other. R (f x) (f other)) x xs pairs)) (pairs_map R f xs (pairs_tail (λ x other. R (f x) (f other)) x xs pairs))
@@ -56,6 +56,6 @@ pairs_of_map R f (x ∷ xs) pairs = AllPairs-cons (λ x other. R (f x) (f other)
     of_map [] all = All-nil (λ y. R (f x) (f y))
     of_map (y ∷ ys) all = All-cons (λ y. R (f x) (f y)) y ys (All-head (R (f x)) (f y) (map f ys) all) (of_map ys (All-tail (R (f x)) (f y) (map f ys) all))
 
--- pairs that keep more where their elements do
+-- pairs that are in a stronger relation, from properties of their elements
 pub pairs_with : {X : Type 0} (P : X → Type 0) (R S : X → X → Type 0) (xs : List X) → All P xs → AllPairs R xs → ((x other : X) → P x → P other → R x other → S x other) → AllPairs S xs
 pairs_with P R S xs all pairs more i j d before lt = more (get_or xs i d) (get_or xs j d) (all i d (omega (arith, before, lt))) (all j d lt) (pairs i j d before lt)

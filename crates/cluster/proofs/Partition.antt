@@ -1,4 +1,4 @@
--- Each element stands in one cluster.
+-- Each BLE is in exactly one cluster.
 use Rattle.std.proofs.Common.{◌≡◌, ℕ, suc, zero, ◌+◌, ◌<◌, ◌≤◌, Bool, true, false, not, ◌||◌, ◌==◌, List, [], ◌∷◌, ◌++◌, All, None, filter, length, refl, sym, ap, ◌∙◌, ◌⊎◌, inl, inr, arith}
 use Rattle.std.specs.List.{concat, list_any, range_with_len}
 use Rattle.std.proofs.lemmas.List.{append-nil}
@@ -15,12 +15,12 @@ use Rattle.cluster.proofs.Members.{free_lawful}
 use Rattle.ble_cluster.proofs.Outside.{has-append}
 use Rattle.cluster.proofs.Steps.{Going, free_after, going_first, going_on, step_idle}
 
--- what is in some list is in all of them joined
+-- a number is in the joined lists if and only if it is in some list
 has-concat : (lists : List (List ℕ)) (number : ℕ) → has (concat lists) number ≡ list_any (λ list. has list number) lists
 has-concat [] number = refl
 has-concat (list ∷ lists) number = has-append list (concat lists) number ∙ ap (λ (b : Bool). has list number || b) (has-concat lists number)
 
--- numbers that are not among those of a list, of which one is the first
+-- if none of the others is in a list, none of them is its first number
 apart_first : (number : ℕ) (numbers others : List ℕ) → All (λ other. has (number ∷ numbers) other ≡ false) others → has others number ≡ false
 apart_first number numbers [] apart = refl
 apart_first number numbers (other ∷ others) apart =
@@ -40,14 +40,14 @@ once-append (number ∷ numbers) others once also apart =
     let first = apart_first number numbers others apart in
     (grind (arith, all, once.0, first), once-append numbers others once.1 also (apart_rest number numbers others apart))
 
--- the elements that stand in clusters so far, each once, and each cluster fits
+-- the BLEs in the clusters so far occur once, and each cluster fits
 pub record ArePacked (arch : Arch) (elements : List LogicElement) (clusters : List (List ℕ)) : Type 0 where
   pub once : IsOnce (concat clusters)
   pub within : All (λ number. number < length elements) (concat clusters)
   pub fit : All (λ members. fits_in_cluster arch (elements_at elements members) ≡ true) clusters
 
 module _ (arch : Arch) (elements : List LogicElement) (fit : unfit_among arch elements ≡ None) where
-  -- what is free stands in no cluster
+  -- a free BLE is not in a cluster
   all_free : (clusters : List (List ℕ)) → All (λ number. (has (concat clusters) number ≡ false) × (number < length elements)) (free_of elements clusters)
   all_free clusters = λ k d lt.
       let passes = filter_passes (λ number. not (list_any (λ cluster. has cluster number) clusters)) (range_with_len 0 (length elements)) k d lt in
@@ -74,7 +74,7 @@ module _ (arch : Arch) (elements : List LogicElement) (fit : unfit_among arch el
       one_more clusters (cluster_of arch elements free) (all_packed steps) (cluster_legal arch elements (λ number. (has (concat clusters) number ≡ false) × (number < length elements)) free (all_free clusters) fit (free_lawful arch elements clusters))
 
 module _ (arch : Arch) (elements : List LogicElement) where
-  -- after so many steps nothing is free, or each step took an element
+  -- after this number of steps no BLE is free, or each step took a BLE
   free_or_going : (steps : ℕ) → (free_after arch elements steps ≡ []) ⊎ Going arch elements steps
   free_or_going zero = inr (going_first arch elements)
   free_or_going (suc steps) = by (free_or_going steps) (free_after arch elements steps) refl
@@ -95,7 +95,7 @@ module _ (arch : Arch) (elements : List LogicElement) where
       by (inl none) = none
       by (inr going) = empty (free_after arch elements (length elements)) (omega (arith, going.taken))
 
-  -- what passes a filter is left
+  -- a number that passes a filter is kept
   has-filter : (test : ℕ → Bool) (numbers : List ℕ) (number : ℕ) → has numbers number ≡ true → test number ≡ true → has (filter test numbers) number ≡ true
   has-filter test [] number h passes = absurd cc
   has-filter test (first ∷ numbers) number h passes = by (first == number) refl (test first) refl (has-filter test numbers number)
@@ -114,7 +114,7 @@ module _ (arch : Arch) (elements : List LogicElement) where
       by true same rest = grind (arith, same)
       by false other rest = let found = rest (grind (arith, nat_tests, other, low)) in grind (arith, found)
 
-  -- each element stands in a cluster
+  -- each BLE is in a cluster
   pub all_in : (number : ℕ) → number < length elements → has (concat (clusters_after arch elements (length elements))) number ≡ true
   all_in number small = by (has (concat clusters) number) refl
     where

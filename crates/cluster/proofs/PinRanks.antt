@@ -10,7 +10,7 @@ use Rattle.arch_file.specs.declared.arch.PinClass.TheVariants.{Input, Output, Cl
 use Rattle.cluster.specs.Blocks.{is_same_class}
 use Rattle.cluster.specs.ClusterPins.{pin_ranks, rank_of}
 
--- the ranks of the first so many pins, and how many of each class are among them
+-- the ranks of the first `count` pins, and the number of pins of each class among them
 pub record AreRanked (pins : List Pin) (count : ℕ) (ranks : List ℕ) (inputs outputs clocks : ℕ) : Type 0 where
   pub ranks_are : ranks ≡ map (λ pin. rank_of pins pin.0 pin.1.class) (take count (enumerate_from 0 pins))
   pub inputs_are : inputs ≡ rank_of pins count Input
@@ -21,7 +21,7 @@ pub record AreRanked (pins : List Pin) (count : ℕ) (ranks : List ℕ) (inputs 
 pub ranked_none : (pins : List Pin) (ranks : List ℕ) → ranks ≡ [] → AreRanked pins 0 ranks 0 0 0
 ranked_none pins ranks none = record { ranks_are = none; inputs_are = refl; outputs_are = refl; clocks_are = refl }
 
--- one pin more has the rank of its class so far
+-- one more pin has the current count of its class as its rank
 ranks_more : (pins : List Pin) (i rank : ℕ) (class : PinClass) (d : Pin) (old new : List ℕ) → i < length pins → (get_or pins i d).class ≡ class → old ≡ map (λ pin. rank_of pins pin.0 pin.1.class) (take i (enumerate_from 0 pins)) → rank ≡ rank_of pins i class → new ≡ old ++ rank ∷ [] → new ≡ map (λ pin. rank_of pins pin.0 pin.1.class) (take (i + 1) (enumerate_from 0 pins))
 ranks_more pins i rank class d old new h is before rank_is more =
     let f : ℕ × Pin → ℕ = λ pin. rank_of pins pin.0 pin.1.class in
@@ -32,15 +32,15 @@ ranks_more pins i rank class d old new h is before rank_is more =
     ∙ ap (λ (last : ℕ). map f (take i (enumerate_from 0 pins)) ++ last ∷ []) (rank_is ∙ ap (rank_of pins i) (sym is) ∙ sym (ap f at))
     ∙ sym (map_more f (enumerate_from 0 pins) i first within)
 
--- one pin more in its class
+-- one more pin of its class
 rank_yes : (pins : List Pin) (i : ℕ) (class : PinClass) (d : Pin) → i < length pins → is_same_class class (get_or pins i d).class ≡ true → rank_of pins (i + 1) class ≡ rank_of pins i class + 1
 rank_yes pins i class d h is = count_by_more_yes (λ (pin : Pin). is_same_class class pin.class) pins i d h is
 
--- and none in another
+-- one more pin doesn't change the counts of other classes
 rank_no : (pins : List Pin) (i : ℕ) (class : PinClass) (d : Pin) → i < length pins → is_same_class class (get_or pins i d).class ≡ false → rank_of pins (i + 1) class ≡ rank_of pins i class
 rank_no pins i class d h is = count_by_more_no (λ (pin : Pin). is_same_class class pin.class) pins i d h is
 
--- an input pin more
+-- one more input pin
 pub ranked_input : (pins : List Pin) (i : ℕ) (d : Pin) (old new : List ℕ) (inputs outputs clocks more_inputs more_outputs more_clocks : ℕ) → i < length pins → (get_or pins i d).class ≡ Input → AreRanked pins i old inputs outputs clocks → new ≡ old ++ inputs ∷ [] → more_inputs ≡ inputs + 1 → more_outputs ≡ outputs → more_clocks ≡ clocks → AreRanked pins (i + 1) new more_inputs more_outputs more_clocks
 ranked_input pins i d old new inputs outputs clocks more_inputs more_outputs more_clocks h is before pushed input output clock = record {
   ranks_are = ranks_more pins i inputs Input d old new h is before.ranks_are before.inputs_are pushed;
@@ -49,7 +49,7 @@ ranked_input pins i d old new inputs outputs clocks more_inputs more_outputs mor
   clocks_are = clock ∙ before.clocks_are ∙ sym (rank_no pins i Clock d h (ap (is_same_class Clock) is));
 }
 
--- an output pin more
+-- one more output pin
 pub ranked_output : (pins : List Pin) (i : ℕ) (d : Pin) (old new : List ℕ) (inputs outputs clocks more_inputs more_outputs more_clocks : ℕ) → i < length pins → (get_or pins i d).class ≡ Output → AreRanked pins i old inputs outputs clocks → new ≡ old ++ outputs ∷ [] → more_inputs ≡ inputs → more_outputs ≡ outputs + 1 → more_clocks ≡ clocks → AreRanked pins (i + 1) new more_inputs more_outputs more_clocks
 ranked_output pins i d old new inputs outputs clocks more_inputs more_outputs more_clocks h is before pushed input output clock = record {
   ranks_are = ranks_more pins i outputs Output d old new h is before.ranks_are before.outputs_are pushed;
@@ -58,7 +58,7 @@ ranked_output pins i d old new inputs outputs clocks more_inputs more_outputs mo
   clocks_are = clock ∙ before.clocks_are ∙ sym (rank_no pins i Clock d h (ap (is_same_class Clock) is));
 }
 
--- a clock pin more
+-- one more clock pin
 pub ranked_clock : (pins : List Pin) (i : ℕ) (d : Pin) (old new : List ℕ) (inputs outputs clocks more_inputs more_outputs more_clocks : ℕ) → i < length pins → (get_or pins i d).class ≡ Clock → AreRanked pins i old inputs outputs clocks → new ≡ old ++ clocks ∷ [] → more_inputs ≡ inputs → more_outputs ≡ outputs → more_clocks ≡ clocks + 1 → AreRanked pins (i + 1) new more_inputs more_outputs more_clocks
 ranked_clock pins i d old new inputs outputs clocks more_inputs more_outputs more_clocks h is before pushed input output clock = record {
   ranks_are = ranks_more pins i clocks Clock d old new h is before.ranks_are before.clocks_are pushed;

@@ -1,4 +1,4 @@
--- Which blocks read which nets, gathered cluster by cluster.
+-- The blocks that read each net, gathered cluster by cluster.
 use Rattle.std.proofs.Common.{◌≡◌, refl, sym, ap, subst, ◌∙◌, ℕ, zero, suc, ◌+◌, ◌<◌, ◌==◌, Bool, true, false, not, cond, eqb, if◌then◌else◌, List, [], ◌∷◌, ◌++◌, All, length, take, get_or, map, filter, slice_index, arith, Some}
 use Rattle.std.specs.Prelude.{slice_get}
 use Rattle.std.specs.List.{flat_map, range_with_len}
@@ -21,7 +21,7 @@ use Rattle.rows.specs.ByKey.{pairs_with}
 use Rattle.rows.proofs.CountingSort.{items_with-append}
 use Rattle.cluster.proofs.NetLists.{StandsOnce, once_with_nets, filter-with_nets}
 
--- what is gathered of the first so many clusters
+-- the nets of the first `count` clusters are gathered
 pub record AreGathered (circuit : Circuit) (elements : List LogicElement) (clusters : List (List ℕ)) (count : ℕ) (inputs clocks : List (List ℕ)) (pairs : List Keyed) (sets : ClusterSets) : Type 0 where
   pub inputs_are : inputs ≡ inputs_of_clusters elements (take count clusters)
   pub clocks_are : clocks ≡ clocks_of_clusters elements (take count clusters)
@@ -30,7 +30,7 @@ pub record AreGathered (circuit : Circuit) (elements : List LogicElement) (clust
   pub output_nets : sets.outputs.count ≡ length circuit.nets
   pub clock_nets : sets.clocks.count ≡ length circuit.nets
 
--- one number more in a `flat_map` over numbers
+-- one more number in a `flat_map` over numbers
 pub flat_map-range_more : {A : Type 0} (f : ℕ → List A) (count : ℕ) → flat_map f (range_with_len 0 (count + 1)) ≡ flat_map f (range_with_len 0 count) ++ f count
 flat_map-range_more {A} f count =
     let id : ℕ → ℕ = λ (n : ℕ). n in
@@ -43,11 +43,11 @@ items_with_one : (b : Bool) (pair : Keyed) → map (λ (pair : Keyed). pair.item
 items_with_one true pair = refl
 items_with_one false pair = refl
 
--- nothing is told of no pads and no clusters
+-- no pads and no clusters have no pairs
 pub tell_none : (circuit : Circuit) (elements : List LogicElement) (clusters : List (List ℕ)) (pairs : List Keyed) → pairs ≡ [] → TellReaders circuit elements clusters 0 0 pairs
 tell_none circuit elements clusters pairs none = subst (TellReaders circuit elements clusters 0 0) (sym none) (record { within = All-nil (λ (pair : Keyed). pair.key < length circuit.nets); tell = λ net. refl })
 
--- one pad more
+-- one more pad
 pub tell_pad : (circuit : Circuit) (elements : List LogicElement) (clusters : List (List ℕ)) (pad : ℕ) (old new : List Keyed) → slice_index circuit.outputs pad < length circuit.nets → TellReaders circuit elements clusters pad 0 old → new ≡ old ++ record { key = slice_index circuit.outputs pad; item = length circuit.inputs + pad } ∷ [] → TellReaders circuit elements clusters (pad + 1) 0 new
 tell_pad circuit elements clusters pad old new net_within before more =
     let last : Keyed = record { key = slice_index circuit.outputs pad; item = length circuit.inputs + pad } in
@@ -61,13 +61,13 @@ tell_pad circuit elements clusters pad old new net_within before more =
           ∙ sym (append-nil (pads_with circuit net (pad + 1)));
     })
 
--- the outside inputs stand once each
+-- each outside input occurs once
 once_outside : (elements : List LogicElement) (net : ℕ) → StandsOnce (outside_inputs elements) net
 once_outside elements net =
     let p : ℕ → Bool = λ net. not (has (outputs_of elements) net) in
     subst (λ (nets : List ℕ). StandsOnce nets net) (sym (filter-with_nets p [] (inputs_of elements))) (once_with_nets [] (filter p (inputs_of elements)) net refl)
 
--- the item stands with each of the nets
+-- the item is listed for each of the nets
 items_of_pairs : (item : ℕ) (nets : List ℕ) (net : ℕ) → items_with (pairs_with item nets) net ≡ map (λ (other : ℕ). item) (filter (λ other. eqb other net) nets)
 items_of_pairs item [] net = refl
 items_of_pairs item (other ∷ nets) net = by (eqb other net) (items_of_pairs item nets net)
@@ -80,7 +80,7 @@ one_item : (b : Bool) (item net : ℕ) → map (λ (other : ℕ). item) (cond b 
 one_item true item net = refl
 one_item false item net = refl
 
--- one cluster more
+-- one more cluster
 pub tell_cluster : (circuit : Circuit) (elements : List LogicElement) (clusters : List (List ℕ)) (cluster : ℕ) (nets : List ℕ) (old new : List Keyed) → All (λ net. net < length circuit.nets) nets → nets ≡ nets_read (members_of elements clusters cluster) → TellReaders circuit elements clusters (length circuit.outputs) cluster old → new ≡ old ++ pairs_with (length circuit.inputs + length circuit.outputs + cluster) nets → TellReaders circuit elements clusters (length circuit.outputs) (cluster + 1) new
 tell_cluster circuit elements clusters cluster nets old new nets_within nets_are before more =
     let item = length circuit.inputs + length circuit.outputs + cluster in
@@ -98,7 +98,7 @@ tell_cluster circuit elements clusters cluster nets old new nets_within nets_are
           ∙ ap (λ (items : List ℕ). pads_with circuit net (length circuit.outputs) ++ items) (sym (flat_map-range_more (λ cluster. if has (nets_read (members_of elements clusters cluster)) net then (length circuit.inputs + length circuit.outputs + cluster) ∷ [] else []) cluster));
     })
 
--- the readers of all nets, once all pads and clusters are told
+-- the readers of all nets, once all pads and clusters are gathered
 pub told_all : (circuit : Circuit) (elements : List LogicElement) (clusters : List (List ℕ)) (pairs : List Keyed) → TellReaders circuit elements clusters (length circuit.outputs) (length clusters) pairs → items_by_key pairs (length circuit.nets) ≡ readers_by_net circuit elements clusters
 told_all circuit elements clusters pairs told = go 0 (length circuit.nets)
   where
@@ -106,7 +106,7 @@ told_all circuit elements clusters pairs told = go 0 (length circuit.nets)
     go start zero = refl
     go start (suc count) = let head = told.tell start in let tail = go (start + 1) count in cc
 
--- one cluster more is gathered
+-- one more cluster is gathered
 pub gathered_more : (circuit : Circuit) (elements : List LogicElement) (clusters : List (List ℕ)) (k : ℕ) (members : List ℕ) (old_inputs old_clocks new_inputs new_clocks : List (List ℕ)) (old_pairs new_pairs : List Keyed) (sets gathered : ClusterSets) (read : NetsAmong) → k < length clusters → slice_get clusters k ≡ Some members → AreGathered circuit elements clusters k old_inputs old_clocks old_pairs sets
     → gathered.inputs ≡ record { count = sets.inputs.count; nets = outside_inputs (elements_at elements members) } → gathered.clocks ≡ record { count = sets.inputs.count; nets = clocks_of (elements_at elements members) } → gathered.outputs.count ≡ sets.inputs.count
     → new_inputs ≡ old_inputs ++ gathered.inputs.nets ∷ [] → new_clocks ≡ old_clocks ++ gathered.clocks.nets ∷ [] → read ≡ record { count = gathered.inputs.count; nets = with_nets gathered.inputs.nets gathered.clocks.nets } → All (λ net. net < read.count) read.nets

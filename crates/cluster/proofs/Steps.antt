@@ -1,4 +1,5 @@
--- Steps of packing: each makes one cluster of free elements while there are any, and then nothing changes any more.
+-- Steps of packing: each makes one cluster of free BLEs as long as there are any; after that
+-- nothing changes any more.
 use Rattle.std.proofs.Common.{◌≡◌, ℕ, suc, zero, ◌+◌, ◌<◌, ◌≤◌, Bool, true, false, not, ◌||◌, ◌==◌, List, [], ◌∷◌, ◌++◌, Option, filter, length, if◌then◌else◌, sym, ap, refl, ◌∙◌, arith, nat_lt, length-append, ◌-◌, max}
 use Rattle.std.proofs.lemmas.Bool.{eqb-true}
 use Rattle.std.proofs.lemmas.Bool.Decides.{nat_tests}
@@ -24,7 +25,7 @@ grows_on : (arch : Arch) (elements : List LogicElement) (free : List ℕ) (seed 
 grows_on arch elements free seed zero = record { others = []; whole = refl }
 grows_on arch elements free seed (suc additions) = keeps_seed (next_member arch elements free (grown arch elements free (seed ∷ []) additions)) (grows_on arch elements free seed additions)
 
--- the leading one is the first or one of the others
+-- the leading number is the first or one of the others
 leads_among : (score : ℕ → ℕ) (best : ℕ) (numbers : List ℕ) → has (best ∷ numbers) (leading score best numbers) ≡ true
 leads_among score best [] = grind (arith, nat_tests)
 leads_among score best (number ∷ numbers) = by (nat_lt (score best) (score number)) (leads_among score number numbers) (leads_among score best numbers)
@@ -33,7 +34,7 @@ leads_among score best (number ∷ numbers) = by (nat_lt (score best) (score num
     by true h k = grind (arith, nat_tests, h)
     by false h k = grind (arith, nat_tests, k)
 
--- a cluster of free elements, if there are any, has a free one as its seed
+-- a cluster of free BLEs has a free one as its seed, if there is one
 pub record Seeded (free cluster : List ℕ) : Type 0 where
   pub seed : ℕ
   pub begins : BeginsWith seed cluster
@@ -47,7 +48,7 @@ cluster_seeded arch elements number free = record {
   is_free = leads_among (input_count_at elements) number free;
 }
 
--- what is left of numbers
+-- a stronger filter keeps at most as many numbers
 filter_few : (p q : ℕ → Bool) (weaker : (n : ℕ) → q n ≡ true → p n ≡ true) (numbers : List ℕ) → length (filter q numbers) ≤ length (filter p numbers)
 filter_few p q weaker [] = omega arith
 filter_few p q weaker (number ∷ numbers) = by (p number) (q number) refl refl (filter_few p q weaker numbers)
@@ -72,7 +73,7 @@ filter_fewer p q weaker lost (number ∷ numbers) h e = by (p number) (q number)
     by false true ep eq h few fewer = let wrong : false ≡ true = sym ep ∙ weaker number eq in absurd cc
     by false false ep eq h few fewer = fewer h
 
--- the elements are told apart by whether they are in the cluster
+-- a BLE is free if it is in no cluster
 abbrev is_free : List (List ℕ) → ℕ → Bool
 is_free clusters number = not (list_any (λ cluster. has cluster number) clusters)
 
@@ -86,16 +87,16 @@ has_seed : {seed : ℕ} {members : List ℕ} → BeginsWith seed members → has
 has_seed {seed} b = rw b.whole (grind (arith, nat_tests))
 
 module _ (arch : Arch) (elements : List LogicElement) where
-  -- the elements that are free after so many steps
+  -- the BLEs that are free after this number of steps
   abbrev pub free_after : ℕ → List ℕ
   free_after steps = free_of elements (clusters_after arch elements steps)
 
-  -- a step with nothing free changes nothing
+  -- a step changes nothing if no BLE is free
   pub step_idle : (steps : ℕ) → free_after steps ≡ [] → clusters_after arch elements (suc steps) ≡ clusters_after arch elements steps
   unfolding clusters_after
   step_idle steps none = rw none (rw (no_cluster arch elements) refl)
 
-  -- a step with something free
+  -- a step when a BLE is free
   pub record StepMade (clusters later : List (List ℕ)) : Type 0 where
     pub more : length later ≡ length clusters + 1
     pub fewer : length (free_of elements later) < length (free_of elements clusters)
@@ -113,7 +114,7 @@ module _ (arch : Arch) (elements : List LogicElement) where
   unfolding clusters_after
   step_made steps number free e = made (clusters_after arch elements steps) number free e
 
-  -- as many clusters as steps are made, and each took an element
+  -- there are as many clusters as steps, and each took a BLE
   pub record Going (steps : ℕ) : Type 0 where
     pub clusters : length (clusters_after arch elements steps) ≡ steps
     pub taken : length (free_after steps) + steps ≤ length elements
@@ -129,7 +130,7 @@ module _ (arch : Arch) (elements : List LogicElement) where
   pub going_on : (steps number : ℕ) (free : List ℕ) → free_after steps ≡ number ∷ free → Going steps → Going (suc steps)
   going_on steps number free e g = let m = step_made steps number free e in record { clusters = omega (arith, m.more, g.clusters); taken = omega (arith, m.fewer, g.taken) }
 
-  -- once nothing is free, nothing changes any more
+  -- once no BLE is free, nothing changes any more
   idle : (steps more later : ℕ) → later ≡ more + steps → free_after steps ≡ [] → clusters_after arch elements later ≡ clusters_after arch elements steps
   idle steps zero later e none = let same : later ≡ steps = omega (arith, e) in ap (clusters_after arch elements) same
   idle steps (suc more) later e none =
@@ -137,7 +138,7 @@ module _ (arch : Arch) (elements : List LogicElement) where
       let before = idle steps more (more + steps) refl none in
       ap (clusters_after arch elements) same ∙ step_idle (more + steps) (rw before none) ∙ before
 
-  -- clusters are never fewer later
+  -- the number of clusters never decreases
   one_grows : (steps : ℕ) (free : List ℕ) → free_after steps ≡ free → length (clusters_after arch elements steps) ≤ length (clusters_after arch elements (suc steps))
   one_grows steps [] e = rw (step_idle steps e) (omega arith)
   one_grows steps (number ∷ free) e = let m = step_made steps number free e in omega (arith, m.more)
@@ -148,11 +149,11 @@ module _ (arch : Arch) (elements : List LogicElement) where
       let same : later ≡ suc (more + steps) = omega (arith, e) in
       rw same (omega (arith, grows steps more (more + steps) refl, one_grows (more + steps) (free_after (more + steps)) refl))
 
-  -- the clusters when each element is in one
+  -- the clusters once each BLE is in one
   abbrev pub whole : List (List ℕ)
   whole = clusters_after arch elements (length elements)
 
-  -- after a step that leaves nothing free, all clusters are made
+  -- after a step that leaves no BLE free, all clusters are made
   pub record IsLastStep (done : ℕ) : Type 0 where
     pub clusters : clusters_after arch elements (done + 1) ≡ whole
     pub steps : done + 1 ≡ max 1 (length whole)
@@ -179,7 +180,7 @@ module _ (arch : Arch) (elements : List LogicElement) where
       by [] e = last_of_none done g e (begun e)
       by (number ∷ free) e = last_of_some done number free g e none
 
-  -- after a step that leaves something free, more are to come
+  -- after a step that leaves a BLE free, more steps follow
   pub record IsOneOfMore (done : ℕ) : Type 0 where
     pub going : Going (suc done)
     pub more : done + 1 < max 1 (length whole)

@@ -24,7 +24,7 @@ uses_count circuit elements clusters uses globals readers =
     let f : ℕ → List ℕ = λ net. pads_with circuit net (length circuit.outputs) ++ clusters_with circuit elements clusters net (length clusters) in
     ap (λ (rows : List (List ℕ)). length rows) readers ∙ length-map-range_with_len f 0 (length circuit.nets) ∙ sym (ap (λ (set : NetsAmong). set.count) globals)
 
--- what was made is the tables of the packed circuit
+-- the tables that were built are those of the packed circuit
 pub tables_made : (circuit : Circuit) (arch : Arch) (elements : List LogicElement) (clusters : List (List ℕ)) (tables : PackedTables) (none inputs : List BlockNet) → elements ≡ bles_of circuit → IsPacked (record { circuit = circuit; arch = arch; clusters = clusters }) → tables.inputs ≡ inputs_of_clusters elements clusters → tables.clocks ≡ clocks_of_clusters elements clusters
     → tables.uses.globals ≡ record { count = length circuit.nets; nets = distinct (controls_of circuit.latches) } → tables.uses.readers ≡ readers_by_net circuit elements clusters → none ≡ [] → inputs ≡ none ++ input_nets circuit tables.uses (length circuit.inputs) → tables.nets ≡ inputs ++ cluster_nets circuit tables.uses elements clusters (length clusters) → tables.ranks.items ≡ pin_ranks arch.pins
     → AreTablesOf (record { circuit = circuit; arch = arch; clusters = clusters }) tables
@@ -44,7 +44,7 @@ tables_made circuit arch elements clusters tables none inputs elements_are lawfu
       ranks = ranks;
     }
 
--- what an element drives is among the nets of the tables
+-- the net that a BLE drives is covered by the tables
 pub ble_within : (packed : PackedCircuit) (elements : List LogicElement) (tables : PackedTables) (number : ℕ) (element : LogicElement) → ArePartsOf packed elements tables → slice_get elements number ≡ Some element → (element.output < tables.uses.globals.count) × (element.output < length tables.uses.readers)
 ble_within packed elements tables number element parts read =
     let circuit = packed.circuit in
@@ -56,7 +56,7 @@ ble_within packed elements tables number element parts read =
     let rows = uses_count circuit (bles_of circuit) packed.clusters tables.uses parts.kept.globals parts.kept.readers in
     (omega arith, omega arith)
 
--- whether it leaves its block
+-- whether a net leaves its block
 pub leaves_told : (packed : PackedCircuit) (elements : List LogicElement) (tables : PackedTables) (number : ℕ) (element : LogicElement) → ArePartsOf packed elements tables → slice_get elements number ≡ Some element → (block driver : ℕ) → block ≡ driver → leaves_by tables.uses block element.output ≡ leaves_block packed driver element.output
 leaves_told packed elements tables number element parts read block driver same =
     let count : tables.uses.globals.count ≡ length packed.circuit.nets = ap (λ (set : NetsAmong). set.count) parts.kept.globals in

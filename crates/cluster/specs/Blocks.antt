@@ -1,4 +1,5 @@
--- What a packed circuit is to placing and routing: blocks, the nets between them, and the pins of clusters.
+-- A packed circuit as placing and routing see it: blocks, the nets between them, and the pins of
+-- clusters.
 use Rattle.std.specs.Prelude.{ℕ, ◌+◌, Bool, false, not, nat_lt, ◌&&◌, ◌||◌, ◌==◌, List, [], ◌∷◌, ◌++◌, map, filter, length, take, count_by, codes, slice_get, option_and_then, Option, Some, None, if◌then◌else◌}
 use Rattle.std.specs.List.{flat_map, range_with_len, enumerate_from, slice_index_or}
 use Rattle.std.specs.Option.{option_map_or, option_to_list}
@@ -13,7 +14,7 @@ use Rattle.ble_cluster.specs.Bles.{LogicElement, bles_of}
 use Rattle.ble_cluster.specs.Clusters.{elements_at, outputs_of, clocks_of, outside_inputs}
 use Rattle.cluster.specs.Clusters.{PackedCircuit}
 
--- the BLEs of that cluster
+-- the BLEs of this cluster
 abbrev pub elements_in : PackedCircuit → ℕ → List LogicElement
 elements_in packed cluster = elements_at (bles_of packed.circuit) (slice_index_or packed.clusters cluster [])
 
@@ -21,31 +22,32 @@ elements_in packed cluster = elements_at (bles_of packed.circuit) (slice_index_o
 abbrev pub blocks_of : PackedCircuit → List Block
 blocks_of packed = map InputPad packed.circuit.inputs ++ map OutputPad packed.circuit.outputs ++ map Cluster (range_with_len 0 (length packed.clusters))
 
--- the name of a net
 abbrev pub net_name : Circuit → ℕ → List ℕ
 net_name circuit net = slice_index_or circuit.nets net []
 
--- the name of a block: that of a pad's net, and that of the net that a cluster's seed drives
+-- the name of a block: that of a pad's net, with `out:` before it for an output pad, and that of
+-- the net that a cluster's seed drives
 abbrev pub block_name : PackedCircuit → Block → List ℕ
 block_name packed (InputPad net) = net_name packed.circuit net
 block_name packed (OutputPad net) = codes "out:" ++ net_name packed.circuit net
 block_name packed (Cluster cluster) = option_map_or (λ seed. net_name packed.circuit seed.output) (slice_get (elements_in packed cluster) 0) []
 
--- a net that controls a latch is global: it goes by the global network
+-- a net that controls a latch is global: it uses the global network
 abbrev pub is_global : Circuit → ℕ → Bool
 is_global circuit net = has (flat_map (λ latch. option_to_list latch.control) circuit.latches) net
 
--- a block has the net on a pad that it leaves by, on an input pin or on the clock pin
+-- a block reads the net: an output pad whose net it is, or a cluster that has it on an input pin or
+-- on the clock pin
 abbrev pub reads_net : PackedCircuit → ℕ → Block → Bool
 reads_net packed net (InputPad input) = false
 reads_net packed net (OutputPad output) = output == net
 reads_net packed net (Cluster cluster) = has (outside_inputs (elements_in packed cluster)) net || has (clocks_of (elements_in packed cluster)) net
 
--- the numbers of the blocks, but for the driver, that have the net on a pin
+-- the numbers of the blocks that read the net, without its driver
 abbrev pub readers_of : PackedCircuit → ℕ → ℕ → List ℕ
 readers_of packed driver net = map (λ block. block.0) (filter (λ block. not (block.0 == driver) && reads_net packed net block.1) (enumerate_from 0 (blocks_of packed)))
 
--- what a cluster drives is a net where another block reads it, or where it is global
+-- a net that a cluster drives leaves it if another block reads it, or if it is global
 abbrev pub leaves_block : PackedCircuit → ℕ → ℕ → Bool
 leaves_block packed driver net = is_global packed.circuit net || nat_lt 0 (length (readers_of packed driver net))
 
@@ -55,7 +57,8 @@ nets_from packed driver (InputPad net) = net ∷ []
 nets_from packed driver (OutputPad net) = []
 nets_from packed driver (Cluster cluster) = filter (leaves_block packed driver) (outputs_of (elements_in packed cluster))
 
--- a net of the packing: its number in the circuit, the block that drives it, those that read it, in order, and whether it is global
+-- a net of the packing: its number in the circuit, the block that drives it, the blocks that read
+-- it, in order, and whether it is global
 pub record BlockNet : Type 0 where
   pub net : ℕ
   pub driver : ℕ
@@ -65,11 +68,12 @@ pub record BlockNet : Type 0 where
 abbrev pub block_net : PackedCircuit → ℕ → ℕ → BlockNet
 block_net packed driver net = record { net = net; driver = driver; readers = readers_of packed driver net; global = is_global packed.circuit net }
 
--- the nets, numbered by driving block, then by BLE
+-- the nets, ordered by driving block, then by BLE
 abbrev pub block_nets : PackedCircuit → List BlockNet
 block_nets packed = flat_map (λ block. map (block_net packed block.0) (nets_from packed block.0 block.1)) (enumerate_from 0 (blocks_of packed))
 
--- what the pin of that class and rank of a cluster carries: nothing where it is open, as that of an output which doesn't leave the cluster
+-- the net on the pin with this class and rank of a cluster; an open pin has none, such as that of
+-- an output that doesn't leave the cluster
 abbrev pub carried : PackedCircuit → ℕ → PinClass → ℕ → Option ℕ
 carried packed cluster Input rank = slice_get (outside_inputs (elements_in packed cluster)) rank
 carried packed cluster Output rank =
@@ -77,13 +81,14 @@ carried packed cluster Output rank =
     (slice_get (outputs_of (elements_in packed cluster)) rank)
 carried packed cluster Clock rank = slice_get (clocks_of (elements_in packed cluster)) rank
 
--- the two classes are the same
+-- the two classes are equal
 abbrev pub is_same_class : PinClass → PinClass → Bool
 is_same_class Input class = is_input_class class
 is_same_class Output class = is_output_class class
 is_same_class Clock class = is_clock_class class
 
--- what each pin of the cluster carries, in pin order: the rank of a pin is how many of its class stand before it
+-- the net on each pin of the cluster, in pin order; the rank of a pin is the number of pins of its
+-- class before it
 abbrev pub pins_of : PackedCircuit → ℕ → List (Option ℕ)
 pins_of packed cluster =
     map (λ pin. carried packed cluster pin.1.class (count_by (λ other. is_same_class pin.1.class other.class) (take pin.0 packed.arch.pins))) (enumerate_from 0 packed.arch.pins)

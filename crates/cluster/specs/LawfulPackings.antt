@@ -1,4 +1,4 @@
--- What every packed circuit keeps.
+-- The invariant of every packed circuit.
 use Rattle.std.specs.Prelude.{◌≡◌, ◌<◌, ◌≤◌, None, All, length}
 use Rattle.arch_file.specs.Arch.{IsArch}
 use Rattle.blif.specs.LawfulCircuits.{IsCircuit}
@@ -6,7 +6,8 @@ use Rattle.ble_cluster.specs.Bles.{bles_of}
 use Rattle.ble_cluster.specs.Clusters.{unfit_of}
 use Rattle.cluster.specs.Clusters.{PackedCircuit, packed_of}
 
--- a packed circuit keeps the limits, and each of its BLEs fits alone; its clusters have a seed, and their members are its BLEs
+-- a packed circuit is within the limits, and each of its BLEs fits into a cluster alone; its
+-- clusters have a seed, and their members are its BLEs
 pub record IsPacked (packed : PackedCircuit) : Type 0 where
   pub circuit : IsCircuit packed.circuit
   pub arch : IsArch packed.arch

@@ -1,4 +1,4 @@
--- Private: who uses which nets.
+-- Private: the users of each net.
 use Rattle.std.specs.Prelude.{ℕ, ◌+◌, ◌^◌, ◌≡◌, ◌<◌, ◌==◌, Bool, not, nat_lt, ◌||◌, List, [], ◌∷◌, All, map, filter, length, slice_index}
 use Rattle.std.specs.List.{flat_map, range_with_len, slice_index_or}
 use Rattle.std.specs.Option.{option_to_list}
@@ -11,23 +11,23 @@ use Rattle.ble_cluster.specs.Clusters.{outputs_of}
 use Rattle.cluster.specs.Blocks.{BlockNet}
 use Rattle.cluster.specs.ClusterPins.{IsElementWithin, members_of}
 
--- the nets that control latches, as often as they control one
+-- the nets that control latches, once for each latch that they control
 abbrev pub controls_of : List Latch → List ℕ
 controls_of latches = flat_map (λ latch. option_to_list latch.control) latches
 
--- those of the readers that aren't the driver
+-- the readers without the driver
 abbrev pub others : ℕ → List ℕ → List ℕ
 others driver readers = filter (λ reader. not (reader == driver)) readers
 
--- what a block drives leaves it
+-- the net leaves the block that drives it
 abbrev pub leaves_by : NetUses → ℕ → ℕ → Bool
 leaves_by uses driver net = has uses.globals.nets net || nat_lt 0 (length (others driver (slice_index_or uses.readers net [])))
 
--- the net that the block drives
+-- the net, as one that the block drives
 abbrev pub net_by : NetUses → ℕ → ℕ → BlockNet
 net_by uses driver net = record { net = net; driver = driver; readers = others driver (slice_index_or uses.readers net []); global = has uses.globals.nets net }
 
--- the nets that the first so many input pads drive
+-- the nets that the first `count` input pads drive
 abbrev pub input_nets : Circuit → NetUses → ℕ → List BlockNet
 input_nets circuit uses count = flat_map (λ pad. net_by uses pad (slice_index circuit.inputs pad) ∷ []) (range_with_len 0 count)
 
@@ -35,35 +35,36 @@ input_nets circuit uses count = flat_map (λ pad. net_by uses pad (slice_index c
 abbrev pub driven_nets : NetUses → ℕ → List LogicElement → List BlockNet
 driven_nets uses driver elements = map (net_by uses driver) (filter (leaves_by uses driver) (outputs_of elements))
 
--- the nets that the first so many clusters drive
+-- the nets that the first `count` clusters drive
 abbrev pub cluster_nets : Circuit → NetUses → List LogicElement → List (List ℕ) → ℕ → List BlockNet
 cluster_nets circuit uses elements clusters count = flat_map (λ cluster. driven_nets uses (length circuit.inputs + length circuit.outputs + cluster) (members_of elements clusters cluster)) (range_with_len 0 count)
 
--- the uses tell of the net
+-- the uses cover the net
 pub record IsUsed (uses : NetUses) (net : ℕ) : Type 0 where
   pub global : net < uses.globals.count
   pub reader : net < length uses.readers
 
--- the uses are of as many nets as the input pads' are among, and there are few of these
+-- the uses cover the nets of the input pads, and the number of these fits into 32 bits
 pub record UsesInputs (circuit : Circuit) (uses : NetUses) : Type 0 where
   pub within : All (λ net. net < uses.globals.count) circuit.inputs
   pub same_count : length uses.readers ≡ uses.globals.count
   pub few : length circuit.inputs < 2 ^ 32
 
--- the uses are of as many nets as the BLEs' are among, and the members are BLEs
+-- the uses cover the BLEs' nets, and the members are BLEs
 pub record UsesMembers (uses : NetUses) (bles : List LogicElement) (members : List ℕ) : Type 0 where
   pub elements : All (IsElementWithin uses.globals.count) bles
   pub same_count : length uses.readers ≡ uses.globals.count
   pub among : All (λ number. number < length bles) members
 
--- the same of the members of each cluster, and there are few blocks
+-- the uses cover the BLEs' nets, the members of each cluster are BLEs, and the number of blocks
+-- fits into 32 bits
 pub record UsesClusters (circuit : Circuit) (uses : NetUses) (bles : List LogicElement) (clusters : List (List ℕ)) : Type 0 where
   pub elements : All (IsElementWithin uses.globals.count) bles
   pub same_count : length uses.readers ≡ uses.globals.count
   pub among : All (λ cluster. All (λ number. number < length bles) cluster) clusters
   pub few : length circuit.inputs + length circuit.outputs + length clusters < 2 ^ 32
 
--- both of these
+-- the uses cover the nets of input pads and of clusters
 pub record UsesBlocks (circuit : Circuit) (uses : NetUses) (bles : List LogicElement) (clusters : List (List ℕ)) : Type 0 where
   pub of_inputs : UsesInputs circuit uses
   pub of_clusters : UsesClusters circuit uses bles clusters

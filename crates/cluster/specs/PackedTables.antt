@@ -1,4 +1,4 @@
--- Private: what is kept beside a packed circuit.
+-- Private: the tables that are stored with a packed circuit.
 use Rattle.std.specs.Prelude.{◌≡◌, List, length}
 use Rattle.cluster.specs.declared.packed_tables.PackedTables.{PackedTables}
 use Rattle.ble_cluster.specs.Nets.{distinct}
@@ -18,7 +18,7 @@ pub record AreTablesOf (packed : PackedCircuit) (tables : PackedTables) : Type 0
   pub nets : tables.nets ≡ block_nets packed
   pub ranks : tables.ranks.items ≡ pin_ranks packed.arch.pins
 
--- the packed circuit is one that packing makes, and the BLEs are those of its circuit
+-- the packed circuit results from packing, and the BLEs are those of its circuit
 pub record IsPackedOf (value : PackedCircuit) (elements : List LogicElement) : Type 0 where
   pub packed : IsPacked value
   pub bles : elements ≡ bles_of value.circuit

@@ -1,4 +1,4 @@
--- What each packing keeps: the laws by which a placer and a router index.
+-- The laws of every packing, by which a placer and a router index.
 use Rattle.std.specs.Prelude.{ℕ, ◌≡◌, ◌≢◌, ◌<◌, ◌≤◌, ◌↔◌, true, IsTrue, All, AllPairs, Contains, length}
 use Rattle.std.specs.List.{concat, flat_map}
 use Rattle.std.specs.Option.{option_to_list}
@@ -13,8 +13,9 @@ use Rattle.cluster.specs.Keys.{keys_of}
 abbrev pub ControlsLatch : Circuit → ℕ → Type 0
 ControlsLatch circuit net = Contains (flat_map (λ latch. option_to_list latch.control) circuit.latches) net
 
--- A net between blocks is a net of the circuit, and its driver and readers are blocks. Readers rise, so that none stands
--- twice, and none is the driver. Global is what controls a latch.
+-- A net between blocks is a net of the circuit, and its driver and readers are blocks. Its readers
+-- are in increasing order, so none occurs twice, and none is the driver. It is global if and only
+-- if it controls a latch.
 pub record IsBlockNet (packed : PackedCircuit) (between : BlockNet) : Type 0 where
   pub named : between.net < length packed.circuit.nets
   pub driver : between.driver < length (blocks_of packed)
@@ -23,8 +24,10 @@ pub record IsBlockNet (packed : PackedCircuit) (between : BlockNet) : Type 0 whe
   pub others : All (λ reader. reader ≢ between.driver) between.readers
   pub controls : IsTrue between.global ↔ ControlsLatch packed.circuit between.net
 
--- Each BLE stands in one cluster, once, and what stands in a cluster fits there. Nets are few enough to be counted by the
--- circuit's, pads of a kind have nets of their own, no two blocks are told by the same, and the bounds hold for all circuits and architectures.
+-- Each BLE is in exactly one cluster, and each cluster fits. The nets between blocks are lawful,
+-- pads of one kind have different nets, and no two blocks have the same key. For every circuit and
+-- architecture there are at most 16,384 blocks, 8,192 nets between them and 145 pins of a logic
+-- block.
 pub record IsLawfulPacking (packed : PackedCircuit) : Type 0 where
   pub whole : (number : ℕ) → number < length (bles_of packed.circuit) → Contains (concat packed.clusters) number
   pub once : AllPairs (λ number other. number ≢ other) (concat packed.clusters)

@@ -1,4 +1,4 @@
--- Private: a packing under way, and the growth of its clusters.
+-- Private: a packing in progress, and the growth of its clusters.
 use Rattle.std.specs.Prelude.{ℕ, suc, ◌≡◌, ◌+◌, ◌≤◌, List, [], ◌∷◌, None, length}
 use Rattle.arch_file.specs.declared.arch.Arch.{Arch}
 use Rattle.blif.specs.declared.circuit.Circuit.{Circuit}
@@ -6,12 +6,14 @@ use Rattle.ble_cluster.specs.Bles.{bles_of}
 use Rattle.ble_cluster.specs.Clusters.{clusters_after, free_of, unfit_of}
 use Rattle.ble_cluster.specs.FreeBles.{FreeBlesState}
 
--- the steps whose clusters are made: where nothing is free any more, the step under way has made its cluster already
+-- the number of steps whose clusters are made: if no BLE is free any more, the current step has
+-- already made its cluster
 abbrev pub steps_reached : List ℕ → ℕ → ℕ
 steps_reached [] made = suc made
 steps_reached (number ∷ free) made = made
 
--- the clusters are those of the steps made, each of which took a BLE, and what is in none of them is free
+-- the clusters are those of the steps made, each of which took at least one BLE, and the BLEs
+-- outside all of them are free
 pub record IsUnderWay (circuit : Circuit) (arch : Arch) (growth : FreeBlesState) (clusters : List (List ℕ)) (made : ℕ) : Type 0 where
   pub fit : unfit_of circuit arch ≡ None
   pub elements : growth.elements ≡ bles_of circuit

@@ -3,30 +3,28 @@
 /// A block of a packed circuit.
 #[derive(Clone, Copy, PartialEq, Eq)]
 pub enum Block {
-    /// The pad by which this net of the circuit comes in.
+    /// The pad of this net of the circuit, an input.
     InputPad(u32),
-    /// The pad by which this net of the circuit goes out.
+    /// The pad of this net of the circuit, an output.
     OutputPad(u32),
-    /// The cluster of this number.
+    /// The cluster with this number.
     Cluster(u32),
 }
 
-/// What kind of block it is.
+/// The kind of a block: a pad of an input, a pad of an output, or a cluster.
 #[derive(Clone, Copy, PartialEq, Eq, PartialOrd, Ord)]
 pub enum BlockKind {
-    /// A pad by which a net comes in.
     InputPad,
-    /// A pad by which a net goes out.
     OutputPad,
-    /// A cluster.
     Cluster,
 }
 
-/// What a block is told by, whatever its number: its kind and its name. No two blocks of a packed circuit have the same.
+/// Identifies a block, whatever its number: its kind and its name. No two blocks of a packed
+/// circuit have the same key.
 #[derive(Clone, Copy, PartialEq, Eq, PartialOrd, Ord)]
 pub struct BlockKey<'a> {
     pub kind: BlockKind,
-    /// The name; of an output pad without the `out:`, which the kind tells.
+    /// The name; for an output pad without the `out:`, since the kind already distinguishes it.
     pub name: &'a [u8],
 }
 
@@ -37,8 +35,8 @@ pub struct BlockNet<'a> {
     pub net: u32,
     /// The block that drives it.
     pub driver: u32,
-    /// The other blocks that have it on a pin, in order.
+    /// The other blocks that read it, in order.
     pub readers: &'a [u32],
-    /// Whether it controls a latch, and so goes by the global network.
+    /// Whether it controls a latch, and so uses the global network.
     pub global: bool,
 }

@@ -7,7 +7,7 @@ use rows::Span;
 use std::alloc::{AllocError, Global};
 use std::marker::Model;
 
-/// A net between blocks, without its readers, and where these stand.
+/// A net between blocks without its readers, and the span of these among all readers.
 #[derive(Clone, Copy)]
 pub(crate) struct NetSpan {
     pub(crate) net: u32,
@@ -16,7 +16,7 @@ pub(crate) struct NetSpan {
     pub(crate) global: bool,
 }
 
-/// Nets between blocks, by number. Its value is the list of them.
+/// Nets between blocks, by number. Its value is their list.
 #[derive(Drop)]
 pub(crate) struct BlockNets {
     readers: Vec<u32>,
@@ -46,14 +46,14 @@ impl BlockNets {
         }
     }
 
-    /// How many nets there are.
+    /// The number of nets.
     pub(crate) fn len(&self) -> usize
         ensures { result ≡ length self.now }
     {
         self.nets.len()
     }
 
-    /// The net of that number.
+    /// The net with this number.
     pub(crate) fn net(&self, number: usize) -> BlockNet<'_>
         requires { number < length self.now }
         ensures { slice_get self.now number
@@ -73,7 +73,7 @@ impl BlockNets {
         }
     }
 
-    /// Adds a net at the end. Its driver isn't among its readers.
+    /// Adds a net at the end. Its driver is left out of its readers.
     pub(crate) fn push(&mut self, net: BlockNet<'_>) -> Result<(), AllocError>
         ensures { IfOk result (λ _. self.new
             ≡ self.old ++ record {
@@ -97,7 +97,7 @@ impl BlockNets {
     }
 }
 
-/// Adds those of the blocks that aren't the driver.
+/// Appends the blocks that aren't the driver.
 fn add_others(readers: &mut Vec<u32>, driver: u32, blocks: &[u32]) -> Result<(), AllocError>
     ensures added { OnOk result (readers.new.items
         ≡ readers.old.items ++ others driver blocks.now) }

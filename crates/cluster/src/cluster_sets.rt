@@ -8,7 +8,7 @@ ghost use Rattle.cluster.specs.ClusterPins.{AreMembersWithin, CanGather, all_clo
 use ble_cluster::{Bles, NetSet};
 use std::alloc::{AllocError, Global};
 
-/// The nets on the pins of a cluster, by class. Kept from one cluster to the next.
+/// The nets on the pins of a cluster, by class. The sets are reused from one cluster to the next.
 #[derive(Drop)]
 pub(crate) struct ClusterSets {
     pub(crate) outputs: NetSet,
@@ -17,7 +17,7 @@ pub(crate) struct ClusterSets {
 }
 
 impl ClusterSets {
-    /// No nets, of that many.
+    /// Empty sets for nets with numbers below `count`.
     pub(crate) fn new(alloc: Global, count: usize) -> Result<Self, AllocError>
         ensures inputs { IfOk result (λ sets. sets.inputs ≡ record { count = count; nets = [] }) }
         ensures outputs { IfOk result (λ sets. sets.outputs ≡ record { count = count; nets = [] }) }
@@ -30,7 +30,7 @@ impl ClusterSets {
         })
     }
 
-    /// The nets of a cluster with these members.
+    /// Replaces the nets by those of a cluster with these members.
     pub(crate) fn gather(&mut self, bles: &Bles, members: &[u32]) -> Result<(), AllocError>
         requires { CanGather self.old bles.now members.now }
         ensures inputs { IfOk result (λ _. self.new.inputs
@@ -55,7 +55,7 @@ impl ClusterSets {
     }
 }
 
-/// Adds what the members drive.
+/// Adds the nets that the members drive.
 fn add_outputs(outputs: &mut NetSet, bles: &Bles, members: &[u32]) -> Result<(), AllocError>
     requires { AreMembersWithin outputs.old.count bles.now members.now }
     ensures { IfOk result (λ _. outputs.new
@@ -70,7 +70,7 @@ fn add_outputs(outputs: &mut NetSet, bles: &Bles, members: &[u32]) -> Result<(),
     Ok(())
 }
 
-/// Adds what the members read and none of them drives.
+/// Adds the nets that the members read and that none of them drives.
 fn add_inputs(
     inputs: &mut NetSet,
     outputs: &NetSet,

@@ -4,11 +4,11 @@ use std::alloc::AllocError;
 /// Why a circuit can't be packed.
 #[derive(Clone, Copy, PartialEq, Eq)]
 pub enum PackFault {
-    /// The BLE of this number is the least that doesn't fit into a cluster alone.
+    /// The BLE with this number is the least that doesn't fit into a cluster alone.
     CannotFit(u32),
 }
 
-/// What a check may fail by.
+/// Why a check fails.
 #[derive(Clone, Copy, PartialEq, Eq)]
 pub enum PackError {
     Fault(PackFault),

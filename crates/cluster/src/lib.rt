@@ -1,10 +1,10 @@
-//! Packing: the basic logic elements (BLEs) of a circuit in clusters, as T-VPack does, and the blocks, nets and pins that
-//! follow.
+//! Packing: the basic logic elements (BLEs) of a circuit in clusters, as T-VPack does, and the
+//! blocks, nets and pins that result.
 //!
-//! - `check` says whether each BLE of a circuit fits into a cluster alone.
-//! - `Packing` makes the clusters, one a step. `Packed` is the result, with its blocks, nets and pins; `SharedPacked` is
-//!   one with many owners.
-//! - `laws_of_packing` says what placing and routing may take for granted of each packed circuit.
+//! - `check` finds out whether each BLE of a circuit fits into a cluster alone.
+//! - `Packing` makes the clusters, one in each step. `Packed` is the result, with its blocks, nets
+//!   and pins; `SharedPacked` is a packed circuit with many owners.
+//! - `laws_of_packing` states what placing and routing may assume of each packed circuit.
 #![tactic(auto)]
 
 mod block;

@@ -1,4 +1,4 @@
-//! Who uses which nets.
+//! The users of each net.
 ghost use Rattle.std.specs.Prelude.{◌≡◌, ◌<◌, ◌==◌, [], IfOk, length, not};
 ghost use Rattle.std.specs.List.{list_any, slice_index_or};
 ghost use Rattle.blif.specs.LawfulCircuits.{IsCircuit};
@@ -10,8 +10,7 @@ use blif::Circuit;
 use rows::Rows;
 use std::alloc::{AllocError, Global};
 
-/// The nets that control latches, which are global, and for each net the blocks that have it on a pin other than one
-/// that drives it.
+/// The nets that control latches, which are global, and for each net the blocks that read it.
 #[derive(Drop)]
 pub(crate) struct NetUses {
     pub(crate) globals: NetSet,
@@ -19,7 +18,7 @@ pub(crate) struct NetUses {
 }
 
 impl NetUses {
-    /// The uses of the circuit's nets, which these blocks read.
+    /// The uses of the circuit's nets; `readers` are the blocks that read each net.
     pub(crate) fn new(alloc: Global, circuit: &Circuit, readers: Rows) -> Result<Self, AllocError>
         requires { IsCircuit circuit.now }
         ensures globals { IfOk result (λ uses.
@@ -46,7 +45,7 @@ impl NetUses {
         self.globals.has(net)
     }
 
-    /// The blocks that have the net on a pin other than one that drives it.
+    /// The blocks that read the net.
     pub(crate) fn readers(&self, net: u32) -> &[u32]
         requires { net < length self.now.readers }
         ensures { result.now ≡ slice_index_or self.now.readers net [] }
@@ -82,7 +81,7 @@ fn globals_of(alloc: Global, circuit: &Circuit) -> Result<NetSet, AllocError>
     }
 }
 
-/// Adds the nets that control latches to none.
+/// Adds the nets that control latches to an empty set.
 fn add_controls(globals: &mut NetSet, circuit: &Circuit) -> Result<(), AllocError>
     requires circuit { IsCircuit circuit.now }
     requires none { globals.old ≡ record { count = length circuit.now.nets; nets = [] } }

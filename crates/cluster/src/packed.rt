@@ -14,7 +14,7 @@ use blif::{Circuit, SharedCircuit};
 use rows::Rows;
 use std::marker::Model;
 
-/// A packed circuit: its BLEs in clusters, with the blocks, nets and pins that follow.
+/// A packed circuit: clusters of its BLEs, with the blocks, nets and pins that result.
 #[derive(Drop)]
 pub struct Packed {
     circuit: SharedCircuit,
@@ -77,14 +77,14 @@ impl Packed {
         self.arch.arch()
     }
 
-    /// How many BLEs the circuit has.
+    /// The number of BLEs of the circuit.
     pub fn ble_count(&self) -> usize
         ensures { result ≡ length (bles_of self.now.circuit) }
     {
         self.bles.len()
     }
 
-    /// The BLE of that number.
+    /// The BLE with this number.
     pub fn ble(&self, number: usize) -> Ble<'_>
         requires { number < length (bles_of self.now.circuit) }
         ensures { slice_get (bles_of self.now.circuit) number
@@ -97,14 +97,14 @@ impl Packed {
         self.bles.ble(number)
     }
 
-    /// How many clusters there are.
+    /// The number of clusters.
     pub fn cluster_count(&self) -> usize
         ensures { result ≡ length self.now.clusters }
     {
         self.clusters.len()
     }
 
-    /// The BLEs of a cluster by number, the seed first.
+    /// The numbers of the BLEs of a cluster, the seed first.
     pub fn cluster(&self, number: usize) -> &[u32]
         requires { number < length self.now.clusters }
         ensures { slice_get self.now.clusters number ≡ Some result.now }
@@ -112,7 +112,7 @@ impl Packed {
         self.clusters.row(number)
     }
 
-    /// How many blocks are pads: one for each input, and one for each output.
+    /// The number of blocks that are pads: one for each input, and one for each output.
     pub fn pad_count(&self) -> usize
         ensures { result ≡ length self.now.circuit.inputs + length self.now.circuit.outputs }
     {
@@ -120,14 +120,14 @@ impl Packed {
         circuit.inputs.as_slice().len() + circuit.outputs.as_slice().len()
     }
 
-    /// How many blocks there are: pads for inputs, pads for outputs, and clusters.
+    /// The number of blocks: pads for inputs, pads for outputs, and clusters.
     pub fn block_count(&self) -> usize
         ensures { result ≡ length (blocks_of self.now) }
     {
         self.pad_count() + self.clusters.len()
     }
 
-    /// The block of that number.
+    /// The block with this number.
     pub fn block(&self, number: usize) -> Block
         requires { number < length (blocks_of self.now) }
         ensures { slice_get (blocks_of self.now) number ≡ Some result }
@@ -143,7 +143,7 @@ impl Packed {
         }
     }
 
-    /// What the block of that number is told by: its kind and its name.
+    /// The key of the block with this number: its kind and its name.
     pub fn key(&self, number: usize) -> BlockKey<'_>
         requires { number < length (blocks_of self.now) }
         ensures { slice_get (keys_of self.now) number
@@ -166,7 +166,6 @@ impl Packed {
         }
     }
 
-    /// The name of a net.
     fn net_name(&self, net: u32) -> &[u8]
         requires { net < length self.now.circuit.nets }
         ensures { result.now ≡ net_name self.now.circuit net }
@@ -185,14 +184,14 @@ impl Packed {
         self.bles.ble(seed as usize).output
     }
 
-    /// How many nets there are between blocks.
+    /// The number of nets between blocks.
     pub fn net_count(&self) -> usize
         ensures { result ≡ length (block_nets self.now) }
     {
         self.tables.nets.len()
     }
 
-    /// The net of that number, which is not its number in the circuit.
+    /// The net with this number, which differs from its number in the circuit.
     pub fn net(&self, number: usize) -> BlockNet<'_>
         requires { number < length (block_nets self.now) }
         ensures { slice_get (block_nets self.now) number
@@ -206,7 +205,7 @@ impl Packed {
         self.tables.nets.net(number)
     }
 
-    /// The net of the circuit that a pin of a cluster carries, by the pin's number; None where the pin is open.
+    /// The circuit's net on a pin of a cluster, by the pin's number; `None` if the pin is open.
     pub fn pin(&self, cluster: usize, pin: usize) -> Option<u32>
         requires cluster { cluster < length self.now.clusters }
         requires pin { pin < length self.now.arch.pins }
@@ -220,7 +219,7 @@ impl Packed {
         }
     }
 
-    /// What the BLE at that place of a cluster drives, where it leaves the cluster.
+    /// The output of the BLE at this index of a cluster, if the net leaves the cluster.
     fn leaving_output(&self, cluster: usize, place: usize) -> Option<u32>
         requires { cluster < length self.now.clusters }
         ensures { result ≡ carried self.now cluster PinClass.Output place }
@@ -239,7 +238,7 @@ impl Packed {
     }
 }
 
-/// What stands at that place of a row, if the row is that long.
+/// The entry at this index of a row, `None` if the row is shorter.
 fn entry(row: &[u32], place: usize) -> Option<u32>
     ensures { result ≡ slice_get row.now place }
 {

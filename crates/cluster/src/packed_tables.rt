@@ -1,4 +1,5 @@
-//! What is kept beside a packed circuit, so that its pins and nets are told at once.
+//! The tables that are stored with a packed circuit, so that its pins and nets can be looked up
+//! quickly.
 ghost use Rattle.std.specs.Prelude.{◌≡◌, ◌++◌, IfOk, length};
 ghost use Rattle.ble_cluster.specs.Nets.{distinct};
 ghost use Rattle.cluster.specs.ClusterPins.{pin_ranks, readers_by_net};
@@ -16,8 +17,8 @@ use blif::Circuit;
 use rows::Rows;
 use std::alloc::{AllocError, Global};
 
-/// The outside inputs and the clocks of each cluster, who uses which nets, the nets between blocks, and the ranks of
-/// pins.
+/// The outside inputs and the clocks of each cluster, the users of each net, the nets between
+/// blocks, and the ranks of pins.
 #[derive(Drop)]
 pub(crate) struct PackedTables {
     pub(crate) inputs: Rows,
@@ -28,7 +29,7 @@ pub(crate) struct PackedTables {
 }
 
 impl PackedTables {
-    /// The tables of a packed circuit. Takes time in proportion to its size.
+    /// The tables of a packed circuit. Takes time proportional to its size.
     pub(crate) fn new(
         alloc: Global,
         circuit: &Circuit,
@@ -67,7 +68,7 @@ impl PackedTables {
     }
 }
 
-/// Who uses which nets, the nets between blocks, and the ranks of pins.
+/// The users of each net, the nets between blocks, and the ranks of pins.
 fn uses_of(
     alloc: Global,
     circuit: &Circuit,
@@ -104,7 +105,7 @@ fn uses_of(
     }
 }
 
-/// The nets between blocks that use nets so, and the ranks of pins.
+/// The nets between blocks, from the users of each net, and the ranks of pins.
 fn nets_of(
     alloc: Global,
     circuit: &Circuit,
@@ -146,7 +147,7 @@ fn add_nets(
     add_cluster_nets(nets, circuit, uses, bles, clusters)
 }
 
-/// These nets with the ranks of pins.
+/// Adds the ranks of pins to these nets.
 fn with_ranks(
     alloc: Global,
     arch: &Arch,

@@ -1,4 +1,4 @@
-//! Packing, one cluster a step.
+//! Packing, one cluster in each step.
 ghost use Rattle.std.specs.Prelude.{◌≡◌, filter, not, IfOk, None, OnErr};
 ghost use Rattle.arch_file.specs.Arch.{IsArch};
 ghost use Rattle.blif.specs.LawfulCircuits.{IsCircuit};
@@ -17,7 +17,8 @@ use rows::Rows;
 use std::alloc::{AllocError, Global};
 use std::marker::Model;
 
-/// Whether each BLE of the circuit fits into a cluster alone, or the least that doesn't.
+/// Checks that each BLE of the circuit fits into a cluster alone; the fault is the least BLE that
+/// doesn't.
 pub fn check(alloc: Global, circuit: &Circuit, arch: &Arch) -> Result<(), PackError>
     requires circuit { IsCircuit circuit.now }
     requires arch { IsArch arch.now }
@@ -30,7 +31,7 @@ pub fn check(alloc: Global, circuit: &Circuit, arch: &Arch) -> Result<(), PackEr
     }
 }
 
-/// A packing under way. Its value is the circuit, the architecture and how many steps are made.
+/// A packing in progress. Its value is the circuit, the architecture and the number of steps made.
 #[derive(Drop)]
 pub struct Packing {
     alloc: Global,
@@ -52,7 +53,7 @@ impl Model for Packing {
     ghost invariant = { λ p. IsUnderWay p.circuit p.arch p.grower p.clusters p.made };
 }
 
-/// What a step of packing leads to.
+/// The result of a step of packing.
 #[derive(Drop)]
 pub enum PackEnd {
     More(Packing),
@@ -60,7 +61,7 @@ pub enum PackEnd {
 }
 
 impl Packing {
-    /// A packing with no step made. Shares the circuit and the architecture.
+    /// A packing before its first step. Shares the circuit and the architecture.
     pub fn start(
         alloc: Global,
         circuit: &SharedCircuit,
@@ -95,7 +96,7 @@ impl Packing {
         &self.circuit
     }
 
-    /// The circuit that was being packed, without the packing.
+    /// The circuit that was being packed. The rest is dropped.
     pub fn into_circuit(self) -> SharedCircuit
         ensures { result ≡ self.circuit }
     {
@@ -113,7 +114,7 @@ impl Packing {
         circuit
     }
 
-    /// Makes one cluster. Without memory the packing comes back as it was.
+    /// Makes one cluster. If memory runs out the packing is handed back unchanged.
     pub fn next(mut self) -> Result<PackEnd, Self>
         ensures { GoesOn self result }
     {
@@ -146,7 +147,7 @@ impl Packing {
     }
 }
 
-/// The circuit and the architecture once more.
+/// Adds an owner of the circuit and one of the architecture.
 fn share(
     circuit: &SharedCircuit,
     arch: &SharedArch,
@@ -163,7 +164,7 @@ fn share(
     }
 }
 
-/// Adds one cluster of free BLEs, if there are any. Without memory nothing is added.
+/// Adds one cluster of free BLEs, if there are any. If memory runs out nothing is added.
 fn add_cluster(grower: &mut FreeBles, clusters: &mut Rows, arch: &Arch) -> Result<(), AllocError>
     requires { AllFit arch.now grower.old.elements }
     ensures elements { grower.new.elements ≡ grower.old.elements }

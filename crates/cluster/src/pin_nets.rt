@@ -11,8 +11,8 @@ use blif::Circuit;
 use rows::{Keyed, Rows};
 use std::alloc::{AllocError, Global};
 
-/// The outside inputs and the clocks of each cluster, and for each net of the circuit the blocks that have it on a pin
-/// other than one that drives it.
+/// The outside inputs and the clocks of each cluster, and for each net of the circuit the blocks
+/// that read it.
 #[derive(Drop)]
 pub(crate) struct PinNets {
     pub(crate) inputs: Rows,
@@ -47,7 +47,7 @@ impl PinNets {
     }
 }
 
-/// The nets of the clusters so far, and each net with a block that reads it.
+/// The nets of the clusters so far, and pairs of a net and a block that reads it.
 #[derive(Drop)]
 struct Gathered {
     inputs: Rows,
@@ -56,7 +56,7 @@ struct Gathered {
 }
 
 impl Gathered {
-    /// No cluster, and the pads of all outputs.
+    /// The state before the first cluster, with the pads of all outputs.
     fn new(alloc: Global, circuit: &Circuit) -> Result<Self, AllocError>
         requires { IsCircuit circuit.now }
         ensures inputs { IfOk result (λ gathered. gathered.inputs ≡ []) }
@@ -74,7 +74,7 @@ impl Gathered {
         })
     }
 
-    /// Adds all clusters to none. The readers of each net.
+    /// Adds all clusters to the initial state. Returns the readers of each net.
     fn add_all(
         &mut self,
         alloc: Global,
@@ -99,7 +99,7 @@ impl Gathered {
         Rows::by_key(alloc, count, self.pairs.as_slice())
     }
 
-    /// The same over sets without a net.
+    /// Adds all clusters, using these empty sets.
     fn add_with(
         &mut self,
         sets: &mut ClusterSets,
@@ -132,7 +132,7 @@ impl Gathered {
         Ok(())
     }
 
-    /// The nets with these readers.
+    /// The nets, with these readers.
     fn into_nets(self, readers: Rows) -> PinNets
         ensures inputs { result.inputs ≡ self.inputs }
         ensures clocks { result.clocks ≡ self.clocks }
@@ -152,7 +152,7 @@ impl Gathered {
     }
 }
 
-/// Each output with its pad's number.
+/// Each output's net, paired with its pad's number.
 fn pad_pairs(alloc: Global, circuit: &Circuit) -> Result<Vec<Keyed>, AllocError>
     requires { IsCircuit circuit.now }
     ensures { IfOk result (λ pairs. (elements : List LogicElement) (clusters : List (List ℕ)) →
@@ -169,7 +169,7 @@ fn pad_pairs(alloc: Global, circuit: &Circuit) -> Result<Vec<Keyed>, AllocError>
     Ok(pairs)
 }
 
-/// Adds each of the nets with the item.
+/// Appends each of the nets, paired with the item.
 fn add_pairs(pairs: &mut Vec<Keyed>, nets: &[u32], item: u32) -> Result<(), AllocError>
     ensures { IfOk result (λ _. pairs.new.items ≡ pairs.old.items ++ pairs_with item nets.now) }
 {

@@ -5,7 +5,7 @@ ghost use Rattle.cluster.specs.ClusterPins.{pin_ranks};
 use arch_file::{Pin, PinClass};
 use std::alloc::{AllocError, Global};
 
-/// For each pin how many of its class stand before it.
+/// For each pin, the number of pins of its class before it.
 pub(crate) fn ranks_of(alloc: Global, pins: &[Pin]) -> Result<Vec<usize>, AllocError>
     ensures { IfOk result (λ ranks. ranks.items ≡ pin_ranks pins.now) }
 {
@@ -19,7 +19,7 @@ pub(crate) fn ranks_of(alloc: Global, pins: &[Pin]) -> Result<Vec<usize>, AllocE
     }
 }
 
-/// Adds the rank of each pin to none.
+/// Adds the rank of each pin to an empty list.
 fn add_ranks(ranks: &mut Vec<usize>, pins: &[Pin]) -> Result<(), AllocError>
     requires { ranks.old.items ≡ [] }
     ensures { IfOk result (λ _. ranks.new.items ≡ pin_ranks pins.now) }

@@ -1,4 +1,4 @@
-//! A packed circuit that many own.
+//! A packed circuit with many owners.
 ghost use Rattle.std.specs.Prelude.{◌≡◌, IfErr, IfOk};
 
 use crate::packed::Packed;
@@ -6,7 +6,7 @@ use std::alloc::{AllocError, AllocFailed, Global};
 use std::marker::Model;
 use std::sync::Arc;
 
-/// A packed circuit with many owners, which do not copy it. Its value is the packed circuit.
+/// A packed circuit with many owners, who share one copy. Its value is the packed circuit.
 #[derive(Drop)]
 pub struct SharedPacked {
     packed: Arc<Packed>,
@@ -22,7 +22,7 @@ impl Model for SharedPacked {
 }
 
 impl SharedPacked {
-    /// The packed circuit, to be shared. Without memory it comes back.
+    /// Makes the packed circuit shared. If memory runs out it is handed back.
     pub fn new(alloc: Global, packed: Packed) -> Result<Self, AllocFailed<Packed>>
         ensures ok { IfOk result (λ shared. shared ≡ packed) }
         ensures back { IfErr result (λ refused. refused.value ≡ packed) }
@@ -43,7 +43,7 @@ impl SharedPacked {
 impl Clone for SharedPacked {
     ghost is_clone = { λ shared copy. copy ≡ shared };
 
-    /// One more owner. Copies nothing, and is refused only where the owners can't be counted any more.
+    /// Adds an owner, without copying. Fails only if the number of owners overflows.
     fn clone(&self) -> Result<Self, AllocError> {
         Ok(SharedPacked {
             packed: self.packed.clone()?,

@@ -1,4 +1,4 @@
--- How many places of each column are owned, and what a write makes of that.
+-- How many places of each column are owned, and how a write changes that.
 use Rattle.std.proofs.Common.{◌≡◌, ◌≢◌, ℕ, zero, suc, ◌+◌, ◌-◌, ◌*◌, ◌<◌, ◌≤◌, List, [], ◌∷◌, length, get_or, take, drop, replicate, Bool, true, cond, Option, Some, None, refl, inl, inr, sym, ap, subst, ◌∙◌, arith, length-set, length-drop, get_or-set_same, get_or-set_other}
 use Rattle.std.specs.Prelude.{is_some}
 use Rattle.std.specs.List.{All, count_by}
@@ -17,7 +17,7 @@ use Rattle.device_book.specs.Columns.{IsWhole, column_size, owned_in}
 use Rattle.device_book.specs.Owners.{IsBook, IsExtent, in_book, number_of, size_of}
 use Rattle.device_book.proofs.Places.{digit_below, is_in, place_within, rank_below}
 
--- a part of a list, after a write before it, behind it and within it
+-- a part of a list, after a write before it, after it or within it
 take-set-lt : (n : ℕ) (xs : List (Option ℕ)) (i : ℕ) (y : Option ℕ) → i < n → take n (set xs i y) ≡ set (take n xs) i y
 take-set-lt zero xs i y lt = absurd (omega (arith, lt))
 take-set-lt (suc n) [] i y lt = refl
@@ -41,7 +41,7 @@ get_or-part m n i xs lt = get_or-take n (drop m xs) i None lt ∙ get_or-drop m 
 length-part : (m n : ℕ) (xs : List (Option ℕ)) → m + n ≤ length xs → length (take n (drop m xs)) ≡ n
 length-part m n xs le = length-take-le n (drop m xs) (let dropped = length-drop m xs in omega (arith, le, dropped))
 
--- what one owner counts
+-- what one owner adds to the count
 abbrev one : Option ℕ → ℕ
 one owner = cond (is_some owner) 1 0
 
@@ -64,7 +64,7 @@ count-part-set m n i xs y lt le =
     ∙ (ap (λ x. count_by is_some (set (take n (drop m xs)) i y) + one x) (sym (get_or-part m n i xs lt))
     ∙ sum_by-set one (take n (drop m xs)) i y None (omega (arith, lt, long)))
 
--- where a resource's place is in its column
+-- the index of a resource within its column
 abbrev rest_of : Extent → Resource → ℕ
 rest_of extent resource = (resource_rank resource.kind * (extent.rows + 2) + resource.y) * extent.numbers + resource.n
 
@@ -77,7 +77,7 @@ rest_below extent resource is =
     digit_below (resource_rank resource.kind * (extent.rows + 2) + resource.y) resource.n (5 * (extent.rows + 2)) extent.numbers
     (digit_below (resource_rank resource.kind) resource.y 5 (extent.rows + 2) (rank_below resource.kind) there.y) there.n
 
--- a column ends before the next begins, and the last with the book
+-- a column ends before the next begins, and the last one ends with the book
 next_column : (a b size : ℕ) → a < b → a * size + size ≤ b * size
 next_column a b size lt = let step : (a + 1) * size ≤ b * size = mul-le-mul_right size (omega (arith, lt)) in omega (arith, step)
 
@@ -120,7 +120,7 @@ owned_in-set_other extent owners resource value column is ne =
     ] in
     ap (count_by is_some) same
 
--- what a column counts, at most and at a place that is owned
+-- the count of a column, at most, and if one of its places is owned
 few_owned : (extent : Extent) (owners : List (Option ℕ)) (column : ℕ) → IsBook extent owners → column ≤ extent.columns → owned_in extent owners column ≤ 47850
 unfolding owned_in
 few_owned extent owners column book within =
@@ -171,7 +171,8 @@ counted-set extent owners used resource value count whole is e = record {
       | inr other ↦ get_or-set_other used resource.x column count 0 other ∙ (whole.counted.each column within ∙ sym (owned_in-set_other extent owners resource value column is other))
     ]
 
--- what is seen of a resource's place and of its column before a write there: the count, and what the new owner and the old one count
+-- a resource's place and its column before a write there: the count, and what the new owner and the
+-- old one add to it
 pub record Sees (extent : Extent) (owners : List (Option ℕ)) (used : List ℕ) (resource : Resource) (value : Option ℕ) (count is was : ℕ) : Type 0 where
   pub counted : count ≡ get_or used resource.x 0
   pub written : is ≡ one value
@@ -208,7 +209,7 @@ counted_anew extent owners used resource value count is was whole there seen =
     let stood = seen.stood in
     counted-set extent owners used resource value (count + is - was) whole there (omega (arith, fits, at, written, stood))
 
--- nobody owns a place of a column that counts none
+-- nobody owns a place of a column whose count is 0
 pub nobody_in : (extent : Extent) (owners : List (Option ℕ)) (column place : ℕ) → length owners ≡ size_of extent → column ≤ extent.columns → owned_in extent owners column ≡ 0 →
     column * column_size extent ≤ place → place < (column + 1) * column_size extent → get_or owners place None ≡ None
 nobody_in extent owners column place long within none ge lt =

@@ -1,4 +1,4 @@
--- The owners so far, as they are listed.
+-- The owners found so far, as they are listed.
 use Rattle.std.proofs.Common.{◌≡◌, ℕ, ◌+◌, ◌*◌, ◌<◌, ◌≤◌, List, [], ◌∷◌, ◌++◌, length, get_or, Bool, true, false, Option, Some, None, refl, sym, ap, subst, ◌∙◌, inl, inr, arith}
 use Rattle.std.specs.Prelude.{Contains, if◌then◌else◌}
 use Rattle.std.proofs.lemmas.Option.{none-some}
@@ -17,7 +17,7 @@ abbrev value : Option ℕ → ℕ
 value None = 0
 value (Some id) = id
 
--- what is owned is in the book, and its owner stands in its place
+-- what is owned is in the book, and its owner is in its place
 owned_there : (book : Owners) (resource : Resource) (id : ℕ) → owner_of book resource ≡ Some id →
     (in_book book.extent resource ≡ true) × (get_or book.owners (number_of book.extent resource) None ≡ Some id)
 owned_there book resource id e = by_test (in_book book.extent resource) refl e
@@ -31,7 +31,7 @@ owned_by : (book : Owners) (resource : Resource) (owner : Option ℕ) → in_boo
     owner_of book resource ≡ owner
 owned_by book resource owner there e = ap (λ b. if b then get_or book.owners (number_of book.extent resource) None else None) there ∙ e
 
--- an owner that is none of all
+-- an owner that equals no id is `None`
 pub no_owner : (owner : Option ℕ) → ((id : ℕ) → owner ≡ Some id → ⊥) → owner ≡ None
 no_owner None none = refl
 no_owner (Some id) none = absurd (none id refl)
@@ -39,7 +39,7 @@ no_owner (Some id) none = absurd (none id refl)
 pub lists_none : (book : Owners) → ListsPlaces book 0 []
 lists_none book = record { in_order = λ i j d lt few. absurd (omega (arith, few)); exact = λ owned. ((λ within. absurd (omega (arith, within.1))), (λ there. absurd (omega (arith, there.1)))) }
 
--- nobody owns the next places
+-- nobody owns the next places, so the list stays as it is
 lists_past : (book : Owners) (places more : ℕ) (list : List Owned) → places ≤ more → ((place : ℕ) → places ≤ place → place < more → get_or book.owners place None ≡ None) →
     ListsPlaces book places list → ListsPlaces book more list
 lists_past book places more list le free so_far = record {
@@ -57,13 +57,13 @@ pub lists_free : (book : Owners) (place : ℕ) (list : List Owned) → get_or bo
 lists_free book place list free = lists_past book place (place + 1) list (omega arith)
     (λ other ge lt. ap (λ k. get_or book.owners k None) (let here : other ≡ place = omega (arith, ge, lt) in here) ∙ free)
 
--- nobody owns a place of the next column
+-- nobody owns a place of the next column, so the list stays as it is
 pub lists_free_column : (book : Owners) (column : ℕ) (list : List Owned) → length book.owners ≡ size_of book.extent → column ≤ book.extent.columns → owned_in book.extent book.owners column ≡ 0 →
     ListsPlaces book (column * column_size book.extent) list → ListsPlaces book ((column + 1) * column_size book.extent) list
 lists_free_column book column list long within none = lists_past book (column * column_size book.extent) ((column + 1) * column_size book.extent) list (omega arith)
     (λ place ge lt. nobody_in book.extent book.owners column place long within none ge lt)
 
--- the next place is owned
+-- the next place is owned, so its owner is appended
 pub lists_owned : (book : Owners) (place : ℕ) (list : List Owned) (resource : Resource) (id : ℕ) → get_or book.owners place None ≡ Some id →
     in_book book.extent resource ≡ true → number_of book.extent resource ≡ place → ListsPlaces book place list → ListsPlaces book (place + 1) (list ++ record { resource = resource; id = id } ∷ [])
 lists_owned book place list resource id has there at' so_far = record {
@@ -92,7 +92,7 @@ lists_owned book place list resource id has there at' so_far = record {
       | inr other ↦ Contains-append_left list (record { resource = resource; id = id } ∷ []) owned ((so_far.exact owned).1 (is.0, omega (arith, is.1, other)))
     ]
 
--- all columns
+-- after all columns, the list is complete
 pub lists_all : (book : Owners) (list : List Owned) → ListsPlaces book ((book.extent.columns + 1) * column_size book.extent) list → ListsOwners book list
 lists_all book list all = record {
   in_order = all.in_order;

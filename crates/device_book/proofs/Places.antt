@@ -1,4 +1,4 @@
--- A resource's place is its own.
+-- Each resource has a place of its own.
 use Rattle.std.proofs.Common.{◌≡◌, ℕ, ◌+◌, ◌*◌, ◌/◌, ◌%◌, ◌<◌, ◌≤◌, List, [], ◌∷◌, length, get_or, map, take, ◌||◌, Bool, true, false, Option, None, refl, inl, inr, ◌⊎◌, sym, ap, ◌∙◌, arith, get_or-set_same, get_or-set_other}
 use Rattle.std.specs.Prelude.{if◌then◌else◌}
 use Rattle.std.proofs.Math.ListN.{set}
@@ -26,7 +26,7 @@ rank_below ChanX = omega arith
 rank_below ChanY = omega arith
 rank_below Pad = omega arith
 
--- where a resource of the book is
+-- the bounds of a resource of the book
 pub record IsIn (extent : Extent) (resource : Resource) : Type 0 where
   pub x : resource.x ≤ extent.columns
   pub y : resource.y < extent.rows + 2
@@ -35,7 +35,7 @@ pub record IsIn (extent : Extent) (resource : Resource) : Type 0 where
 pub is_in : (extent : Extent) (resource : Resource) → in_book extent resource ≡ true → IsIn extent resource
 is_in extent resource is = record { x = grind (arith, nat_tests); y = grind (arith, nat_tests); n = grind (arith, nat_tests) }
 
--- digits to two bases
+-- a two-digit number is below the product of its bases
 pub digit_below : (a b m n : ℕ) → a < m → b < n → a * n + b < m * n
 digit_below a b m n la lb = let above : a + 1 ≤ m = omega (arith, la) in
     let step : (a + 1) * n ≤ m * n = mul-le-mul_right n above in
@@ -56,7 +56,7 @@ place_within extent resource is =
     digit_below ((resource.x * 5 + resource_rank resource.kind) * (extent.rows + 2) + resource.y) resource.n ((extent.columns + 1) * 5 * (extent.rows + 2)) extent.numbers
     (digit_below (resource.x * 5 + resource_rank resource.kind) resource.y ((extent.columns + 1) * 5) (extent.rows + 2) column there.y) there.n
 
--- two that have the same place are the same
+-- two resources with one place are equal
 same_place : (extent : Extent) (a b : Resource) → in_book extent a ≡ true → in_book extent b ≡ true → number_of extent a ≡ number_of extent b → is_same a b ≡ true
 same_place extent a b in_a in_b e =
     let of_a = is_in extent a in_a in
@@ -71,7 +71,7 @@ same_place extent a b in_a in_b e =
     let rank : resource_rank a.kind ≡ resource_rank b.kind = omega (arith, column, x) in
     grind (arith, nat_tests)
 
--- what is the same is in the book, at the same place
+-- a resource equal to one of the book is in the book, at that one's place
 record IsSame (a b : Resource) : Type 0 where
   x : a.x ≡ b.x
   rank : resource_rank a.kind ≡ resource_rank b.kind
@@ -107,7 +107,7 @@ owner_of-set extent owners resource value other long is = by_device (in_book ext
         ap (λ k. get_or (set owners (number_of extent resource) value) k None) same ∙ get_or-set_same owners (number_of extent resource) value None lt
     by_device true e false f = get_or-set_other owners (number_of extent resource) (number_of extent other) value None (λ same. false≢true (sym f ∙ same_place extent other resource e is same))
 
--- one of them has the owner
+-- a write to one resource changes its owner and no other
 pub write_one : (extent : Extent) (owners : List (Option ℕ)) (resource : Resource) (value : Option ℕ) → length owners ≡ size_of extent → in_book extent resource ≡ true →
     AreOwned (record { extent = extent; owners = owners }) (resource ∷ []) value (record { extent = extent; owners = set owners (number_of extent resource) value })
 write_one extent owners resource value long there = (
@@ -117,7 +117,7 @@ write_one extent owners resource value long there = (
       ∙ ap (λ t. if t then value else owner_of (record { extent = extent; owners = owners }) other) (sym (or_false (is_same other resource))),
 )
 
--- one more of them has it
+-- after one more write, one more resource has the owner
 pub write_more : (old now next : Owners) (offset : ℕ) (resources : List Resource) (index : ℕ) (value : Option ℕ) (d : Resource) → index < length resources →
     AreOwned old (map (moved_resource offset) (take index resources)) value now → AreOwned now (moved_resource offset (get_or resources index d) ∷ []) value next →
     AreOwned old (map (moved_resource offset) (take (index + 1) resources)) value next
@@ -145,7 +145,7 @@ write_more old now next offset resources index value d lt owned more = (
     merged false true value rest = refl
     merged false false value rest = refl
 
--- kinds of one rank are one
+-- kinds of equal rank are equal
 same_kind : (a b : ResourceKind) → resource_rank a ≡ resource_rank b → a ≡ b
 same_kind Opin Opin e = refl
 same_kind Opin Ipin e = absurd (omega (arith, e))
@@ -176,7 +176,7 @@ same_kind Pad Pad e = refl
 abbrev pub make : ℕ → ResourceKind → ℕ → ℕ → Resource
 make x kind y n = record { x = x; kind = kind; y = y; n = n }
 
--- what is the same is one
+-- resources that compare equal are equal
 pub same_resource : (a b : Resource) → is_same a b ≡ true → a ≡ b
 same_resource a b is =
     let same = same_parts a b is in
@@ -186,7 +186,7 @@ same_resource a b is =
 pub one_resource : (extent : Extent) (a b : Resource) → in_book extent a ≡ true → in_book extent b ≡ true → number_of extent a ≡ number_of extent b → a ≡ b
 one_resource extent a b in_a in_b e = same_resource a b (same_place extent a b in_a in_b e)
 
--- of two numbers in digits the high digits decide, and then the low
+-- the high digits order two-digit numbers, and the low ones if the high are equal
 by_digits : (a b c d n : ℕ) → b < n → d < n → a * n + b < c * n + d → (a < c) ⊎ ((a ≡ c) × (b < d))
 by_digits a b c d n lb ld lt = elim (cases_lt a c) [
   | inl less ↦ inl less
@@ -223,7 +223,7 @@ earlier_place extent a b in_a in_b lt =
     by_parts : (a b : Resource) → a.x * 5 + resource_rank a.kind ≡ b.x * 5 + resource_rank b.kind → (a.y < b.y) ⊎ ((a.y ≡ b.y) × (a.n < b.n)) → IsEarlier a b
     by_parts a b same rest = inr (omega (arith, same, rank_below a.kind, rank_below b.kind), inr (omega (arith, same, rank_below a.kind, rank_below b.kind), rest))
 
--- the parts of a place
+-- a place is made up of its column, kind, row and number
 pub place_parts : (extent : Extent) (kind : ResourceKind) (place : ℕ) → place < size_of extent → resource_rank kind ≡ place / extent.numbers / (extent.rows + 2) % 5 →
     (in_book extent (make (place / extent.numbers / (extent.rows + 2) / 5) kind (place / extent.numbers % (extent.rows + 2)) (place % extent.numbers)) ≡ true)
     × (number_of extent (make (place / extent.numbers / (extent.rows + 2) / 5) kind (place / extent.numbers % (extent.rows + 2)) (place % extent.numbers)) ≡ place)

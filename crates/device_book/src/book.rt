@@ -10,18 +10,18 @@ use rr_graph::{Resource, ResourceKind};
 use std::alloc::{AllocError, Global};
 use std::marker::Model;
 
-/// How far a device's resources reach: their columns, their rows, and the numbers in each place.
+/// The limits of a device's resources: its columns, its rows, and the numbers at each place.
 #[derive(Clone, Copy, PartialEq, Eq)]
 pub struct Extent {
-    /// The device's columns. There is one more of wires, to the left of them.
+    /// The device's columns, without the one of wires to the left of them.
     pub columns: u32,
-    /// The device's rows. Pads stand below and above them.
+    /// The device's rows, without the pads below and above them.
     pub rows: u32,
-    /// More than any number of a pin, of a pad or of a track.
+    /// Greater than any number of a pin, a pad or a track.
     pub numbers: u32,
 }
 
-/// The owners of a device's resources. Its value has each resource's owner, or none.
+/// The owners of a device's resources. Its value has for each resource its owner, or `None`.
 #[derive(Drop)]
 pub struct Book {
     extent: Extent,
@@ -42,7 +42,8 @@ impl Model for Book {
 }
 
 impl Book {
-    /// The book of a device that nobody uses.
+    /// Returns the book of a device on which nobody owns anything. Fails with [`AllocError`] if
+    /// memory runs out.
     pub fn new(alloc: Global, arch: &Arch, columns: u32, rows: u32) -> Result<Self, AllocError>
         requires { KeepsLimits arch.now columns rows }
         ensures { IfOk result (λ book. book ≡ nobody (extent_of arch.now columns rows)) }
@@ -62,7 +63,7 @@ impl Book {
         })
     }
 
-    /// Who owns a resource. Nobody owns one that the device hasn't.
+    /// Returns the owner of a resource; `None` if nobody owns it or the device doesn't have it.
     pub fn owner(&self, resource: Resource) -> Option<u32>
         ensures { result ≡ owner_of self.now resource }
     {
@@ -72,7 +73,8 @@ impl Book {
         self.owners[number_of(self.extent, resource)].map(u32::from)
     }
 
-    /// Each resource that is owned, with its owner, in node order. It passes over the columns in which none is.
+    /// Lists each owned resource with its owner, in node order. It skips the columns in which
+    /// nothing is owned. Fails with [`AllocError`] if memory runs out.
     pub fn owned(&self, alloc: Global) -> Result<Vec<Owned>, AllocError>
         ensures { IfOk result (λ list. ListsOwners self.now list.items) }
     {
@@ -85,7 +87,8 @@ impl Book {
         Ok(list)
     }
 
-    /// Gives resources that nobody owns to a tenancy: those of its strip, so many columns to the right.
+    /// Gives resources of a tenancy's strip, moved `offset` columns to the right, to the tenancy.
+    /// Nobody may own them. Takes no memory.
     pub fn claim(&mut self, id: u16, offset: u32, resources: &[Resource])
         requires { CanClaim self.old offset resources.now }
         ensures { Claims self.old id (map (moved_resource offset) resources.now) self.new }
@@ -93,7 +96,8 @@ impl Book {
         self.write(Some(id), offset, resources);
     }
 
-    /// Takes resources from the tenancy that owns them: those of its strip, so many columns to the right.
+    /// Takes resources of a tenancy's strip, moved `offset` columns to the right, from their owner.
+    /// Takes no memory.
     pub fn release(&mut self, offset: u32, resources: &[Resource])
         requires there { StandIn self.old.extent offset resources.now }
         ensures { Releases self.old (map (moved_resource offset) resources.now) self.new }
@@ -101,7 +105,8 @@ impl Book {
         self.write(None, offset, resources);
     }
 
-    /// Moves what a tenancy owns from one offset of its strip to another: these resources of the strip. Old and new ones may overlap.
+    /// Moves what a tenancy owns, these resources of its strip, from one offset of the strip to
+    /// another. The old and the new resources may overlap. Takes no memory.
     pub fn shift(&mut self, id: u16, from: u32, to: u32, resources: &[Resource])
         requires { CanShift self.old id from to resources.now }
         ensures { Shifts self.old id (map (moved_resource from) resources.now)
@@ -111,7 +116,7 @@ impl Book {
         self.claim(id, to, resources);
     }
 
-    /// Gives the same owner, or none, to each of these, so many columns to the right.
+    /// Sets the owner, or `None`, of each of these resources, moved `offset` columns to the right.
     fn write(&mut self, owner: Option<u16>, offset: u32, resources: &[Resource])
         requires { StandIn self.old.extent offset resources.now }
         ensures { AreOwned self.old (map (moved_resource offset) resources.now) owner self.new }
@@ -121,7 +126,8 @@ impl Book {
         }
     }
 
-    /// Gives an owner, or none, to one resource, so many columns to the right, and counts its column anew.
+    /// Sets the owner, or `None`, of one resource, moved `offset` columns to the right, and updates
+    /// the count of its column.
     fn write_one(&mut self, owner: Option<u16>, offset: u32, resource: Resource)
         requires { in_book self.old.extent (moved_resource offset resource) ≡ true }
         ensures { AreOwned self.old (moved_resource offset resource ∷ []) owner self.new }
@@ -136,7 +142,7 @@ impl Book {
         self.used[column] = self.used[column] + is_owned - was_owned;
     }
 
-    /// Lists what is owned in a column, behind what is owned in those before it.
+    /// Appends what is owned in a column to the list of what is owned in the columns before it.
     fn list_column(&self, column: usize, list: &mut Vec<Owned>) -> Result<(), AllocError>
         requires within { column ≤ self.now.extent.columns }
         requires before { ListsBefore self.now column list.old.items }
@@ -161,7 +167,7 @@ pub struct Owned {
     pub id: u32,
 }
 
-/// More than any number of a pin, of a pad or of a track.
+/// A number greater than any number of a pin, a pad or a track.
 #[tactic(auto, using(arch_file::proofs::FewPins::few_pins))]
 fn numbers(arch: &Arch) -> u32
     requires { IsArch arch.now }
@@ -172,7 +178,7 @@ fn numbers(arch: &Arch) -> u32
     pins.max(arch.tracks).max(arch.io_rat)
 }
 
-/// How many places there are.
+/// The number of places.
 fn size(extent: Extent) -> usize
     requires { IsExtent extent }
     ensures { result ≡ size_of extent }
@@ -180,7 +186,7 @@ fn size(extent: Extent) -> usize
     (extent.columns as usize + 1) * 5 * (extent.rows as usize + 2) * extent.numbers as usize
 }
 
-/// Whether there is a place for the resource.
+/// Returns whether there is a place for the resource.
 fn in_book(extent: Extent, resource: Resource) -> bool
     requires { IsExtent extent }
     ensures { result ≡ in_book extent resource }
@@ -199,7 +205,7 @@ fn number_of(extent: Extent, resource: Resource) -> usize
     row * extent.numbers as usize + resource.n as usize
 }
 
-/// The place of a kind in node order.
+/// The rank of a kind in node order.
 fn rank(kind: ResourceKind) -> usize
     ensures { result ≡ resource_rank kind }
 {
@@ -212,7 +218,7 @@ fn rank(kind: ResourceKind) -> usize
     }
 }
 
-/// How many places a column has.
+/// The number of places in a column.
 fn column_size(extent: Extent) -> usize
     requires { IsExtent extent }
     ensures { result ≡ column_size extent }
@@ -220,7 +226,7 @@ fn column_size(extent: Extent) -> usize
     5 * (extent.rows as usize + 2) * extent.numbers as usize
 }
 
-/// The resource of a place.
+/// The resource at a place.
 fn resource_at(extent: Extent, place: usize) -> Resource
     requires { IsPlace extent place }
     ensures there { in_book extent result ≡ true }
@@ -237,7 +243,7 @@ fn resource_at(extent: Extent, place: usize) -> Resource
     Resource { x, kind, y, n }
 }
 
-/// The kind of that place in node order.
+/// The kind of that rank in node order.
 fn kind_of(rank: usize) -> ResourceKind
     requires { rank < 5 }
     ensures { resource_rank result ≡ rank }

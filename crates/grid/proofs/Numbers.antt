@@ -1,4 +1,4 @@
--- The number of each place, and that no two are the same.
+-- The number of each place, and that no two places are equal.
 use Rattle.std.proofs.Common.{◌≡◌, ◌≢◌, ℕ, ◌+◌, ◌-◌, ◌*◌, ◌/◌, ◌%◌, ◌<◌, ◌≤◌, ◌==◌, ◌⊎◌, Bool, true, false, All, Some, length, get_or, slice_get, inl, inr, refl, sym, ap, ◌∙◌, subst, arith, nat_lt}
 use Rattle.std.specs.Prelude.{if◌then◌else◌, AllPairs, Contains}
 use Rattle.std.proofs.lemmas.Bool.{ltb-true, ltb-false}
@@ -16,7 +16,7 @@ use Rattle.grid.specs.PlaceLaws.{IsInRow, IsPlaceIn}
 use Rattle.grid.specs.Numbers.{number_in_column, number_of}
 use Rattle.grid.proofs.Columns.{length-places_of, place-at}
 
--- a column has places, and few
+-- a column has at least one place, and their number is small
 some_in_column : (strip : Strip) (kind : Kind) → IsStripSize strip → 0 < column_len strip kind
 some_in_column strip Logic lawful = omega (arith, lawful.rows.0)
 some_in_column strip Pad lawful = omega (arith, lawful.io_rat.0)
@@ -33,7 +33,7 @@ pub few_places : (strip : Strip) (kind : Kind) → IsStripSize strip → length 
 few_places strip Logic lawful = few_logic strip lawful
 few_places strip Pad lawful = omega (arith, few_pads strip lawful)
 
--- the place of a column is in its row
+-- the places of a column are in rows for their kind
 in_row : (strip : Strip) (kind : Kind) (x number : ℕ) → number < column_len strip kind → IsInRow strip kind (place_in strip kind x number)
 in_row strip Logic x number small = ((omega arith, omega (arith, small)), refl)
 in_row strip Pad x number small = by (nat_lt number strip.io_rat) refl
@@ -42,7 +42,7 @@ in_row strip Pad x number small = by (nat_lt number strip.io_rat) refl
     by true is = (inl refl, ltb-true number strip.io_rat is)
     by false is = (inr refl, (let high = ltb-false number strip.io_rat is in omega (arith, high, small)))
 
--- and its number is found
+-- the number of a place in its column is computed correctly
 numbered_in : (strip : Strip) (kind : Kind) (x number : ℕ) → number < column_len strip kind → number_in_column strip kind (place_in strip kind x number) ≡ number
 numbered_in strip Logic x number small = omega arith
 numbered_in strip Pad x number small = by (nat_lt number strip.io_rat) refl
@@ -63,7 +63,7 @@ column_of_place strip Pad x number = by (nat_lt number strip.io_rat)
     by true = refl
     by false = refl
 
--- the place of that number
+-- the place with this number
 record IsNumbered (strip : Strip) (kind : Kind) (number : ℕ) (place : Place) : Type 0 where
   is_in : IsPlaceIn strip kind place
   back : number_of strip kind place ≡ number
@@ -87,7 +87,7 @@ numbered strip kind number d lawful small =
 pub all_within : (strip : Strip) (kind : Kind) → IsStripSize strip → All (IsPlaceIn strip kind) (places_of strip kind)
 all_within strip kind lawful = λ number d small. (numbered strip kind number d lawful small).is_in
 
--- the number of a place of the list is where it stands
+-- the number of a place is its index in the list
 pub number_found : (strip : Strip) (kind : Kind) (place : Place) → IsStripSize strip → Contains (places_of strip kind) place → (number_of strip kind place < length (places_of strip kind)) × (slice_get (places_of strip kind) (number_of strip kind place) ≡ Some place) × IsPlaceIn strip kind place
 number_found strip kind place lawful found =
     let number = found.0 in
@@ -103,7 +103,7 @@ all_apart strip kind lawful i j d before small same =
     let numbers = ap (number_of strip kind) same in
     omega (arith, first, second, numbers, before)
 
--- a logic block's row is no pad's
+-- a row of a logic block is not a row of pads
 pub kinds_apart : (strip : Strip) (place : Place) → IsStripSize strip → Contains (places_of strip Logic) place → Contains (places_of strip Pad) place → ⊥
 kinds_apart strip place lawful logic pad =
     let row = (number_found strip Logic place lawful logic).2.row in
@@ -113,7 +113,7 @@ kinds_apart strip place lawful logic pad =
     by (inl low) above below = omega (arith, low, above)
     by (inr high) above below = omega (arith, high, below)
 
--- the same by the numbers that are found
+-- the number of a place, with the lengths that the code computed
 pub number_by : (strip : Strip) (kind : Kind) (place : Place) (len within : ℕ) → IsStripSize strip → Contains (places_of strip kind) place → len ≡ column_len strip kind → within ≡ number_in_column strip kind place → slice_get (places_of strip kind) ((place.x - 1) * len + within) ≡ Some place
 number_by strip kind place len within lawful found len_is within_is =
     ap (λ (n : ℕ). slice_get (places_of strip kind) ((place.x - 1) * n + within)) len_is

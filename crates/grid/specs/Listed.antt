@@ -1,4 +1,4 @@
--- What `Places` shows.
+-- The places that `Places` lists.
 use Rattle.std.specs.Prelude.{List}
 use Rattle.grid.specs.declared.place.Place.{Place}
 use Rattle.grid.specs.declared.place.Places.{Places}

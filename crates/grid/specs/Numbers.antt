@@ -1,4 +1,4 @@
--- Private: the number of a place, by arithmetic.
+-- Private: the number of a place, computed by arithmetic.
 use Rattle.std.specs.Prelude.{ℕ, ◌+◌, ◌-◌, ◌*◌, ◌==◌, if◌then◌else◌}
 use Rattle.grid.specs.declared.Strip.{Strip}
 use Rattle.grid.specs.declared.place.Kind.{Kind}

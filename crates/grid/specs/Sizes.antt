@@ -1,8 +1,8 @@
--- How large a strip may be.
+-- The limits of a strip's size.
 use Rattle.arch_file.specs.Arch.{IsWithin}
 use Rattle.grid.specs.declared.Strip.{Strip}
 
--- the strip keeps the limits
+-- the strip is within its limits
 pub record IsStripSize (strip : Strip) : Type 0 where
   pub width : IsWithin 1 strip.width 256
   pub rows : IsWithin 1 strip.rows 64

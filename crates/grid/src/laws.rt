@@ -1,4 +1,4 @@
-//! What placing and routing may take for granted of a strip's places.
+//! What placing and routing may assume of a strip's places.
 ghost use Rattle.std.specs.Prelude.{◌≢◌, ◌≤◌, All, AllPairs, Contains, length};
 ghost use Rattle.grid.specs.declared.Strip.{Strip};
 ghost use Rattle.grid.specs.declared.place.Kind.{Kind};
@@ -13,12 +13,12 @@ pub fn laws_of_places()
     // Each is in the strip, in a row for its kind.
     ensures within { (strip : Strip) (kind : Kind) → IsStripSize strip →
         All (IsPlaceIn strip kind) (places_of strip kind) }
-    // No two places of a kind are the same, nor one of each kind.
+    // No two places of one kind are equal, and no place is of both kinds.
     ensures apart { (strip : Strip) (kind : Kind) → IsStripSize strip →
         AllPairs (λ place other. place ≢ other) (places_of strip kind) }
     ensures kinds_apart { (strip : Strip) (place : Place) → IsStripSize strip →
         Contains (places_of strip Logic) place → Contains (places_of strip Pad) place → ⊥ }
-    // There are few.
+    // There are at most 16,384 places for logic blocks and 4,096 for pads.
     ensures few_logic { (strip : Strip) → IsStripSize strip →
         length (places_of strip Logic) ≤ 16384 }
     ensures few_pads { (strip : Strip) → IsStripSize strip → length (places_of strip Pad) ≤ 4096 }

@@ -1,8 +1,9 @@
 //! The places of a strip.
 //!
-//! A strip has columns 1 to `width` of logic blocks in rows 1 to `rows`, and at both ends of each column, in row 0 and in
-//! row `rows + 1`, `io_rat` pads. [`Strip::places`] gives the places of a kind in their order, by arithmetic and without memory:
-//! by column, then row, and pads then by number. [`laws_of_places`] says what placing and routing may take for granted of them.
+//! A strip has columns 1 to `width` of logic blocks in rows 1 to `rows`. At both ends of each
+//! column, in row 0 and in row `rows + 1`, it has `io_rat` pads. [`Strip::places`] returns the
+//! places of one kind in order, by arithmetic and without memory: by column, then row, then the
+//! pad's number. [`laws_of_places`] states what placing and routing may assume of them.
 #![tactic(auto)]
 
 mod laws;
@@ -12,7 +13,7 @@ mod places;
 pub use laws::laws_of_places;
 pub use place::{Kind, Place, Places};
 
-/// The size of a strip: what a tenancy has of the device, wherever it stands.
+/// The size of a strip: the part of the device that a tenancy has, whatever its offset.
 #[derive(Clone, Copy, PartialEq, Eq)]
 pub struct Strip {
     /// Columns of logic blocks, 1 to 256.

@@ -1,4 +1,4 @@
-//! A place, what it is for, and all places for it.
+//! A place, its kind, and all places of one kind.
 ghost use Rattle.grid.specs.Sizes.{IsStripSize};
 
 use crate::Strip;
@@ -8,7 +8,7 @@ use crate::Strip;
 pub enum Kind {
     /// A logic block.
     Logic,
-    /// A pad, by which a net comes in or goes out.
+    /// A pad, for an input or an output.
     Pad,
 }
 
@@ -17,13 +17,13 @@ pub enum Kind {
 pub struct Place {
     /// The column, from 1.
     pub x: u32,
-    /// The row: from 1 where it is for a logic block, else 0 or the row above the last.
+    /// The row: from 1 for a logic block; 0 or the row above the last for a pad.
     pub y: u32,
-    /// The number of the pad among those of its end of the column, from 0; 0 where it is for a logic block.
+    /// The number of the pad among those at its end of the column, from 0; 0 for a logic block.
     pub subblock: u32,
 }
 
-/// The places of a strip that are for one kind, in order.
+/// The places of a strip that are of one kind, in order.
 #[derive(Clone, Copy)]
 pub struct Places {
     pub(crate) strip: Strip,

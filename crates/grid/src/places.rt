@@ -1,4 +1,4 @@
-//! Places in order.
+//! Lists places in order.
 ghost use Rattle.std.specs.Prelude.{◌≡◌, ◌<◌, ◌≤◌, Contains, length, slice_get, Some};
 ghost use Rattle.grid.specs.Sizes.{IsStripSize};
 ghost use Rattle.grid.specs.Places.{column_len, place_in, places_of};
@@ -10,7 +10,7 @@ use crate::Strip;
 use crate::place::{Kind, Place, Places};
 
 impl Strip {
-    /// The places for a kind, by column, then row, then number. Takes no memory.
+    /// The places of this kind, by column, then row, then number. Takes no memory.
     pub fn places(self, kind: Kind) -> Places
         requires { IsStripSize self }
         ensures { listed result ≡ places_of self kind }
@@ -20,14 +20,14 @@ impl Strip {
 }
 
 impl Places {
-    /// How many places there are.
+    /// The number of places.
     pub fn len(self) -> usize
         ensures { result ≡ length (listed self) }
     {
         self.strip.width as usize * self.column_len() as usize
     }
 
-    /// The place of that number, from 0.
+    /// The place with this number, from 0.
     pub fn place(self, number: usize) -> Place
         requires { number < length (listed self) }
         ensures { slice_get (listed self) number ≡ Some result }
@@ -39,7 +39,7 @@ impl Places {
         )
     }
 
-    /// The number of a place, by arithmetic.
+    /// The number of a place, computed by arithmetic.
     pub fn number_of(self, place: Place) -> usize
         requires { Contains (listed self) place }
         ensures { slice_get (listed self) result ≡ Some place }
@@ -47,7 +47,7 @@ impl Places {
         (place.x as usize - 1) * self.column_len() as usize + self.number_in_column(place) as usize
     }
 
-    /// How many places each column has.
+    /// The number of places of each column.
     fn column_len(self) -> u32
         ensures count { result ≡ column_len self.strip self.kind }
         ensures some { 0 < result }
@@ -59,7 +59,7 @@ impl Places {
         }
     }
 
-    /// The place of that number in a column.
+    /// The place with this number in a column.
     fn place_in(self, x: u32, number: u32) -> Place
         requires { number < column_len self.strip self.kind }
         ensures { result ≡ place_in self.strip self.kind x number }

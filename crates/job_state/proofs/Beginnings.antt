@@ -1,4 +1,4 @@
--- What jobs begin with.
+-- What jobs start from.
 use Rattle.std.proofs.Common.{ℕ, ◌≡◌, ◌+◌, ◌<◌, ◌≤◌, Bool, true, false, List, Result, Ok, Err, IfOk, nat_lt, if◌then◌else◌, arith, refl, sym, ap, ◌∙◌, lt-ltb, le-ltb}
 use Rattle.arch_file.specs.declared.arch.Arch.{Arch}
 use Rattle.blif.specs.declared.circuit.Circuit.{Circuit}
@@ -40,7 +40,7 @@ begun_value sources (Ok circuit) steps packed kind is =
     ap as_value (begun_work sources.kind sources circuit kind ∙ ap (λ other. Placing (begun sources other)) (sym same))
 begun_value sources (Err fault) steps packed kind is = absurd (cc)
 
--- a placing begins with what a packing has made
+-- a placing starts from what a packing has made
 pub placing_begins : (sources : Sources) (steps : ℕ) (packed : PackedCircuit) → sources.kind ≡ PlacingJob → job_value (packing_sources sources.arch sources.strip sources.text) steps ≡ Ok (Packed packed) →
     job_value sources 0 ≡ Ok (Placing (begun sources packed))
 placing_begins sources steps packed kind is = begun_value sources (circuit_in sources) steps packed kind is
@@ -49,7 +49,7 @@ past_value : (sources : Sources) (circuit : Result Circuit BlifFault) (steps : �
 past_value sources (Ok circuit) steps kind past = placing_whole sources circuit sources.kind steps kind ∙ past
 past_value sources (Err fault) steps kind past = refl
 
--- a placing is over after at most one pass more than a strip has columns and rows
+-- a placing is over after at most `columns + rows + 1` passes
 pub over_past_last : (sources : Sources) (steps : ℕ) → sources.kind ≡ PlacingJob → ((strip : Strip) (passes : ℕ) → is_past_last strip passes ≡ false → passes ≤ strip.width + strip.rows) →
     sources.strip.width + sources.strip.rows < steps → is_last sources steps ≡ true
 over_past_last sources steps kind law more =
@@ -79,7 +79,7 @@ pads_are sources circuit placed from = ap (λ (other : PlacingUnderWay). pads_of
 abbrev goes_from : Basis → List Resource → RoutingState → Work
 goes_from basis pads state = Routing (record { basis = basis; pads = pads; state = state })
 
--- before the first iteration it goes on
+-- it goes on before the first iteration
 goes_first : (basis : Basis) (pads : List Resource) (packed : PackedCircuit) (places : List Place) → goes_from basis pads (begun_state basis packed places) ≡ routing_after basis pads (nets_to_route basis packed places) 0
 unfolding routed_after
 goes_first basis pads packed places = refl
@@ -103,7 +103,7 @@ unfolding packed_of
 placed_on sources (Ok circuit) steps placed is from = (ap (λ (other : PlacingUnderWay). other.packed.arch) from, ap (λ (other : PlacingUnderWay). other.strip) from)
 placed_on sources (Err fault) steps placed is from = absurd (cc)
 
--- a whole placing is of its architecture and strip
+-- a whole placing is for its sources' architecture and strip
 pub placed_basis : (sources : Sources) (placed : PlacingUnderWay) → end_value sources ≡ Ok (Placed placed) → IfOk (circuit_in sources) (λ circuit. placed ≡ placing_at sources circuit (pass_count sources.strip)) →
     (placed.packed.arch ≡ sources.arch) × (placed.strip ≡ sources.strip)
 placed_basis sources placed is from = placed_on sources (circuit_in sources) (step_count sources) placed is from
@@ -111,7 +111,7 @@ placed_basis sources placed is from = placed_on sources (circuit_in sources) (st
 abbrev basis_on : Arch → Strip → Basis
 basis_on arch strip = record { arch = arch; strip = strip }
 
--- a routing begins with the nets between the places of a whole placing
+-- a routing starts with the nets between the places of a whole placing
 pub routing_begins : (sources : Sources) (placed : PlacingUnderWay) (graph : Basis) (pads : List Resource) (places : List Place) → sources.kind ≡ RoutingJob →
     end_value (placing_sources sources.arch sources.strip sources.text sources.kept sources.seed sources.effort) ≡ Ok (Placed placed) →
     IfOk (circuit_in sources) (λ circuit. placed ≡ placing_at sources circuit (pass_count sources.strip)) →

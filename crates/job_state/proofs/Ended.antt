@@ -49,7 +49,7 @@ value_kind sources (Err fault) steps work is = absurd (cc)
 pub kind_made : (sources : Sources) (steps : ℕ) (work : Work) → job_value sources steps ≡ Ok work → kind_of work ≡ sources.kind
 kind_made sources steps work is = value_kind sources (circuit_in sources) steps work is
 
--- what it has made when it is over is what it makes
+-- what a job has made when it is over is its end value
 pub made_at_end : (sources : Sources) (steps : ℕ) (work : Work) → HasFewSteps sources → IsNotOverBefore sources steps → is_last sources steps ≡ true → job_value sources steps ≡ Ok work → end_value sources ≡ Ok work
 made_at_end sources steps work few before at is = ap (λ count. job_value sources count) (step_count_is sources steps few before at) ∙ is
 
@@ -82,7 +82,7 @@ placed_either placing placed true is = cc
 placed_either placing placed false is = absurd (cc)
 
 module _ (sources : Sources) (circuit : Circuit) where
-  -- a placing is whole after as many steps as passes are enough
+  -- a placing is whole once it has made its number of passes
   pub placing_whole : (kind : JobKind) (steps : ℕ) → kind ≡ PlacingJob → is_whole (work_of kind sources circuit steps) ≡ is_past_last sources.strip steps
   placing_whole PackingJob steps k = absurd (cc)
   placing_whole PlacingJob steps k = whole_either (placing_at sources circuit steps) (is_past_last sources.strip steps)

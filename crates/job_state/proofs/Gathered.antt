@@ -1,4 +1,4 @@
--- What lists of lists gather, one more at a time.
+-- Lists gathered from lists of lists, one more at a time.
 use Rattle.std.proofs.Common.{ℕ, ◌≡◌, ◌+◌, ◌<◌, List, [], ◌∷◌, ◌++◌, length, map, take, get_or, arith, sym, ap, ◌∙◌}
 use Rattle.std.specs.List.{flat_map, range_with_len}
 use native.Mathlib.Numerals.{unary_clauses}

@@ -1,4 +1,4 @@
--- What a routing holds at its end.
+-- What a routing occupies at its end.
 use Rattle.std.proofs.Common.{◌≡◌, [], Ok, refl, ap, ◌∙◌}
 use Rattle.job_state.specs.declared.sources.Sources.{Sources}
 use Rattle.job_state.specs.declared.work.Work.{Work}
@@ -7,12 +7,12 @@ use Rattle.job_state.specs.JobValue.{end_value}
 use Rattle.job_state.specs.RoutedCircuits.{RoutedCircuit, held_by}
 use Rattle.job_state.specs.RoutedSet.{held_at_end, resources_of}
 
--- with routes
+-- if it has routes
 pub held_is : (sources : Sources) (routed : RoutedCircuit) → end_value sources ≡ Ok (Routed routed) → resources_of sources ≡ held_by routed
 unfolding resources_of
 held_is sources routed is = ap held_at_end is
 
--- and without
+-- and if it has none
 no_routes : (work : Work) → ((routed : RoutedCircuit) → work ≡ Routed routed → ⊥) → held_at_end (Ok work) ≡ []
 no_routes (Packing packing) other = refl
 no_routes (Packed packed) other = refl

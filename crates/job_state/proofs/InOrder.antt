@@ -45,7 +45,7 @@ make x kind y n = record { x = x; kind = kind; y = y; n = n }
 of_parts : (a b : Resource) → a.x ≡ b.x → resource_rank a.kind ≡ resource_rank b.kind → a.y ≡ b.y → a.n ≡ b.n → a ≡ b
 of_parts a b x kind y n = ap (λ t. make t a.kind a.y a.n) x ∙ (ap (λ t. make b.x t a.y a.n) (same_kind a.kind b.kind kind) ∙ (ap (λ t. make b.x b.kind t a.n) y ∙ ap (λ t. make b.x b.kind b.y t) n))
 
--- what is the same is equal, and the other way round
+-- `is_same` is equality
 pub same_is : (a b : Resource) → is_same a b ≡ true → a ≡ b
 same_is a b is = of_parts a b (grind (arith, nat_tests)) (grind (arith, nat_tests)) (grind (arith, nat_tests)) (grind (arith, nat_tests))
 
@@ -55,7 +55,7 @@ is_itself a = grind (arith, nat_tests)
 pub earlier_trans : (a b c : Resource) → IsEarlier a b → IsEarlier b c → IsEarlier a c
 earlier_trans a b c p q = grind (arith, p, q)
 
--- of two that neither stands before the other
+-- of two resources, neither of which is before the other: they are equal
 pub neither : (a b : Resource) → (IsEarlier a b → ⊥) → (IsEarlier b a → ⊥) → a ≡ b
 neither a b p q =
     let x : a.x ≡ b.x = elim (cases_lt a.x b.x) [ inl l ↦ absurd (p (inl l)) | inr g ↦ elim (cases_lt b.x a.x) [ inl l ↦ absurd (q (inl l)) | inr h ↦ omega (arith, g, h) ] ] in
@@ -66,7 +66,7 @@ neither a b p q =
     elim (cases_lt a.n b.n) [ inl l ↦ absurd (p (inr (x, inr (kind, inr (y, l))))) | inr g ↦ elim (cases_lt b.n a.n) [ inl l ↦ absurd (q (inr (sym x, inr (sym kind, inr (sym y, l))))) | inr h ↦ omega (arith, g, h) ] ] in
     of_parts a b x kind y n
 
--- what was listed of the resources so far
+-- the part of the resources that is listed so far
 pub record ListsBelow (sorted : List Resource) (index : ℕ) (list : List Resource) : Type 0 where
   pub in_order : AllPairs IsEarlier list
   pub exact : (resource : Resource) → has list resource ≡ has (take index sorted) resource
@@ -82,7 +82,7 @@ lists_all sorted list below =
     let all : take (length sorted) sorted ≡ sorted = take_all (length sorted) sorted (omega arith) in
     record { in_order = below.in_order; exact = λ resource. below.exact resource ∙ ap (λ t. has t resource) all }
 
--- all of a list in order stand before what stands behind its last
+-- all of a list in order are before whatever is after its last
 before_next : (list : List Resource) (next : Resource) → AllPairs IsEarlier list → ((d : Resource) → 0 < length list → IsEarlier (get_or list (length list - 1) d) next) → (k : ℕ) (d : Resource) → k < length list → IsEarlier (get_or list k d) next
 before_next list next pairs last k d less =
     elim (cases_eq k (length list - 1)) [
@@ -95,13 +95,13 @@ or_none true c = refl
 or_none false true = refl
 or_none false false = refl
 
--- one more is listed, and is one more of the resources
+-- one more resource is listed, and one more is passed
 has_more : (sorted list : List Resource) (index : ℕ) (d resource : Resource) → index < length sorted → has list resource ≡ has (take index sorted) resource → has (list ++ get_or sorted index d ∷ []) resource ≡ has (take (index + 1) sorted) resource
 has_more sorted list index d resource less e =
     let pushed : has (list ++ get_or sorted index d ∷ []) resource ≡ (has list resource || (is_same resource (get_or sorted index d) || false)) = list_any-append (is_same resource) list (get_or sorted index d ∷ []) in
     pushed ∙ (or_none (has list resource) (is_same resource (get_or sorted index d)) ∙ (ap (λ t. t || is_same resource (get_or sorted index d)) e ∙ sym (list_any_more (is_same resource) sorted index d less)))
 
--- the next one is listed where it is the first, or stands behind the last
+-- the next one is listed if it is the first, or if it is after the last
 pub lists_more : (sorted list : List Resource) (index : ℕ) (d : Resource) → ListsBelow sorted index list → index < length sorted →
     (0 < index → IsEarlier (get_or sorted (index - 1) d) (get_or sorted index d)) → ListsBelow sorted (index + 1) (list ++ get_or sorted index d ∷ [])
 lists_more sorted list index d below less behind =
@@ -117,13 +117,13 @@ lists_more sorted list index d below less behind =
       last = λ e positive. get_or_push list next e (length (list ++ next ∷ []) - 1) (omega (arith, length_push list next)) ∙ (get_or_default sorted index d e less ∙ ap (λ k. get_or sorted k e) (omega arith));
     }
 
--- what is there already isn't new
+-- `or` with something already true changes nothing
 or_there : (b c : Bool) → (c ≡ true → b ≡ true) → (b || c) ≡ b
 or_there true c there = refl
 or_there false true there = sym (there refl)
 or_there false false there = refl
 
--- and left out where it is the last again
+-- and it is left out if it equals the last one listed
 pub lists_same : (sorted list : List Resource) (index : ℕ) (d : Resource) → IsInOrder sorted → ListsBelow sorted index list → index < length sorted → 0 < index →
     (IsEarlier (get_or sorted (index - 1) d) (get_or sorted index d) → ⊥) → ListsBelow sorted (index + 1) list
 lists_same sorted list index d up below less positive behind =

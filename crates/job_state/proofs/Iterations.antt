@@ -1,11 +1,11 @@
--- How a routing stands after so many iterations.
+-- The state of a routing after a number of iterations.
 use Rattle.std.proofs.Common.{ℕ, zero, suc, ◌≡◌, ◌+◌, ◌<◌, ◌==◌, true, false, List, [], ◌∷◌, ◌++◌, length, drop, Some, None, Result, Ok, Err, if◌then◌else◌, arith, refl, subst, eq-eqb, length-append}
 use Rattle.std.proofs.lemmas.List.{length-map}
 use Rattle.std.specs.Option.{option_map_or}
 use Rattle.pathfinder.specs.Negotiation.{Tree, Routed, Standing, More, Done, GaveUp, NoPath, grown, is_fair, iterated, judged, rerouted, risen, routed_after}
 use Rattle.pathfinder.specs.Wiring.{Wiring, Net}
 
--- as many trees as nets, or one of the nets
+-- one tree for each net, or the number of one of the nets
 abbrev AreOf : ℕ → Result (List Tree) ℕ → Type 0
 AreOf many (Ok trees) = length trees ≡ many
 AreOf many (Err net) = net < many
@@ -19,7 +19,7 @@ module _ (w : Wiring) (iterations : ℕ) (history : List ℕ) where
         | Some tree ↦ all_rerouted nets (new ++ tree ∷ []) (drop 1 old) many (omega (arith, e, length-append new (tree ∷ [])))
       ]
 
--- the trees are as many as the nets, and a net without a path is one of them
+-- there is one tree for each net, and a net without a path is one of the nets
 pub record IsOfNets (many : ℕ) (routed : Routed) : Type 0 where
   pub long : length routed.trees ≡ many
   pub named : (net : ℕ) → routed.standing ≡ NoPath net → net < many
@@ -38,7 +38,7 @@ iterated_is w nets iterations routed Done e is = is
 iterated_is w nets iterations routed GaveUp e is = is
 iterated_is w nets iterations routed (NoPath net) e is = is
 
--- so it is after any number of iterations
+-- this holds after any number of iterations
 pub of_nets : (w : Wiring) (nets : List Net) (iterations : ℕ) → IsOfNets (length nets) (routed_after w nets iterations)
 unfolding routed_after
 of_nets w nets zero = record { long = length-map nets _; named = λ net e. absurd (cc) }

@@ -19,7 +19,7 @@ use Rattle.job_state.proofs.StepCounts.{few_made}
 one_more : (number : ℕ) → 1 ≤ number → number - 1 + 1 ≡ number
 one_more number from_one = omega (arith, from_one)
 
--- not before that step, and not with the one before it
+-- a job that wasn't over before a step, nor with the one before it, isn't over before the next
 pub not_before : (sources : Sources) (number : ℕ) → 1 ≤ number → IsNotOverBefore sources (number - 1) → is_last sources (number - 1) ≡ false → IsNotOverBefore sources number
 not_before sources number from_one before at fewer less =
     elim (eqb fewer (number - 1)) as (λ same. eqb fewer (number - 1) ≡ same → is_last sources fewer ≡ false) [
@@ -40,19 +40,19 @@ stepped step work new holds going is =
       going = not_before step.sources step.number holds.from_one holds.going going;
     }
 
--- what a step without memory leaves
+-- the state that a step leaves if memory runs out
 pub left : (step : JobStep) (work new : Work) (steps : ℕ) → (steps ≡ step.number → ⊥) → HasMade step work steps → is_last step.sources steps ≡ false → IsLeft work new → HasMade step new steps
 left step work new steps apart holds going is = record { value = stands_left step.sources steps work new holds.value going is; exact = λ same. absurd (apart same); from_one = holds.from_one; few = holds.few; going = holds.going }
 
--- the steps made are few
+-- at most 8,192 steps are made
 pub few_steps_made : (step : JobStep) (work : Work) (steps : ℕ) → HasMade step work steps → steps ≤ 8192
 few_steps_made step work steps holds = few_made step.sources steps holds.few.0 holds.going holds.few.2 holds.few.1
 
--- what is made where the job is over
+-- what is made when the job is over
 pub made_last : (step : JobStep) (work : Work) (steps : ℕ) → HasMade step work steps → is_last step.sources steps ≡ true → end_value step.sources ≡ Ok work
 made_last step work steps holds at = made_at_end step.sources steps work holds.few holds.going at (stands_over step.sources steps work holds.value at)
 
--- the same as its holder sees it, where its last step was put
+-- the state of a job as its holder sees it, after its last step was put
 pub kept_over : (job : JobState) (step : JobStep) (work : Work) (made : Bool) → record { step = step; made = made } ≡ job → HasMade step work (steps_made step made) → job.made ≡ false → HasMade job.step work (job.step.number - 1)
 kept_over job step work made view holds put =
     let seen = subst (λ (other : JobState). HasMade other.step work (steps_made other.step other.made)) view holds in

@@ -1,4 +1,4 @@
--- A job's value after one step more.
+-- A job's value after one more step.
 use Rattle.std.proofs.Common.{ℕ, ◌+◌, ◌≡◌, Bool, true, false, List, Result, Ok, Err, if◌then◌else◌, nat_lt, refl, sym, ap, ◌∙◌}
 use Rattle.arch_file.specs.declared.arch.Arch.{Arch}
 use Rattle.blif.specs.declared.circuit.Circuit.{Circuit}
@@ -43,7 +43,7 @@ work_next RoutingJob sources circuit steps going =
     let routed : RoutedTrees = routed_after (wiring_of (basis_in sources)) (nets_in sources circuit) steps in
     routing_next (basis_in sources) (pads_in sources circuit) (nets_in sources circuit) steps routed routed.standing going
 
--- the value of that work
+-- that work as a job's value
 abbrev pub as_value : Work → Result Work BlifFault
 as_value work = Ok work
 
@@ -53,7 +53,7 @@ value_next sources (Ok circuit) steps work is going =
     ap as_value (work_next sources.kind sources circuit steps (rw same going) ∙ ap next_work same)
 value_next sources (Err fault) steps work is going = absurd (cc)
 
--- where it isn't whole, the work after one step more is the job's
+-- if the work isn't whole, the work after one more step is the job's next value
 pub next_value : (sources : Sources) (steps : ℕ) (work : Work) → job_value sources steps ≡ Ok work → is_whole work ≡ false → job_value sources (steps + 1) ≡ Ok (next_work work)
 next_value sources steps work is going = value_next sources (circuit_in sources) steps work is going
 

@@ -23,7 +23,7 @@ use Rattle.job_state.specs.RoutedCircuits.{pad_of, pads_of}
 use Rattle.job_state.specs.Gathered.{pads_below}
 use Rattle.job_state.proofs.Gathered.{gathered_to}
 
--- the places of a strip are in their rows
+-- the rows of a strip's places
 abbrev Within : Strip → Type 0
 Within strip = (kind : Kind) → All (IsPlaceIn strip kind) (places_of strip kind)
 

@@ -39,7 +39,7 @@ is_routed basis pads old routes done =
     routed_of : Basis → List Resource → List (List (List Node)) → Work
     routed_of basis pads routes = Routed (record { basis = basis; routes = routes; pads = pads })
 
--- the same by the routing that it was, on its own strip
+-- it has found routes, on the graph of its own strip
 pub found_on : (basis own : Basis) (old : RoutingUnderWay) (pads : List Resource) (state : RoutingState) (routes : List (List (List Node))) (routed : RoutedCircuit) → IsDone basis state routes → basis ≡ own → basis ≡ old.basis → pads ≡ old.pads → state ≡ old.state →
     routed ≡ record { basis = own; routes = routes; pads = pads } → Routed routed ≡ routing_after old.basis old.pads old.state.nets (old.state.iterations + 1)
 found_on basis own old pads state routes routed done here there same_pads same is =
@@ -50,7 +50,7 @@ found_on basis own old pads state routes routed done here there same_pads same i
     ∙ (ap (λ other. routing_after old.basis other state.nets (state.iterations + 1)) same_pads
     ∙ ap (λ (other : RoutingState). routing_after old.basis old.pads other.nets (other.iterations + 1)) same))))
 
--- the number of a net without a path is small
+-- the number of a net without a path fits in 32 bits
 pub few_nets : (basis : Basis) (old : RoutingState) (net : ℕ) → GoesOn basis old → FindsNoPath (wiring_of basis) old net → net ≤ 8192
 few_nets basis old net after is =
     let named : net < length old.nets = (of_nets (wiring_of basis) old.nets (old.iterations + 1)).named net is in

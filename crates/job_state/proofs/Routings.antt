@@ -74,16 +74,16 @@ no_path_value : (sources : Sources) (circuit : Result Circuit BlifFault) (steps 
 no_path_value sources (Ok circuit) steps net kind is = subst (λ count. net < count) (as_many sources circuit) (no_path_work sources circuit sources.kind steps net kind (cc))
 no_path_value sources (Err fault) steps net kind is = tt
 
--- as many routes as nets
+-- it has one tree for each net
 pub routed_made : (sources : Sources) (steps : ℕ) (made : RoutedCircuit) → sources.kind ≡ RoutingJob → job_value sources steps ≡ Ok (Routed made) →
     IfOk (circuit_in sources) (λ circuit. length made.routes ≡ length (block_nets (packed_of circuit sources.arch)))
 routed_made sources steps made kind is = (routed_value sources (circuit_in sources) steps made kind is).0
 
--- on the strip
+-- its routes are on the strip
 pub routed_on_strip : (sources : Sources) (steps : ℕ) (made : RoutedCircuit) → sources.kind ≡ RoutingJob → job_value sources steps ≡ Ok (Routed made) → made.basis ≡ basis_in sources
 routed_on_strip sources steps made kind is = (routed_value sources (circuit_in sources) steps made kind is).1
 
--- one of the nets
+-- a net without a path is one of the nets
 pub no_path_made : (sources : Sources) (steps net : ℕ) → sources.kind ≡ RoutingJob → job_value sources steps ≡ Ok (NoPath net) →
     IfOk (circuit_in sources) (λ circuit. net < length (block_nets (packed_of circuit sources.arch)))
 no_path_made sources steps net kind is = no_path_value sources (circuit_in sources) steps net kind is

@@ -1,4 +1,4 @@
--- A whole packing that has found no room to be shared.
+-- A whole packing for which memory ran out when it was to be shared.
 use Rattle.std.proofs.Common.{ℕ, ◌≡◌, ◌+◌, ◌-◌, arith, ap, ◌∙◌}
 use Rattle.arch_file.specs.declared.arch.Arch.{Arch}
 use Rattle.blif.specs.declared.circuit.Circuit.{Circuit}
@@ -8,7 +8,7 @@ use Rattle.job_state.specs.Unshared.{before_last}
 abbrev under_way : Circuit → Arch → ℕ → PackingUnderWay
 under_way circuit arch made = record { circuit = circuit; arch = arch; made = made }
 
--- it stands where the packing stood before its last step
+-- it counts as the packing before its last step
 pub before_last_is : (old : PackingUnderWay) (packed : PackedCircuit) → packed ≡ packed_of old.circuit old.arch → old.made + 1 ≡ packing_steps old.circuit old.arch → before_last packed ≡ old
 unfolding packed_of
 before_last_is old packed same last =

@@ -16,7 +16,7 @@ use Rattle.job_state.specs.UnderWay.{GoesOn, begun_state}
 abbrev made_of : List Net → ℕ → Routed → RoutingState
 made_of nets iterations routed = record { nets = nets; iterations = iterations; trees = routed.trees; history = routed.history }
 
--- the nets, the number of iterations and that it goes on say where it stands
+-- the nets, the number of iterations and whether it goes on determine the state
 pub begun_is : (basis : Basis) (packed : PackedCircuit) (places : List Place) (state : RoutingState) → state.nets ≡ nets_to_route basis packed places → state.iterations ≡ 0 → GoesOn basis state →
     state ≡ begun_state basis packed places
 begun_is basis packed places state nets none after =

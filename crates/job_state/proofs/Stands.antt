@@ -1,4 +1,4 @@
--- What a job has after so many steps.
+-- What a job has after a number of steps.
 use Rattle.std.proofs.Common.{ℕ, ◌≡◌, ◌+◌, Bool, true, false, List, Result, Ok, Err, nat_lt, if◌then◌else◌, refl, sym, ap, ◌∙◌}
 use Rattle.std.proofs.lemmas.Bool.{false≢true}
 use Rattle.blif.specs.declared.circuit.Circuit.{Circuit}
@@ -22,7 +22,7 @@ use Rattle.job_state.specs.Steps.{IsLeft, kind_of, next_work}
 use Rattle.job_state.proofs.Ended.{kind_made}
 use Rattle.job_state.proofs.NextStep.{as_value, next_value}
 
--- no value is unlisted
+-- no value of a job is unlisted
 abbrev is_unlisted : Work → Bool
 is_unlisted (Packing packing) = false
 is_unlisted (Packed packed) = false
@@ -63,7 +63,7 @@ value_listed sources (Err fault) steps = refl
 never_unlisted : (sources : Sources) (steps : ℕ) (routed : RoutedCircuit) → job_value sources steps ≡ Ok (Unlisted routed) → ⊥
 never_unlisted sources steps routed is = false≢true (sym (value_listed sources (circuit_in sources) steps) ∙ ap is_unlisted_value is)
 
--- a value stands for itself
+-- a job's value represents itself
 pub as_stands : (sources : Sources) (steps : ℕ) (work : Work) → job_value sources steps ≡ Ok work → StandsFor sources steps work
 as_stands sources steps (Packing packing) is = is
 as_stands sources steps (Packed packed) is = is
@@ -87,7 +87,7 @@ stands_whole sources steps (Routed routed) is = sym (ap is_whole_value is)
 stands_whole sources steps GaveUp is = sym (ap is_whole_value is)
 stands_whole sources steps (NoPath net) is = sym (ap is_whole_value is)
 
--- at its end it is the job's value
+-- at the job's end it is the job's value
 pub stands_over : (sources : Sources) (steps : ℕ) (work : Work) → StandsFor sources steps work → is_last sources steps ≡ true → job_value sources steps ≡ Ok work
 stands_over sources steps (Packing packing) is last = is
 stands_over sources steps (Packed packed) is last = is
@@ -99,7 +99,7 @@ stands_over sources steps (Routed routed) is last = is
 stands_over sources steps GaveUp is last = is
 stands_over sources steps (NoPath net) is last = is
 
--- the value after one step more
+-- the value after one more step
 pub stands_next : (sources : Sources) (steps : ℕ) (work : Work) → StandsFor sources steps work → is_last sources steps ≡ false → job_value sources (steps + 1) ≡ Ok (next_work work)
 stands_next sources steps (Packing packing) is going = next_value sources steps (Packing packing) is refl
 stands_next sources steps (Packed packed) is going = next_value sources steps (Packed packed) is (stands_whole sources steps (Packed packed) is ∙ going)
@@ -114,7 +114,7 @@ stands_next sources steps (NoPath net) is going = next_value sources steps (NoPa
 kept : (sources : Sources) (steps : ℕ) (old new : Work) → StandsFor sources steps old → new ≡ old → StandsFor sources steps new
 kept sources steps old new is same = rw same is
 
--- what a step without memory leaves
+-- the state that a step leaves if memory runs out
 pub stands_left : (sources : Sources) (steps : ℕ) (old new : Work) → StandsFor sources steps old → is_last sources steps ≡ false → IsLeft old new → StandsFor sources steps new
 stands_left sources steps old (Packing packing) is going left = kept sources steps old (Packing packing) is left
 stands_left sources steps old (Packed packed) is going left = kept sources steps old (Packed packed) is left

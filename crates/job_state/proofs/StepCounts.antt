@@ -9,7 +9,7 @@ use Rattle.job_state.specs.declared.sources.Sources.{Sources}
 use Rattle.job_state.specs.Held.{HasFewSteps, IsNotOverBefore}
 use Rattle.job_state.specs.JobValue.{is_last, pass_count, step_count, step_limit}
 
--- the least number that passes
+-- the least number that passes the test
 least_is : (test : ℕ → Bool) (limit least : ℕ) → least < limit → ((fewer : ℕ) → fewer < least → test fewer ≡ false) → test least ≡ true → position_or_len test (range_with_len 0 limit) ≡ least
 least_is test limit least within before at =
     position_or_len_is test (range_with_len 0 limit) least 0 (omega (arith, length-range_with_len 0 limit))
@@ -24,7 +24,7 @@ pub pass_count_is : (strip : Strip) (passes : ℕ) → passes ≤ 8192 → ((few
 unfolding pass_count
 pass_count_is strip passes few before at = least_is (is_past_last strip) step_limit passes (below_limit passes few) before at
 
--- it has made no more steps than it makes
+-- a job that isn't over yet has made at most as many steps as it makes in all
 pub few_made : (sources : Sources) (steps most : ℕ) → IsNotOverBefore sources steps → is_last sources most ≡ true → most ≤ 8192 → steps ≤ 8192
 few_made sources steps most before at few = grind (arith, before most, at, few)
 

@@ -1,4 +1,4 @@
--- What routes hold is on the strip, and so is a list of it.
+-- What routes occupy is on the strip, and so is a list of it.
 use Rattle.std.proofs.Common.{ℕ, ◌≡◌, inl, inr, true, List, [], ◌∷◌, ◌++◌, get_or, arith, sym, subst, ◌∙◌}
 use Rattle.std.specs.Prelude.{All}
 use Rattle.std.specs.Option.{option_to_list}
@@ -19,7 +19,7 @@ use Rattle.job_state.specs.RoutedCircuits.{AreThere, ListsAll}
 use Rattle.job_state.specs.Gathered.{on_path, on_tree, on_trees}
 use Rattle.job_state.proofs.InOrder.{is_itself, same_is}
 
--- what holds of each of them holds of one that they have
+-- what holds of all resources in a list holds of one that the list has
 found : (P : Resource → Type 0) (all : List Resource) (resource : Resource) → has all resource ≡ true → All P all → P resource
 found P [] resource is each = absurd (false≢true is)
 found P (first ∷ rest) resource is each = elim (or_cases (is_same resource first) (has rest resource) is) [
@@ -64,10 +64,10 @@ module _ (basis : Basis) where
   pub done_there : (old : RoutingState) (routes : List (List (List Node))) → IsDone basis old routes → AreThere basis (on_trees routes)
   done_there old routes done = on_trees_there routes done.there
 
--- what routes hold, and pads
+-- what routes occupy, together with the pads
 pub both_there : (basis : Basis) (arch : Arch) (strip : Strip) (on_routes pads : List Resource) → arch ≡ basis.arch → strip ≡ basis.strip → AreThere basis on_routes → AreThere basis pads → AreThere (record { arch = arch; strip = strip }) (on_routes ++ pads)
 both_there basis arch strip on_routes pads of_arch of_strip there pads_there = rw (of_arch, of_strip) (All-append (λ resource. is_there basis.arch basis.strip resource ≡ true) on_routes pads there pads_there)
 
--- on the same strip
+-- this depends on the architecture and the strip alone
 pub on_same_strip : (basis other : Basis) (resources : List Resource) → other.arch ≡ basis.arch → other.strip ≡ basis.strip → AreThere basis resources → AreThere other resources
 on_same_strip basis other resources of_arch of_strip there = rw (of_arch, of_strip) there

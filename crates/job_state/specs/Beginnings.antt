@@ -18,7 +18,8 @@ pub record CanPack (sources : Sources) (from : Circuit) : Type 0 where
   pub circuit : circuit_in sources ≡ Ok from
   pub fit : unfit_of from sources.arch ≡ None
 
--- a placing of what that finished packing of the same netlist has made: the strip has places enough, among them those that are kept
+-- a placing of what that finished packing of the same netlist has made: the strip has enough
+-- places, among them those kept for blocks
 pub record CanPlace (sources : Sources) (packing : JobState) : Type 0 where
   pub kind : sources.kind ≡ PlacingJob
   pub from : packing.step.sources ≡ packing_sources sources.arch sources.strip sources.text
@@ -29,7 +30,8 @@ pub record CanPlace (sources : Sources) (packing : JobState) : Type 0 where
   pub kept : AreKeptOn sources.strip sources.kept
   pub effort : sources.effort ≤ 100
 
--- a routing of what that finished placing of the same netlist, kept places, seed and effort has made
+-- a routing of what that finished placing of the same netlist, kept places, seed and effort has
+-- made
 pub record CanRoute (sources : Sources) (placing : JobState) : Type 0 where
   pub kind : sources.kind ≡ RoutingJob
   pub from : placing.step.sources ≡ placing_sources sources.arch sources.strip sources.text sources.kept sources.seed sources.effort

@@ -9,13 +9,13 @@ use Rattle.job_state.specs.declared.work.Work.TheVariants as work
 use Rattle.job_state.specs.JobValue.{end_value}
 use Rattle.job_state.specs.RoutedCircuits.{RoutedCircuit}
 
--- that is what a routing of these sources has made at its end
+-- a routing of these sources ends like this
 abbrev pub IsEndOf : Sources → RoutingEnd → Type 0
 IsEndOf sources (Routed routes) = (routed : RoutedCircuit) × (end_value sources ≡ Ok (work.Routed routed)) × (routes.now ≡ routed.routes)
 IsEndOf sources GaveUp = end_value sources ≡ Ok work.GaveUp
 IsEndOf sources (NoPath net) = end_value sources ≡ Ok (work.NoPath net)
 
--- routes are of all nets of the packed circuit, and the net without a path is one of them
+-- the routes are of all nets of the packed circuit; a net without a path is one of these nets
 abbrev pub IsOfNets : PackedCircuit → RoutingEnd → Type 0
 IsOfNets packed (Routed routes) = length routes.now ≡ length (block_nets packed)
 IsOfNets packed GaveUp = ⊤

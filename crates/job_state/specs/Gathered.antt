@@ -1,4 +1,4 @@
--- Private: what lists gather of a routed circuit, one block, path or tree more at a time.
+-- Private: lists gathered from a routed circuit, one more block, path or tree at a time.
 use Rattle.std.specs.Prelude.{ℕ, List}
 use Rattle.std.specs.List.{flat_map, range_with_len}
 use Rattle.std.specs.Option.{option_to_list}

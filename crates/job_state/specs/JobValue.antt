@@ -1,4 +1,4 @@
--- The value of a job: what it has made after so many of its steps, as a function of what it is computed from.
+-- The value of a job: what it has made after a number of its steps, as a function of its sources.
 use Rattle.std.specs.Prelude.{ℕ, Bool, true, false, List, [], Result, Ok, Err, nat_lt, if◌then◌else◌}
 use Rattle.std.specs.List.{position_or_len, range_with_len}
 use Rattle.arch_file.specs.declared.arch.Arch.{Arch}
@@ -22,35 +22,35 @@ use Rattle.job_state.specs.declared.work.Work.{Work}
 use Rattle.job_state.specs.declared.work.Work.TheVariants.{Packing, Packed, Placing, Placed, Routing, Unlisted, Routed, GaveUp, NoPath}
 use Rattle.job_state.specs.RoutedCircuits.{pads_of}
 
--- what a packing is computed from: it has no kept places, no seed and no effort
+-- the sources of a packing: it has no kept places, no seed and no effort
 abbrev pub packing_sources : Arch → Strip → List ℕ → Sources
 packing_sources arch strip text = record { kind = PackingJob; arch = arch; strip = strip; text = text; kept = []; seed = 0; effort = 0 }
 
--- what a placing is computed from
+-- the sources of a placing
 abbrev pub placing_sources : Arch → Strip → List ℕ → KeptPlaces → ℕ → ℕ → Sources
 placing_sources arch strip text kept seed effort = record { kind = PlacingJob; arch = arch; strip = strip; text = text; kept = kept; seed = seed; effort = effort }
 
--- what a routing is computed from: the kept places, the seed and the effort are those of its placing
+-- the sources of a routing: the kept places, the seed and the effort are those of its placing
 abbrev pub routing_sources : Arch → Strip → List ℕ → KeptPlaces → ℕ → ℕ → Sources
 routing_sources arch strip text kept seed effort = record { kind = RoutingJob; arch = arch; strip = strip; text = text; kept = kept; seed = seed; effort = effort }
 
--- what the netlist says
+-- the circuit of the netlist, or its fault
 abbrev pub circuit_in : Sources → Result Circuit BlifFault
 circuit_in sources = circuit_of sources.text sources.arch.lut_size
 
--- a placing of the packed circuit after so many passes
+-- a placing of the packed circuit after that number of passes
 abbrev pub placing_at : Sources → Circuit → ℕ → PlacingUnderWay
 placing_at sources circuit passes = record { packed = packed_of circuit sources.arch; strip = sources.strip; kept = sources.kept; seed = sources.seed; effort = sources.effort; passes = passes }
 
--- the most steps that are counted; no job has as many
+-- the largest number of steps that is counted; every job makes fewer
 unfoldable pub step_limit : ℕ
 step_limit = 65536
 
--- how many passes a placing makes: with that many, and not before, the one at temperature 0 was made
+-- the number of passes of a placing: with it, and not before, the pass at temperature 0 was made
 unfoldable pub pass_count : Strip → ℕ
 pass_count strip = position_or_len (is_past_last strip) (range_with_len 0 step_limit)
 
--- what the graph of a routing stands on
+-- the basis of a routing's graph
 abbrev pub basis_in : Sources → Basis
 basis_in sources = record { arch = sources.arch; strip = sources.strip }
 
@@ -62,7 +62,8 @@ nets_in sources circuit = nets_to_route (basis_in sources) (packed_of circuit so
 unfoldable pub pads_in : Sources → Circuit → List Resource
 pads_in sources circuit = pads_of (packed_of circuit sources.arch) (places_by_block (placing_at sources circuit (pass_count sources.strip)))
 
--- a routing makes an iteration a step: while it goes on it keeps its trees, at its end it tells them by node
+-- a routing makes one iteration a step; while it goes on it keeps its trees, and at its end it
+-- gives them by node
 abbrev pub routing_stands : Basis → List Resource → List Net → ℕ → RoutedTrees → Standing → Work
 routing_stands basis pads nets iterations routed More = Routing (record { basis = basis; pads = pads; state = record { nets = nets; iterations = iterations; trees = routed.trees; history = routed.history } })
 routing_stands basis pads nets iterations routed Done = Routed (record { basis = basis; routes = told_by_node (graph_of basis) routed.trees; pads = pads })
@@ -72,8 +73,9 @@ routing_stands basis pads nets iterations routed (WithoutPath net) = NoPath net
 abbrev pub routing_after : Basis → List Resource → List Net → ℕ → Work
 routing_after basis pads nets iterations = routing_stands basis pads nets iterations (routed_after (wiring_of basis) nets iterations) (routed_after (wiring_of basis) nets iterations).standing
 
--- a job of that kind after so many steps. A packing makes a cluster a step, and after its last step it is whole; a placing makes a pass a step, and is whole
--- after the one at temperature 0
+-- a job of that kind after that number of steps. A packing makes one cluster a step, and is whole
+-- after its last step; a placing makes one pass a step, and is whole after the pass at temperature
+-- 0
 abbrev pub work_of : JobKind → Sources → Circuit → ℕ → Work
 work_of PackingJob sources circuit steps =
     if nat_lt steps (packing_steps circuit sources.arch) then Packing (record { circuit = circuit; arch = sources.arch; made = steps }) else Packed (packed_of circuit sources.arch)
@@ -84,7 +86,7 @@ abbrev pub value_of : Sources → Result Circuit BlifFault → ℕ → Result Wo
 value_of sources (Ok circuit) steps = Ok (work_of sources.kind sources circuit steps)
 value_of sources (Err fault) steps = Err fault
 
--- a job after so many steps, or the fault of its netlist
+-- what a job has made after that number of steps, or the fault of its netlist
 abbrev pub job_value : Sources → ℕ → Result Work BlifFault
 job_value sources steps = value_of sources (circuit_in sources) steps
 
@@ -104,7 +106,7 @@ is_whole_value (Err fault) = true
 abbrev pub is_last : Sources → ℕ → Bool
 is_last sources number = is_whole_value (job_value sources number)
 
--- how many steps the job makes: the least number with which it is over
+-- the number of steps that the job makes: the least number with which it is over
 unfoldable pub step_count : Sources → ℕ
 step_count sources = position_or_len (is_last sources) (range_with_len 0 step_limit)
 

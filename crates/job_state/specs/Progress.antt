@@ -10,7 +10,7 @@ use Rattle.job_state.specs.declared.progress.Progress.TheVariants as told
 use Rattle.job_state.specs.declared.work.Work.{Work}
 use Rattle.job_state.specs.declared.work.Work.TheVariants.{Packing, Packed, Placing, Placed, Routing, Unlisted, Routed, GaveUp, NoPath}
 
--- that is told of what a job has made
+-- the progress of that work
 abbrev pub IsProgress : Work → Progress → Type 0
 IsProgress (Packing packing) (told.Packing tables latches) = (tables ≡ length packing.circuit.tables) × (latches ≡ length packing.circuit.latches)
 IsProgress (Packed packed) (told.Packed clusters pads nets) =

@@ -7,7 +7,7 @@ use Rattle.job_state.specs.declared.stage.Stage.{Stage}
 use Rattle.job_state.specs.declared.stage.Stage.TheVariants.{Begun, Going}
 use Rattle.job_state.specs.UnderWay.{GoesOn, begun_state}
 
--- where it stands
+-- the state of the routing
 abbrev pub state_at : Basis → Stage → RoutingState
 state_at basis (Begun begun) = begun_state basis begun.packed begun.places.items
 state_at basis (Going routing) = routing

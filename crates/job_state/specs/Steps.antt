@@ -1,4 +1,4 @@
--- Private: a work after one step more, and whose it is.
+-- Private: a work after one more step, and the kind of job that it belongs to.
 use Rattle.std.specs.Prelude.{ℕ, ◌≡◌, ◌+◌, nat_lt, if◌then◌else◌}
 use Rattle.arch_file.specs.declared.arch.Arch.{Arch}
 use Rattle.blif.specs.declared.circuit.Circuit.{Circuit}
@@ -11,16 +11,16 @@ use Rattle.job_state.specs.declared.work.Work.{Work}
 use Rattle.job_state.specs.declared.work.Work.TheVariants.{Packing, Packed, Placing, Placed, Routing, Unlisted, Routed, GaveUp, NoPath}
 use Rattle.job_state.specs.JobValue.{routing_after}
 
--- a packing after so many steps
+-- a packing after that number of steps
 abbrev pub packing_after : Circuit → Arch → ℕ → Work
 packing_after circuit arch steps =
     if nat_lt steps (packing_steps circuit arch) then Packing (record { circuit = circuit; arch = arch; made = steps }) else Packed (packed_of circuit arch)
 
--- a placing that stands there
+-- the work of a placing in that state
 abbrev pub placing_stands : PlacingUnderWay → Work
 placing_stands placing = if is_past_last placing.strip placing.passes then Placed placing else Placing placing
 
--- what is whole has no step left
+-- whole work has no step left
 abbrev pub next_work : Work → Work
 next_work (Packing packing) = packing_after packing.circuit packing.arch (packing.made + 1)
 next_work (Packed packed) = Packed packed
@@ -44,12 +44,13 @@ kind_of (Routed routes) = RoutingJob
 kind_of GaveUp = RoutingJob
 kind_of (NoPath net) = RoutingJob
 
--- what the graph of its step stands on, where it asks for one
+-- the basis of the graph for its step, if it needs one
 abbrev pub graph_for : Basis → Work → Basis
 graph_for other (Routing routing) = routing.basis
 graph_for other work = other
 
--- what a step without memory leaves: the work as it was, or with what its next step has found, which isn't listed yet
+-- the work that a step leaves if memory runs out: as it was, or with what its next step has found,
+-- which isn't listed yet
 abbrev pub IsLeft : Work → Work → Type 0
 IsLeft old (Unlisted routed) = next_work old ≡ Routed routed
 IsLeft old new = new ≡ old

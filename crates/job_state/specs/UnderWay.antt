@@ -9,13 +9,14 @@ use Rattle.std.specs.Prelude.{ℕ, List}
 use Rattle.rr_graph.specs.Graph.{Basis}
 use Rattle.rr_graph.specs.declared.resource.Resource.{Resource}
 
--- a routing between two iterations, with what its strip's graph stands on and the pads of its blocks
+-- a routing between two iterations, with the basis of its strip's graph and the pads of its blocks
 pub record RoutingUnderWay : Type 0 where
   pub basis : Basis
   pub pads : List Resource
   pub state : RoutingState
 
--- between blocks at these places, before the first iteration: there are the nets, and no paths
+-- a routing between blocks at these places, before the first iteration: it has the nets, and no
+-- paths
 abbrev pub begun_state : Basis → PackedCircuit → List Place → RoutingState
 begun_state basis packed places =
     made_of (nets_to_route basis packed places) 0 (routed_after (wiring_of basis) (nets_to_route basis packed places) 0)

@@ -1,4 +1,5 @@
--- Private: a packing, also where its last step has made its clusters but found no memory to share them.
+-- Private: a packing, and one whose last step has made its clusters but ran out of memory to share
+-- them.
 use Rattle.std.specs.Prelude.{◌≡◌, ◌-◌}
 use Rattle.cluster.specs.Clusters.{PackedCircuit, PackingUnderWay, packed_of, packing_steps}
 use Rattle.job_state.specs.declared.packing.Made.{Made}

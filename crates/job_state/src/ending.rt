@@ -1,7 +1,7 @@
 //! How a routing ended.
 use pathfinder::Routes;
 
-/// How a routing ended.
+/// How a routing ended. Nets are numbered as in the packed circuit.
 #[derive(Clone, Copy)]
 pub enum RoutingEnd<'a> {
     /// With these routes.

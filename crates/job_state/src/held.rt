@@ -1,4 +1,4 @@
-//! The list of what a routed circuit holds of its strip.
+//! The list of what a routed circuit occupies of its strip.
 ghost use Rattle.std.specs.Prelude.{◌≡◌, ◌++◌, ◌<◌, IfOk, [], length, slice_index_or};
 ghost use Rattle.std.specs.Option.{option_to_list};
 ghost use Rattle.rr_graph.specs.Resources.{resource_of};
@@ -13,7 +13,7 @@ use rr_graph::{Node, Resource, ResourceKind};
 use std::alloc::{AllocError, Global};
 use strip_place::Placing;
 
-/// Adds the pad of a block, where the block stands on one.
+/// Adds the pad of a block, if the block is on one.
 fn add_pad(mut pads: Vec<Resource>, block: Block, place: Place) -> Result<Vec<Resource>, AllocError>
     ensures { IfOk result (λ new. new.items ≡ pads.items ++ pad_of block place) }
 {
@@ -47,7 +47,7 @@ pub(crate) fn pads_of(alloc: Global, placing: &Placing) -> Result<Vec<Resource>,
     Ok(pads)
 }
 
-/// Adds the pin or the wire that a node stands for.
+/// Adds the pin or the wire of a node, if the node is one.
 fn add_node(mut list: Vec<Resource>, node: Node) -> Result<Vec<Resource>, AllocError>
     ensures { IfOk result (λ new. new.items ≡ list.items ++ option_to_list (resource_of node)) }
 {
@@ -83,7 +83,7 @@ fn add_tree(
     Ok(list)
 }
 
-/// The pins and wires of all trees, as they come.
+/// The pins and wires of all trees, in the order of the trees.
 fn on_trees(alloc: Global, routes: &Routes) -> Result<Vec<Resource>, AllocError>
     ensures { IfOk result (λ list. list.items ≡ on_trees routes.now) }
 {
@@ -94,7 +94,7 @@ fn on_trees(alloc: Global, routes: &Routes) -> Result<Vec<Resource>, AllocError>
     Ok(list)
 }
 
-/// Of resources in order, each once.
+/// Copies sorted resources without repetitions.
 fn each_once(alloc: Global, sorted: &[Resource]) -> Result<Vec<Resource>, AllocError>
     requires { IsInOrder sorted.now }
     ensures { IfOk result (λ list. ListsAll sorted.now list.items) }

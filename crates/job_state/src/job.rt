@@ -15,8 +15,8 @@ use rr_graph::StripGraph;
 use std::marker::Model;
 use strips::{DeviceGraph, Window};
 
-/// A job with a step to make. It must be spent. Its value is the step, and whether it was made already, by a [`Done`] that
-/// couldn't be put.
+/// A job with a step to make. It must be spent. Its value is the step, and whether the step was
+/// made already, by a [`Done`] that couldn't be put.
 pub struct AnyJob {
     pub(crate) step: JobStep,
     pub(crate) work: Box<Work>,
@@ -65,7 +65,7 @@ impl Model for Back {
 }
 
 impl AnyJob {
-    /// The tenancy whose job it is.
+    /// The id of the job's tenancy.
     pub fn id(&self) -> u32
         ensures { result ≡ self.now.step.id }
     {
@@ -79,7 +79,7 @@ impl AnyJob {
         self.step.generation
     }
 
-    /// The number of its step, from 1.
+    /// The number of its step within the job, from 1.
     pub fn number(&self) -> u32
         ensures { result ≡ self.now.step.number }
     {
@@ -93,7 +93,8 @@ impl AnyJob {
         &self.step.sources
     }
 
-    /// Whether the window is that of a strip of the job's size, on a device of its architecture. Takes no memory.
+    /// Returns whether the window is that of a strip of the job's size, on a device of its
+    /// architecture. Takes no memory.
     pub fn fits(&self, window: &Window<'_>) -> bool
         ensures { IsTrue result ↔ (window.now ≡ basis_in self.now.step.sources) }
     {
@@ -101,8 +102,8 @@ impl AnyJob {
         sources.strip == window.strip() && same_arch(sources.arch.arch(), window.arch())
     }
 
-    /// The window for its step, where its strip stands on the device with so many columns to the left of it: if the device is of
-    /// its architecture and has the strip there. Takes no memory.
+    /// Returns the window for its step, with the strip at that offset; `None` if the device is not
+    /// of the job's architecture or doesn't have the strip there. Takes no memory.
     pub fn window<'g>(&self, graph: &'g DeviceGraph, offset: u32) -> Option<Window<'g>>
         ensures fits { IfSome result (λ window. window ≡ basis_in self.now.step.sources) }
         ensures there { IsTrue (is_some result) ↔
@@ -117,8 +118,9 @@ impl AnyJob {
         }
     }
 
-    /// Makes the step; a routing's goes over its strip's graph, which it sees through the window. Without memory the job comes back
-    /// as it was. A placing's step takes none, and one that was made already is answered at once.
+    /// Makes the step; a routing's step works on its strip's graph, which it sees through the
+    /// window. If memory runs out, the job comes back as it was. A placing's step takes no memory,
+    /// and a step that was made already is returned at once.
     pub fn step(self, window: &Window<'_>) -> Result<Done, Back>
         requires { window.now ≡ basis_in self.step.sources }
         ensures { Steps self result }
@@ -145,7 +147,7 @@ impl AnyJob {
         }
     }
 
-    /// The job, not to be stepped. Takes no memory.
+    /// Gives the job up without making its step. Takes no memory.
     pub fn into_back(self) -> Back
         ensures { result ≡ self }
     {
@@ -154,7 +156,7 @@ impl AnyJob {
 }
 
 impl Done {
-    /// The tenancy whose job it is.
+    /// The id of the job's tenancy.
     pub fn id(&self) -> u32
         ensures { result ≡ self.now.id }
     {
@@ -168,7 +170,7 @@ impl Done {
         self.step.generation
     }
 
-    /// The number of the step, from 1.
+    /// The number of the step within the job, from 1.
     pub fn number(&self) -> u32
         ensures { result ≡ self.now.number }
     {
@@ -182,14 +184,15 @@ impl Done {
         &self.step.sources
     }
 
-    /// Whether the job is over with this step.
+    /// Returns whether the job is over with this step.
     pub fn is_last(&self) -> bool
         ensures { result ≡ is_last self.now.sources self.now.number }
     {
         self.work.is_whole()
     }
 
-    /// How far the job is with this step; a routing's overuse is that of its strip's graph. Takes no memory.
+    /// Returns the job's progress after this step; a routing's overuse is that of its strip's
+    /// graph. Takes no memory.
     pub fn progress<G: StripGraph>(&self, graph: &G) -> Progress
         requires { G.basis graph.now ≡ basis_in self.now.sources }
         ensures made { (work : Work) × (job_value self.now.sources self.now.number ≡ Ok work)
@@ -201,7 +204,8 @@ impl Done {
         self.work.progress(graph)
     }
 
-    /// The job with its step made, which couldn't be put: its next step is answered at once. Takes no memory.
+    /// Returns the job with its step made, for a step that couldn't be put: its next call of
+    /// [`AnyJob::step`] returns at once. Takes no memory.
     pub fn into_back(self) -> Back
         ensures { result ≡ record { step = self; made = true } }
     {
@@ -240,7 +244,7 @@ impl Done {
 }
 
 impl Back {
-    /// The tenancy whose job it is.
+    /// The id of the job's tenancy.
     pub fn id(&self) -> u32
         ensures { result ≡ self.now.step.id }
     {
@@ -254,7 +258,7 @@ impl Back {
         self.job.generation()
     }
 
-    /// The number of its step, from 1.
+    /// The number of its step within the job, from 1.
     pub fn number(&self) -> u32
         ensures { result ≡ self.now.step.number }
     {

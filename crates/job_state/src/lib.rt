@@ -1,16 +1,22 @@
-//! Jobs: long work of a tenancy, which leaves its slot, is stepped anywhere, and comes back late, stale or never.
+//! Jobs: long work of a tenancy, which leaves its slot, is stepped anywhere, and comes back late,
+//! stale or never.
 //!
-//! - [`Sources`] are what a job is computed from: its kind, the architecture, the strip's size, the netlist, the places that are
-//!   kept for blocks, seed and effort.
-//! - [`AnyJob`] has a step to make. [`AnyJob::step`] makes it, without a lock and without its slot, through a window of its strip's
-//!   size wherever that stands, and answers a [`Done`], or without memory a [`Back`] with the job unchanged. Each tells its tenancy, generation, step number and sources.
-//! - [`Parked`] is a job as its slot keeps it, running or finished; it alone may be dropped. The others must be spent: by a
-//!   step, by a call that takes them, or by `park`. A made step tells its [`Progress`]. A finished job tells what it has made, and a placing begins with a
-//!   finished packing, a routing with a finished placing, which are only lent.
+//! - [`Sources`] are what a job is computed from: its kind, the architecture, the strip's size, the
+//!   netlist, the places that are kept for blocks, seed and effort.
+//! - [`AnyJob`] has a step to make. [`AnyJob::step`] makes it, without a lock and without its slot,
+//!   through a window of the strip's size at any offset. It returns a [`Done`], or, if memory runs
+//!   out, a [`Back`] with the job unchanged. Each of the three has the job's tenancy, generation,
+//!   step number and sources.
+//! - [`Parked`] is a job as its slot keeps it, running or finished; it alone may be dropped. The
+//!   others must be spent: by a step, by a call that takes them, or by `park`. A [`Done`] step has
+//!   its [`Progress`]. A finished job has its result. A placing starts from a finished packing, and
+//!   a routing from a finished placing; these are only lent.
 //!
-//! What a job carries is a function of what it is computed from: `job_value` of `specs/JobValue.antt` gives it after so many
-//! steps. Each type keeps that: a job has its value after the steps before its own, a `Done` has its own step's too, and none was
-//! over before. So no contract above needs to say what a job has made, and a finished one has made its sources' `end_value`.
+//! What a job carries is a function of its sources: `job_value` of `specs/JobValue.antt` gives it
+//! after any number of steps. Each type keeps this as an invariant: a job has its value after the
+//! steps before its own, a `Done` has the value after its own step too, and the job wasn't over
+//! before. So no contract of a caller needs to say what a job has made, and a finished job has made
+//! its sources' `end_value`.
 #![tactic(auto)]
 
 mod ending;

@@ -19,12 +19,12 @@ use std::marker::Model;
 enum Made {
     /// Some of its clusters.
     Growing(Packing),
-    /// All of them, but there was no memory to share them.
+    /// All of them, but memory ran out when they were to be shared.
     Whole(Packed),
 }
 
-/// A packing under way. Its value is the packing. Where its last step found no memory to share what it made, it is the packing
-/// before that step, and the next try only shares it.
+/// A packing under way. Its value is the packing. If its last step ran out of memory to share what
+/// it made, the value is the packing before that step, and the next try only shares it.
 #[derive(Drop)]
 pub(crate) struct PackingJob {
     alloc: Global,
@@ -43,7 +43,7 @@ impl Model for PackingJob {
 }
 
 impl PackingJob {
-    /// That packing, whose result will be shared by this allocator.
+    /// Starts a job from that packing, whose result will be shared through this allocator.
     pub(crate) fn new(alloc: Global, packing: Packing) -> Self
         ensures { result ≡ packing }
     {
@@ -53,7 +53,7 @@ impl PackingJob {
         }
     }
 
-    /// Of how many tables and latches it is.
+    /// Its progress: the numbers of tables and latches of its circuit.
     pub(crate) fn progress(&self) -> Progress
         ensures { IsProgress (Work.Packing self.now) result }
     {
@@ -63,7 +63,7 @@ impl PackingJob {
         }
     }
 
-    /// Makes one cluster more. Without memory the packing comes back as it was.
+    /// Makes one more cluster. If memory runs out, the packing comes back as it was.
     pub(crate) fn next(self) -> Result<Work, PackingJob>
         ensures made { IfOk result (λ work.
             work ≡ packing_after self.circuit self.arch (self.made + 1)) }
@@ -81,7 +81,7 @@ impl PackingJob {
     }
 }
 
-/// How many tables and latches a circuit has.
+/// The numbers of tables and latches of a circuit, as progress.
 fn counted(circuit: &Circuit) -> Progress
     ensures { result ≡ Progress.Packing (length circuit.now.tables) (length circuit.now.latches) }
 {
@@ -91,7 +91,7 @@ fn counted(circuit: &Circuit) -> Progress
     }
 }
 
-/// A packing that is whole, to be shared. Without memory it stands before its last step.
+/// Shares a whole packing. If memory runs out, it counts as the packing before its last step.
 fn shared(alloc: Global, packed: Packed) -> Result<Work, PackingJob>
     requires { packed ≡ packed_of packed.circuit packed.arch }
     ensures whole { IfOk result (λ work. work ≡ Work.Packed packed) }

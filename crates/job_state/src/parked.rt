@@ -29,8 +29,9 @@ use std::alloc::{AllocError, Global};
 use std::marker::Model;
 use strip_place::{Placing, laws_of_passes};
 
-/// A job as its slot keeps it, before a step or finished. It may be dropped. Its value is the step that it has to make, the
-/// one behind the last where it is finished, and whether that was made already.
+/// A job as its slot keeps it, before a step or finished. It may be dropped. Its value is the step
+/// that it has to make, numbered one past the last if the job is finished, and whether that step
+/// was made already.
 #[derive(Drop)]
 pub struct Parked {
     pub(crate) step: JobStep,
@@ -50,7 +51,8 @@ impl Model for Parked {
 }
 
 impl Parked {
-    /// A packing of the netlist's circuit, before its first step. Each BLE fits into a cluster alone.
+    /// Starts a packing of the netlist's circuit, before its first step. Each BLE must fit into a
+    /// cluster alone. Fails with [`AllocError`] if memory runs out.
     pub fn pack(
         alloc: Global,
         id: u32,
@@ -68,8 +70,9 @@ impl Parked {
         Parked::begin(alloc, id, generation, sources, work)
     }
 
-    /// A placing of what a finished packing of the same netlist has made, before its first pass: each block stands on the place
-    /// that the sources keep for it, or on the least of its kind that is free.
+    /// Starts a placing of what a finished packing of the same netlist has made, before its first
+    /// pass: each block is on the place that the sources keep for it, or on the least free place of
+    /// its kind. Fails with [`AllocError`] if memory runs out.
     pub fn place(
         alloc: Global,
         id: u32,
@@ -93,8 +96,9 @@ impl Parked {
         Parked::begin(alloc, id, generation, sources, Work::Placing(placing))
     }
 
-    /// A routing of what a finished placing of the same netlist, kept places, seed and effort has made, before its first
-    /// iteration. It builds no graph.
+    /// Starts a routing of what a finished placing of the same netlist, kept places, seed and
+    /// effort has made, before its first iteration. It builds no graph. Fails with [`AllocError`]
+    /// if memory runs out.
     pub fn route(
         alloc: Global,
         id: u32,
@@ -148,7 +152,7 @@ impl Parked {
         }
     }
 
-    /// The job, to be stepped. Takes no memory.
+    /// Takes the job out, to make its next step. Takes no memory.
     pub fn leave(self) -> AnyJob
         requires { is_over self ≡ false }
         ensures { result ≡ self }
@@ -167,7 +171,7 @@ impl Parked {
         self.shared_packed().packed()
     }
 
-    /// The same, as it is shared.
+    /// The shared handle of what a finished packing has made.
     fn shared_packed(&self) -> &SharedPacked
         requires { IsFinished JobKind.Packing self.now }
         ensures value { end_value self.now.step.sources ≡ Ok (Work.Packed result.now) }
@@ -194,7 +198,7 @@ impl Parked {
         }
     }
 
-    /// How a finished routing ended. What it tells is of the nets of the packed circuit, by number.
+    /// How a finished routing ended, by the numbers of the packed circuit's nets.
     pub fn routing_end(&self) -> RoutingEnd<'_>
         requires { IsFinished JobKind.Routing self.now }
         ensures value { IsEndOf self.now.step.sources result }
@@ -209,8 +213,9 @@ impl Parked {
         }
     }
 
-    /// What the circuit of a finished routing holds of its strip, in node order: the pins and wires of its routes and the pads of
-    /// its blocks, each once. Nothing where the routing ended without routes.
+    /// What the circuit of a finished routing occupies of its strip, in node order: the pins and
+    /// wires of its routes and the pads of its blocks, each once. Empty if the routing ended
+    /// without routes.
     pub fn resources(&self) -> &[Resource]
         requires { IsFinished JobKind.Routing self.now }
         ensures order { AllPairs IsEarlier result.now }
@@ -226,7 +231,8 @@ impl Parked {
     }
 }
 
-/// A routing of what a finished placing of the same netlist, kept places, seed and effort has made, before its first iteration.
+/// A routing of what a finished placing of the same netlist, kept places, seed and effort has made,
+/// before its first iteration.
 fn routing_of(alloc: Global, sources: &Sources, placing: &Parked) -> Result<RoutingJob, AllocError>
     requires { CanRoute sources.now placing.now }
     ensures { IfOk result (λ routing. job_value sources.now 0 ≡ Ok (Work.Routing routing)) }
@@ -245,7 +251,8 @@ fn routing_of(alloc: Global, sources: &Sources, placing: &Parked) -> Result<Rout
     ))
 }
 
-/// A step makes a cluster of a BLE at least, and a circuit has at most 8,192.
+/// A packing makes at most 8,192 steps: a step makes a cluster of at least one BLE, and a circuit
+/// has at most 8,192 BLEs.
 #[tactic(auto, using(crate::proofs::FewSteps::few_steps))]
 fn packs_in_few_steps(circuit: &SharedCircuit, arch: &SharedArch)
     ensures { packing_steps circuit.now arch.now ≤ 8192 }

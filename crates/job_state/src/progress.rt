@@ -4,7 +4,8 @@ use pathfinder::Overuse;
 /// How far a job is after a step.
 #[derive(Clone, Copy, PartialEq, Eq)]
 pub enum Progress {
-    /// A packing goes on, of a circuit with so many tables and latches. It makes no more clusters than these together.
+    /// A packing goes on. These are its circuit's tables and latches; it makes at most as many
+    /// clusters as the two together.
     Packing {
         tables: usize,
         latches: usize,
@@ -15,7 +16,7 @@ pub enum Progress {
         pads: usize,
         nets: usize,
     },
-    /// What the places of a placing cost, which goes on or is whole.
+    /// A placing goes on or is whole: the cost of its places.
     Placing {
         cost: u64,
     },

@@ -1,4 +1,4 @@
-//! A routed circuit, and what it holds of its strip.
+//! A routed circuit, and what it occupies of its strip.
 ghost use Rattle.std.specs.Prelude.{◌≡◌, IfErr, IfOk};
 ghost use Rattle.job_state.specs.RoutedCircuits.{AreThere, ListsAll, held_by};
 
@@ -31,8 +31,8 @@ impl Model for Routed {
         (held_by (routed_on r.arch r.strip r.routes r.pads.items)) };
 }
 
-/// A routed circuit with the list of what it holds of its strip: the pins and wires of its routes and the pads of its blocks, in
-/// node order, each once.
+/// A routed circuit with the list of what it occupies of its strip: the pins and wires of its
+/// routes and the pads of its blocks, in node order, each once.
 #[derive(Drop)]
 pub(crate) struct Listed {
     routed: Routed,
@@ -51,7 +51,7 @@ impl Model for Listed {
 }
 
 impl Routed {
-    /// With the list of what it holds. Without memory it comes back.
+    /// Adds the list of what it occupies. If memory runs out, the circuit comes back.
     pub(crate) fn listed(self) -> Result<Listed, Routed>
         ensures ok { IfOk result (λ listed. listed ≡ self) }
         ensures err { IfErr result (λ back. back ≡ self) }
@@ -67,14 +67,13 @@ impl Routed {
 }
 
 impl Listed {
-    /// The routes.
     pub(crate) fn routes(&self) -> &Routes
         ensures { result.now ≡ self.now.routes }
     {
         &self.routed.routes
     }
 
-    /// What it holds, in node order.
+    /// What it occupies, in node order, each once.
     pub(crate) fn resources(&self) -> &[Resource]
         ensures lists { ListsAll (held_by self.now) result.now }
         ensures there { AreThere self.now.basis result.now }

@@ -20,8 +20,9 @@ use rr_graph::{Resource, StripGraph};
 use std::alloc::Global;
 use std::marker::Model;
 
-/// A routing between two iterations, or before the first, with the pads of its blocks. It has no graph of its own: each iteration
-/// is lent one. Its value is what that graph stands on, the pads, and the routing's.
+/// A routing between two iterations, or before the first, with the pads of its blocks. It has no
+/// graph of its own: each iteration is lent one. Its value is the basis of that graph, the pads,
+/// and the routing's state.
 #[derive(Drop)]
 pub(crate) struct RoutingJob {
     alloc: Global,
@@ -45,7 +46,7 @@ impl Model for RoutingJob {
 }
 
 impl RoutingJob {
-    /// That routing, on that strip, of blocks with these pads.
+    /// Starts a job from that routing, on that strip, of blocks with these pads.
     pub(crate) fn new(
         alloc: Global,
         arch: SharedArch,
@@ -70,7 +71,7 @@ impl RoutingJob {
         }
     }
 
-    /// The overuse after the iterations that were made, on its strip's graph.
+    /// The overuse after the iterations made so far, on its strip's graph.
     pub(crate) fn overuse<G: StripGraph>(&self, graph: &G) -> Overuse
         requires { G.basis graph.now ≡ self.now.basis }
         ensures { IsOveruse self.now.basis self.now.state.trees result }
@@ -84,8 +85,8 @@ impl RoutingJob {
         }
     }
 
-    /// Makes one iteration more, on its strip's graph. Without memory the routing comes back as it was, or with the routes that it
-    /// has found, which aren't listed yet.
+    /// Makes one more iteration, on its strip's graph. If memory runs out, the routing comes back
+    /// as it was, or with the routes that it has found, which aren't listed yet.
     pub(crate) fn next<G: StripGraph>(self, graph: &G) -> Result<Work, Work>
         requires { G.basis graph.now ≡ self.basis }
         ensures made { IfOk result (λ work.
@@ -133,7 +134,7 @@ impl RoutingJob {
     }
 }
 
-/// The routed circuit of these routes. What it holds is on its strip.
+/// The routed circuit with these routes. What it occupies is on its strip.
 fn routed_on(
     alloc: Global,
     arch: SharedArch,

@@ -1,4 +1,4 @@
-//! A text that many own.
+//! A text with many owners.
 ghost use Rattle.std.specs.Prelude.{◌≡◌, ◌↔◌, IfOk, IfErr, IsTrue};
 
 use line_text::Text;
@@ -6,8 +6,8 @@ use std::alloc::{AllocError, AllocFailed, Global};
 use std::marker::Model;
 use std::sync::Arc;
 
-/// A text with many owners, which do not copy it: a tenancy, its jobs, its journal and its receipts
-/// have one netlist between them. Its value is the list of the text's bytes.
+/// A text with many owners, who don't copy it: a tenancy, its jobs, its journal and its receipts
+/// share one netlist. Its value is the list of the text's bytes.
 #[derive(Drop)]
 pub struct SharedText {
     text: Arc<Text>,
@@ -23,7 +23,7 @@ impl Model for SharedText {
 }
 
 impl SharedText {
-    /// The text, to be shared. Without memory it comes back.
+    /// Makes a text shared. If memory runs out, the text comes back.
     pub fn new(alloc: Global, text: Text) -> Result<Self, AllocFailed<Text>>
         ensures ok { IfOk result (λ shared. shared ≡ text) }
         ensures err { IfErr result (λ failed. failed.value ≡ text) }
@@ -33,14 +33,14 @@ impl SharedText {
         })
     }
 
-    /// The bytes.
+    /// The text's bytes.
     pub fn as_bytes(&self) -> &[u8]
         ensures { result.now ≡ self.now }
     {
         self.text.as_bytes()
     }
 
-    /// Whether both texts have the same bytes.
+    /// Returns whether both texts have the same bytes.
     pub fn same(&self, other: &SharedText) -> bool
         ensures { IsTrue result ↔ (self.now ≡ other.now) }
     {
@@ -51,7 +51,7 @@ impl SharedText {
 impl Clone for SharedText {
     ghost is_clone = { λ text copy. copy ≡ text };
 
-    /// One more owner. Copies nothing, and is refused only where the owners can't be counted any more.
+    /// Returns one more owner. Copies nothing; fails only if the number of owners overflows.
     fn clone(&self) -> Result<Self, AllocError> {
         Ok(SharedText {
             text: self.text.clone()?,

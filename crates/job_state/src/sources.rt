@@ -27,17 +27,18 @@ pub struct Sources {
     pub strip: Strip,
     /// The netlist.
     pub text: SharedText,
-    /// The places that are kept for blocks at the start of a placing, and of the placing that a routing goes on from; none for a
-    /// packing.
+    /// The places kept for blocks at the start of a placing, or of the placing that a routing
+    /// starts from; empty for a packing.
     pub kept: Kept,
-    /// The seed of a placing, and of the placing that a routing goes on from; 0 for a packing.
+    /// The seed of a placing, or of the placing that a routing starts from; 0 for a packing.
     pub seed: u64,
-    /// The effort of a placing, and of the placing that a routing goes on from; 0 for a packing.
+    /// The effort of a placing, or of the placing that a routing starts from; 0 for a packing.
     pub effort: u32,
 }
 
 impl Sources {
-    /// The sources of a packing. Shares the architecture and the netlist.
+    /// Returns the sources of a packing. Shares the architecture and the netlist; fails only if the
+    /// number of owners overflows.
     pub fn packing(arch: &SharedArch, strip: Strip, text: &SharedText) -> Result<Self, AllocError>
         ensures { IfOk result (λ sources. sources ≡ packing_sources arch.now strip text.now) }
     {
@@ -52,7 +53,8 @@ impl Sources {
         })
     }
 
-    /// The sources of a placing. Shares the architecture, the netlist and the kept places.
+    /// Returns the sources of a placing. Shares the architecture, the netlist and the kept places;
+    /// fails only if the number of owners overflows.
     pub fn placing(
         arch: &SharedArch,
         strip: Strip,
@@ -75,8 +77,9 @@ impl Sources {
         })
     }
 
-    /// The sources of a routing; the kept places, the seed and the effort are those of its placing. Shares the
-    /// architecture, the netlist and the kept places.
+    /// Returns the sources of a routing; the kept places, the seed and the effort are those of its
+    /// placing. Shares the architecture, the netlist and the kept places; fails only if the number
+    /// of owners overflows.
     pub fn routing(
         arch: &SharedArch,
         strip: Strip,
@@ -93,7 +96,7 @@ impl Sources {
         Ok(sources)
     }
 
-    /// Whether both are the same, by value.
+    /// Returns whether both are equal, by value.
     pub fn same(&self, other: &Sources) -> bool
         ensures { IsTrue result ↔ (self.now ≡ other.now) }
     {
@@ -110,7 +113,8 @@ impl Sources {
 impl Clone for Sources {
     ghost is_clone = { λ sources copy. copy ≡ sources };
 
-    /// One more owner of the architecture, the netlist and the kept places. Copies none of them.
+    /// Returns one more owner of the architecture, the netlist and the kept places. Copies none of
+    /// them.
     fn clone(&self) -> Result<Self, AllocError> {
         Ok(Sources {
             kind: self.kind,
@@ -124,7 +128,7 @@ impl Clone for Sources {
     }
 }
 
-/// Whether both architectures have the same numbers and the same pins.
+/// Returns whether both architectures have the same numbers and the same pins.
 pub(crate) fn same_arch(arch: &Arch, other: &Arch) -> bool
     ensures { IsTrue result ↔ (arch.now ≡ other.now) }
 {
@@ -138,7 +142,7 @@ pub(crate) fn same_arch(arch: &Arch, other: &Arch) -> bool
         && same_pins(arch.pins.as_slice(), other.pins.as_slice())
 }
 
-/// Whether both have the same pins, in order.
+/// Returns whether both have the same pins, in order.
 fn same_pins(pins: &[Pin], others: &[Pin]) -> bool
     ensures { IsTrue result ↔ (pins.now ≡ others.now) }
 {

@@ -1,4 +1,4 @@
-//! Where a routing stands.
+//! The stage of a routing: before its first iteration, or between two.
 ghost use Rattle.std.specs.Prelude.{◌≡◌, IfErr, IfOk};
 ghost use Rattle.rr_graph.specs.Graph.{Basis};
 ghost use Rattle.job_state.specs.UnderWay.{GoesOn};
@@ -16,7 +16,8 @@ pub(crate) struct Begun {
     pub(crate) places: Vec<Place>,
 }
 
-/// A routing before its first iteration, when nothing is made yet that asks for a graph, or between two.
+/// A routing before its first iteration, when nothing that needs a graph is made yet, or between
+/// two iterations.
 #[derive(Drop)]
 pub(crate) enum Stage {
     Begun(Begun),
@@ -26,7 +27,7 @@ pub(crate) enum Stage {
 impl Stage {
     ghost use Rattle.job_state.specs.Stages.{IsOf, state_at};
 
-    /// The routing on its graph. Without memory it comes back.
+    /// Returns the routing on its graph. If memory runs out, the stage comes back.
     pub(crate) fn on<G: StripGraph>(self, alloc: Global, graph: &G) -> Result<Routing, Stage>
         requires { IsOf (G.basis graph.now) self }
         ensures made { IfOk result (λ routing. routing ≡ state_at (G.basis graph.now) self) }
@@ -44,7 +45,7 @@ impl Begun {
     ghost use Rattle.job_state.specs.Stages.{IsOf, state_at};
     ghost use Rattle.job_state.specs.declared.stage.Stage.{Stage};
 
-    /// The routing on its graph. Without memory it comes back.
+    /// Returns the routing on its graph. If memory runs out, the stage comes back.
     fn on<G: StripGraph>(self, alloc: Global, graph: &G) -> Result<Routing, Stage>
         requires { IsOf (G.basis graph.now) (Stage.Begun self) }
         ensures made { IfOk result (λ routing.

@@ -1,8 +1,8 @@
 //! Which step of which job.
 use crate::sources::Sources;
 
-/// Which step of which job: the tenancy's id, the generation that the job began, and the how many-th of the job's steps it
-/// is, from 1.
+/// Which step of which job: the tenancy's id, the tenancy's generation when the job began, and the
+/// step's number within the job, from 1.
 #[derive(Drop)]
 pub struct JobStep {
     pub id: u32,

@@ -28,7 +28,8 @@ pub(crate) enum Work {
     Placed(Placing),
     /// A routing under way.
     Routing(RoutingJob),
-    /// A routing's last iteration found these routes, but there was no memory to list what they hold.
+    /// A routing's last iteration found these routes, but memory ran out when what they occupy was
+    /// to be listed.
     Unlisted(Routed),
     /// A routing found these routes.
     Routed(Listed),
@@ -39,8 +40,8 @@ pub(crate) enum Work {
 }
 
 impl Work {
-    /// Makes one step more; a routing's goes over its strip's graph. Without memory the work comes back as it was, or with routes
-    /// that aren't listed yet. A placing takes none.
+    /// Makes one more step; a routing's step works on its strip's graph. If memory runs out, the
+    /// work comes back as it was, or with routes that aren't listed yet. A placing takes no memory.
     pub(crate) fn next<G: StripGraph>(self, graph: &G) -> Result<Work, Work>
         requires going { is_whole self ≡ false }
         requires graph { graph_for (G.basis graph.now) self ≡ G.basis graph.now }
@@ -61,7 +62,7 @@ impl Work {
         }
     }
 
-    /// How far it is; a routing's overuse is that of its strip's graph.
+    /// Its progress; a routing's overuse is that of its strip's graph.
     pub(crate) fn progress<G: StripGraph>(&self, graph: &G) -> Progress
         requires { graph_for (G.basis graph.now) self.now ≡ G.basis graph.now }
         ensures { IsProgress self.now result }
@@ -79,7 +80,7 @@ impl Work {
         }
     }
 
-    /// Whether no step is left to make.
+    /// Returns whether no step is left to make.
     pub(crate) fn is_whole(&self) -> bool
         ensures { result ≡ is_whole self.now }
     {
@@ -91,7 +92,7 @@ impl Work {
     }
 }
 
-/// What a whole packing has made.
+/// The progress of a whole packing.
 fn packed_progress(packed: &Packed) -> Progress
     ensures { IsProgress (Work.Packed packed.now) result }
 {
@@ -102,7 +103,7 @@ fn packed_progress(packed: &Packed) -> Progress
     }
 }
 
-/// The placing after one pass more. Takes no memory.
+/// Returns the placing after one more pass. Takes no memory.
 fn passed(mut placing: Placing) -> Work
     ensures { result ≡ placing_stands (one_more placing) }
 {
@@ -112,7 +113,7 @@ fn passed(mut placing: Placing) -> Work
     }
 }
 
-/// A routing with routes, to be listed. Without memory they come back.
+/// Lists what a routing with routes occupies. If memory runs out, the routes come back unlisted.
 pub(crate) fn ended(routed: Routed) -> Result<Work, Work>
     ensures made { IfOk result (λ work. work ≡ Work.Routed routed) }
     ensures back { IfErr result (λ work. work ≡ Work.Unlisted routed) }

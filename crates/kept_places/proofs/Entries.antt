@@ -74,7 +74,7 @@ pub told : (b : Bool) → T b → IsTrue b
 told true e = refl
 told false e = absurd e
 
--- in the order of the keys, by test and by word
+-- in the order of the keys, as a test and as a property
 below-from_all : (k : BlockKey) (es : List Entry) → AllByRecursion (λ y. key_order k y ≡ Less) (keys_of es) → T (below_all key_order k es)
 below-from_all k [] all = tt
 below-from_all k (e ∷ es) all = both (is_lt (key_order k e.0)) (below_all key_order k es) (is_less (key_order k e.0) all.0) (below-from_all k es all.1)
@@ -98,11 +98,11 @@ rises (e ∷ es) up =
 pub distinct : (es : List Entry) → T (is_sorted key_order es) → IsDistinct (eq_by_cmp key_order) (keys_of es)
 distinct es up = IsDistinct-from_sorted key_order (keys_of es) (rises es up)
 
--- keys that are told to be the same are
+-- keys that compare as equal are equal
 pub tied : (a b : BlockKey) → eq_by_cmp key_order a b ≡ true → a ≡ b
 tied a b e = key_same a b (equal (key_order a b) e)
 
--- what is found in entries is found in them in another order
+-- an entry that is found is also found in another order of the entries
 module _ (es fs : List Entry) (moved : IsPermutation es fs) (apart : IsDistinct (eq_by_cmp key_order) (keys_of es)) where
   pub apart_too : IsDistinct (eq_by_cmp key_order) (keys_of fs)
   apart_too = IsDistinct-IsPermutation (eq_by_cmp key_order) (eq_by_cmp_equiv key_total).symm (keys_of es) (keys_of fs) (IsPermutation-map (λ (e : Entry). e.0) es fs moved) apart
@@ -121,20 +121,20 @@ module _ (es fs : List Entry) (moved : IsPermutation es fs) (apart : IsDistinct 
   pub find-permutation : (q : BlockKey) → find key_order q fs ≡ find key_order q es
   find-permutation q = find-lookup q fs ∙ (same_lookup q _ _ refl refl ∙ sym (find-lookup q es))
 
--- lists in order in which the same is found are the same
+-- two lists in order are equal if all searches find the same in them
 pub same : (es fs : List Entry) → IsTrue (is_sorted key_order es) → IsTrue (is_sorted key_order fs) → ((q : BlockKey) → find key_order q es ≡ find key_order q fs) → es ≡ fs
 same es fs up rise found = same_entries key_order key_total key_same es fs (holds (is_sorted key_order es) up) (holds (is_sorted key_order fs) rise) found
 
--- entries in order are a map as they stand
+-- entries in order are already the map
 pub as_they_stand : (es fs : List Entry) → IsPermutation es fs → IsDistinct (eq_by_cmp key_order) (keys_of es) → IsTrue (is_sorted key_order fs) → fs ≡ in_order es
 as_they_stand es fs moved apart up = same fs (in_order es) up (told (is_sorted key_order (in_order es)) (in_order-sorted es)) (λ q. find-permutation es fs moved apart q ∙ sym (find-in_order q es))
 
--- what a search finds
+-- the entry that a search finds
 pub found : (es : List Entry) (q : BlockKey) (at : ℕ) (k : BlockKey) (place : Place) → IsTrue (is_sorted key_order es) → slice_get es at ≡ Some (k, place) → key_order q k ≡ Equal → find key_order q es ≡ Some place
 found es q at k place up is tie =
     find-lookup q es ∙ lookup_from_place (eq_by_cmp_equiv key_total) es at q place (distinct es (holds (is_sorted key_order es) up)) (is ∙ ap (λ (key : BlockKey). let e : Option Entry = Some (key, place) in e) (sym (key_same q k tie)))
 
--- all entries before the place stand before the key, and those from there on behind it
+-- the entries before `low` have lesser keys, and those from `high` on have greater ones
 pub record IsBetween (es : List Entry) (q : BlockKey) (low high : ℕ) : Type 0 where
   pub ordered : low ≤ high
   pub within : high ≤ length es
@@ -148,7 +148,7 @@ missed es q low high up met between =
 pub between_all : (es : List Entry) (q : BlockKey) → IsBetween es q 0 (length es)
 between_all es q = record { ordered = omega arith; within = omega arith; before = λ j e lt is. absurd (omega (arith, lt)); behind = λ j e past is. absurd (let w = slice_get_within es j e is in omega (arith, w, past)) }
 
--- the first of two keys of a list in order stands before the second
+-- of two entries of a list in order, the first has the lesser key
 rising : (es : List Entry) (i j : ℕ) (e f : Entry) → IsTrue (is_sorted key_order es) → i < j → slice_get es i ≡ Some e → slice_get es j ≡ Some f → key_order e.0 f.0 ≡ Less
 rising es i j e f up lt first second =
     let one : get_or (keys_of es) i e.0 ≡ e.0 = get_or-map (λ (x : Entry). x.0) es i e e.0 (slice_get_within es i e first) ∙ ap (λ (x : Entry). x.0) (get_or_from_slice_get es i e e first) in
@@ -156,7 +156,7 @@ rising es i j e f up lt first second =
     let small : j < length (keys_of es) = omega (arith, length-map es (λ (x : Entry). x.0), slice_get_within es j f second) in
     sym (ap (λ (k : BlockKey). key_order k f.0) one) ∙ (sym (ap (key_order (get_or (keys_of es) i e.0)) other) ∙ Less-from_sorted key_order (keys_of es) i j e.0 (rises es (holds (is_sorted key_order es) up)) lt small)
 
--- one place has one entry
+-- the entry at an index is unique
 one_entry : (es : List Entry) (i j : ℕ) (e f : Entry) → i ≡ j → slice_get es i ≡ Some e → slice_get es j ≡ Some f → e ≡ f
 one_entry es i j e f same first second = let s : Some e ≡ Some f = sym first ∙ (ap (slice_get es) same ∙ second) in cc
 

@@ -1,4 +1,4 @@
--- A table that is filled.
+-- A table that is filled entry by entry.
 use Rattle.std.proofs.Common.{ℕ, ◌≡◌, ◌+◌, ◌<◌, ◌≤◌, List, [], ◌∷◌, ◌++◌, length, take, map, get_or, refl, sym, ap, ◌∙◌, arith, length-append}
 use Rattle.std.proofs.lemmas.List.{get_or_default, map_push, map_more, take_all}
 use Rattle.cluster.specs.Keys.{BlockKey}
@@ -9,7 +9,7 @@ use Rattle.kept_places.specs.declared.table.Row.{Row}
 use Rattle.kept_places.specs.Table.{entries_of, entry_of}
 use Rattle.kept_places.specs.Rows.{AreNamed, entries_at, entry_at}
 
--- the rows of the first so many entries
+-- the rows of the first `index` entries
 pub record IsFilling (entries : List KeptPlace) (index : ℕ) (names : List ℕ) (rows : List Row) : Type 0 where
   pub named : AreNamed (length names) rows
   pub listed : entries_at names rows ≡ map entry_of (take index entries)
@@ -21,7 +21,7 @@ named_push : (count more : ℕ) (rows : List Row) (row : Row) → AreNamed count
 named_push count more [] row named grows ordered within = ((ordered, within), tt)
 named_push count more (first ∷ rows) row named grows ordered within = ((named.0.0, omega (arith, named.0.1, grows)), named_push count more rows row named.1 grows ordered within)
 
--- what is named keeps its names
+-- rows keep their entries when more names are appended
 entries_stay : (names more : List ℕ) (rows : List Row) → AreNamed (length names) rows → entries_at (names ++ more) rows ≡ entries_at names rows
 entries_stay names more [] named = refl
 entries_stay names more (row ∷ rows) named =

@@ -16,7 +16,7 @@ use Rattle.kept_places.specs.contracts.table.KeptPlaceOrd.TheImpl.{cmp-value as 
 use Rattle.kept_places.specs.declared.table.KeptPlace.{KeptPlace}
 use Rattle.kept_places.specs.Table.{entry_of, key_of}
 
--- the kind and the name in one text
+-- the kind and the name in one list
 abbrev key_text : BlockKey → List ℕ
 key_text key = kind_number key.kind ∷ key.name
 
@@ -37,7 +37,7 @@ same_kind Cluster Cluster e = refl
 abbrev make : BlockKind → List ℕ → BlockKey
 make kind name = record { kind = kind; name = name }
 
--- keys that tie are equal
+-- keys that compare as equal are equal
 pub key_same : (a b : BlockKey) → key_order a b ≡ Equal → a ≡ b
 key_same a b e =
     let texts : key_text a ≡ key_text b = slice_cmp-IsAntisymmetric nat_cmp-IsAntisymmetric (key_text a) (key_text b) e in
@@ -59,11 +59,11 @@ by_number Cluster Cluster = refl
 lower : (a rest : Ordering) → a ≡ Less → is_lt (ordering_then a rest) ≡ true
 lower a rest e = rw e refl
 
--- the program's order of keys
+-- the program's order of keys is that of the specification
 pub by_key : (a b : Key) → key_cmp.it a b ≡ key_order (key_of a) (key_of b)
 by_key a b = ap (λ (r : Ordering). ordering_then r (slice_cmp nat_cmp a.name.now b.name.now)) (by_number a.kind b.kind)
 
--- what stands before another by its key stands before it
+-- an entry with a lesser key comes before one with a greater key
 pub before : (a b : KeptPlace) → key_order (entry_of a).0 (entry_of b).0 ≡ Less → is_lt (place_cmp.it a b) ≡ true
 before a b e =
     let names = slice_cmp nat_cmp a.key.name.now b.key.name.now in

@@ -1,4 +1,4 @@
--- Entries that were sorted.
+-- Entries after sorting.
 use Rattle.std.proofs.Common.{ℕ, ◌≡◌, ◌+◌, ◌<◌, Bool, true, false, T, List, [], ◌∷◌, length, map, get_or, refl, sym, ap, ◌∙◌, arith}
 use Rattle.std.specs.declared.cmp.Ordering.{Ordering}
 use Rattle.std.specs.declared.cmp.Ordering.TheVariants.{Less, Equal, Greater}
@@ -29,7 +29,7 @@ key_at es i d k lt =
     let within : i < length (entries_of es) = omega (arith, length-map es entry_of, lt) in
     get_or-map (λ (e : BlockKey × Place). e.0) (entries_of es) i (entry_of d) k within ∙ ap (λ (e : BlockKey × Place). e.0) (get_or-map entry_of es i d (entry_of d) lt)
 
--- sorted entries of different keys stand in the order of the keys
+-- sorted entries with different keys are in the order of the keys
 in_key_order_by : (es : List KeptPlace) (d : KeptPlace) → IsSorted place_cmp.it es → IsDistinct (eq_by_cmp key_order) (keys_of (entries_of es)) → T (is_sorted key_order (entries_of es))
 in_key_order_by es d sorted apart =
     is_sorted-from (entries_of es) (sorted_from_all_adjacent key_total (keys_of (entries_of es)) (entry_of d).0 rising)

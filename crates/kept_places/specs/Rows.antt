@@ -14,7 +14,7 @@ entry_at names row = (record { kind = row.kind; name = part_of names row.name },
 abbrev pub entries_at : List ℕ → List Row → KeptPlaces
 entries_at names rows = map (entry_at names) rows
 
--- the names stand within the bytes
+-- each name's span lies within this number of bytes
 abbrev pub AreNamed : ℕ → List Row → Type 0
 AreNamed count rows = AllByRecursion (λ row. (row.name.start ≤ row.name.end) × (row.name.end ≤ count)) rows
 

@@ -1,4 +1,4 @@
--- Private: a table with many owners, or none.
+-- Private: a table with many owners, or no table.
 use Rattle.std.specs.Prelude.{[], Option, Some, None}
 use Rattle.std.specs.Arc.{arc_value}
 use Rattle.std.specs.declared.sync.Arc.{Arc}

@@ -1,4 +1,4 @@
--- Private: entries as the program has them.
+-- Private: the values of the program's entries.
 use Rattle.std.specs.Prelude.{List, map}
 use Rattle.cluster.specs.Keys as specs
 use Rattle.cluster.specs.declared.block.BlockKey.{BlockKey}

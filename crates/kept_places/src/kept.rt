@@ -1,4 +1,4 @@
-//! Places with many owners.
+//! Kept places with many owners.
 ghost use Rattle.std.specs.Prelude.{◌≡◌, ◌↔◌, [], IfOk, IsTrue};
 ghost use Rattle.std.specs.List.{IsDistinct};
 ghost use Rattle.std.specs.Map.{keys_of};
@@ -14,8 +14,8 @@ use std::alloc::{AllocError, Global};
 use std::marker::Model;
 use std::sync::Arc;
 
-/// Places that are kept for blocks, with many owners, which do not copy them. Its value is the map from keys to places, as a
-/// list in the order of the keys.
+/// Places that are kept for blocks, with many owners, who share one copy. Its value is the map from
+/// keys to places, as a list in the order of the keys.
 #[derive(Drop)]
 pub struct Kept {
     table: Option<Arc<Table>>,
@@ -31,14 +31,14 @@ impl Model for Kept {
 }
 
 impl Kept {
-    /// No place is kept. Takes no memory.
+    /// An empty map. Takes no memory.
     pub fn none() -> Self
         ensures { result ≡ [] }
     {
         Kept { table: None }
     }
 
-    /// The map of these entries, no two of which have one key. Copies the names.
+    /// The map of these entries, whose keys are all different. Copies the names.
     pub fn of(alloc: Global, entries: Vec<KeptPlace<'_>>) -> Result<Self, AllocError>
         requires { IsDistinct (eq_by_cmp key_order) (keys_of (entries_of entries.items)) }
         ensures { IfOk result (λ kept. kept ≡ in_order (entries_of entries.entry.items)) }
@@ -50,7 +50,7 @@ impl Kept {
         }
     }
 
-    /// The place that is kept for the block of that key, if one is. Takes no memory.
+    /// The place that is kept for the block with this key, if there is one. Takes no memory.
     pub fn place_of(&self, key: BlockKey<'_>) -> Option<Place>
         ensures { result ≡ kept_place self.now (key_of key.entry) }
     {
@@ -60,7 +60,7 @@ impl Kept {
         }
     }
 
-    /// Whether both are the same map, by value.
+    /// Whether both maps have equal values.
     pub fn same(&self, other: &Kept) -> bool
         ensures { IsTrue result ↔ (self.now ≡ other.now) }
     {
@@ -75,7 +75,7 @@ impl Kept {
 impl Clone for Kept {
     ghost is_clone = { λ kept copy. copy ≡ kept };
 
-    /// One more owner. Copies nothing, and is refused only where the owners can't be counted any more.
+    /// Adds an owner, without copying. Fails only if the number of owners overflows.
     fn clone(&self) -> Result<Self, AllocError> {
         match &self.table {
             None => Ok(Kept { table: None }),

@@ -1,8 +1,8 @@
-//! Places that are kept for blocks: a map from what a block is told by, its kind and its name, to a place.
+//! Places that are kept for blocks: a map from a block's key, its kind and its name, to a place.
 //!
-//! [`Kept`] is such a map with many owners, which do not copy it. Its value is the list of its entries in the order of kinds
-//! and names, so two maps are the same just where their values are equal. It is made once, of all its entries, and tells
-//! which place a block keeps.
+//! [`Kept`] is such a map with many owners, who share one copy. Its value is the list of its
+//! entries in the order of kinds and names, so two maps are the same if and only if their values
+//! are equal. It is built once, from all its entries, and is asked for the place of a block.
 #![tactic(auto)]
 
 mod kept;

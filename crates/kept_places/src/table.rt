@@ -1,4 +1,4 @@
-//! Places by key, in order.
+//! Places by key, in the order of the keys.
 ghost use Rattle.std.specs.Prelude.{◌≡◌, ◌↔◌, ◌<◌, [], length, slice_get, Some, IfOk, IsTrue};
 ghost use Rattle.std.specs.FinMap.{is_sorted};
 ghost use Rattle.std.specs.List.{IsDistinct};
@@ -18,13 +18,13 @@ use std::marker::Model;
 /// A place that is kept for a block.
 #[derive(Clone, Copy, PartialEq, Eq, PartialOrd, Ord)]
 pub struct KeptPlace<'a> {
-    /// What the block is told by.
+    /// The block's key.
     pub key: BlockKey<'a>,
     /// Its place.
     pub place: Place,
 }
 
-/// An entry of a table, whose name stands among all names.
+/// An entry of a table, with the span of its name among all names.
 #[derive(Clone, Copy)]
 pub(crate) struct Row {
     pub(crate) kind: BlockKind,
@@ -32,7 +32,8 @@ pub(crate) struct Row {
     pub(crate) place: Place,
 }
 
-/// Places by key, in the order of the keys, no two of which are the same. Its value is the list of the entries.
+/// Places by key, in the order of the keys, which are all different. Its value is the list of the
+/// entries.
 #[derive(Drop)]
 pub(crate) struct Table {
     names: Vec<u8>,
@@ -51,7 +52,7 @@ impl Model for Table {
 }
 
 impl Table {
-    /// The table of these entries, whose keys are different.
+    /// The table of these entries, whose keys are all different.
     pub(crate) fn of(alloc: Global, mut entries: Vec<KeptPlace<'_>>) -> Result<Self, AllocError>
         requires { IsDistinct (eq_by_cmp key_order) (keys_of (entries_of entries.items)) }
         ensures { IfOk result (λ table. table ≡ in_order (entries_of entries.entry.items)) }
@@ -60,7 +61,7 @@ impl Table {
         Table::in_order(alloc, entries.as_slice())
     }
 
-    /// The table of entries that stand in the order of their keys.
+    /// The table of entries that are in the order of their keys.
     fn in_order(alloc: Global, entries: &[KeptPlace<'_>]) -> Result<Self, AllocError>
         requires { IsTrue (is_sorted key_order (entries_of entries.now)) }
         ensures { IfOk result (λ table. table ≡ entries_of entries.now) }
@@ -81,7 +82,7 @@ impl Table {
         Ok(Table { names, rows })
     }
 
-    /// The place that is kept for the block of that key.
+    /// The place that is kept for the block with this key, if there is one.
     pub(crate) fn place_of(&self, key: BlockKey<'_>) -> Option<Place>
         ensures { result ≡ kept_place self.now (key_of key.entry) }
     {
@@ -99,7 +100,7 @@ impl Table {
         None
     }
 
-    /// Whether both have the same entries.
+    /// Whether both tables have equal entries.
     pub(crate) fn same(&self, other: &Table) -> bool
         ensures { IsTrue result ↔ (self.now ≡ other.now) }
     {
@@ -121,7 +122,7 @@ impl Table {
         self.rows.is_empty()
     }
 
-    /// How many entries there are.
+    /// The number of entries.
     fn len(&self) -> usize
         ensures value { result ≡ length self.now }
         ensures rising { IsTrue (is_sorted key_order self.now) }
@@ -129,7 +130,7 @@ impl Table {
         self.rows.len()
     }
 
-    /// The entry of that number.
+    /// The entry with this number.
     fn entry(&self, number: usize) -> KeptPlace<'_>
         requires { number < length self.now }
         ensures { slice_get self.now number ≡ Some (entry_of result) }
@@ -145,7 +146,7 @@ impl Table {
     }
 }
 
-/// Whether both entries are the same.
+/// Whether both entries are equal.
 fn same_entry(entry: KeptPlace<'_>, other: KeptPlace<'_>) -> bool
     ensures { IsTrue result ↔ (entry_of entry.entry ≡ entry_of other.entry) }
 {

@@ -1,4 +1,4 @@
--- Bounds that agree along edges.
+-- Bounds that are consistent along edges.
 use Rattle.std.proofs.Common.{◌≡◌, ℕ, ◌+◌, ◌<◌, Option, Some, None, List, [], ◌∷◌, arith, ◌∙◌, ap}
 use Rattle.std.specs.List.{sum_by}
 use Rattle.std.proofs.lemmas.List.Sums.{sum_by-cons}
@@ -22,7 +22,7 @@ along g goal bound_at law c (x ∷ r) node b l =
     rw (sum_by-cons g.cost x r) (one_step (g.cost x) (sum_by g.cost r) (bound_at node) (bound_at x) (c.step node x b l.0)
     (along g goal bound_at law c r x (known_end law node x b l.0) l.1))
 
--- Bounds that agree along edges are lower bounds.
+-- Bounds that are consistent along edges are lower bounds.
 pub consistent_below : (g : Graph) (goal : ℕ) (bound_at : ℕ → Option ℕ) (node : ℕ) → IsLawful g → IsConsistent g goal bound_at → node < g.count → IsLowerBound g goal node (bound_at node)
 consistent_below g goal bound_at node law c b = go (bound_at node) (λ rest l. along g goal bound_at law c rest node b l)
   where

@@ -1,4 +1,4 @@
--- Buckets, one for each distance.
+-- Buckets, one for each key.
 use Rattle.std.proofs.Common.{◌≡◌, ◌≢◌, ℕ, zero, suc, refl, ◌<◌, ◌≤◌, Option, Some, None, Result, Ok, Err, OnOk, OnErr, IfSome, IfNone, List, [], ◌∷◌, ◌++◌, length, get_or, set, false, arith, ◌∙◌, inl, inr, sym, ap, subst, length-set, length-append}
 use Rattle.std.specs.List.{All}
 use Rattle.std.specs.List.Sorted.{IsPermutation}
@@ -15,7 +15,7 @@ use Rattle.std.proofs.lemmas.List.Sorted.{All-permutation, IsPermutation-sym, Is
 use Rattle.least_path.specs.Queue.{entry_cmp, bucket_at, all_of, IsQueue, TakesNearest}
 use Rattle.least_path.specs.declared.search.Waiting.{Waiting}
 
--- all are empty, where those before a place are, and those from an end before it
+-- all buckets are empty, if those before an index are and those from an earlier end on are
 pub all_empty : (near : List (List (Reverse Waiting))) (now end : ℕ) → end ≤ now → ((p : ℕ) → p < now → bucket_at near p ≡ []) → ((p : ℕ) → end ≤ p → bucket_at near p ≡ []) → (p : ℕ) → bucket_at near p ≡ []
 all_empty near now end past before after p = elim (cases_lt p now) [ inl b ↦ before p b | inr above ↦ after p (omega (arith, past, above)) ]
 
@@ -33,7 +33,7 @@ pub on_err : {A B P : Type 0} (r : Result A B) → P → OnErr r P
 on_err (Ok a) p = tt
 on_err (Err b) p = p
 
--- ---- all that waits
+-- ---- all entries
 
 pub all_put : (near : List (List (Reverse Waiting))) (place : ℕ) (entry : Reverse Waiting) → place < length near → IsPermutation (entry ∷ all_of near) (all_of (set near place (bucket_at near place ++ entry ∷ [])))
 all_put [] place entry l = absurd (omega arith)
@@ -59,7 +59,7 @@ pub all_none : (near : List (List (Reverse Waiting))) → ((place : ℕ) → buc
 all_none [] each = refl
 all_none (bucket ∷ near) each = rw (each 0) (all_none near (λ place. each (suc place)))
 
--- ---- what queues keep
+-- ---- the invariant of queues
 
 module _ {near : List (List (Reverse Waiting))} {first end : ℕ} {far : List (Reverse Waiting)} (queue : IsQueue near first end far) where
   pub queue_put : (place : ℕ) (entry : Reverse Waiting) (now past : ℕ) → place < length near → entry.0.at_least ≡ place → now ≤ first → now ≤ place → end ≤ past → place < past → past ≤ length near
@@ -80,7 +80,7 @@ module _ {near : List (List (Reverse Waiting))} {first end : ℕ} {far : List (R
         order = queue.order;
       }
 
-  -- where all before a place is empty, what comes out there is nearest
+  -- if all buckets before an index are empty, an entry of that bucket is nearest
   module _ (place : ℕ) (entry : Reverse Waiting) (rest : List (Reverse Waiting)) (l : place < end) (before : (p : ℕ) → p < place → bucket_at near p ≡ []) (out : bucket_at near place ≡ rest ++ entry ∷ []) where
     here : All (λ (x : Reverse Waiting). x.0.at_least ≡ place) (rest ++ entry ∷ [])
     here = let P : List (Reverse Waiting) → Type 0 = λ z. All (λ (x : Reverse Waiting). x.0.at_least ≡ place) z in subst P out (queue.level place)
@@ -122,13 +122,13 @@ module _ {near : List (List (Reverse Waiting))} {first end : ℕ} {far : List (R
 
 -- ---- the heap
 
--- not less, by the first part
+-- not less, by the first criterion
 not_less : (a b : ℕ) (o p : Ordering) → MatchOrdering o (a < b) (a ≡ b) (b < a) → is_lt (ordering_then o p) ≡ false → b ≤ a
 not_less a b Less p m e = cc
 not_less a b Greater p m e = omega (arith, m)
 not_less a b Equal p m e = omega (arith, m)
 
--- what is left in the heap is no nearer than what came out
+-- the entries left in the heap are no nearer than the one that was taken
 pub none_less : (x : Reverse Waiting) (heap : List (Reverse Waiting)) → IsUpperBound entry_cmp x heap → All (λ (y : Reverse Waiting). x.0.at_least ≤ y.0.at_least) heap
 none_less x heap u = λ k d l.
     let y = get_or heap k d in
@@ -136,7 +136,7 @@ none_less x heap u = λ k d l.
     not_less y.0.at_least x.0.at_least (nat_cmp y.0.at_least x.0.at_least) (ordering_then (nat_cmp x.0.cost.0 y.0.cost.0) (nat_cmp y.0.node x.0.node))
     (ranked y.0.at_least x.0.at_least (nat_cmp y.0.at_least x.0.at_least) refl) e
 
--- ---- what the queue does, by its parts
+-- ---- the queue's operations, by its parts
 
 pub queue_none : (near : List (List (Reverse Waiting))) (far : List (Reverse Waiting)) (first : ℕ) → ((p : ℕ) → bucket_at near p ≡ []) → far ≡ [] → IsHeap entry_cmp far → IsQueue near first 0 far
 queue_none near far first each e order = record {
@@ -170,7 +170,7 @@ queue_far near first end far new entry queue l p order = record {
   order = order;
 }
 
--- where the buckets are empty, the nearest comes from the heap
+-- if the buckets are empty, the nearest entry is the heap's
 pub far_taken : (near : List (List (Reverse Waiting))) (far new : List (Reverse Waiting)) (entry : Reverse Waiting) → ((p : ℕ) → bucket_at near p ≡ []) → IsPermutation far (entry ∷ new) → IsUpperBound entry_cmp entry new → TakesNearest (all_of near ++ far) entry (all_of near ++ new)
 far_taken near far new entry each p upper = rw (all_none near each) (record { taken = p; nearest = none_less entry new upper })
 
@@ -184,17 +184,17 @@ queue_rest near first end now far new entry queue each p order = record {
   order = order;
 }
 
--- up to where a look at the buckets came, they are empty
+-- the buckets before the one that a search found are empty
 pub all_before : (near : List (List (Reverse Waiting))) (first now : ℕ) → ((p : ℕ) → p < first → bucket_at near p ≡ []) → ((p : ℕ) → first ≤ p → p < now → bucket_at near p ≡ []) → (p : ℕ) → p < now → bucket_at near p ≡ []
 all_before near first now low between p l = elim (cases_lt p first) [ inl b ↦ low p b | inr above ↦ between p above l ]
 
--- ---- what comes out
+-- ---- the entry that is taken
 
 module _ {near : List (List (Reverse Waiting))} {first end : ℕ} {far : List (Reverse Waiting)} (queue : IsQueue near first end far) (place : ℕ) (between : (p : ℕ) → first ≤ p → p < place → bucket_at near p ≡ []) where
   before_it : (p : ℕ) → p < place → bucket_at near p ≡ []
   before_it = all_before near first place queue.low between
 
-  -- the last of the first bucket that is not empty
+  -- the last entry of the first bucket that is not empty
   module _ (new : List (List (Reverse Waiting))) (l : place < end) (full : bucket_at near place ≢ []) where
     pub near_queue : (result : Option (Reverse Waiting)) → IfSome result (λ entry. (bucket_at near place ≡ bucket_at new place ++ entry ∷ []) × (new ≡ set near place (bucket_at new place))) → IfNone result (bucket_at near place ≡ []) → IsQueue new place end far
     near_queue None some none = absurd (full none)
@@ -208,7 +208,7 @@ module _ {near : List (List (Reverse Waiting))} {first end : ℕ} {far : List (R
         let P : List (List (Reverse Waiting)) → Type 0 = λ z. TakesNearest (all_of near ++ far) entry (all_of z ++ far) in
         subst P (sym some.1) (takes_near queue place entry (bucket_at new place) l before_it some.0)
 
-  -- the top of the heap, where all buckets are empty
+  -- the top of the heap, if all buckets are empty
   module _ (new : List (Reverse Waiting)) (past : end ≤ place) where
     each : (p : ℕ) → bucket_at near p ≡ []
     each = all_empty near place end past before_it queue.high

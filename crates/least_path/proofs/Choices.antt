@@ -1,4 +1,4 @@
--- Some of a list, chosen one after another.
+-- A selection from a list, made element by element.
 use Rattle.std.proofs.Common.{◌≡◌, ℕ, ◌+◌, ◌<◌, ◌≤◌, List, [], ◌∷◌, ◌++◌, length, get_or, take, arith, subst, length-append}
 use Rattle.std.specs.List.{Contains}
 use Rattle.std.proofs.lemmas.List.{take_all, take_more}
@@ -8,7 +8,7 @@ use Rattle.least_path.specs.Walk.{Selects}
 pub selects_none : (P Q : ℕ → Type 0) (xs : List ℕ) → Selects P Q (take 0 xs) []
 selects_none P Q xs = record { sound = λ k d l. absurd (omega arith); complete = λ k d l. absurd (omega arith); few = omega arith }
 
--- one that is chosen
+-- an element that is selected
 pub selects_takes : (P Q : ℕ → Type 0) (xs ys : List ℕ) (k x : ℕ) → k < length xs → get_or xs k 0 ≡ x → Selects P Q (take k xs) ys → P x → Selects P Q (take (k + 1) xs) (ys ++ x ∷ [])
 selects_takes P Q xs ys k x l e s p = rw (take_more xs k 0 l, e) (record {
   sound = All-push (λ y. Contains (take k xs ++ x ∷ []) y × P y) ys x
@@ -18,7 +18,7 @@ selects_takes P Q xs ys k x l e s p = rw (take_more xs k 0 l, e) (record {
   few = omega (arith, s.few, length-append ys (x ∷ []), length-append (take k xs) (x ∷ []));
 })
 
--- and one that isn't wanted
+-- an element that need not be selected
 pub selects_leaves : (P Q : ℕ → Type 0) (xs ys : List ℕ) (k x : ℕ) → k < length xs → get_or xs k 0 ≡ x → Selects P Q (take k xs) ys → (Q x → ⊥) → Selects P Q (take (k + 1) xs) ys
 selects_leaves P Q xs ys k x l e s unfit = rw (take_more xs k 0 l, e) (record {
   sound = λ i d m. (let q = s.sound i d m in (Contains-append_left (take k xs) (x ∷ []) _ q.0, q.1));

@@ -1,4 +1,4 @@
--- Labels of which the upper halves of the costs stand apart.
+-- Labels whose costs have their upper halves stored separately.
 use Rattle.std.proofs.Common.{◌≡◌, ℕ, refl, ◌-◌, ◌<◌, ◌≤◌, List, ◌++◌, length, take, get_or, set, replicate, arith, ◌∙◌, inl, inr, sym, ap, length-set}
 use Rattle.std.specs.List.{All, range_with_len}
 use Rattle.std.specs.Prelude.{slice_index}
@@ -40,7 +40,7 @@ labels_set cells highs node cell high l long =
           (sym (get_or-set_other before node i (label_of cell high) no_label n ∙ labels_at cells highs i no_label within))
     ])
 
--- what all epochs are at most
+-- an upper bound of all epochs
 pub past_cells : (cells : List Cell) (highs : List ℕ) (epoch : ℕ) → All (λ label. label.epoch ≤ epoch) (labels_of cells highs) → (node : ℕ) → node < length cells → (get_or cells node no_cell).epoch ≤ epoch
 past_cells cells highs epoch all node l = omega (arith, all node no_label (omega (arith, l, labels_len cells highs)), ap (λ (label : Label). label.epoch) (labels_at cells highs node no_label l))
 
@@ -49,11 +49,11 @@ past_labels cells highs epoch all node d l =
     let within : node < length cells = omega (arith, l, labels_len cells highs) in
     omega (arith, all node within, ap (λ (label : Label). label.epoch) (labels_at cells highs node d within))
 
--- whatever the upper halves are
+-- the bound of epochs doesn't depend on the upper halves
 pub past_kept : (cells : List Cell) (highs other : List ℕ) (epoch : ℕ) → All (λ label. label.epoch ≤ epoch) (labels_of cells highs) → All (λ label. label.epoch ≤ epoch) (labels_of cells other)
 past_kept cells highs other epoch all = past_labels cells other epoch (past_cells cells highs epoch all)
 
--- and with more cells of no search
+-- the bound of epochs still holds with more cells that belong to no search
 pub past_grown : (cells : List Cell) (highs other : List ℕ) (count more epoch : ℕ) → length cells ≤ count → All (λ label. label.epoch ≤ epoch) (labels_of cells highs)
     → All (λ label. label.epoch ≤ epoch) (labels_of (take count cells ++ replicate more no_cell) other)
 past_grown cells highs other count more epoch l all =

@@ -1,4 +1,4 @@
--- Buckets whose entries stand in one list.
+-- Buckets whose entries are stored in one list.
 use Rattle.std.proofs.Common.{◌≡◌, ◌≢◌, ℕ, zero, suc, refl, ◌-◌, ◌<◌, ◌≤◌, List, [], ◌∷◌, ◌++◌, length, get_or, set, map, replicate, arith, ◌∙◌, inl, inr, sym, ap, length-append}
 use Rattle.std.specs.List.{All}
 use Rattle.std.specs.Prelude.{slice_index}
@@ -9,7 +9,7 @@ use Rattle.least_path.specs.Buckets.{no_link, linked_at, down_from, stack_of, st
 use Rattle.least_path.specs.Queue.{bucket_at}
 use Rattle.least_path.specs.declared.search.buckets.Linked.{Linked}
 
--- nothing is below the lowest
+-- no entry is below the lowest
 pub down_none : (entries : List Linked) (more : ℕ) → down_from entries more 0 ≡ []
 down_none entries zero = refl
 down_none entries (suc more) = refl
@@ -17,7 +17,7 @@ down_none entries (suc more) = refl
 push_some : {X : Type 0} (xs : List X) (x : X) → xs ++ x ∷ [] ≢ []
 push_some xs x e = omega (arith, ap length e, length-append xs (x ∷ []))
 
--- what has no top is empty, and only that
+-- a bucket is empty if and only if it has no top
 pub top_of_none : (entries : List Linked) (top : ℕ) → stack_of entries top ≡ [] → top ≡ 0
 top_of_none entries zero e = refl
 top_of_none entries (suc k) e = absurd (push_some (down_from entries k (linked_at entries k).below) (linked_at entries k).entry e)
@@ -27,7 +27,7 @@ map_same f g [] same = refl
 map_same f g (x ∷ xs) same = rw (same 0 (omega arith), map_same f g xs (λ k l. same (suc k) (omega (arith, l)))) refl
 
 module _ (entries : List Linked) (below : (k : ℕ) → k < length entries → (linked_at entries k).below ≤ k) where
-  -- how many may be looked at does not matter once there are enough
+  -- the limit on the number of entries doesn't matter once it is large enough
   down_same : (more other top : ℕ) → top ≤ more → top ≤ other → top ≤ length entries → down_from entries more top ≡ down_from entries other top
   down_same more other zero a b l = down_none entries more ∙ sym (down_none entries other)
   down_same zero other (suc k) a b l = absurd (omega arith)
@@ -36,13 +36,13 @@ module _ (entries : List Linked) (below : (k : ℕ) → k < length entries → (
       let low = below k (omega (arith, l)) in
       ap (λ z. z ++ (linked_at entries k).entry ∷ []) (down_same more other (linked_at entries k).below (omega (arith, low, a)) (omega (arith, low, b)) (omega (arith, low, l)))
 
-  -- a top, and what is below it
+  -- a top entry, and the entries below it
   pub stack_top : (k : ℕ) → k < length entries → stack_of entries (suc k) ≡ stack_of entries (linked_at entries k).below ++ (linked_at entries k).entry ∷ []
   stack_top k l =
       let low = below k l in
       ap (λ z. z ++ (linked_at entries k).entry ∷ []) (down_same k (linked_at entries k).below (linked_at entries k).below low (omega arith) (omega (arith, low, l)))
 
-  -- one entry more changes no bucket
+  -- one more entry changes no bucket
   down_pushed : (link : Linked) (more top : ℕ) → top ≤ length entries → down_from (entries ++ link ∷ []) more top ≡ down_from entries more top
   down_pushed link zero top l = refl
   down_pushed link (suc more) zero l = refl
@@ -67,11 +67,11 @@ module _ (entries : List Linked) (below : (k : ℕ) → k < length entries → (
   pub stacks_pushed : (tops : List ℕ) (link : Linked) → All (λ top. top ≤ length entries) tops → stacks_of tops (entries ++ link ∷ []) ≡ stacks_of tops entries
   stacks_pushed tops link within = map_same (stack_of (entries ++ link ∷ [])) (stack_of entries) tops (λ k l. down_pushed link (get_or tops k 0) (get_or tops k 0) (within k 0 l))
 
--- a bucket by its top
+-- a bucket, from its top
 pub bucket_by_top : (tops : List ℕ) (entries : List Linked) (place : ℕ) → place < length tops → bucket_at (stacks_of tops entries) place ≡ stack_of entries (get_or tops place 0)
 bucket_by_top tops entries place l = get_or-map (stack_of entries) tops place 0 [] l
 
--- what has no top is empty, and what is empty has none
+-- a bucket at an index is empty if and only if it has no top
 module _ (tops : List ℕ) (entries : List Linked) (place : ℕ) where
   pub no_top : bucket_at (stacks_of tops entries) place ≡ [] → slice_index tops place ≡ 0
   no_top e = elim (cases_lt place (length tops)) [
@@ -85,11 +85,11 @@ module _ (tops : List ℕ) (entries : List Linked) (place : ℕ) where
     | inr past ↦ get_or_past (stacks_of tops entries) place [] (omega (arith, past, length-map tops (stack_of entries)))
   ]
 
--- all are 0, where those before a place are, and those from an end before it
+-- all are 0, if those before an index are and those from an earlier end on are
 pub all_zero : (tops : List ℕ) (now end : ℕ) → end ≤ now → ((p : ℕ) → p < now → slice_index tops p ≡ 0) → ((p : ℕ) → end ≤ p → slice_index tops p ≡ 0) → (p : ℕ) → slice_index tops p ≡ 0
 all_zero tops now end past before after p = elim (cases_lt p now) [ inl b ↦ before p b | inr above ↦ after p (omega (arith, past, above)) ]
 
--- zeros and more of them
+-- zeros, with more zeros appended
 pub zeros_more : (tops : List ℕ) (more : ℕ) → ((place : ℕ) → slice_index tops place ≡ 0) → (place : ℕ) → slice_index (tops ++ replicate more 0) place ≡ 0
 zeros_more tops more each place = elim (cases_lt place (length tops)) [
   | inl l ↦ get_or_append_left tops (replicate more 0) 0 place l ∙ each place
@@ -120,7 +120,7 @@ module _ {tops : List ℕ} {entries : List Linked} (linked : AreLinked tops entr
       rw one (stack_pushed entries linked.below link (rw e (linked.within place 0 l)) ∙ ap (λ z. z ++ link.entry ∷ []) (ap (stack_of entries) e ∙ sym (bucket_by_top tops entries place l))) in
       map-set (stack_of (entries ++ link ∷ [])) tops place top ∙ (λ i. set (stacks_pushed entries linked.below tops link linked.within i) place (new i))
 
-  -- without its top
+  -- the bucket without its top
   pub linked_take : (k : ℕ) → get_or tops place 0 ≡ suc k → AreLinked (set tops place (linked_at entries k).below) entries
   linked_take k e =
       let inside : k < length entries = omega (arith, e, linked.within place 0 l) in

@@ -45,19 +45,19 @@ parent_of [] = None
 parent_of (Ahead stop ∷ below) = parent_of below
 parent_of (Entered stop ∷ below) = Some stop
 
--- what may come after it
+-- the nodes that may come after it
 abbrev pub frame_of : List Turn → List ℕ
 frame_of [] = []
 frame_of (Ahead stop ∷ below) = stop.node ∷ frame_of below
 frame_of (Entered stop ∷ below) = []
 
--- The node was entered at that cost.
+-- The node was entered at this cost.
 abbrev pub OnTrail : List Turn → ℕ → ℕ → Type 0
 OnTrail [] v c = ⊥
 OnTrail (Ahead stop ∷ below) v c = OnTrail below v c
 OnTrail (Entered stop ∷ below) v c = ((stop.node ≡ v) × (stop.cost ≡ c)) ⊎ OnTrail below v c
 
--- falls when a turn goes, and when one is entered
+-- decreases when an entry is removed, and when a node is entered
 abbrev pub weight : List Turn → ℕ
 weight [] = 0
 weight (Ahead stop ∷ below) = 2 + weight below
@@ -67,7 +67,7 @@ pub lighter_below : (turn : Turn) (below : List Turn) → weight below < weight 
 lighter_below (Ahead stop) below = omega arith
 lighter_below (Entered stop) below = omega arith
 
--- the path down to a node, and what follows
+-- the path down to a node, and the nodes that follow
 abbrev pub path_onto : List Turn → List ℕ → List ℕ
 path_onto [] rest = rest
 path_onto (Ahead stop ∷ below) rest = path_onto below rest
@@ -84,14 +84,15 @@ pub record IsNext (g : Graph) (starts : List ℕ) (best : ℕ) (stop : Stop) (be
   pub cheap : stop.cost ≤ best
   pub order : All (λ y. stop.node ≤ y) (frame_of below)
 
--- Each node may come after the ones below it; an entered one isn't the goal, and of its kin none is left out.
+-- Each node may come after the ones below it; an entered node isn't the goal, and no alternative to
+-- it is left out.
 abbrev pub Stands : Graph → List ℕ → ℕ → ℕ → List Turn → Type 0
 Stands g starts goal best [] = Unit {0}
 Stands g starts goal best (Ahead stop ∷ below) = IsNext g starts best stop below × Stands g starts goal best below
 Stands g starts goal best (Entered stop ∷ below) =
     IsNext g starts best stop below × ((stop.node ≢ goal) × (Covers g starts goal best (parent_of below) (stop.node ∷ frame_of below) × Stands g starts goal best below))
 
--- what the first pass found out
+-- the result of the first pass
 pub record IsFound (g : Graph) (starts : List ℕ) (goal best : ℕ) : Type 0 where
   pub law : IsLawful g
   pub starts_in : All (λ start. start < g.count) starts
@@ -131,16 +132,17 @@ module _ {g : Graph} {starts : List ℕ} {goal best : ℕ} (f : IsFound g starts
   pub next_reached : (ts : List Turn) (y : ℕ) → Stands g starts goal best ts → Contains (ends_of g starts (parent_of ts)) y → Reached g starts y (after g (parent_of ts) y)
   next_reached ts y s c = reach_by (parent_of ts) (parent_reached ts s) y c
 
-  -- A way on from where a path leads costs no less than what is left.
+  -- From a node to which a path leads, the rest of a way costs at least what is left of the best
+  -- cost.
   pub no_cheaper_on : (rest : List ℕ) (v c : ℕ) → Reached g starts v c → Leads g goal v rest → best ≤ c + sum_by g.cost rest
   no_cheaper_on [] v c r l = let low = f.none_cheaper r.path (rw l at r.is_path) in omega (arith, low, r.costs)
   no_cheaper_on (x ∷ rest) v c r l = let low = no_cheaper_on rest x (c + g.cost x) (Reached-step x (c + g.cost x) r l.0 refl) l.1 in omega (arith, low, sum_by-cons g.cost x rest)
 
-  -- So no way is short from a node at more than a path costs.
+  -- No way is short from a node at more than the cost of a path to it.
   pub not_dearer : (v c d : ℕ) (rest : List ℕ) → Reached g starts v c → c < d → IsShortWay g goal best v d rest → ⊥
   not_dearer v c d rest r l w = omega (arith, no_cheaper_on rest v c r w.leads, w.tight)
 
-  -- Along the path the costs rise.
+  -- Along the path the costs increase.
   pub trail_below : (ts : List Turn) (y v c : ℕ) → Stands g starts goal best ts → Contains (ends_of g starts (parent_of ts)) y → OnTrail ts v c → c < after g (parent_of ts) y
   trail_below [] y v c s i t = absurd t
   trail_below (Ahead stop ∷ below) y v c s i t = trail_below below y v c s.1 i t
@@ -153,7 +155,7 @@ module _ {g : Graph} {starts : List ℕ} {goal best : ℕ} (f : IsFound g starts
 
   -- ---- at the goal
 
-  -- Down from a node with its first short way on, each step is the least.
+  -- If each step is the least one, the first short way completes the least path.
   pub first_path : (below : List Turn) (x : ℕ) (rest nodes : List ℕ) → Stands g starts goal best below
       → Contains (ends_of g starts (parent_of below)) x → IsShortWay g goal best x (after g (parent_of below) x) rest
       → All (λ y. x ≤ y) nodes → Covers g starts goal best (parent_of below) nodes
@@ -205,7 +207,7 @@ path_of [] rest = refl
 path_of (Ahead stop ∷ xs) rest = rw (reverse-first (Ahead stop) xs, path_onto-append (reverse xs) (Ahead stop ∷ []) rest) (path_of xs rest)
 path_of (Entered stop ∷ xs) rest = rw (reverse-first (Entered stop) xs, path_onto-append (reverse xs) (Entered stop ∷ []) rest) (ap (λ z. stop.node ∷ z) (path_of xs rest))
 
--- a stack from the top, when a turn comes and when one goes
+-- a stack from its top, after an entry is pushed or removed
 pub reverse-push : (x : Turn) (xs : List Turn) → reverse (xs ++ x ∷ []) ≡ x ∷ reverse xs
 reverse-push x xs = reverse-append xs (x ∷ [])
 
@@ -214,9 +216,9 @@ nodes_in-append [] bs = refl
 nodes_in-append (Ahead stop ∷ xs) bs = nodes_in-append xs bs
 nodes_in-append (Entered stop ∷ xs) bs = ap (λ z. stop.node ∷ z) (nodes_in-append xs bs)
 
--- ---- the pass under way
+-- ---- the pass in progress
 
--- what is known of the labels while the pass goes on
+-- the invariant of the labels during the pass
 pub record Walking (g : Graph) (starts : List ℕ) (goal best epoch : ℕ) (labels : List Label) (ts : List Turn) : Type 0 where
   pub found : IsFound g starts goal best
   pub room : g.count ≤ length labels
@@ -227,7 +229,7 @@ pub record Walking (g : Graph) (starts : List ℕ) (goal best epoch : ℕ) (labe
   pub labelled : (v c : ℕ) (rest : List ℕ) → v < g.count → epoch_in labels v + 1 ≡ epoch → cost_in labels v < c → IsShortWay g goal best v c rest → ⊥
   pub entered : (v c : ℕ) (rest : List ℕ) → v < g.count → epoch_in labels v ≡ epoch → cost_in labels v ≤ c → IsShortWay g goal best v c rest → OnTrail ts v c
 
--- One that need not come next is left out.
+-- A node that need not come next is left out.
 less_covers : (g : Graph) (starts : List ℕ) (goal best : ℕ) (parent : Option Stop) (x : ℕ) (nodes : List ℕ) → Covers g starts goal best parent (x ∷ nodes)
     → ((rest : List ℕ) → IsShortWay g goal best x (after g parent x) rest → ⊥) → Covers g starts goal best parent nodes
 less_covers g starts goal best parent x nodes covers none y rest i w = elim (Contains_cases x y nodes (covers y rest i w)) [
@@ -250,7 +252,7 @@ module _ {g : Graph} {starts : List ℕ} {goal best epoch : ℕ} {labels : List 
     cheap = ahead_cheap w;
   }
 
-  -- A node ahead that leads nowhere is passed over.
+  -- A node ahead that leads nowhere is removed.
   pub passes_over : Walking g starts goal best epoch labels (Ahead stop ∷ below)
       → (((may : MayLead epoch labels stop.node stop.cost) (rest : List ℕ) → IsShortWay g goal best stop.node stop.cost rest → ⊥))
       → Walking g starts goal best epoch labels below
@@ -279,7 +281,7 @@ module _ {g : Graph} {starts : List ℕ} {goal best epoch : ℕ} {labels : List 
         entered = w.entered;
       }
 
-  -- An entered node with nothing on top is left.
+  -- An entered node on top of the stack is left.
   pub goes_back : Walking g starts goal best epoch labels (Entered stop ∷ below) → Walking g starts goal best epoch labels below
   goes_back w =
       let next = w.stands.0 in
@@ -319,7 +321,7 @@ module _ {g : Graph} {starts : List ℕ} {goal best epoch : ℕ} {labels : List 
         | (y ∷ q) ↦ λ o. absurd (omega (arith, o.tight, way.tight, sum_by-cons g.cost y q, w.found.law.cost_from y (known_end w.found.law goal y w.found.goal_in o.leads.0)))
       ] o)
 
--- ---- what is raised onto the stack
+-- ---- the nodes that are moved onto the stack
 
 module _ (g : Graph) (starts : List ℕ) (goal best : ℕ) (base : List Turn) (no_frame : frame_of base ≡ []) where
   abbrev raised : List ℕ → List Turn
@@ -356,7 +358,7 @@ module _ (g : Graph) (starts : List ℕ) (goal best : ℕ) (base : List Turn) (n
         raised_stands nodes (λ i j d le l. rises (suc i) (suc j) d (omega (arith, le)) (omega (arith, l))) (All-tail (λ y. Contains (ends_of g starts (parent_of base)) y × (after g (parent_of base) y ≤ best)) x nodes all) s,
       )
 
-  -- with all that may come next, the pass goes on
+  -- with all nodes that may come next, the pass continues
   raised_walks : {epoch : ℕ} {labels : List Label} (frame nodes : List ℕ) → IsFound g starts goal best → g.count ≤ length labels → 1 ≤ epoch → AreBounds g goal epoch labels → Stands g starts goal best base
       → ((v c : ℕ) (rest : List ℕ) → v < g.count → epoch_in labels v + 1 ≡ epoch → cost_in labels v < c → IsShortWay g goal best v c rest → ⊥)
       → ((v c : ℕ) (rest : List ℕ) → v < g.count → epoch_in labels v ≡ epoch → cost_in labels v ≤ c → IsShortWay g goal best v c rest → OnTrail base v c)
@@ -395,7 +397,7 @@ module _ (g : Graph) (starts : List ℕ) (goal best : ℕ) (base : List Turn) (n
 pub found_by : {g : Graph} {starts : List ℕ} {goal : ℕ} {most : Option ℕ} {best : ℕ} {s : Search} → IsLawful g → All (λ start. start < g.count) starts → goal < g.count → IsSettled g starts goal most best s → IsFound g starts goal best
 found_by law bs b z = record { law = law; starts_in = bs; goal_in = b; none_cheaper = no_cheaper law bs z; small = z.small }
 
--- the starts are raised
+-- the starts are moved onto the stack
 pub walking_starts : {g : Graph} {starts : List ℕ} {goal : ℕ} {most : Option ℕ} {best : ℕ} {s v : Search} → IsLawful g → All (λ start. start < g.count) starts → goal < g.count → IsSettled g starts goal most best s
     → All (λ (label : Label). label.epoch ≤ s.epoch) s.labels
     → Begins g starts goal best s v
@@ -419,7 +421,7 @@ walking_starts {g} {starts} {goal} {most} {best} {s} {v} law bs b z past k =
     absurd (omega (arith, old, te, e, ap (λ y. epoch_in y v) tl)))
     l.listed r.same r.rising)
 
--- A label of this pass leaves the bounds of the pass before as they are.
+-- A label of this pass doesn't change the bounds of the pass before.
 pub bounds_kept : (g : Graph) (goal epoch : ℕ) (labels : List Label) (node cost : ℕ) → node < length labels → AreBounds g goal epoch labels → AreBounds g goal epoch (set labels node (record { cost = cost; epoch = epoch; ahead = 0 }))
 bounds_kept g goal epoch labels node cost room bounds v b old =
     let label : Label = record { cost = cost; epoch = epoch; ahead = 0 } in
@@ -428,7 +430,7 @@ bounds_kept g goal epoch labels node cost room bounds v b old =
       | inr q ↦ rw (ahead_other labels node v label q.0) (bounds v b (omega (arith, q.2, old)))
     ]
 
--- and the pass stays guided
+-- the pass is still guided
 pub still_guided : {g : Graph} {goal : ℕ} {s t : Search} (stop : Stop) → IsGuided g goal s.epoch s.labels → stop.node < g.count → Enters s t stop → IsGuided g goal t.epoch t.labels
 still_guided {g} {goal} {s} {t} stop i b e =
     let room : stop.node < length s.labels = omega (arith, b, i.room) in
@@ -440,7 +442,7 @@ still_guided {g} {goal} {s} {t} stop i b e =
       bounds = rw (e.epoch, e.labels) (bounds_kept g goal s.epoch s.labels stop.node stop.cost room i.bounds);
     }
 
--- A node is entered, and what may come after it is raised.
+-- A node is entered, and the nodes that may come after it are moved onto the stack.
 pub walking_enters : {g : Graph} {starts : List ℕ} {goal best : ℕ} {s v : Search} (stop : Stop) → Walking g starts goal best s.epoch s.labels (Ahead stop ∷ reverse s.turns.items) → stop.node ≢ goal
     → GoesOn g goal best s v stop
     → Walking g starts goal best v.epoch v.labels (reverse v.turns.items)
@@ -484,7 +486,7 @@ pub left_behind : {g : Graph} {starts : List ℕ} {goal best : ℕ} {s t : Searc
 left_behind {g} {starts} {goal} {best} {s} {t} stop k w =
     rw (k.epoch, k.labels) (goes_back stop (reverse t.turns.items) (let P : List Turn → Type 0 = λ z. Walking g starts goal best s.epoch s.labels z in subst P (ap reverse k.turns ∙ reverse-push (Entered stop) t.turns.items) w))
 
--- Where the stack is empty, no path costs just that much.
+-- If the stack is empty, no path costs exactly this much.
 pub none_at : {g : Graph} {starts : List ℕ} {goal best : ℕ} (s : Search) → Walking g starts goal best s.epoch s.labels (reverse s.turns.items) → s.turns.items ≡ [] → HasNoneAt g starts goal best
 none_at s w e [] p c = absurd p
 none_at {g} {starts} {goal} {best} s w e (x ∷ rest) p c =
@@ -495,7 +497,7 @@ none_at {g} {starts} {goal} {best} s w e (x ∷ rest) p c =
 pub frame_within : {g : Graph} {goal best : ℕ} {parent : Option Stop} {xs : List ℕ} {s t : Search} → All (λ x. x < g.count) xs → Lists g goal best parent xs s t → All (λ x. x < g.count) t.frame.items
 frame_within {g} {xs = xs} {t = t} bs l = λ k d b. All-contains (λ x. x < g.count) xs _ bs (l.listed.sound k d b).0
 
--- what follows where a call found memory
+-- a consequence of a call that didn't run out of memory
 pub on_ok : {T E P Q : Type 0} (r : Result T E) → OnOk r P → (P → Q) → OnOk r Q
 on_ok (Ok x) h f = f h
 on_ok (Err e) h f = tt

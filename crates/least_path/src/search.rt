@@ -1,4 +1,4 @@
-//! A searcher that keeps its room.
+//! A search that reuses its memory.
 ghost use Rattle.std.specs.Prelude.{◌≡◌, ◌+◌, ◌^◌, ◌<◌, ◌≤◌, true, false, All, OnOk, IfOk, IfSome, IfNone, length, if◌then◌else◌};
 ghost use Rattle.least_path.specs.Graph.{AreNodes};
 ghost use Rattle.least_path.specs.LeastPath.{least_path, TellsLeastPath, HasNoPath, nodes_of};
@@ -17,44 +17,44 @@ use crate::search::queue::Queue;
 use std::alloc::{AllocError, Global};
 use std::cmp::Reverse;
 
-/// What a search knows of a node: what the cheapest path to it that was found so far costs.
+/// The label of a node: the cost of the cheapest path to it that was found so far.
 #[derive(Clone, Copy)]
 struct Label {
     cost: u64,
-    /// The search that wrote the label. To every other one the node has none.
+    /// The number of the pass that wrote the label. Labels of earlier searches count as missing.
     epoch: u16,
-    /// At least what any way from the node to that search's goal costs.
+    /// A lower bound of the cost of any way from the node to that search's goal.
     ahead: u16,
 }
 
-/// A node whose edges are to be looked at. Of two that lie far off the lesser comes first.
+/// A node whose edges are to be expanded. In the heap the lesser entry comes first.
 #[derive(Clone, Copy, PartialEq, Eq, PartialOrd, Ord)]
 struct Waiting {
-    /// At least what any path over the node to the goal costs.
+    /// A lower bound of the cost of any path over the node to the goal.
     at_least: u64,
-    /// The cost of the node's label when the entry was made. Of two that may be as near, the one
-    /// comes first that has more of its way behind it.
+    /// The cost of the node's label when the entry was made. Of two entries in the heap with equal
+    /// bounds, the one with the greater cost comes first, since less of its way is left.
     cost: Reverse<u64>,
     node: usize,
 }
 
-/// A node, and what a path to it costs.
+/// A node, and the cost of a path to it.
 #[derive(Clone, Copy)]
 struct Stop {
     node: usize,
     cost: u64,
 }
 
-/// What stands on the stack of the second pass.
+/// An entry of the second pass's stack.
 #[derive(Clone, Copy)]
 enum Turn {
-    /// A node that may come after the nearest entered one below it.
+    /// A node that may come after the nearest entered node below it.
     Ahead(Stop),
     /// A node of the path that is being tried.
     Entered(Stop),
 }
 
-/// The guess, where a search can count so far.
+/// The guess, if it is small enough for a search.
 fn usable(guess: Option<u64>) -> Option<u64>
     ensures { IfSome result (λ most. most < 2 ^ 60) }
 {
@@ -64,14 +64,14 @@ fn usable(guess: Option<u64>) -> Option<u64>
     }
 }
 
-/// A searcher that keeps its room from one search to the next, and clears none of it.
+/// A search that reuses its memory from one search to the next, without clearing it.
 #[derive(Drop)]
 pub struct Search {
     epoch: u16,
     labels: Labels,
     queue: Queue,
     turns: Vec<Turn>,
-    /// The nodes that come next to the stack.
+    /// The nodes that are pushed onto the stack next.
     frame: Vec<usize>,
     ghost past: { All (λ label. label.epoch ≤ epoch) labels },
     ghost few: { length labels ≤ 2 ^ 23 },
@@ -80,7 +80,7 @@ pub struct Search {
 impl Search {
     ghost use Rattle.least_path.specs.Frontier.{HasNoneAsked, IsBegun};
 
-    /// A searcher with no room yet.
+    /// A search without memory yet.
     pub fn new(alloc: Global) -> Self {
         Search {
             epoch: 0,
@@ -91,9 +91,9 @@ impl Search {
         }
     }
 
-    /// The least path from one of `starts` to `goal`, by cost and then as a dictionary orders
-    /// words, and `None` where there is no path. Earlier searches, also ones that found no
-    /// memory, change nothing of it.
+    /// The least path from one of `starts` to `goal`, by cost and then in the lexicographic order
+    /// of nodes; `None` if there is no path. Earlier searches, also those that ran out of memory,
+    /// don't change the result.
     pub fn least<R: Roads>(
         &mut self,
         alloc: Global,
@@ -119,8 +119,9 @@ impl Search {
         }
     }
 
-    /// Writes the least path from one of `starts` to `goal` in place of what `path` held, and tells
-    /// whether there is one, as `least` does. Where there is none, `path` stays as it was. Where all has room enough already, no memory is taken.
+    /// Replaces the contents of `path` by the least path from one of `starts` to `goal`, and
+    /// returns whether there is one, as `least` does. If there is no path, `path` is unchanged.
+    /// Takes no memory if all buffers are large enough.
     pub fn least_into<R: Roads>(
         &mut self,
         roads: &R,
@@ -145,7 +146,8 @@ impl Search {
         self.least_within(roads, starts, goal, None, path)
     }
 
-    /// Writes the least path, as `least_into` does, of those that cost `most` or less, or of all.
+    /// Replaces `path` by the least path, as `least_into` does, of those that cost at most `most`,
+    /// or of all if there is no limit.
     fn least_within<R: Roads>(
         &mut self,
         roads: &R,
@@ -175,7 +177,7 @@ impl Search {
         Ok(true)
     }
 
-    /// Forgets all labels where there is no number left for another search with its two passes.
+    /// Forgets all labels if the numbers don't suffice for another search with its two passes.
     fn make_way(&mut self)
         ensures { self.new.epoch + 2 < 2 ^ 16 }
     {
@@ -186,7 +188,7 @@ impl Search {
         self.epoch = 0;
     }
 
-    /// Makes room for the labels of `count` nodes, and forgets those of the searches before.
+    /// Provides labels for `count` nodes, and forgets those of earlier searches.
     fn begin(&mut self, count: usize) -> Result<(), AllocError>
         requires { count ≤ 2 ^ 23 }
         ensures { OnOk result (IsBegun self.new count) }

@@ -6,11 +6,11 @@ use Rattle.std.proofs.lemmas.Bool.Decides.{nat_tests}
 use Rattle.std.proofs.Math.Nat.{mul-le-mul_right, pow-suc, pow-le-pow_right, mul_assoc, mul_comm}
 use Rattle.line_text.specs.Decimal.{is_digit, with_digit, value_of, decimal_of, whole_of}
 
--- the number that these digits make behind n, below the limit
+-- the number that these digits spell after those of n, if it is below the limit
 abbrev pub number_from : ℕ → ℕ → List ℕ → Option ℕ
 number_from limit n bytes = cond (list_all is_digit bytes && nat_lt (fold with_digit n bytes) limit) (Some (fold with_digit n bytes)) None
 
--- what one byte makes of it
+-- the number after one more byte
 abbrev pub one_more : ℕ → ℕ → ℕ → Option ℕ
 one_more limit n byte = cond (is_digit byte && nat_lt (with_digit n byte) limit) (Some (with_digit n byte)) None
 
@@ -21,7 +21,7 @@ fold-grows : (bytes : List ℕ) (n : ℕ) → n ≤ fold with_digit n bytes
 fold-grows [] n = omega arith
 fold-grows (byte ∷ rest) n = omega (arith, grows n byte, fold-grows rest (with_digit n byte))
 
--- a number that is too large stays so
+-- a number that is too large stays too large
 too_large : (limit n : ℕ) (bytes : List ℕ) → nat_lt n limit ≡ false → nat_lt (fold with_digit n bytes) limit ≡ false
 too_large limit n bytes e =
     let more = fold-grows bytes n in
@@ -69,7 +69,7 @@ at_most_nine byte e =
     let below = (and_true (nat_le 48 byte) (nat_le byte 57) e).1 in
     grind (arith, nat_tests)
 
--- digits stand for less than ten to their number
+-- digits spell a number below ten to the number of digits
 fold-below : (bytes : List ℕ) (n : ℕ) → list_all is_digit bytes ≡ true → fold with_digit n bytes < (n + 1) * 10 ^ length bytes
 fold-below [] n e = omega arith
 fold-below (byte ∷ rest) n e =
@@ -85,7 +85,8 @@ fold-below (byte ∷ rest) n e =
 pub value_of-below : (bytes : List ℕ) → list_all is_digit bytes ≡ true → value_of bytes < 10 ^ length bytes
 value_of-below bytes e = omega (arith, fold-below bytes 0 e)
 
--- the number of these digits is below the limit, where ten to their number is
+-- the number of these digits is below the limit, if ten to the number of digits is at most the
+-- limit
 value_of-fits : (limit : ℕ) (bytes : List ℕ) → 10 ^ length bytes ≤ limit → list_all is_digit bytes ≡ true → nat_lt (value_of bytes) limit ≡ true
 value_of-fits limit bytes h e =
     let below = value_of-below bytes e in
@@ -94,7 +95,7 @@ value_of-fits limit bytes h e =
 pub ten_to-le : (k m : ℕ) → k ≤ m → 10 ^ k ≤ 10 ^ m
 ten_to-le k m h = pow-le-pow_right (omega arith) h
 
--- without a number these are no digits
+-- if there is no number, some byte is not a digit
 pub no_digits : (limit : ℕ) (bytes : List ℕ) → 10 ^ length bytes ≤ limit → None ≡ number_from limit 0 bytes → list_all is_digit bytes ≡ false
 no_digits limit bytes h e =
     elim (list_all is_digit bytes) as (λ b. list_all is_digit bytes ≡ b → None ≡ cond (b && nat_lt (value_of bytes) limit) (Some (value_of bytes)) None → b ≡ false)
@@ -111,7 +112,7 @@ decimal_of-whole bytes h =
       | false ↦ λ all. refl
     ] refl
 
--- what makes a fraction of so many digits millionths
+-- the factor that turns a fraction into millionths, by its number of digits
 abbrev scales : List ℕ
 scales = 1000000 ∷ 100000 ∷ 10000 ∷ 1000 ∷ 100 ∷ 10 ∷ 1 ∷ []
 
@@ -138,6 +139,6 @@ number_from-below limit n bytes e =
     some_value true x y e = cc
     some_value false x y e = absurd (cc)
 
--- digits that are too many or none at all
+-- bytes that are not all digits have no fraction
 pub no_fraction : (bytes : List ℕ) (x : ℕ) → list_all is_digit bytes ≡ false → None ≡ cond (list_all is_digit bytes && nat_le (length bytes) 6) (Some x) None
 no_fraction bytes x e = ap (λ b. cond (b && nat_le (length bytes) 6) (Some x) None) (sym e)

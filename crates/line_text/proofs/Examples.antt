@@ -9,7 +9,7 @@ use Rattle.line_text.specs.Lines.{JoinedLine, joined_bytes, kept, lines_of, phys
 abbrev numbered : ℕ → List (List ℕ) → JoinedLine
 numbered n words = record { number = n; words = words }
 
--- words are parted by spaces, tabs and CRs
+-- words are separated by spaces, tabs and CRs
 blanks : words_of (32 ∷ 97 ∷ 98 ∷ 9 ∷ 13 ∷ 99 ∷ 32 ∷ []) ≡ codes "ab" ∷ codes "c" ∷ []
 blanks = refl
 
@@ -24,7 +24,7 @@ lf_at_end = refl
 cuts : kept (codes "a b \\ # c") ≡ codes "a b  "
 cuts = refl
 
--- blanks before the `\` stay, and count
+-- blanks before the `\` are kept, and count towards the length
 joins : joined_bytes ((1, codes "a \\") ∷ (2, codes "b ") ∷ []) ≡ codes "a  b"
 joins = refl
 
@@ -42,7 +42,7 @@ commented_backslash : lines_of (codes "a # \\\nb") ≡ Ok (numbered 1 (codes "a"
 unfolding lines_of
 commented_backslash = refl
 
--- one `\` alone is taken, and a `\` before it stays in its word
+-- only the last `\` continues the line, and a `\` before it belongs to its word
 two_backslashes : lines_of (codes "a\\\\\nb\\c") ≡ Ok (numbered 1 (codes "a\\" ∷ codes "b\\c" ∷ []) ∷ [])
 unfolding lines_of
 two_backslashes = refl
@@ -57,7 +57,7 @@ backslash_alone : lines_of (codes "\\\na") ≡ Ok (numbered 1 (codes "a" ∷ [])
 unfolding lines_of
 backslash_alone = refl
 
--- a CR before LF is a blank, also behind a `\`
+-- a CR before LF is a blank, also after a `\`
 cr_lf : lines_of (97 ∷ 32 ∷ 92 ∷ 13 ∷ 10 ∷ 98 ∷ 13 ∷ 10 ∷ 99 ∷ []) ≡ Ok (numbered 1 (codes "a" ∷ codes "b" ∷ []) ∷ numbered 3 (codes "c" ∷ []) ∷ [])
 unfolding lines_of
 cr_lf = refl
@@ -66,7 +66,7 @@ no_words : lines_of (codes "\n \\\n\n# a\n") ≡ Ok []
 unfolding lines_of
 no_words = refl
 
--- a byte 128 in a comment is lawful, and elsewhere it names its own physical line
+-- a byte 128 is allowed in a comment, and elsewhere its own physical line is reported
 in_comment : lines_of (97 ∷ 35 ∷ 128 ∷ []) ≡ Ok (numbered 1 (codes "a" ∷ []) ∷ [])
 unfolding lines_of
 in_comment = refl
@@ -75,7 +75,7 @@ outside_comment : lines_of (97 ∷ 92 ∷ 10 ∷ 128 ∷ 10 ∷ 129 ∷ []) ≡ 
 unfolding lines_of
 outside_comment = refl
 
--- so is a control byte, and the byte 127
+-- a control byte is reported in the same way, and so is the byte 127
 control_byte : lines_of (10 ∷ 7 ∷ []) ≡ Err (NotAscii 2)
 unfolding lines_of
 control_byte = refl
@@ -123,7 +123,8 @@ point_alone = refl
 two_points : millionths_of (codes "1.2.3") ≡ None
 two_points = refl
 
--- the least fault, in whatever order the faults stand: of one line and number the first word's, and the end's after all lines
+-- the least fault, whatever the order of the list: on one line that of the first word, and those of
+-- the end after all lines
 abbrev found : Bool → ℕ → ℕ → ℕ → ℕ → Found ℕ
 found at_end line number word fault = record { at_end = at_end; line = line; number = number; word = word; fault = fault }
 

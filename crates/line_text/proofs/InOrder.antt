@@ -1,4 +1,4 @@
--- Of faults that stand in their order the first is the least.
+-- Of faults that are listed in order, the first is the least.
 use Rattle.std.proofs.Common.{◌≡◌, ◌∙◌, ℕ, ◌<◌, ◌==◌, Bool, true, false, cond, List, [], ◌∷◌, ◌++◌, Option, Some, None, option_map, map, filter, refl, ap, arith, nat_lt}
 use Rattle.std.proofs.lemmas.Bool.Decides.{nat_tests}
 use Rattle.std.specs.Option.{option_map_or}
@@ -9,12 +9,12 @@ abbrev pub first_of : {X : Type 0} → List X → Option X
 first_of [] = None
 first_of (x ∷ xs) = Some x
 
--- each of these has the property
+-- each element has the property
 abbrev pub Each : {X : Type 0} → (X → Type 0) → List X → Type 0
 Each P [] = Unit {0}
 Each P (x ∷ xs) = P x × Each P xs
 
--- each stands before all that follow it
+-- each element is related to all that follow it
 abbrev pub InOrder : {X : Type 0} → (X → X → Type 0) → List X → Type 0
 InOrder R [] = Unit {0}
 InOrder R (x ∷ xs) = Each (R x) xs × InOrder R xs
@@ -39,7 +39,7 @@ Each-filter P p (x ∷ xs) h = by (p x) (Each-filter P p xs h.1)
     by true rest = (h.0, rest)
     by false rest = rest
 
--- two lists in order, where each of the first stands before all of the second
+-- two lists in order, if each element of the first is related to all of the second
 pub InOrder-append : {X : Type 0} (R : X → X → Type 0) (xs ys : List X) → InOrder R xs → InOrder R ys → Each (λ x. Each (R x) ys) xs → InOrder R (xs ++ ys)
 InOrder-append R [] ys h k all = k
 InOrder-append R (x ∷ xs) ys h k all = (Each-append (R x) xs ys h.0 all.0, InOrder-append R xs ys h.1 k all.1)
@@ -61,7 +61,7 @@ InOrder-map R S f (x ∷ xs) keeps h =
 abbrev pub turn_of : Bool → ℕ
 turn_of at_end = cond at_end 1 0
 
--- the first of one and another, if there is one, by this test
+-- the lesser of an element and another one, if there is another one, by this test
 abbrev pub earlier_by : {X : Type 0} → (X → X → Bool) → X → Option X → X
 earlier_by comes_before x other = option_map_or (λ y. cond (comes_before x y) x y) other x
 
@@ -69,7 +69,7 @@ earlier_by comes_before x other = option_map_or (λ y. cond (comes_before x y) x
 abbrev pub Precedes : {F : Type 0} → Found F → Found F → Type 0
 Precedes first second = precedes first second ≡ true
 
--- the least of a list has what each of the list has
+-- the least of a list has every property that all its elements have
 abbrev IfThere : {X : Type 0} → Option X → (X → Type 0) → Type 0
 IfThere None P = Unit {0}
 IfThere (Some x) P = P x
@@ -91,12 +91,12 @@ module _ {X : Type 0} (r : X → X → Bool) where
   stays_earlier x None h = refl
   stays_earlier x (Some other) h = ap (λ b. cond b x other) h
 
-  -- of a list in order the first is the least
+  -- of a list in order, the first is the least
   pub least_by_in_order : (xs : List X) → InOrder (λ x y. r x y ≡ true) xs → least_by r xs ≡ first_of xs
   least_by_in_order [] h = refl
   least_by_in_order (x ∷ xs) h = ap Some (stays_earlier x (least_by r xs) (has_least (λ y. r x y ≡ true) xs h.0))
 
-  -- where each of a list comes before all others, so does its least
+  -- if each of a list comes before all others, so does its least
   pub least_before : (xs others : List X) (x : X) → least_by r xs ≡ Some x → Each (λ x. Each (λ y. r x y ≡ true) others) xs → least_by r (xs ++ others) ≡ Some x
   least_before [] others x is all = let never : None ≡ Some x = is in cc
   least_before (first ∷ []) others x is all =
@@ -104,7 +104,7 @@ module _ {X : Type 0} (r : X → X → Bool) where
   least_before (first ∷ second ∷ xs) others x is all =
       ap (λ least. Some (earlier_by r first least)) (least_before (second ∷ xs) others (earlier_by r second (least_by r xs)) refl all.1) ∙ is
 
--- the least of images under a function that keeps the test
+-- the least of images under a function that preserves the test
 pub least_map : {X Y : Type 0} (r : X → X → Bool) (s : Y → Y → Bool) (f : X → Y) (xs : List X) → ((x y : X) → s (f x) (f y) ≡ r x y) → least_by s (map f xs) ≡ option_map f (least_by r xs)
 least_map r s f [] same = refl
 least_map r s f (x ∷ xs) same = ap (λ least. Some (earlier_by s (f x) least)) (least_map r s f xs same) ∙ of_earlier (least_by r xs)
@@ -117,11 +117,11 @@ least_map r s f (x ∷ xs) same = ap (λ least. Some (earlier_by s (f x) least))
     of_earlier None = refl
     of_earlier (Some y) = ap (λ b. Some (cond b (f x) (f y))) (same x y) ∙ ap Some (by (r x y) y)
 
--- of faults in order the first is the least
+-- of faults in order, the first is the least
 pub least_in_order : {F : Type 0} (all : List (Found F)) → InOrder Precedes all → least_fault all ≡ option_map (λ found. found.fault) (first_of all)
 least_in_order all h = ap (option_map (λ found. found.fault)) (least_by_in_order precedes all h)
 
--- where the numbers are the same, what comes next decides
+-- if the numbers are equal, the next criterion decides
 pub by_number-same : (n : ℕ) (next : Bool) → by_number n n next ≡ next
 by_number-same n next =
     let lt : nat_lt n n ≡ false = grind (arith, nat_tests) in
@@ -134,7 +134,7 @@ by_number-less n m next less =
     let lt : nat_lt n m ≡ true = grind (arith, nat_tests) in
     rw lt refl
 
--- a fault of a line comes before the faults of the lines below and of the end
+-- a fault of a line comes before the faults of later lines and of the end
 pub precedes-line : {F : Type 0} (found other : Found F) → found.at_end ≡ other.at_end → found.line < other.line → Precedes found other
 precedes-line found other same less =
     rw same (by_number-same (turn_of other.at_end) _ ∙ by_number-less found.line other.line _ less)

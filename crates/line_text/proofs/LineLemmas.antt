@@ -1,4 +1,4 @@
--- The first physical line of a text, taken off with its comment.
+-- The first physical line of a text, split off together with its comment.
 use Rattle.std.proofs.Common.{◌≡◌, ℕ, suc, ◌+◌, ◌<◌, Bool, true, false, not, ◌&&◌, cond, List, [], ◌∷◌, ◌++◌, length, take, drop, eqb, refl, sym, ap, ◌∙◌, arith}
 use Rattle.std.specs.List.{onto_first, list_all, before_first, after_first, position_or_len}
 use Rattle.std.proofs.lemmas.List.{append-nil}
@@ -35,7 +35,7 @@ drop_next n x xs = let e : 1 + n ≡ suc n = omega arith in ap (λ m. drop m (x 
 drop_two : {X : Type 0} (n : ℕ) (x : X) (xs : List X) → drop (1 + n + 1) (x ∷ xs) ≡ drop (n + 1) xs
 drop_two n x xs = let e : 1 + n + 1 ≡ suc (n + 1) = omega arith in ap (λ m. drop m (x ∷ xs)) e
 
--- one element that does not pass stays in front
+-- an element that fails the test stays in front
 before_first-cons : (p : ℕ → Bool) (x : ℕ) (xs : List ℕ) → p x ≡ false → before_first p (x ∷ xs) ≡ x ∷ before_first p xs
 before_first-cons p x xs e =
     ap (λ b. take (cond (not b) (1 + position_or_len p xs) 0) (x ∷ xs)) e ∙ take_next (position_or_len p xs) x xs
@@ -47,7 +47,7 @@ after_first-cons p x xs e =
 abbrev is_hash : ℕ → Bool
 is_hash byte = eqb byte 35
 
--- the place of the first byte that is not plain
+-- the index of the first byte that is not plain
 abbrev plain_end : List ℕ → ℕ
 plain_end text = position_or_len (λ byte. not (is_plain byte)) text
 
@@ -65,7 +65,7 @@ lawful_if_plain : (a b : Bool) → a && b ≡ true → a ≡ true
 lawful_if_plain true b e = refl
 lawful_if_plain false b e = e
 
--- plain bytes stand before the comment
+-- all plain bytes are before the comment
 content-front : (text : List ℕ) → without_comment (first_line text) ≡ take (plain_end text) text ++ without_comment (first_line (drop (plain_end text) text))
 content-front [] = refl
 content-front (x ∷ xs) =
@@ -105,7 +105,7 @@ ends_not_plain (x ∷ xs) rest y e =
       | false ↦ λ fails h. let same : x ≡ y = cc in sym (ap is_plain same) ∙ fails
     ] refl e
 
--- where nothing more stands before the comment
+-- if nothing more is before the comment
 is_content : (text content after rest : List ℕ) → content ≡ take (plain_end text) text → after ≡ drop (plain_end text) text → without_comment (first_line after) ≡ [] → rest ≡ later_lines after → IsContent text content rest
 is_content text content after rest c a none r =
     let whole : without_comment (first_line text) ≡ content =
@@ -138,7 +138,7 @@ one_fails (x ∷ xs) ys y e =
 eqb-other : (x y : ℕ) → (x ≡ y → ⊥) → eqb x y ≡ false
 eqb-other x y ne = grind (arith, nat_tests)
 
--- another byte stands before the comment
+-- a byte that is not allowed is before the comment
 pub not_ascii-other : (text after rest : List ℕ) (y : ℕ) → after ≡ drop (plain_end text) text → after ≡ y ∷ rest → (y ≡ 10 → ⊥) → (y ≡ 35 → ⊥) → is_not_ascii (first_line text) ≡ true
 not_ascii-other text after rest y a e not_end not_hash =
     let hash = eqb-other y 35 not_hash in
@@ -152,7 +152,7 @@ not_ascii-other text after rest y a e not_end not_hash =
     unless_hash true b e f = absurd (cc)
     unless_hash false b e f = refl
 
--- a line without its comment has none
+-- cutting the comment twice is cutting it once
 without_comment-again : (line : List ℕ) → without_comment (without_comment line) ≡ without_comment line
 without_comment-again [] = refl
 without_comment-again (x ∷ xs) =

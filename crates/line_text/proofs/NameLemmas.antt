@@ -1,4 +1,4 @@
--- Names by number, and as the texts behind their slices.
+-- Names by number, and as the texts that their slices refer to.
 use Rattle.std.proofs.Common.{◌≡◌, ◌<◌, ◌≤◌, nat_lt, length, position, arith, ℕ, ◌+◌, Some, None, cond, not, Bool, true, false, List, [], ◌∷◌, ◌++◌, ◌||◌, if◌then◌else◌, refl, sym, ap, ◌∙◌}
 use Rattle.std.specs.Borrow.{Bor}
 use Rattle.std.specs.List.{list_any, position_or_len}
@@ -37,14 +37,14 @@ number_of-found slices name =
     let place : ℕ = position_or_len (λ slice. bytes_eq name slice.now) slices in
     place_or_count place (length slices) _ refl (prefix_len-le-length _ slices) ∙ number_of-texts slices name
 
--- a name that is the first of the names
+-- the number of a name that is the first of the names
 pub number_of-first : (first : List ℕ) (names : List (List ℕ)) (name : List ℕ) → bytes_eq name first ≡ true → number_of (first ∷ names) name ≡ 0
 number_of-first first names name e = rw e refl
 
 pub with_name-first : (first : List ℕ) (names : List (List ℕ)) (name : List ℕ) → bytes_eq name first ≡ true → with_name (first ∷ names) name ≡ first ∷ names
 with_name-first first names name e = rw e refl
 
--- and one that is not
+-- the number of a name that is not the first
 pub number_of-later : (first : List ℕ) (names : List (List ℕ)) (name : List ℕ) → bytes_eq name first ≡ false → number_of (first ∷ names) name ≡ 1 + number_of names name
 number_of-later first names name e = rw e refl
 
@@ -55,7 +55,7 @@ with_name-later first names name e =
 pub has_name-rest : (name first : List ℕ) (names : List (List ℕ)) → bytes_eq name first ≡ false → has_name (first ∷ names) name ≡ true → has_name names name ≡ true
 has_name-rest name first names e h = sym (ap (λ c. c || has_name names name) e) ∙ h
 
--- a name that is there has a number below the count
+-- a name that is among the names has a number below their count
 pub number_of-within : (names : List (List ℕ)) (name : List ℕ) → has_name names name ≡ true → number_of names name < length names
 number_of-within [] name h = absurd cc
 number_of-within (first ∷ names) name h = by (bytes_eq name first) refl (λ there. number_of-within names name there)

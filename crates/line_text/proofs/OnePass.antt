@@ -1,4 +1,4 @@
--- Reading a text one physical line after another gives what its runs give.
+-- Reading a text one physical line after another has the result that its runs define.
 use Rattle.std.proofs.Common.{◌≡◌, ℕ, ◌+◌, Bool, true, false, cond, ◌&&◌, List, [], ◌∷◌, ◌++◌, length, map, filter, Result, Ok, Err, Option, Some, None, slice_get, refl, sym, ap, ◌∙◌, arith, append_assoc, length-append, nat_lt}
 use Rattle.std.proofs.lemmas.List.{append-nil}
 use Rattle.std.proofs.lemmas.Grind.{flat_map-append}
@@ -15,11 +15,11 @@ use Rattle.line_text.specs.Reading.{OpenLine, Reading, begun, extended, ended, s
 abbrev pub blanked : List ℕ → List ℕ
 blanked bytes = cond (ends_in_backslash bytes) (without_last bytes ++ 32 ∷ []) bytes
 
--- what is wrong with a run of which this line is not ASCII
+-- what is wrong with a run that has this line that is not ASCII
 abbrev fault_at : Option (ℕ × List ℕ) → List (ℕ × List ℕ) → Option LineFault
 fault_at found run = option_or (option_map (λ line. NotAscii line.0) found) (cond (is_too_long run) (Some (LineTooLong (joined run).number)) None)
 
--- the first of the faults, or the lines where there is none
+-- the first of the faults, or the lines if there are no faults
 abbrev pub unless_fault : List LineFault → List JoinedLine → Result (List JoinedLine) LineFault
 unless_fault faults lines = option_map_or Err (slice_get faults 0) (Ok lines)
 
@@ -35,7 +35,7 @@ onto_first-append : {X : Type 0} (x : X) (parts more : List (List X)) → is_fil
 onto_first-append x [] more e = cc
 onto_first-append x (part ∷ parts) more e = refl
 
--- the parts on both sides of an element at which the list is split
+-- splitting a list around an element that passes the test
 pub slice_split-append : {X : Type 0} (p : X → Bool) (xs : List X) (y : X) (ys : List X) → p y ≡ true → slice_split p (xs ++ y ∷ ys) ≡ slice_split p xs ++ slice_split p ys
 slice_split-append p [] y ys e = rw e
 slice_split-append p (x ∷ xs) y ys e =
@@ -50,22 +50,22 @@ filter-append p (x ∷ xs) ys =
     elim (p x) as (λ b. cond b (x ∷ filter p (xs ++ ys)) (filter p (xs ++ ys)) ≡ cond b (x ∷ filter p xs) (filter p xs) ++ filter p ys)
     [ true ↦ ap (λ zs. x ∷ zs) (filter-append p xs ys) | false ↦ filter-append p xs ys ]
 
--- a blank parts words
+-- a blank separates words
 pub words_of-blank : (xs ys : List ℕ) → words_of (xs ++ 32 ∷ ys) ≡ words_of xs ++ words_of ys
 words_of-blank xs ys = ap (filter is_filled) (slice_split-append is_blank xs 32 ys refl) ∙ filter-append is_filled (slice_split is_blank xs) (slice_split is_blank ys)
 
--- what a continued line keeps is its bytes without the last, and a blank
+-- a continued line adds its bytes without the last one, and a blank
 kept_continued : (line : List ℕ) → is_continued line ≡ true → kept line ≡ without_last (trimmed (without_comment line)) ++ 32 ∷ []
 kept_continued line e = rw e
 
--- the words of what a continued line keeps, and of what follows it
+-- the words of what a continued line adds, and of what follows it
 pub words_of-continued : (line rest : List ℕ) → is_continued line ≡ true → words_of (kept line ++ rest) ≡ words_of (kept line) ++ words_of rest
 words_of-continued line rest e =
     let body = without_last (trimmed (without_comment line)) in
     let whole : kept line ≡ body ++ 32 ∷ [] = kept_continued line e in
     ap (λ bytes. words_of (bytes ++ rest)) whole ∙ (ap words_of (append_assoc body (32 ∷ []) rest) ∙ (words_of-blank body rest ∙ ap (λ words. words ++ words_of rest) (sym (ap words_of whole ∙ (words_of-blank body [] ∙ append-nil (words_of body))))))
 
--- the words of the lines of a run, each by itself
+-- the words of the lines of a run, line by line
 abbrev words_within : List (ℕ × List ℕ) → List (List ℕ)
 words_within run = flat_map (λ line. words_of (kept line.1)) run
 
@@ -88,7 +88,7 @@ words_of-joined (line ∷ run) rest h =
     ∙ (ap (λ words. words_of (kept line.1) ++ words) (words_of-joined run rest h.1)
     ∙ sym (append_assoc (words_of (kept line.1)) (words_within run) (words_of rest))))
 
--- these lines before the first of the runs
+-- these lines put before the first of the runs
 abbrev glued : List (ℕ × List ℕ) → List (List (ℕ × List ℕ)) → List (List (ℕ × List ℕ))
 glued [] all = all
 glued (line ∷ run) all = onto_first line (glued run all)
@@ -113,7 +113,7 @@ open_of (line ∷ run) = Some (record { number = line.0; words = words_within (l
 abbrev reading_of : List JoinedLine → List (ℕ × List ℕ) → Reading
 reading_of done run = record { done = done; unfinished = open_of run }
 
--- lines before those that a result has
+-- these lines put before the lines of a result
 abbrev onto : List JoinedLine → Result (List JoinedLine) LineFault → Result (List JoinedLine) LineFault
 onto done (Ok lines) = Ok (done ++ lines)
 onto done (Err fault) = Err fault
@@ -122,7 +122,7 @@ abbrev pub and_then : {A B : Type 0} → Result A LineFault → (A → Result B 
 and_then (Ok a) f = f a
 and_then (Err fault) f = Err fault
 
--- what reading the lines one after another gives
+-- the result of reading the lines one after another
 abbrev pub read_all : Reading → List (ℕ × List ℕ) → Result (List JoinedLine) LineFault
 read_all reading [] = finished reading
 read_all reading (line ∷ rest) = and_then (after reading line.0 line.1) (λ later. read_all later rest)
@@ -130,7 +130,7 @@ read_all reading (line ∷ rest) = and_then (after reading line.0 line.1) (λ la
 same_open : (n : ℕ) (words more : List (List ℕ)) (count count' : ℕ) → words ≡ more → count ≡ count' → Some (let line : OpenLine = record { number = n; words = words; count = count } in line) ≡ Some (record { number = n; words = more; count = count' })
 same_open n words more count count' e f = cc
 
--- one more line of an open line
+-- one more line of the open line
 extended-push : (run : List (ℕ × List ℕ)) (line : ℕ × List ℕ) → Some (extended (begun (open_of run) line.0) line.1) ≡ open_of (run ++ line ∷ [])
 extended-push [] line =
     same_open line.0 _ _ _ _ (sym (append-nil (words_of (kept line.1)))) (omega (arith, ap length (append-nil (kept line.1))))
@@ -153,7 +153,7 @@ find-first : (run : List (ℕ × List ℕ)) (line : ℕ × List ℕ) (tail : Lis
 find-first [] line tail a e = rw e
 find-first (first ∷ run) line tail a e = rw a.0 (find-first run line tail a.1 e)
 
--- a run that is ASCII, as its end sees it
+-- a run that is ASCII, when it ends
 ended-run : (done : List JoinedLine) (run : List (ℕ × List ℕ)) (line : OpenLine) (all : List (List (ℕ × List ℕ))) → open_of run ≡ Some line → words_of (joined_bytes run) ≡ words_within run → AreAscii run → onto done (lines_of_runs (run ∷ all)) ≡ and_then (ended done line) (λ lines. onto lines (lines_of_runs all))
 ended-run done [] line all o w a = cc
 ended-run done (first ∷ run) line all o w a =
@@ -185,7 +185,7 @@ words_of-run_push run line c =
     ∙ (words_of-joined run (kept line.1) c
     ∙ (ap (λ words. words_within run ++ words) (sym (append-nil (words_of (kept line.1)))) ∙ sym (flat_map-append (λ (l : ℕ × List ℕ). words_of (kept l.1)) run (line ∷ []))))
 
--- what reading on from there gives is what the runs from there give
+-- reading on from this state has the result that the remaining runs define
 abbrev GivesRuns : List (ℕ × List ℕ) → List JoinedLine → List (ℕ × List ℕ) → Type 0
 GivesRuns rest done run = read_all (reading_of done run) rest ≡ onto done (lines_of_runs (glued run (runs rest)))
 
@@ -218,7 +218,7 @@ read_settled : (rest : List (ℕ × List ℕ)) → ((done : List JoinedLine) →
 read_settled rest h (Ok lines) = h lines
 read_settled rest h (Err fault) = refl
 
--- one line, where the rest is read as it should be
+-- one more line, if the rest is read correctly
 one_line : (line : ℕ × List ℕ) (rest : List (ℕ × List ℕ)) → ((done : List JoinedLine) (run : List (ℕ × List ℕ)) → AreContinued run → AreAscii run → GivesRuns rest done run) → (done : List JoinedLine) (run : List (ℕ × List ℕ)) → AreContinued run → AreAscii run → GivesRuns (line ∷ rest) done run
 one_line line rest h done run c a =
     elim (is_not_ascii line.1) as (λ b. is_not_ascii line.1 ≡ b → and_then (cond b (Err (NotAscii line.0)) (continued_or_ended (is_continued line.1) done new)) (λ later. read_all later rest) ≡ onto done (lines_of_runs (glued run (runs (line ∷ rest))))) [
@@ -245,11 +245,11 @@ same_onto : (r : Result (List JoinedLine) LineFault) → onto [] r ≡ r
 same_onto (Ok lines) = refl
 same_onto (Err fault) = refl
 
--- nothing read yet
+-- the state before anything is read
 abbrev pub unread : Reading
 unread = record { done = []; unfinished = None }
 
--- the numbered lines of a text, read one after another, give its lines
+-- reading the numbered lines of a text one after another results in its lines
 pub lines_of-read : (text : List ℕ) → lines_of text ≡ read_all unread (enumerate_from 1 (physical_lines text))
 unfolding lines_of
 lines_of-read text =

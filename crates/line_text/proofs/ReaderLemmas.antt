@@ -1,4 +1,4 @@
--- What a reader keeps, as its words grow.
+-- The lines that a reader stores, as words are appended.
 use Rattle.std.proofs.Common.{◌≡◌, ℕ, zero, suc, ◌+◌, ◌-◌, ◌<◌, ◌≤◌, true, false, cond, List, [], ◌∷◌, ◌++◌, length, take, drop, map, Some, Result, Ok, Err, nat_lt, refl, sym, ap, ◌∙◌, arith, length-drop, OnOk, IfErr, length-append, length-take}
 use Rattle.std.proofs.lemmas.List.{append-nil, length-map, take-append-le, drop-append-le}
 use Rattle.std.proofs.lemmas.Bool.Decides.{nat_tests}
@@ -21,7 +21,7 @@ same_line words more span s e =
     (ap (take (span.end - span.start)) (drop-append-le span.start words more (omega arith))
     ∙ take-append-le (span.end - span.start) (drop span.start words) more (omega (arith, length-drop span.start words)))
 
--- further words change no line
+-- appending words changes no line
 pub seen_lines-append : (words more : List (List ℕ)) (spans : List Span) → AreWithin (length words) spans → seen_lines (words ++ more) spans ≡ seen_lines words spans
 seen_lines-append words more [] h = refl
 seen_lines-append words more (span ∷ spans) h =
@@ -51,7 +51,7 @@ pub from_three : {T E : Type 0} (r : Result T E) (P Q R S : Type 0) → OnOk r P
 from_three (Ok x) P Q R S p q r f = f p q r
 from_three (Err x) P Q R S p q r f = tt
 
--- where only memory can fail
+-- a step that can fail only if memory runs out
 pub read_on : (r : Result (Unit {0}) (TextError LineFault)) (old new : Reading) (n : ℕ) (physical : List ℕ) → OnOk r (after old n physical ≡ Ok new) → IfErr r (λ e. e ≡ NoMemory) → IsReadOn old n physical r new
 read_on (Ok x) old new n physical h e = h
 read_on (Err NoMemory) old new n physical h e = tt

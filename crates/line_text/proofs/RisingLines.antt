@@ -1,4 +1,4 @@
--- The lines of a text have rising numbers.
+-- The lines of a text have increasing numbers.
 use Rattle.std.proofs.Common.{◌≡◌, ℕ, ◌+◌, ◌≤◌, Bool, true, false, cond, List, [], ◌∷◌, Result, Ok, Err, IfOk, map, filter, if◌then◌else◌, arith}
 use Rattle.std.specs.List.{enumerate_from, filter_map, onto_first}
 use Rattle.line_text.specs.Lines.{JoinedLine, fault_of, is_continued, joined, lines_of, physical_lines, runs}
@@ -21,7 +21,7 @@ rises_filtered p low (line ∷ lines) h = by (p line) (rises_filtered p (line.nu
     by true rest = (h.0, rest)
     by false rest = rises_lower low (line.number + 1) (filter p lines) (omega (arith, h.0)) rest
 
--- the joined lines of physical lines that are numbered from this number on
+-- the joined lines of physical lines that are numbered from this number on have increasing numbers
 rises_joined : (number : ℕ) (physical : List (List ℕ)) → RisesFrom number (map joined (runs (enumerate_from number physical)))
 rises_joined number [] = tt
 rises_joined number (line ∷ physical) = by (is_continued line) (runs (enumerate_from (number + 1) physical)) (rises_joined (number + 1) physical)
@@ -44,7 +44,7 @@ rises_in_text text lines h = by (filter_map fault_of (runs (enumerate_from 1 (ph
         rw same (rises_filtered (λ line. is_filled line.words) 1 all (rises_joined 1 (physical_lines text)))
     by (fault ∷ faults) e = absurd cc
 
--- so do the lines that a reader of the text gives
+-- the lines that a reader of the text returns have increasing numbers
 pub rises_given : (text : List ℕ) (read : Result (List JoinedLine) (TextError LineFault)) → Gives (lines_of text) read → IfOk read (RisesFrom 1)
 rises_given text (Ok lines) gives = rises_in_text text lines gives
 rises_given text (Err error) gives = tt

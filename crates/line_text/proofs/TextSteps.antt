@@ -14,7 +14,7 @@ use Rattle.line_text.specs.Words.{words_of}
 use Rattle.line_text.proofs.LineLemmas.{content-again, is_empty, physical_lines-first}
 use Rattle.line_text.proofs.OnePass.{and_then, blanked, read_all}
 
--- what is read from there on
+-- the result of reading on from this state
 abbrev pub read_from : Reading → ℕ → List ℕ → Result (List JoinedLine) LineFault
 read_from reading n rest = read_all reading (enumerate_from (n + 1) (physical_lines rest))
 
@@ -22,16 +22,16 @@ read_from-first : (reading : Reading) (n : ℕ) (rest : List ℕ) → 0 < length
 read_from-first reading n rest h =
     ap (λ lines. read_all reading (enumerate_from (n + 1) lines)) (physical_lines-first rest h)
 
--- where nothing is left
+-- reading on when nothing is left
 pub read_from-end : (reading : Reading) (n : ℕ) (rest : List ℕ) → length rest ≡ 0 → read_from reading n rest ≡ finished reading
 read_from-end reading n rest none = ap (read_from reading n) (is_empty rest none)
 
--- what an ASCII line of that content leads to
+-- the state after an ASCII line with this content
 abbrev after_ascii : Reading → ℕ → List ℕ → Result Reading LineFault
 after_ascii reading n content =
     continued_or_ended (ends_in_backslash (trimmed content)) reading.done (let line = begun reading.unfinished n in let open_line : OpenLine = record { number = line.number; words = line.words ++ words_of (blanked (trimmed content)); count = line.count + length (blanked (trimmed content)) } in open_line)
 
--- what a line of that content leads to
+-- the state after a line with this content
 abbrev after_content : Reading → ℕ → List ℕ → Result Reading LineFault
 after_content reading n content = cond (not (list_all is_lawful content)) (Err (NotAscii n)) (after_ascii reading n content)
 
@@ -70,7 +70,7 @@ is_content-length text content rest h is =
     let first = length-take end text in
     (omega arith, omega arith)
 
--- an error that is passed on
+-- an error that is returned to the caller
 pub gives-err : (lines : Result (List JoinedLine) LineFault) (r : Result (List JoinedLine) (TextError LineFault)) (error : TextError LineFault) → IsErrAnd r (λ e. e ≡ error) → Gives lines (Err error) → Gives lines r
 gives-err lines (Ok x) error e h = absurd e
 gives-err lines (Err e) error same h = subst (λ f. Gives lines (Err f)) (sym same) h

@@ -1,13 +1,13 @@
--- The words of a line, taken off from its front.
+-- The words of a line, taken from its front one by one.
 use Rattle.std.proofs.Common.{◌≡◌, ℕ, suc, length-drop, ◌+◌, ◌<◌, true, false, not, cond, List, [], ◌∷◌, length, take, drop, filter, refl, sym, ap, ◌∙◌, arith}
 use Rattle.std.specs.List.{slice_split, onto_first, before_first, position_or_len}
 use Rattle.line_text.specs.Words.{is_blank, is_filled, words_of}
 
--- the place of the first byte that is no blank
+-- the index of the first byte that is not a blank
 abbrev pub word_start : List ℕ → ℕ
 word_start bytes = position_or_len (λ b. not (is_blank b)) bytes
 
--- the place of the first blank
+-- the index of the first blank
 abbrev pub word_end : List ℕ → ℕ
 word_end bytes = position_or_len is_blank bytes
 
@@ -17,7 +17,7 @@ take_next n x xs = let e : 1 + n ≡ suc n = omega arith in ap (λ m. take m (x 
 drop_next : {X : Type 0} (n : ℕ) (x : X) (xs : List X) → drop (1 + n) (x ∷ xs) ≡ drop n xs
 drop_next n x xs = let e : 1 + n ≡ suc n = omega arith in ap (λ m. drop m (x ∷ xs)) e
 
--- blanks before the first word part nothing
+-- skipping blanks before the first word changes no words
 pub words_of-skipped : (bytes : List ℕ) → words_of (drop (word_start bytes) bytes) ≡ words_of bytes
 words_of-skipped [] = refl
 words_of-skipped (x ∷ xs) =
@@ -39,7 +39,7 @@ no_blank_first x xs h =
     elim (is_blank x) as (λ b. cond (not (not b)) (1 + word_start xs) 0 ≡ 0 → b ≡ false)
     [ true ↦ λ e. absurd (omega arith) | false ↦ λ e. refl ] h
 
--- what follows a first part
+-- the parts after the first one
 abbrev parts_from : List ℕ → List (List ℕ)
 parts_from [] = []
 parts_from (y ∷ ys) = slice_split is_blank ys
@@ -64,7 +64,7 @@ is_filled-word : (x : ℕ) (xs : List ℕ) → is_blank x ≡ false → is_fille
 is_filled-word x xs e =
     ap (λ b. is_filled (take (cond (not b) (1 + word_end xs) 0) (x ∷ xs))) e ∙ ap is_filled (take_next (word_end xs) x xs)
 
--- a line that begins with a word
+-- the words of a line that begins with a word
 pub words_of-word : (bytes : List ℕ) → 0 < length bytes → word_start bytes ≡ 0 → words_of bytes ≡ before_first is_blank bytes ∷ words_of (drop (word_end bytes) bytes)
 words_of-word [] h e = absurd (omega arith)
 words_of-word (x ∷ xs) h e =
@@ -73,14 +73,14 @@ words_of-word (x ∷ xs) h e =
     ∙ (ap (λ b. cond b (before_first is_blank (x ∷ xs) ∷ filter is_filled (parts_from rest)) (filter is_filled (parts_from rest))) (is_filled-word x xs (no_blank_first x xs e))
     ∙ ap (λ words. before_first is_blank (x ∷ xs) ∷ words) (words_of-from_blank (x ∷ xs)))
 
--- its first word has a byte
+-- the first word has at least one byte
 pub word_end-positive : (bytes : List ℕ) → 0 < length bytes → word_start bytes ≡ 0 → 0 < word_end bytes
 word_end-positive [] h e = absurd (omega arith)
 word_end-positive (x ∷ xs) h e =
     elim (is_blank x) as (λ b. b ≡ false → 0 < cond (not b) (1 + word_end xs) 0)
     [ true ↦ λ no. cc | false ↦ λ no. omega arith ] (no_blank_first x xs e)
 
--- a turn of taking the words off: the first word, and what is left behind the blanks after it
+-- one turn of taking words: the first word, and what is left after the blanks that follow it
 pub record TakesWord (rest later : List ℕ) : Type 0 where
   pub words : words_of rest ≡ before_first is_blank rest ∷ words_of later
   pub skipped : word_start later ≡ 0

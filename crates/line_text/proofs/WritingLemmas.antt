@@ -1,4 +1,4 @@
--- Texts that are written in parts.
+-- Texts written in parts.
 use Rattle.std.proofs.Common.{◌≡◌, ℕ, ◌+◌, ◌<◌, ◌≤◌, Bool, List, [], ◌∷◌, ◌++◌, length, take, drop, get_or, Option, Some, Result, Ok, Err, refl, sym, ap, subst, ◌∙◌, arith, append-nil, zero-add, length-append}
 use Rattle.std.specs.List.{flat_map, range_with_len, slice_get}
 use Rattle.std.proofs.lemmas.List.FromFn.{length-range_with_len, get_or-range_with_len}
@@ -12,11 +12,11 @@ use Rattle.std.specs.Io.KnownBytes.{Appends}
 use Rattle.line_text.specs.declared.source.Failed.{Failed}
 use Rattle.line_text.specs.Writing.{TakesAll, TakesPart, Writes}
 
--- the same text
+-- writing an equal text
 pub writes_same : {S : Type 0} (contents : S → Option (List ℕ)) (has_failed : S → Bool) (a b : S) (s t : List ℕ) (r : Result (Unit {0}) Failed) → s ≡ t → Writes contents has_failed a b s r → Writes contents has_failed a b t r
 writes_same contents has_failed a b s t r e h = subst (λ text. Writes contents has_failed a b text r) e h
 
--- a failure is told
+-- after a failure only a beginning was written
 pub writes_part : {S : Type 0} {contents : S → Option (List ℕ)} {has_failed : S → Bool} {a b : S} {s : List ℕ} (r : Result (Unit {0}) Failed) → IsErr r → TakesPart contents has_failed a b s → Writes contents has_failed a b s r
 writes_part (Ok u) is h = cc
 writes_part (Err failed) is h = h
@@ -31,11 +31,11 @@ part_same {contents = contents} {has_failed = has_failed} {a = a} {b = b} h e = 
 pub all_none : {S : Type 0} (contents : S → Option (List ℕ)) (has_failed : S → Bool) (a : S) → TakesAll contents has_failed a a []
 all_none contents has_failed a = record { bytes = Appends-nil (contents a); works = refl }
 
--- one text, and then another
+-- one text after another is written
 pub all_then : {S : Type 0} {contents : S → Option (List ℕ)} {has_failed : S → Bool} {a b c : S} {s t : List ℕ} → TakesAll contents has_failed a b s → TakesAll contents has_failed b c t → TakesAll contents has_failed a c (s ++ t)
 all_then h k = record { bytes = Appends-trans _ _ _ _ _ h.bytes k.bytes; works = k.works ∙ h.works }
 
--- a beginning of the first
+-- a failure within the first text
 pub part_first : {S : Type 0} {contents : S → Option (List ℕ)} {has_failed : S → Bool} {a b : S} {s : List ℕ} (t : List ℕ) → TakesPart contents has_failed a b s → TakesPart contents has_failed a b (s ++ t)
 part_first {contents = contents} {a = a} {b = b} {s = s} t h = record {
   count = h.count;
@@ -44,7 +44,7 @@ part_first {contents = contents} {a = a} {b = b} {s = s} t h = record {
   fails = h.fails;
 }
 
--- the first, and a beginning of the other
+-- the first text is written, and the device fails within the second
 pub part_then : {S : Type 0} {contents : S → Option (List ℕ)} {has_failed : S → Bool} {a b c : S} {s t : List ℕ} → TakesAll contents has_failed a b s → TakesPart contents has_failed b c t → TakesPart contents has_failed a c (s ++ t)
 part_then {contents = contents} {a = a} {c = c} {s = s} {t = t} h k = record {
   count = length s + k.count;
@@ -53,14 +53,14 @@ part_then {contents = contents} {a = a} {c = c} {s = s} {t = t} h k = record {
   fails = k.fails;
 }
 
--- one more text of a list
+-- the texts up to an index, with one more
 text_more : {X : Type 0} (f : X → List ℕ) (xs : List X) (i : ℕ) (x : X) → slice_get xs i ≡ Some x → flat_map f (take i xs) ++ f x ≡ flat_map f (take (i + 1) xs)
 text_more f xs i x e =
     sym (ap (flat_map f) (take_more xs i x (slice_get_within xs i x e)) ∙ flat_map-append f (take i xs) (get_or xs i x ∷ [])
     ∙ ap (λ y. flat_map f (take i xs) ++ (f y ++ [])) (get_or_from_slice_get xs i x x e)
     ∙ ap (λ y. flat_map f (take i xs) ++ y) (append-nil (f x)))
 
--- all texts, by the one at a place
+-- all texts, split at an index
 text_split : {X : Type 0} (f : X → List ℕ) (xs : List X) (i : ℕ) (x : X) → slice_get xs i ≡ Some x → flat_map f (take i xs) ++ (f x ++ flat_map f (drop (i + 1) xs)) ≡ flat_map f xs
 text_split f xs i x e =
     ap (λ y. flat_map f (take i xs) ++ (f y ++ flat_map f (drop (i + 1) xs))) (sym (get_or_from_slice_get xs i x x e))
@@ -68,11 +68,11 @@ text_split f xs i x e =
     ∙ sym (flat_map-append f (take i xs) (drop i xs))
     ∙ ap (flat_map f) (take-append-drop i xs)
 
--- one more of a list is written
+-- one more text of a list is written
 pub all_loop : {S X : Type 0} {contents : S → Option (List ℕ)} {has_failed : S → Bool} {a b c : S} (f : X → List ℕ) (xs : List X) (i : ℕ) (x : X) → slice_get xs i ≡ Some x → TakesAll contents has_failed a b (flat_map f (take i xs)) → TakesAll contents has_failed b c (f x) → TakesAll contents has_failed a c (flat_map f (take (i + 1) xs))
 all_loop f xs i x e h k = all_same (all_then h k) (text_more f xs i x e)
 
--- the device fails at one of a list
+-- the device fails within one text of a list
 pub part_loop : {S X : Type 0} {contents : S → Option (List ℕ)} {has_failed : S → Bool} {a b c : S} (f : X → List ℕ) (xs : List X) (i : ℕ) (x : X) → slice_get xs i ≡ Some x → TakesAll contents has_failed a b (flat_map f (take i xs)) → TakesPart contents has_failed b c (f x) → TakesPart contents has_failed a c (flat_map f xs)
 part_loop f xs i x e h k = part_same (part_then h (part_first (flat_map f (drop (i + 1) xs)) k)) (text_split f xs i x e)
 
@@ -80,21 +80,21 @@ part_loop f xs i x e h k = part_same (part_then h (part_first (flat_map f (drop 
 pub all_loop_end : {S X : Type 0} {contents : S → Option (List ℕ)} {has_failed : S → Bool} {a b : S} (f : X → List ℕ) (xs : List X) (i : ℕ) → length xs ≤ i → TakesAll contents has_failed a b (flat_map f (take i xs)) → TakesAll contents has_failed a b (flat_map f xs)
 all_loop_end f xs i long h = all_same h (ap (flat_map f) (take_all i xs long))
 
--- the number at a place of numbers in order
+-- the number at an index of the range
 pub place_at : (count place : ℕ) → place < count → slice_get (range_with_len 0 count) place ≡ Some place
 place_at count place within =
     slice_get-get_or (range_with_len 0 count) place 0 (let long = length-range_with_len 0 count in omega arith)
     ∙ ap Some (get_or-range_with_len 0 count place 0 within ∙ zero-add place)
 
--- the whole of numbers in order
+-- all numbers of a range are written
 pub all_range_end : {S : Type 0} {contents : S → Option (List ℕ)} {has_failed : S → Bool} {a b : S} (f : ℕ → List ℕ) (count place : ℕ) → count ≤ place → TakesAll contents has_failed a b (flat_map f (take place (range_with_len 0 count))) → TakesAll contents has_failed a b (flat_map f (range_with_len 0 count))
 all_range_end f count place end h = all_loop_end f (range_with_len 0 count) place (let long = length-range_with_len 0 count in omega arith) h
 
--- the first is written, and the other may be
+-- the first text is written, and the second is attempted
 pub writes_then : {S : Type 0} {contents : S → Option (List ℕ)} {has_failed : S → Bool} {a b : S} {s : List ℕ} → TakesAll contents has_failed a b s → (c : S) (t : List ℕ) (r : Result (Unit {0}) Failed) → Writes contents has_failed b c t r → Writes contents has_failed a c (s ++ t) r
 writes_then h c t (Ok u) k = all_then h k
 writes_then h c t (Err failed) k = part_then h k
 
--- the device is as it is found
+-- the written text, for a device known by an equation
 pub all_found : {S : Type 0} {contents : S → Option (List ℕ)} {has_failed : S → Bool} {a b c : S} {s : List ℕ} → TakesAll contents has_failed a b s → c ≡ b → TakesAll contents has_failed a c s
 all_found {contents = contents} {has_failed = has_failed} {a = a} {s = s} h e = subst (λ at. TakesAll contents has_failed a at s) (sym e) h

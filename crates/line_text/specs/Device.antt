@@ -1,4 +1,4 @@
--- Private: a device that has failed or has no read left.
+-- Private: a device fails once it has no read left.
 use Rattle.std.specs.Prelude.{◌≡◌, ℕ, Bool, true, false, ◌||◌, ◌==◌, refl}
 use Rattle.std.proofs.Common.{eq-eqb}
 

@@ -16,7 +16,7 @@ pub record JoinedLine : Type 0 where
 abbrev pub with_first : List ℕ → JoinedLine → JoinedLine
 with_first word line = record { number = line.number; words = word ∷ line.words }
 
--- the line of the words behind the first
+-- the line without its first word
 abbrev pub behind_first : JoinedLine → JoinedLine
 behind_first line = record { number = line.number; words = drop 1 line.words }
 
@@ -30,7 +30,7 @@ physical_lines (byte ∷ rest) =
 abbrev pub without_comment : List ℕ → List ℕ
 without_comment line = before_first (λ byte. byte == 35) line
 
--- the same without the blanks at its end
+-- the bytes without the blanks at their end
 abbrev pub trimmed : List ℕ → List ℕ
 trimmed bytes = take (length bytes - suffix_len is_blank bytes) bytes
 
@@ -46,19 +46,19 @@ without_last bytes = take (length bytes - 1) bytes
 abbrev pub is_continued : List ℕ → Bool
 is_continued line = ends_in_backslash (trimmed (without_comment line))
 
--- what a physical line gives to its joined line: a final `\` becomes a blank
+-- what a physical line adds to its joined line: a final `\` becomes a blank
 abbrev pub kept : List ℕ → List ℕ
 kept line = if is_continued line then without_last (trimmed (without_comment line)) ++ 32 ∷ [] else trimmed (without_comment line)
 
--- whether a byte may stand outside comments: a blank, or a printing ASCII character
+-- whether a byte is allowed outside comments: a blank, or a printing ASCII character
 abbrev pub is_lawful : ℕ → Bool
 is_lawful byte = is_blank byte || (nat_le 33 byte && nat_le byte 126)
 
--- whether a physical line has another byte outside comments
+-- whether a physical line has a byte outside comments that is not allowed
 abbrev pub is_not_ascii : List ℕ → Bool
 is_not_ascii line = not (list_all is_lawful (without_comment line))
 
--- the physical lines, each with its number, in runs: a run goes on as long as its lines are continued
+-- the numbered physical lines in runs: a run continues for as long as its lines are continued
 abbrev pub runs : List (ℕ × List ℕ) → List (List (ℕ × List ℕ))
 runs [] = []
 runs (line ∷ rest) = if is_continued line.1 then onto_first line (runs rest) else (line ∷ []) ∷ runs rest
@@ -75,7 +75,7 @@ joined run = record { number = slice_index (map (λ line. line.0) run) 0; words 
 abbrev pub is_too_long : List (ℕ × List ℕ) → Bool
 is_too_long run = is_filled (words_of (joined_bytes run)) && nat_lt MAX_LINE (length (joined_bytes run))
 
--- what is wrong with a run: a line that is not ASCII is named before the whole run's length
+-- what is wrong with a run: a line that is not ASCII is reported before the length of the whole run
 abbrev pub fault_of : List (ℕ × List ℕ) → Option LineFault
 fault_of run =
     option_or (option_map (λ line. NotAscii line.0) (find (λ line. is_not_ascii line.1) run)) (if is_too_long run then Some (LineTooLong (joined run).number) else None)

@@ -1,4 +1,4 @@
--- Private: the first physical line of a text, as it is taken off.
+-- Private: the first physical line of a text, split off from the rest.
 use Rattle.std.specs.Prelude.{ℕ, ◌≡◌, Bool, false, not, ◌&&◌, ◌==◌, List}
 use Rattle.std.specs.List.{before_first, after_first}
 use Rattle.line_text.specs.Lines.{is_lawful, is_not_ascii, without_comment}
@@ -10,7 +10,7 @@ first_line text = before_first (λ byte. byte == 10) text
 abbrev pub later_lines : List ℕ → List ℕ
 later_lines text = after_first (λ byte. byte == 10) text
 
--- whether a byte ends no line, begins no comment and may stand outside comments
+-- whether a byte ends no line, begins no comment and is allowed outside comments
 abbrev pub is_plain : ℕ → Bool
 is_plain byte = is_lawful byte && not (byte == 35)
 

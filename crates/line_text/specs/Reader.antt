@@ -1,4 +1,4 @@
--- Private: how a reader keeps what it has read.
+-- Private: how a reader stores what it has read.
 use Rattle.std.specs.Prelude.{ℕ, ◌≡◌, Bool, true, false, List, drop, Option, Some, None, Result, Ok, Err, ⊤}
 use Rattle.line_text.specs.declared.fault.LineFault.{LineFault}
 use Rattle.line_text.specs.declared.text_error.TextError.{TextError}
@@ -9,7 +9,7 @@ use Rattle.line_text.specs.Spans.{seen_lines}
 use Rattle.line_text.specs.Words.{texts}
 use Rattle.line_text.specs.Reading.{OpenLine, Reading, after, ended}
 
--- the line whose words begin at that place
+-- the line whose words begin at the reader's start index
 abbrev pub open_line : Reader → OpenLine
 open_line r = record { number = r.number; words = drop r.start (texts r.words.items); count = r.count }
 
@@ -22,17 +22,17 @@ line_if false line = None
 abbrev pub done_of : Reader → List JoinedLine
 done_of r = seen_lines (texts r.words.items) r.spans.items
 
--- what a reader has read
+-- everything that a reader has read
 abbrev pub reading_of : Reader → Reading
 reading_of r = record { done = done_of r; unfinished = line_if r.is_open (open_line r) }
 
--- a physical line of that number was read
+-- reading one more physical line, with this number, turns the old state into the new one
 abbrev pub IsReadOn : Reading → ℕ → List ℕ → Result (Unit {0}) (TextError LineFault) → Reading → Type 0
 IsReadOn old n physical (Ok _) new = after old n physical ≡ Ok new
 IsReadOn old n physical (Err (Fault fault)) new = after old n physical ≡ Err fault
 IsReadOn old n physical (Err NoMemory) new = ⊤
 
--- the open line was ended
+-- ending the open line turns the old lines into the new ones
 abbrev pub IsEnded : List JoinedLine → OpenLine → Result (Unit {0}) (TextError LineFault) → List JoinedLine → Type 0
 IsEnded done line (Ok _) new = ended done line ≡ Ok new
 IsEnded done line (Err (Fault fault)) new = ended done line ≡ Err fault

@@ -6,47 +6,47 @@ use Rattle.line_text.specs.Words.{is_filled, words_of}
 use Rattle.line_text.specs.declared.lines.TheConstants.{MAX_LINE}
 use Rattle.line_text.specs.Lines.{JoinedLine, is_not_ascii, is_continued, kept}
 
--- a joined line so far: its number, its words and how many bytes it has
+-- a joined line so far: its number, its words and its length in bytes
 pub record OpenLine : Type 0 where
   pub number : ℕ
   pub words : List (List ℕ)
   pub count : ℕ
 
--- the lines that have ended, and the one that is to be continued
+-- the lines that have ended, and the one that is still open
 pub record Reading : Type 0 where
   pub done : List JoinedLine
   pub unfinished : Option OpenLine
 
--- the line that a physical line of that number belongs to
+-- the line to which a physical line with this number belongs
 abbrev pub begun : Option OpenLine → ℕ → OpenLine
 begun None n = record { number = n; words = []; count = 0 }
 begun (Some line) n = line
 
--- the line with a further physical line
+-- the line with one more physical line
 abbrev pub extended : OpenLine → List ℕ → OpenLine
 extended line physical = record { number = line.number; words = line.words ++ words_of (kept physical); count = line.count + length (kept physical) }
 
--- the lines once this one has ended, too
+-- the lines after this one has ended too
 abbrev pub ended : List JoinedLine → OpenLine → Result (List JoinedLine) LineFault
 ended done line =
     if is_filled line.words then (if nat_lt MAX_LINE line.count then Err (LineTooLong line.number) else Ok (done ++ record { number = line.number; words = line.words } ∷ [])) else Ok done
 
--- the lines with none to be continued
+-- the lines, with no line open
 abbrev pub settled : Result (List JoinedLine) LineFault → Result Reading LineFault
 settled (Ok lines) = Ok (record { done = lines; unfinished = None })
 settled (Err fault) = Err fault
 
--- what a physical line of an open line leads to
+-- the state after a physical line was added to an open line
 abbrev pub continued_or_ended : Bool → List JoinedLine → OpenLine → Result Reading LineFault
 continued_or_ended true done line = Ok (record { done = done; unfinished = Some line })
 continued_or_ended false done line = settled (ended done line)
 
--- what a physical line of that number leads to
+-- the state after one more physical line, with this number
 abbrev pub after : Reading → ℕ → List ℕ → Result Reading LineFault
 after reading n physical =
     if is_not_ascii physical then Err (NotAscii n) else continued_or_ended (is_continued physical) reading.done (extended (begun reading.unfinished n) physical)
 
--- the lines at the end of the text, where the last may still be open
+-- the lines at the end of the text, when the last one may still be open
 abbrev pub ended_if_open : List JoinedLine → Option OpenLine → Result (List JoinedLine) LineFault
 ended_if_open done None = Ok done
 ended_if_open done (Some line) = ended done line

@@ -1,4 +1,4 @@
--- What writing a text to a device may lead to.
+-- What writing a text to a device can result in.
 use Rattle.std.specs.Prelude.{◌≡◌, ℕ, ◌≤◌, Bool, true, List, length, take, Option, Result, Ok, Err}
 use Rattle.std.specs.Io.KnownBytes.{Appends}
 use Rattle.line_text.specs.declared.source.Failed.{Failed}
@@ -8,7 +8,7 @@ pub record TakesAll {S : Type 0} (contents : S → Option (List ℕ)) (has_faile
   pub bytes : Appends (contents old) (contents new) text
   pub works : has_failed new ≡ has_failed old
 
--- the device fails once it has taken a beginning of the text
+-- the device fails after it has taken a beginning of the text
 pub record TakesPart {S : Type 0} (contents : S → Option (List ℕ)) (has_failed : S → Bool) (old new : S) (text : List ℕ) : Type 0 where
   pub count : ℕ
   pub within : count ≤ length text

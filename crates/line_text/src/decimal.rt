@@ -3,16 +3,16 @@ ghost use Rattle.std.specs.Prelude.{◌≡◌, ◌^◌, ◌&&◌, ◌*◌, ◌+�
 ghost use Rattle.std.specs.List.{list_all};
 ghost use Rattle.line_text.specs.Decimal.{decimal_of, fraction_digits, is_digit, is_point, millionths_of, value_of, whole_digits, whole_of, with_digit};
 
-/// The digits that a whole number may have.
+/// The largest number of digits of a whole number.
 const MOST_DIGITS: usize = 9;
 
-/// What makes a fraction of so many digits millionths.
+/// The factor that turns a fraction into millionths, by its number of digits.
 const SCALES: [u64; 7] = [1_000_000, 100_000, 10_000, 1_000, 100, 10, 1];
 
-/// What may stand before a decimal's point, at most.
+/// The largest whole part of a decimal.
 const MOST_WHOLE: u64 = 1_000_000;
 
-/// The number with one more digit, where the byte is one and the number fits.
+/// The number with one more digit, or `None` if the byte is not a digit or the number doesn't fit.
 fn with_byte(number: u64, byte: u8) -> Option<u64>
     ensures { result ≡ (if is_digit byte && nat_lt (with_digit number byte) (2 ^ 64)
         then Some (with_digit number byte) else None) }
@@ -23,7 +23,8 @@ fn with_byte(number: u64, byte: u8) -> Option<u64>
     number.checked_mul(10)?.checked_add(u64::from(byte - b'0'))
 }
 
-/// The number that these digits stand for, 0 where there is none. None where a byte is no digit or the number has more than 64 bits.
+/// The number that these digits spell, 0 if there are no digits. `None` if a byte is not a digit or
+/// the number has more than 64 bits.
 fn digits(bytes: &[u8]) -> Option<u64>
     ensures bound { IfSome result (λ n. n < 10 ^ length bytes.now) }
     ensures value { result ≡ (if list_all is_digit bytes.now && nat_lt (value_of bytes.now) (2 ^ 64)
@@ -63,7 +64,7 @@ pub fn decimal_u64(bytes: &[u8]) -> Option<u64>
     digits(bytes)
 }
 
-/// The place of the decimal point.
+/// The index of the decimal point.
 fn point(bytes: &[u8]) -> Option<usize>
     ensures { result ≡ position is_point bytes.now }
 {
@@ -81,7 +82,7 @@ fn split_point(bytes: &[u8]) -> (&[u8], &[u8])
     }
 }
 
-/// What stands before a point: any digits, at most a million.
+/// The whole part of a decimal: any number of digits, at most a million.
 fn whole_part(bytes: &[u8]) -> Option<u64>
     ensures value { result ≡ (if list_all is_digit bytes.now && nat_le (value_of bytes.now) 1000000
         then Some (value_of bytes.now) else None) }
@@ -93,7 +94,7 @@ fn whole_part(bytes: &[u8]) -> Option<u64>
     }
 }
 
-/// What stands after a point, in millionths: at most six digits.
+/// The fraction of a decimal, in millionths: at most six digits.
 fn fraction_part(bytes: &[u8]) -> Option<u64>
     ensures value { result ≡ (if list_all is_digit bytes.now && nat_le (length bytes.now) 6
         then Some (value_of bytes.now * 10 ^ (6 - length bytes.now)) else None) }
@@ -108,7 +109,8 @@ fn fraction_part(bytes: &[u8]) -> Option<u64>
     }
 }
 
-/// A decimal, in millionths: digits with at most one point, at most six after it and at most a million before it.
+/// A decimal number, in millionths: digits with at most one point, at most six after it and at most
+/// a million before it. `None` if the bytes have another form.
 pub fn millionths(bytes: &[u8]) -> Option<u64>
     ensures { result ≡ millionths_of bytes.now }
 {

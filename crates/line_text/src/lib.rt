@@ -1,18 +1,23 @@
-//! Text as joined lines of words, numbers in decimal digits, names in order, and the devices that bytes come from and go to.
+//! Text as joined lines of words, numbers in decimal digits, numbered names, and the devices that
+//! bytes are read from and written to.
 //!
-//! A physical line ends at LF or at the end of the text. What stands from its first `#` on is cut, and then the blanks at its
-//! end: spaces, tabs and CRs. If it then ends in `\`, that becomes a blank and the next physical line is joined to it. A joined
-//! line has the number of its first physical line, from 1; its words stand between blanks. [`logical_lines`] gives the joined
-//! lines that have words, as slices of the text, or the least fault: another byte than a blank or a printing ASCII character
-//! outside comments, or a joined line of more than [`MAX_LINE`] bytes. Netlists in BLIF and architecture files are read by it.
+//! A physical line ends at LF or at the end of the text. Everything from its first `#` on is cut,
+//! and then the blanks at its end: spaces, tabs and CRs. If it then ends in `\`, that becomes a
+//! blank and the next physical line is joined to it. A joined line has the number of its first
+//! physical line, from 1; its words are separated by blanks. [`logical_lines`] returns the joined
+//! lines that have words, as slices of the text, or the least fault: outside comments a byte that
+//! is neither a blank nor a printing ASCII character, or a joined line of more than [`MAX_LINE`]
+//! bytes. Netlists in BLIF and architecture files are read with it.
 //!
-//! A reader of a text that has no value to give answers a [`TextError`]: no memory, or the least of all faults of the text, by
-//! line, number and word, those of the end last (`specs/LeastFault.antt`).
+//! A reader of a text that has no value to return answers with a [`TextError`]: memory ran out, or
+//! the least of all faults of the text, ordered by line, number and word; faults of the end come
+//! last (`specs/LeastFault.antt`).
 //!
-//! A [`NameSet`] numbers different names in the order in which they come.
+//! A [`NameSet`] numbers different names in the order in which they first appear.
 //!
-//! A [`Source`] gives bytes and a [`Sink`] takes them. Both answer [`Failed`] from their first failure on. [`write_parts`] writes a
-//! text that is given in parts: the sink takes all of it, or a beginning where it fails (`specs/Writing.antt`).
+//! Bytes are read from a [`Source`] and written to a [`Sink`]. Both return [`Failed`] from their
+//! first failure on. [`write_parts`] writes a text that is given in parts: the sink takes all of
+//! it, or a beginning of it if it fails (`specs/Writing.antt`).
 #![tactic(auto)]
 
 mod decimal;

@@ -1,12 +1,12 @@
-//! A joined line of a text, or what is left of it behind words that have been read.
+//! A joined line of a text, or what is left of it after some of its words have been read.
 ghost use Rattle.std.specs.Prelude.{◌≡◌, [], MatchOption};
 ghost use Rattle.line_text.specs.Lines.{behind_first, with_first};
 ghost use Rattle.line_text.specs.Words.{texts};
 
 use std::marker::Model;
 
-/// A joined line: the number of its first physical line, from 1, and its words, slices of the text. Its value is the record
-/// of the two.
+/// A joined line: the number of its first physical line, from 1, and its words, slices of the text.
+/// Its value is the record of the two.
 #[derive(Drop)]
 pub struct Line<'a, 't> {
     number: u32,
@@ -23,7 +23,7 @@ impl<'a, 't> Model for Line<'a, 't> {
 }
 
 impl<'a, 't> Line<'a, 't> {
-    /// The line of that number with these words.
+    /// The line with this number and these words.
     pub(crate) fn new(number: u32, words: &'a [&'t [u8]]) -> Self
         ensures { result ≡ record { number = number; words = texts words.now } }
     {
@@ -44,7 +44,7 @@ impl<'a, 't> Line<'a, 't> {
         self.words
     }
 
-    /// Its first word, and the line of the others; none where it has no word.
+    /// Its first word, and the line without that word; `None` if the line has no word.
     pub fn split_first(&self) -> Option<(&'t [u8], Line<'a, 't>)>
         ensures { MatchOption result (self.now.words ≡ [])
             (λ parts. self.now ≡ with_first parts.0.now parts.1) }
@@ -55,7 +55,7 @@ impl<'a, 't> Line<'a, 't> {
         }
     }
 
-    /// The line of the words behind the first.
+    /// The line without its first word.
     pub fn behind_first(&self) -> Line<'a, 't>
         ensures { result ≡ behind_first self.now }
     {

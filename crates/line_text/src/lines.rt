@@ -11,13 +11,13 @@ use crate::reader::Reader;
 use std::alloc::Global;
 use std::marker::Model;
 
-/// The most bytes of a text of lines: an architecture or a netlist.
+/// The largest length of a text of lines (an architecture or a netlist), in bytes.
 pub const MAX_TEXT: usize = 1_048_576;
 
-/// The most bytes of a joined line.
+/// The largest length of a joined line, in bytes.
 pub const MAX_LINE: usize = 262_144;
 
-/// Where the words of a line stand among all words.
+/// A line's number, and the span of its words among all words.
 #[derive(Clone, Copy)]
 pub(crate) struct Span {
     pub(crate) number: u32,
@@ -49,7 +49,7 @@ impl<'t> Lines<'t> {
     ghost use Rattle.line_text.specs.Spans.{AreWithin, seen_lines};
     ghost use Rattle.line_text.specs.Words.{texts};
 
-    /// The lines of these spans of the words.
+    /// The lines at these spans of the words.
     pub(crate) fn new(words: Vec<&'t [u8]>, spans: Vec<Span>) -> Self
         requires { AreWithin (length words.items) spans.items }
         ensures { result ≡ seen_lines (texts words.entry.items) spans.items }
@@ -57,21 +57,21 @@ impl<'t> Lines<'t> {
         Lines { words, spans }
     }
 
-    /// How many lines there are.
+    /// The number of lines.
     pub fn len(&self) -> usize
         ensures { result ≡ length self.now }
     {
         self.spans.len()
     }
 
-    /// Whether there is none.
+    /// Whether there are no lines.
     pub fn is_empty(&self) -> bool
         ensures { IsTrue result ↔ (length self.now ≡ 0) }
     {
         self.spans.is_empty()
     }
 
-    /// The line at that place, from 0.
+    /// The line at this index, from 0.
     pub fn line(&self, place: usize) -> Line<'_, 't>
         requires { place < length self.now }
         ensures { slice_get self.now place ≡ Some result }
@@ -81,7 +81,7 @@ impl<'t> Lines<'t> {
     }
 }
 
-/// The joined lines of a text, whose numbers rise, or their least fault.
+/// The joined lines of a text, with increasing numbers, or their least fault.
 pub fn logical_lines(alloc: Global, text: &[u8]) -> Result<Lines<'_>, LineError>
     requires { length text.now < 2 ^ 32 }
     ensures gives { Gives (lines_of text.now) result }

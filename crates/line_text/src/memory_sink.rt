@@ -5,7 +5,7 @@ use crate::sink::Sink;
 use crate::source::Failed;
 use std::alloc::Global;
 
-/// A sink that keeps the bytes. It fails where memory runs out.
+/// A sink that keeps the bytes. It fails if memory runs out.
 #[derive(Drop)]
 pub struct MemorySink {
     bytes: Vec<u8>,
@@ -13,7 +13,7 @@ pub struct MemorySink {
 }
 
 impl MemorySink {
-    /// A sink that holds nothing.
+    /// An empty sink.
     pub fn new(alloc: Global) -> Self
         ensures bytes { ⟦<MemorySink as Sink>⟧.contents result ≡ Some [] }
         ensures works { ⟦<MemorySink as Sink>⟧.has_failed result ≡ false }
@@ -24,14 +24,14 @@ impl MemorySink {
         }
     }
 
-    /// The bytes that it holds.
+    /// The bytes that were written.
     pub fn as_bytes(&self) -> &[u8]
         ensures { ⟦<MemorySink as Sink>⟧.contents self.now ≡ Some result.now }
     {
         self.bytes.as_slice()
     }
 
-    /// The bytes that it held.
+    /// The bytes that were written, taken out of the sink.
     pub fn into_bytes(self) -> Vec<u8>
         ensures { ⟦<MemorySink as Sink>⟧.contents self ≡ Some result.items }
     {

@@ -1,4 +1,4 @@
-//! Names, each once, in the order of first sight.
+//! Names, each once, in the order in which they first appear.
 ghost use Rattle.std.specs.Prelude.{◌≡◌, ◌<◌, ◌≤◌, [], not, length, slice_get, Some, IfOk, IsTrue};
 ghost use Rattle.line_text.specs.Names.{has_name, number_of, with_name, with_names};
 ghost use Rattle.line_text.specs.Words.{texts};
@@ -7,10 +7,11 @@ use indexmap::IndexSet;
 use std::alloc::{AllocError, Global};
 use std::marker::Model;
 
-/// So many names are looked through faster than they are hashed.
+/// Up to this number, comparing with each name is faster than hashing.
 const FEW: usize = 4;
 
-/// Different names, numbered from 0 in the order in which they were added. Its value is the list of the names.
+/// Different names, numbered from 0 in the order in which they were added. Its value is the list of
+/// the names.
 #[derive(Drop)]
 pub struct NameSet<'t> {
     names: IndexSet<&'t [u8]>,
@@ -26,7 +27,7 @@ impl<'t> Model for NameSet<'t> {
 }
 
 impl<'t> NameSet<'t> {
-    /// No names.
+    /// An empty set.
     pub fn new(alloc: Global) -> Self
         ensures { result ≡ [] }
     {
@@ -35,14 +36,14 @@ impl<'t> NameSet<'t> {
         }
     }
 
-    /// How many names there are.
+    /// The number of names.
     pub fn len(&self) -> usize
         ensures { result ≡ length self.now }
     {
         self.names.len()
     }
 
-    /// The name of a number.
+    /// The name with this number.
     pub fn name(&self, number: usize) -> &'t [u8]
         requires { number < length self.now }
         ensures { slice_get self.now number ≡ Some result.now }
@@ -50,7 +51,7 @@ impl<'t> NameSet<'t> {
         self.names.as_slice()[number]
     }
 
-    /// Whether the name is there.
+    /// Whether the set has the name.
     pub fn contains(&self, name: &[u8]) -> bool
         ensures { result ≡ has_name self.now name.now }
     {
@@ -60,7 +61,7 @@ impl<'t> NameSet<'t> {
         self.names.contains(&name)
     }
 
-    /// The number of the name, or of the next name where it is not there.
+    /// The number of the name, or the number of names if the set doesn't have it.
     pub fn number(&self, name: &[u8]) -> usize
         ensures number { result ≡ number_of self.now name.now }
         ensures within { result ≤ length self.now }
@@ -69,7 +70,7 @@ impl<'t> NameSet<'t> {
         self.names.get_index_of(&name).unwrap_or(self.names.len())
     }
 
-    /// Adds the name, and tells whether it is new.
+    /// Adds the name, and returns whether it was new.
     pub fn add(&mut self, name: &'t [u8]) -> Result<bool, AllocError>
         ensures new { IfOk result (λ new. new ≡ not (has_name self.old name.now)) }
         ensures names { IfOk result (λ _. self.new ≡ with_name self.old name.now) }
@@ -77,7 +78,7 @@ impl<'t> NameSet<'t> {
         Ok(self.names.insert(name)?)
     }
 
-    /// Adds the name where it is new, and tells its number.
+    /// Adds the name if it is new, and returns its number.
     pub fn add_numbered(&mut self, name: &'t [u8]) -> Result<usize, AllocError>
         ensures number { IfOk result (λ number. number ≡ number_of self.old name.now) }
         ensures names { IfOk result (λ _. self.new ≡ with_name self.old name.now) }
@@ -87,7 +88,7 @@ impl<'t> NameSet<'t> {
         Ok(number)
     }
 
-    /// Adds each of the names that is new.
+    /// Adds those of the names that are new, in order.
     pub fn add_all(&mut self, names: &[&'t [u8]]) -> Result<(), AllocError>
         ensures { IfOk result (λ _. self.new ≡ with_names self.old (texts names.now)) }
     {

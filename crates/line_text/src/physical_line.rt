@@ -1,4 +1,4 @@
-//! Physical lines, taken off from the front of a text.
+//! Physical lines, split off from the front of a text.
 ghost use Rattle.std.specs.Prelude.{◌≡◌, ◌<◌, ◌∷◌, length, not, position, drop, take, true, MatchOption, ◌==◌};
 ghost use Rattle.std.specs.List.{position_or_len};
 ghost use Rattle.line_text.specs.Lines.{is_not_ascii, physical_lines};
@@ -6,21 +6,21 @@ ghost use Rattle.line_text.specs.Physical.{IsContent, first_line, is_plain as is
 
 use memchr::memchr;
 
-/// Whether the byte ends no line, begins no comment and may stand outside comments.
+/// Whether the byte ends no line, begins no comment and is allowed outside comments.
 fn is_plain(byte: u8) -> bool
     ensures { result ≡ is_plain_byte byte }
 {
     matches!(byte, b'$'..=b'~' | b' '..=b'"' | b'\t' | b'\r')
 }
 
-/// The place of the first byte that is not plain.
+/// The index of the first byte that is not plain.
 fn plain_end(text: &[u8]) -> Option<usize>
     ensures { result ≡ position (λ byte. not (is_plain_byte byte)) text.now }
 {
     text.iter().position(|byte| !is_plain(*byte))
 }
 
-/// The plain bytes at the front, and the bytes from there on.
+/// The plain bytes at the front, and the bytes after them.
 fn split_plain(text: &[u8]) -> (&[u8], &[u8])
     ensures front { result.0.now ≡ take (position_or_len (λ byte. not (is_plain_byte byte))
         text.now) text.now }
@@ -30,7 +30,7 @@ fn split_plain(text: &[u8]) -> (&[u8], &[u8])
     text.split_at(plain_end(text).unwrap_or(text.len()))
 }
 
-/// The place of the first LF.
+/// The index of the first LF.
 #[tactic(auto, using(crate::proofs::FirstPlaces::first_place))]
 fn line_end(text: &[u8]) -> Option<usize>
     ensures { result ≡ position (λ byte. byte == 10) text.now }
@@ -51,8 +51,8 @@ pub fn split_line(text: &[u8]) -> (&[u8], &[u8])
     }
 }
 
-/// The first physical line of a text without its comment, and what follows its LF. None where another byte than a blank or
-/// a printing ASCII character stands before the comment.
+/// The first physical line of a text without its comment, and what follows its LF. `None` if before
+/// the comment there is a byte that is neither a blank nor a printing ASCII character.
 pub(crate) fn split_content(text: &[u8]) -> Option<(&[u8], &[u8])>
     ensures { MatchOption result (is_not_ascii (first_line text.now) ≡ true)
         (λ parts. IsContent text.now parts.0.now parts.1.now) }

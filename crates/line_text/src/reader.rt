@@ -21,7 +21,7 @@ fn trimmed(bytes: &[u8]) -> &[u8]
     &bytes[..end]
 }
 
-/// The bytes before a final `\`, where there is one.
+/// The bytes before a final `\`; `None` if the last byte is not a `\`.
 fn before_backslash(bytes: &[u8]) -> Option<&[u8]>
     ensures { MatchOption result (ends_in_backslash bytes.now ≡ false)
         (λ before. (ends_in_backslash bytes.now ≡ true) × (before.now ≡ without_last bytes.now)) }
@@ -32,7 +32,8 @@ fn before_backslash(bytes: &[u8]) -> Option<&[u8]>
     Some(&bytes[..bytes.len() - 1])
 }
 
-/// What has been read of a text: its joined lines that have ended, and the words of the one that may be open.
+/// What has been read of a text: the joined lines that have ended, and the words of the one that
+/// may still be open.
 #[derive(Drop)]
 pub(crate) struct Reader<'t> {
     words: Vec<&'t [u8]>,
@@ -66,7 +67,8 @@ impl<'t> Reader<'t> {
         }
     }
 
-    /// Ends the open line: it is kept where it has words.
+    /// Ends the open line, which is kept if it has words. Fails if the line is too long or memory
+    /// runs out.
     fn end_line(&mut self) -> Result<(), LineError>
         ensures ended { IsEnded (done_of self.old) (open_line self.old) result (done_of self.new) }
         ensures closed { OnOk result (self.new.is_open ≡ false) }
@@ -88,7 +90,7 @@ impl<'t> Reader<'t> {
         Ok(())
     }
 
-    /// Begins a line of that number where none is open.
+    /// Begins a line with this number if no line is open.
     fn begin_line(&mut self, number: u32)
         ensures done { done_of self.new ≡ done_of self.old }
         ensures line { open_line self.new ≡ begun (line_if self.old.is_open (open_line self.old))
@@ -104,7 +106,7 @@ impl<'t> Reader<'t> {
         }
     }
 
-    /// Appends the words of these bytes to the open line, and counts so many bytes.
+    /// Appends the words of these bytes to the open line, and adds `count` bytes to its length.
     fn extend(&mut self, bytes: &'t [u8], count: usize) -> Result<(), LineError>
         requires { self.old.count + count < 2 ^ 64 }
         ensures done { OnOk result (done_of self.new ≡ done_of self.old) }
@@ -122,7 +124,7 @@ impl<'t> Reader<'t> {
         Ok(())
     }
 
-    /// Reads the physical line of that number, which has no comment and is ASCII.
+    /// Reads the physical line with this number, which has no comment and is ASCII.
     pub(crate) fn read_line(&mut self, number: u32, line: &'t [u8]) -> Result<(), LineError>
         requires room { self.old.count + length line.now < 2 ^ 64 }
         requires ascii { is_not_ascii line.now ≡ false }
@@ -141,7 +143,7 @@ impl<'t> Reader<'t> {
         }
     }
 
-    /// The lines of the text that was read.
+    /// The lines of the text that was read. Ends the open line first.
     pub(crate) fn finish(mut self) -> Result<Lines<'t>, LineError>
         ensures { Gives (finished (reading_of self.entry)) result }
     {

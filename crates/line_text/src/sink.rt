@@ -1,21 +1,21 @@
-//! Where bytes go to.
+//! Devices that bytes are written to.
 ghost use Rattle.std.specs.Prelude.{◌≡◌, ◌≤◌, ◌<◌, length, List, ℕ, take, OnErr, OnOk, IfOk, true, false};
 ghost use Rattle.std.specs.Io.{WritesAtMost};
 ghost use Rattle.std.specs.Io.KnownBytes.{Appends, WriteAppends};
 
 use crate::source::Failed;
 
-/// Where bytes go.
+/// A device that bytes are written to.
 pub trait Sink {
     ghost use Rattle.std.specs.Prelude.{◌≡◌, ◌<◌, length, ℕ, Bool, true, false, List, Option, OnErr, OnOk, IfOk};
 
-    // The bytes that it holds, where they are known.
+    // The bytes that it has taken, if they are known.
     ghost contents: { Self → Option (List ℕ) };
 
     // Whether the device has failed.
     ghost has_failed: { Self → Bool };
 
-    /// Takes the first of the bytes, and says how many: at least one, where there is one.
+    /// Takes bytes from the front, and returns how many: at least one, unless `bytes` is empty.
     fn write(&mut self, bytes: &[u8]) -> Result<usize, Failed>
         ensures bound { WritesAtMost result bytes.now }
         ensures bytes { WriteAppends (contents self.old) (contents self.new) result bytes.now }
@@ -25,7 +25,7 @@ pub trait Sink {
         ensures fails { OnErr result (has_failed self.new ≡ true) };
 }
 
-/// Writes all of the bytes. At a failure the sink has taken the first of them.
+/// Writes all of the bytes. If the sink fails, it has taken a beginning of them.
 pub fn write_all<K: Sink>(sink: &mut K, bytes: &[u8]) -> Result<(), Failed>
     ensures ok { OnOk result (Appends (K.contents sink.old) (K.contents sink.new) bytes.now) }
     ensures works { OnOk result (K.has_failed sink.new ≡ K.has_failed sink.old) }

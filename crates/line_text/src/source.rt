@@ -1,35 +1,36 @@
-//! Where bytes come from.
+//! Devices that bytes are read from.
 ghost use Rattle.std.specs.Prelude.{◌≡◌, ◌-◌, List, OnErr, OnOk, IfOk, IfErr, IfSome, length, vec_len, ◌<◌, true, false};
 ghost use Rattle.std.specs.Io.{ReadsAtMost};
 ghost use Rattle.std.specs.Io.KnownBytes.{IsAtEnd, ReadConsumes};
 
 use std::alloc::{AllocError, Global};
 
-/// The device failed; it answers this from its first failure on.
+/// The device failed. It returns this from its first failure on.
 #[derive(Clone, Copy, PartialEq, Eq)]
 pub struct Failed;
 
-/// Why not all bytes of a source were read.
+/// Why not all bytes of a source could be read.
 #[derive(Clone, Copy, PartialEq, Eq)]
 pub enum ReadError {
     NoMemory,
     Failed,
 }
 
-/// Where bytes come from: a device that can be read 2^32 times, the last time in vain.
+/// A device that bytes are read from. It can be read 2^32 times; the last read fails.
 pub trait Source {
     ghost use Rattle.std.specs.Prelude.{◌≡◌, ◌-◌, ℕ, Bool, true, List, Option, OnErr, OnOk, false};
 
-    // The bytes that it has left to give, where they are known.
+    // The bytes that are left to read, if they are known.
     ghost remaining: { Self → Option (List ℕ) };
 
     // Whether the device has failed.
     ghost has_failed: { Self → Bool };
 
-    // How many reads it has left.
+    // The number of reads left.
     ghost reads_left: { Self → ℕ };
 
-    /// Reads into the front of the buffer, and says how many bytes. None, where the buffer has room, is the end.
+    /// Reads into the front of the buffer, and returns the number of bytes. 0 for a buffer that is
+    /// not empty means the end.
     fn read(&mut self, buffer: &mut [u8]) -> Result<usize, Failed>
         ensures bound { ReadsAtMost result buffer.new }
         ensures bytes { ReadConsumes (remaining self.old) (remaining self.new) result buffer.new }
@@ -38,21 +39,21 @@ pub trait Source {
         ensures fails { OnErr result (has_failed self.new ≡ true) }
         ensures counts { reads_left self.new ≡ reads_left self.old - 1 };
 
-    // With no read left it has failed.
+    // Once no read is left it has failed.
     ghost spent: { (source : Self) → reads_left source ≡ 0 → has_failed source ≡ true };
 }
 
-/// How many bytes are read at a time.
+/// The number of bytes that are read at a time.
 const CHUNK: usize = 65_536;
 
-/// Room for the bytes of a read.
+/// A buffer for one read.
 fn room(alloc: Global) -> Result<Vec<u8>, AllocError>
     ensures { IfOk result (λ v. 0 < vec_len v) }
 {
     Vec::from_elem(alloc, 0, CHUNK)
 }
 
-/// All bytes that a source has left, read through the buffer.
+/// All bytes that are left in a source, read through the buffer, which must not be empty.
 fn read_through<S: Source>(
     alloc: Global,
     source: &mut S,
@@ -79,7 +80,7 @@ fn read_through<S: Source>(
     }
 }
 
-/// All bytes that a source has left. After `NoMemory` some of them may be lost.
+/// All bytes that are left in a source. After `NoMemory` some of them may be lost.
 pub fn read_all<S: Source>(alloc: Global, source: &mut S) -> Result<Vec<u8>, ReadError>
     ensures ok { IfOk result (λ all. IfSome (S.remaining source.old) (λ bytes. all.items ≡ bytes)) }
     ensures end { OnOk result (IsAtEnd (S.remaining source.new)) }

@@ -7,11 +7,12 @@ use crate::sink::Sink;
 use crate::source::Failed;
 use std::io::{ErrorKind, Write};
 
-/// How often a call that was interrupted is made again.
+/// The largest number of tries of a call that is interrupted.
 const MOST_TRIES: u32 = 1_000_000;
 
-/// A sink over a writer of the standard library. A call that was interrupted is made again. From the writer's first failure on
-/// it answers [`Failed`], as [`Sink`] says, whatever the writer would take; a write of some bytes that takes none is one.
+/// A sink over a writer of the standard library. An interrupted call is made again. From the
+/// writer's first failure on it returns [`Failed`], as [`Sink`] requires, whatever the writer would
+/// still take; a write of some bytes that takes 0 of them counts as a failure.
 #[derive(Drop)]
 pub struct StdSink<W: Write + Drop> {
     writer: W,
@@ -19,7 +20,7 @@ pub struct StdSink<W: Write + Drop> {
 }
 
 impl<W: Write + Drop> StdSink<W> {
-    /// A sink that holds what the writer holds.
+    /// A sink whose contents are the writer's.
     pub fn new(writer: W) -> Self
         ensures bytes { ⟦<StdSink<W> as Sink>⟧.contents result ≡ W.contents writer }
         ensures works { ⟦<StdSink<W> as Sink>⟧.has_failed result ≡ false }
@@ -39,7 +40,7 @@ impl<W: Write + Drop> StdSink<W> {
     }
 }
 
-/// One write, made again where it was interrupted.
+/// One write, made again if it is interrupted.
 fn write_once<W: Write>(writer: &mut W, bytes: &[u8]) -> Result<usize, Failed>
     ensures bound { WritesAtMost result bytes.now }
     ensures ok { IfOk result (λ n. Appends (W.contents writer.old) (W.contents writer.new)

@@ -6,11 +6,12 @@ ghost use Rattle.std.specs.Io.KnownBytes.{Consumes, IsAtEnd, Keeps};
 use crate::source::{Failed, Source};
 use std::io::{ErrorKind, Read};
 
-/// How often a call that was interrupted is made again.
+/// The largest number of tries of a call that is interrupted.
 const MOST_TRIES: u32 = 1_000_000;
 
-/// A source over a reader of the standard library. A call that was interrupted is made again. From the reader's first failure on
-/// it answers [`Failed`], as [`Source`] says, whatever the reader would give.
+/// A source over a reader of the standard library. An interrupted call is made again. From the
+/// reader's first failure on it returns [`Failed`], as [`Source`] requires, whatever the reader
+/// would still give.
 #[derive(Drop)]
 pub struct StdSource<R: Read + Drop> {
     reader: R,
@@ -19,7 +20,7 @@ pub struct StdSource<R: Read + Drop> {
 }
 
 impl<R: Read + Drop> StdSource<R> {
-    /// A source that gives what the reader has left.
+    /// A source of the bytes that are left in the reader.
     pub fn new(reader: R) -> Self
         ensures bytes { ⟦<StdSource<R> as Source>⟧.remaining result ≡ R.remaining reader }
         ensures works { ⟦<StdSource<R> as Source>⟧.has_failed result ≡ false }
@@ -33,7 +34,7 @@ impl<R: Read + Drop> StdSource<R> {
     }
 }
 
-/// One read, made again where it was interrupted.
+/// One read, made again if it is interrupted.
 fn read_once<R: Read>(reader: &mut R, buffer: &mut [u8]) -> Result<usize, Failed>
     ensures bound { ReadsAtMost result buffer.new }
     ensures ok { IfOk result (λ n. Consumes (R.remaining reader.old) (R.remaining reader.new)

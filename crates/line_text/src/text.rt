@@ -1,10 +1,10 @@
-//! Bytes that belong to their holder.
+//! Owned bytes.
 ghost use Rattle.std.specs.Prelude.{◌≡◌, ◌<◌, IfOk, IsTrue, ◌↔◌};
 
 use std::alloc::{AllocError, Global};
 use std::marker::Model;
 
-/// Bytes that belong to their holder: a netlist, a name or a file. Its value is the list of its bytes.
+/// Owned bytes: a netlist, a name or a file. Its value is the list of its bytes.
 #[derive(Debug, Drop)]
 pub struct Text {
     bytes: Vec<u8>,

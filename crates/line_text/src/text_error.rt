@@ -1,11 +1,12 @@
-//! Why a reader of a text has no value to answer.
+//! Why a reader of a text has no value to return.
 ghost use Rattle.line_text.specs.TextErrors.{IsToldAs};
 
 use std::alloc::{AllocError, AllocFailed};
 use std::error::Error;
 use std::fmt;
 
-/// Why a reader of a text has no value: there is no memory, or the text has a fault. Of several faults it is the least.
+/// Why a reader of a text has no value: memory ran out, or the text has a fault. Of several faults
+/// it is the least.
 #[derive(Debug, Drop, PartialEq, Eq)]
 pub enum TextError<F> {
     NoMemory,
@@ -13,7 +14,7 @@ pub enum TextError<F> {
 }
 
 impl<F> TextError<F> {
-    /// The same error, with the fault told as a fault of another kind.
+    /// The error with its fault, if it is one, converted to another kind of fault.
     pub fn told_as<G: From<F>>(self) -> TextError<G>
         ensures { IsToldAs G.from_gives self result }
     {

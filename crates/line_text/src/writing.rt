@@ -5,7 +5,7 @@ ghost use Rattle.line_text.specs.Writing.{Writes};
 use crate::sink::{Sink, write_all};
 use crate::source::Failed;
 
-/// Writes the parts, one behind the other. At a failure the sink has taken a beginning of them.
+/// Writes the parts one after another. If the sink fails, it has taken a beginning of them.
 pub fn write_parts<W: Sink>(sink: &mut W, parts: &[&[u8]]) -> Result<(), Failed>
     ensures { Writes W.contents W.has_failed sink.old sink.new
         (flat_map (λ part. part.now) parts.now) result }

@@ -1,4 +1,4 @@
--- Examples that are computed.
+-- Examples computed by the checker.
 use Rattle.std.proofs.Common.{◌≡◌, ◌∷◌, [], codes, refl}
 use Rattle.tenant_slot.specs.declared.reply.StepReply.TheVariants.{Finished}
 use Rattle.sessions.specs.declared.steps.StepOutcome.TheVariants.{Recorded, Nothing}

@@ -1,4 +1,4 @@
--- Jobs that are held, by their numbers.
+-- Held jobs, by their numbers.
 use Rattle.std.proofs.Common.{◌≡◌, ℕ, zero, suc, ◌+◌, ◌-◌, ◌<◌, ◌≤◌, List, [], ◌∷◌, ◌++◌, length, get_or, Option, None, append_assoc, refl, sym, ap, ◌∙◌, subst, arith}
 use Rattle.std.specs.Prelude.{option_map, reverse}
 use Rattle.std.specs.List.{filter_map}
@@ -48,7 +48,7 @@ without_job-at js number pos le = let e : number - 1 + 1 ≡ number = omega arit
 abbrev pub given : HeldList → List Call
 given jobs = filter_map (option_map GiveBack) jobs
 
--- one more that was the last of those that are left
+-- one more job is given back, the last of the remaining ones
 pub given_more : (start old new : ServiceState) (all left rest done : HeldList) (held : Option JobState) → all ≡ left ++ reverse done → left ≡ rest ++ held ∷ [] → Run start (given done) old → Run old (given (held ∷ [])) new →
     (more : HeldList) × (all ≡ rest ++ reverse more) × Run start (given more) new
 given_more start old new all left rest done held parted last runs next = (

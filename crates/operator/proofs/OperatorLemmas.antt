@@ -28,14 +28,14 @@ newest_first-push admitted name = ap reverse (map_push (λ slice. slice.now) adm
 pub length-newest_first : (admitted : List (Bor (List ℕ))) → length (newest_first admitted) ≡ length admitted
 length-newest_first admitted = length-reverse (texts admitted) ∙ length-map admitted (λ slice. slice.now)
 
--- the list with one more id
+-- the list with one more id's line
 pub list_text-push : (service : ServiceState) (admitted : List (Bor (List ℕ))) (name : Bor (List ℕ)) →
     list_text service (newest_first (admitted ++ name ∷ [])) ≡ list_text service (newest_first admitted) ++ listed service (length admitted + 1) name.now
 list_text-push service admitted name =
     ap (list_text service) (newest_first-push admitted name)
     ∙ ap (λ n. list_text service (newest_first admitted) ++ listed service (n + 1) name.now) (length-newest_first admitted)
 
--- a name's new id is its last
+-- a name's new id is its last one
 pub AreLastIds-insert : (old new : List (Bor (List ℕ) × ℕ)) (names : List (List ℕ)) (name : Bor (List ℕ)) (id : ℕ) →
     ((q : Bor (List ℕ)) → lookup (λ key. bytes_eq q.now key.now) new ≡ cond (bytes_eq name.now q.now) (Some id) (lookup (λ key. bytes_eq q.now key.now) old)) →
     id ≡ length names + 1 → AreLastIds old names → AreLastIds new (name.now ∷ names)

@@ -1,4 +1,4 @@
--- Steps of a tenancy's job, one after another, and which calls admit no one.
+-- Steps of a tenancy's job, one after another, and which calls admit nobody.
 use Rattle.std.proofs.Common.{◌≡◌, ℕ, suc, ◌+◌, List, [], ◌∷◌, ◌++◌, length, Option, Some, None, Ok, Err, inl, inr, refl, sym, ap, ◌∙◌, subst, append_assoc, append-nil, length-append, arith}
 use Rattle.std.specs.Prelude.{◌≢◌, All, ⊤}
 use Rattle.std.specs.List.{flat_map}
@@ -29,7 +29,7 @@ use Rattle.operator.specs.Operators.{Steps, Tries}
 use Rattle.operator.specs.Serving.{Tried, tried_calls, tried_text}
 use Rattle.operator.proofs.OperatorLemmas.{length-modified}
 
--- calls that admit no one
+-- calls that admit nobody
 abbrev pub Steady : Call → Type 0
 Steady (Admit width answer) = ⊥
 Steady (Evict id answer) = ⊥
@@ -78,7 +78,7 @@ lengths-run old new (call ∷ calls) steady run = lengths-happens old run.0 call
 to_steady : (calls these : List Call) → calls ≡ these → AreSteady these → AreSteady calls
 to_steady calls these is steady = rw is steady
 
--- the making of a step admits no one
+-- making a step admits nobody
 pub steady_puts : (job : JobState) (calls : List Call) (outcome : StepOutcome) → StepsAndPuts job calls outcome → AreSteady calls
 steady_puts job calls (Recorded reply) is = to_steady calls _ is.1 (tt, tt)
 steady_puts job calls Full is = to_steady calls _ is.1 (tt, tt)
@@ -117,7 +117,7 @@ steady_end id Unfit calls answer is = steady_command id _ calls answer is
 steady_wait : (id : ℕ) (calls : List Call) (last : StepOutcome) → Waits id calls last → AreSteady calls
 steady_wait id calls last is = to_steady calls _ is.5 (steady-append _ is.1 (steady_made id is.0 is.2) (steady_step id is.1 last is.3))
 
--- no session's line does
+-- nor does any line of a session
 pub steady_asks : (id : ℕ) (line : SessionLine) (calls : List Call) (answer : Answer) → Asks id line calls answer → AreSteady calls
 steady_asks id Blank calls answer is = to_steady calls [] is.0 tt
 steady_asks id (Refused refusal) calls answer is = to_steady calls [] is.0 tt
@@ -128,20 +128,20 @@ pub steady_held : (job : Option JobState) (calls : List Call) (outcome : StepOut
 steady_held None calls outcome is = to_steady calls [] is.0 tt
 steady_held (Some job) calls outcome is = steady_puts job calls outcome is
 
--- nor does the taking of a job
+-- nor does taking a job
 pub steady_take : (id : ℕ) (job : Option JobState) (calls : List Call) → Holds id job calls → AreSteady calls
 steady_take id (Some job) calls is = to_steady calls _ is (tt, tt)
 steady_take id None calls (inl is) = to_steady calls _ is (tt, tt)
 steady_take id None calls (inr is) = to_steady calls _ is.1 (tt, (tt, tt))
 
--- none is tried
+-- no step is tried
 pub steps_none : (graph : Basis) (service : ServiceState) (id : ℕ) (before : List ℕ) → Steps graph service id 0 before before service
 steps_none graph service id before = record {
   tries = record { tried = []; counted = refl; makes = λ k d within. absurd (omega arith); runs = refl; even = refl; fits = λ own k d within. absurd (omega arith) };
   told = sym (append-nil before);
 }
 
--- one more
+-- one more step is tried
 pub tries_more : (graph : Basis) (old mid new : ServiceState) (id count : ℕ) (calls : List Call) (outcome : StepOutcome) →
     Tries graph old id count mid → MakesStep id calls outcome → Run mid calls new → (graph ≡ own_graph mid.device → outcome ≢ Unfit) → Tries graph old id (count + 1) new
 tries_more graph old mid new id count calls outcome s makes runs fits =

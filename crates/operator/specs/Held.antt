@@ -1,4 +1,4 @@
--- Private: what a sink in memory holds.
+-- Private: the bytes in a memory sink.
 use Rattle.std.specs.Prelude.{ℕ, List}
 use Rattle.line_text.specs.declared.memory_sink.MemorySink.{MemorySink}
 

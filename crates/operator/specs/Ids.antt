@@ -6,7 +6,7 @@ use Rattle.std.specs.Str.{bytes_eq}
 use Rattle.line_text.specs.Words.{texts}
 use Rattle.operator.specs.OperatorText.{last_id}
 
--- the names of all ids, the newest first, of those in the order of admission
+-- the names of all ids, newest first, from those in the order of admission
 abbrev pub newest_first : List (Bor (List ℕ)) → List (List ℕ)
 newest_first admitted = reverse (texts admitted)
 

@@ -1,4 +1,4 @@
--- The texts that the operator is answered with, and the names that tenancies were admitted under.
+-- The texts of the replies to the operator, and the names under which tenancies were admitted.
 use Rattle.std.specs.Prelude.{ℕ, ◌+◌, List, [], ◌∷◌, ◌++◌, length, codes, decimal, Result, Ok, Err, Option, Some, None, unwrap_or, if◌then◌else◌}
 use Rattle.std.specs.Option.{option_map_or}
 use Rattle.std.specs.Str.{bytes_eq}
@@ -24,12 +24,12 @@ abbrev pub evicted_text : Result (Unit {0}) OpRefusal → List ℕ
 evicted_text (Ok nothing) = codes "ok" ++ 10 ∷ []
 evicted_text (Err refusal) = refused_text (op_refusal_number refusal) (op_refusal_text refusal)
 
--- a strip that has moved is told where it stands
+-- the reply to a move: a strip that has moved is at that offset
 abbrev pub moved_text : ℕ → Result (Unit {0}) OpRefusal → List ℕ
 moved_text offset (Ok nothing) = codes "ok" ++ blank_word (decimal offset) ++ 10 ∷ []
 moved_text offset (Err refusal) = refused_text (op_refusal_number refusal) (op_refusal_text refusal)
 
--- what the making of a step came to, as a word
+-- the result of making a step, as a word
 abbrev pub outcome_word : StepOutcome → List ℕ
 outcome_word (Recorded reply) = step_text reply
 outcome_word Full = codes "full"
@@ -37,25 +37,26 @@ outcome_word Gone = codes "gone"
 outcome_word NoMemory = codes "nomemory"
 outcome_word outcome = codes "none"
 
--- and as a line
+-- the result of making a step, as a line
 abbrev pub outcome_text : StepOutcome → List ℕ
 outcome_text outcome = outcome_word outcome ++ 10 ∷ []
 
--- a job that was taken is told by its number
+-- the number of a job that was taken
 abbrev pub taken_text : Option ℕ → List ℕ
 taken_text number = option_map_or (λ n. codes "ok job" ++ blank_word (decimal n) ++ 10 ∷ []) number (codes "none" ++ 10 ∷ [])
 
--- the last id of a name, or 0. The names are those of all ids, the newest first; the oldest has id 1
+-- the last id of a name, or 0. The names are those of all ids, newest first; the oldest has id 1
 abbrev pub last_id : List (List ℕ) → List ℕ → ℕ
 last_id [] name = 0
 last_id (newest ∷ older) name = if bytes_eq newest name then length older + 1 else last_id older name
 
--- the names once an admission was answered
+-- the names after an admission with that answer
 abbrev pub names_after : List (List ℕ) → List ℕ → Result (ℕ × ℕ) OpRefusal → List (List ℕ)
 names_after names name (Ok given) = name ∷ names
 names_after names name (Err refusal) = names
 
--- the line of a tenancy in the operator's list, if it is live: its id, its name, where its strip stands, how wide it is, and its state
+-- the line of a tenancy in the operator's list, if it is live: its id, its name, its strip's offset
+-- and width, and its state
 abbrev pub listed_text : Option History → Option ℕ → ℕ → List ℕ → List ℕ
 listed_text None offset id name = []
 listed_text (Some h) offset id name =
@@ -64,7 +65,7 @@ listed_text (Some h) offset id name =
 abbrev pub listed : ServiceState → ℕ → List ℕ → List ℕ
 listed service id name = listed_text (live_of service.histories id) (offset_of service.plan.strips id) id name
 
--- the live tenancies by rising id, a line each
+-- the live tenancies by rising id, one line each
 abbrev pub list_text : ServiceState → List (List ℕ) → List ℕ
 list_text service [] = []
 list_text service (newest ∷ older) = list_text service older ++ listed service (length older + 1) newest

@@ -1,4 +1,4 @@
--- The owners of a device's pins, wires and pads, as the operator is told them.
+-- The owners of a device's pins, wires and pads, as in the reply to the operator.
 use Rattle.std.specs.Prelude.{ℕ, List, [], ◌∷◌, ◌++◌, length, codes, decimal}
 use Rattle.std.specs.List.{flat_map}
 use Rattle.device_book.specs.declared.book.Owned.{Owned}
@@ -8,7 +8,8 @@ use Rattle.rr_graph.specs.declared.resource.ResourceKind.{ResourceKind}
 use Rattle.rr_graph.specs.declared.resource.ResourceKind.TheVariants.{Opin as OpinHeld, Ipin as IpinHeld, ChanX as ChanXHeld, ChanY as ChanYHeld, Pad}
 use Rattle.vpr_files.specs.NodeText.{node_text_of, position_text}
 
--- a pin or a wire, of that kind, as its node stands in the `.route` file of a device with so many rows, and a pad likewise
+-- a pin or a wire of that kind, as its node appears in the `.route` file of a device with `rows`
+-- rows; a pad in the form of its own
 abbrev pub resource_text : ℕ → Resource → ResourceKind → List ℕ
 resource_text rows r OpinHeld = node_text_of rows (record { x = r.x; kind = Opin; y = r.y; n = r.n })
 resource_text rows r IpinHeld = node_text_of rows (record { x = r.x; kind = Ipin; y = r.y; n = r.n })
@@ -20,6 +21,6 @@ resource_text rows r Pad = codes "PAD " ++ position_text r.x r.y ++ codes " Pad:
 abbrev pub owned_text : ℕ → Owned → List ℕ
 owned_text rows owned = resource_text rows owned.resource owned.resource.kind ++ codes " owner " ++ decimal owned.id ++ 10 ∷ []
 
--- how many are owned on a device with so many rows, and a line for each
+-- the number of owned resources on a device with `rows` rows, and one line for each
 abbrev pub owners_text : ℕ → List Owned → List ℕ
 owners_text rows owners = codes "owners " ++ decimal (length owners) ++ 10 ∷ flat_map (owned_text rows) owners

@@ -1,4 +1,4 @@
--- What the lines of the operator are answered.
+-- The replies to the operator's lines.
 use Rattle.std.specs.Prelude.{ℕ, ◌≡◌, ◌≢◌, ◌⊎◌, ◌≤◌, ◌+◌, All, option_map, List, [], ◌∷◌, length, codes, Result, Option, Some, None}
 use Rattle.std.specs.List.{flat_map}
 use Rattle.rr_graph.specs.Graph.{Basis}
@@ -20,8 +20,8 @@ use Rattle.operator.specs.OwnersText.{owners_text}
 use Rattle.operator.specs.HeldJobs.{HeldList, Holds, PutsHeld, job_at, with_job, without_job}
 use Rattle.operator.specs.OperatorText.{admitted_text, evicted_text, last_id, list_text, moved_text, names_after, outcome_text, refused_text, taken_text}
 
--- the core's state, the names of all ids, the newest first, the jobs that the operator took, and what the graph stands on that steps are
--- made on
+-- the core's state, the names of all ids, newest first, the jobs that the operator took, and the
+-- basis of the graph on which steps are made
 pub record Stage : Type 0 where
   pub names : List (List ℕ)
   pub jobs : HeldList
@@ -39,8 +39,9 @@ IsAdmission None old name width calls text new = (answer : Result (ℕ × ℕ) O
     × Happens old.service (AdmitCall width answer) new.service × (new.names ≡ names_after old.names name answer) × (new.jobs ≡ old.jobs)
     × (calls ≡ AdmitCall width answer ∷ []) × (text ≡ admitted_text answer) × (new.graph ≡ old.graph)
 
--- a line of the operator is answered with that text, after those calls of the core. Steps that were tried are told a line each, by what came
--- of their calls. The device's own graph fits each job
+-- a line of the operator with the calls of the core that it makes, and its reply. Each step that
+-- was tried has a line in the reply, by the result of its calls. The device's own graph fits each
+-- job
 abbrev pub IsServed : Stage → OperatorLine (List ℕ) → List Call → List ℕ → Stage → Type 0
 IsServed old (Admit name width) calls text new = IsAdmission (live_of old.service.histories (last_id old.names name)) old name width calls text new
 IsServed old (Evict name) calls text new = (answer : Result (Unit {0}) OpRefusal)
@@ -65,12 +66,14 @@ IsServed old ListAll calls text new = (calls ≡ []) × (text ≡ list_text old.
 IsServed old Owners calls text new = (owners : List Owned)
     × ListsOwnersOf old.service owners × (calls ≡ OwnersCall owners ∷ []) × (text ≡ owners_text old.service.device.rows owners) × (new ≡ old)
 
--- what stands where memory lacked: nothing was done, or the line was, and isn't told or not all of it; of steps some were made
+-- what is left if memory runs out: the line had no effect, or it took effect but its reply is
+-- missing or cut short; of several steps, only some may have been made
 abbrev pub Leaves : Stage → OperatorLine (List ℕ) → Stage → Type 0
 Leaves old (Step name count) new = (made : ℕ) × (made ≤ count) × (calls : List Call) × (text : List ℕ) × IsServed old (Step name made) calls text new
 Leaves old line new = (new ≡ old) ⊎ ((calls : List Call) × (text : List ℕ) × IsServed old line calls text new)
 
--- private: steps that were tried, each with its calls of the core and what came of it; and all their calls, and what is told of them
+-- private: steps that were tried, each with its calls of the core and its outcome; all their calls,
+-- and all their lines of the reply
 abbrev pub Tried : Type 0
 Tried = List (List Call × StepOutcome)
 

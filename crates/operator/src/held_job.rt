@@ -5,7 +5,7 @@ use job_state::AnyJob;
 use std::marker::Model;
 use strips::Window;
 
-/// A job that the operator holds, with the window that it had where it was taken. Its value is the job's.
+/// A job that the operator holds, with its window when it was taken. Its value is the job's.
 pub(crate) struct HeldJob<'g> {
     pub(crate) job: AnyJob,
     pub(crate) window: Window<'g>,
@@ -24,7 +24,7 @@ impl<'g> Model for HeldJob<'g> {
 }
 
 impl<'g> HeldJob<'g> {
-    /// That job with that window.
+    /// Holds that job with that window.
     pub(crate) fn new(job: AnyJob, window: Window<'g>) -> Self
         requires { window ≡ basis_in job.step.sources }
         ensures { result ≡ job }
@@ -32,7 +32,7 @@ impl<'g> HeldJob<'g> {
         HeldJob { job, window }
     }
 
-    /// The job, not to be stepped.
+    /// The job, without its step made.
     pub(crate) fn into_job(self) -> AnyJob
         ensures { result ≡ self.entry }
     {

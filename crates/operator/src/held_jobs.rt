@@ -14,8 +14,9 @@ use std::alloc::{AllocError, Global};
 use std::marker::Model;
 use strips::DeviceGraph;
 
-/// Jobs that the operator took, numbered from 1 in the order in which they were taken, each with its window on the device's graph.
-/// Its value is the list of the jobs, with none where one was put.
+/// Jobs that the operator took, numbered from 1 in the order in which they were taken, each with
+/// its window on the device's graph. Its value is the list of the jobs, with `None` in place of one
+/// that was put.
 pub struct HeldJobs<'g> {
     jobs: Vec<Option<HeldJob<'g>>>,
 }
@@ -29,6 +30,7 @@ impl<'g> Model for HeldJobs<'g> {
 }
 
 impl<'g> HeldJobs<'g> {
+    /// Returns a list without jobs. Takes no memory.
     pub fn new(alloc: Global) -> Self
         ensures { result ≡ [] }
     {
@@ -37,8 +39,9 @@ impl<'g> HeldJobs<'g> {
         }
     }
 
-    /// Takes the next step of that tenancy's job, if there is one to take, and tells its number. One that the graph doesn't fit is
-    /// given back; the device's own graph fits each. Without memory nothing is taken.
+    /// Takes the next step of that tenancy's job, if there is one to take, and returns its number.
+    /// A job that the graph doesn't fit is given back; the device's own graph fits each. If memory
+    /// runs out, nothing is taken.
     pub fn take(
         &mut self,
         core: &mut Service,
@@ -67,7 +70,8 @@ impl<'g> HeldJobs<'g> {
         }
     }
 
-    /// Steps the job of that number through the window that it has, and puts it, if it is held. It is held no longer.
+    /// Steps the job of that number through its window and puts it, if it is held. Afterwards it
+    /// isn't held any more.
     pub fn put(&mut self, core: &mut Service, number: u32) -> StepOutcome
         ensures jobs { self.new ≡ without_job self.old number }
         ensures put { (calls : List Call) × PutsHeld (job_at self.old number) calls result
@@ -80,7 +84,7 @@ impl<'g> HeldJobs<'g> {
         }
     }
 
-    /// The job of that number, which is held no longer.
+    /// Removes the job of that number, if it is held.
     #[tactic(auto, using(crate::proofs::HeldLemmas::by_number))]
     fn remove(&mut self, number: u32) -> Option<HeldJob<'g>>
         ensures job { result ≡ job_at self.old number }
@@ -95,7 +99,7 @@ impl<'g> HeldJobs<'g> {
         self.jobs[number as usize - 1].take()
     }
 
-    /// Gives back all that are held, the last one first.
+    /// Gives back all held jobs, the last one first.
     pub fn give_back(self, core: &mut Service)
         ensures { Run core.old (give_backs self.entry) core.new }
     {

@@ -1,9 +1,10 @@
-//! The operator: tenancies by names, and jobs that are held.
+//! The operator: tenancies by name, and held jobs.
 //!
-//! - `Operator` keeps which ids a name was given. `serve` does what a line of the operator asks, and appends its answer.
-//! - `HeldJobs` are the jobs that the operator took, by numbers.
-//! - In `specs/`, `Serving` says what each line comes to, `HeldJobs` which job a number names, and `OperatorText` how
-//!   answers are spelled.
+//! - `Operator` records which ids a name was given. `serve` executes a line of the operator and
+//!   appends its reply.
+//! - `HeldJobs` are the jobs that the operator took, by number.
+//! - In `specs/`, `Serving` defines the effect of each line, `HeldJobs` which job a number names,
+//!   and `OperatorText` how replies are spelled.
 #![tactic(auto)]
 
 mod held_job;

@@ -19,8 +19,8 @@ use std::alloc::{AllocError, Global};
 use std::marker::Model;
 use strips::DeviceGraph;
 
-/// The operator: names over ids, one live tenancy a name. Its value is the names of all ids, the newest first; the oldest
-/// has id 1.
+/// The operator: names for ids, with at most one live tenancy a name. Its value is the names of all
+/// ids, newest first; the oldest has id 1.
 #[derive(Drop)]
 pub struct Operator<'t> {
     ids: IndexMap<&'t [u8], u32>,
@@ -41,6 +41,7 @@ impl<'t> Model for Operator<'t> {
 impl<'t> Operator<'t> {
     ghost use Rattle.operator.specs.Operators.{AdmissionStands, Admits, Answers, Stands};
 
+    /// Returns an operator who has named no tenancy. Takes no memory.
     pub fn new(alloc: Global) -> Self
         ensures { result ≡ [] }
     {
@@ -60,16 +61,17 @@ impl<'t> Operator<'t> {
         }
     }
 
-    /// Whether the names are those of all tenancies that the core has admitted.
+    /// Returns whether the names are those of all tenancies that the core has admitted.
     pub fn is_of(&self, core: &Service) -> bool
         ensures { IsTrue result ↔ (length self.now ≡ length core.now.histories) }
     {
         self.admitted.len() == core.admissions() as usize
     }
 
-    /// Does what a line of the operator asks, steps on the device's graph, and appends its reply. The device's own graph fits each job.
-    /// Without memory nothing was done, or the line was done and its reply is missing, or not whole; of several steps some are made. Each
-    /// tenancy has its name then too.
+    /// Executes a line of the operator, makes steps on the device's graph, and appends the reply.
+    /// The device's own graph fits each job. If memory runs out, the line had no effect, or it took
+    /// effect but its reply is missing or cut short; of several steps, only some may have been
+    /// made. Even then each tenancy has its name.
     pub fn serve<'g>(
         &mut self,
         core: &mut Service,
@@ -111,7 +113,8 @@ impl<'t> Operator<'t> {
         }
     }
 
-    /// Admits a tenancy under that name, unless it is in use. Room for the name comes first, so that no tenancy is without one.
+    /// Admits a tenancy under that name, unless the name is in use. Memory for the name is reserved
+    /// first, so that no tenancy is without one.
     fn admit(
         &mut self,
         core: &mut Service,
@@ -140,7 +143,7 @@ impl<'t> Operator<'t> {
         }
     }
 
-    /// Appends a line for each live tenancy, by id.
+    /// Appends one line for each live tenancy, by id.
     fn list(&self, core: &Service, reply: &mut MemorySink) -> Result<(), AllocError>
         requires { length self.now ≡ length core.now.histories }
         ensures { OnOk result (held reply.new ≡ held reply.old ++ list_text core.now self.now) }
@@ -153,7 +156,7 @@ impl<'t> Operator<'t> {
     }
 }
 
-/// Notes the next id and the name that it was given, where there is room for both.
+/// Records the next id and its name. There must be space for both.
 fn note<'t>(
     ids: &mut IndexMap<&'t [u8], u32>,
     admitted: &mut Vec<&'t [u8]>,
@@ -171,7 +174,7 @@ fn note<'t>(
     admitted.push(name).unwrap();
 }
 
-/// Makes the next step of a tenancy's job so many times, and appends the outcome of each as a line.
+/// Tries the next step of a tenancy's job `count` times, and appends the outcome of each as a line.
 fn step(
     core: &mut Service,
     graph: &DeviceGraph,

@@ -1,4 +1,4 @@
-//! The owners of a device's pins, wires and pads, as the operator is told them.
+//! The owners of a device's pins, wires and pads, as in the reply to the operator.
 ghost use Rattle.std.specs.Prelude.{◌≡◌, ◌++◌, OnOk, codes, decimal};
 ghost use Rattle.std.specs.List.{flat_map};
 ghost use Rattle.operator.specs.Held.{held};
@@ -13,7 +13,7 @@ use rr_graph::{Node, NodeKind, Resource, ResourceKind};
 use std::alloc::AllocError;
 use vpr_files::write_node;
 
-/// Appends how many resources are owned on a device with so many rows, and a line for each.
+/// Appends the number of owned resources on a device with `rows` rows, and one line for each.
 pub(crate) fn push_owners(
     reply: &mut MemorySink,
     rows: u32,
@@ -27,7 +27,7 @@ pub(crate) fn push_owners(
     push_each(reply, rows, owners)
 }
 
-/// Appends a line for each resource and its owner.
+/// Appends one line for each resource and its owner.
 fn push_each(reply: &mut MemorySink, rows: u32, owners: &[Owned]) -> Result<(), AllocError>
     ensures { OnOk result (held reply.new
         ≡ held reply.old ++ flat_map (owned_text rows) owners.now) }
@@ -48,7 +48,8 @@ fn push_owned(reply: &mut MemorySink, rows: u32, owned: Owned) -> Result<(), All
     push_parts(reply, &[b" owner ", digits.format(id).as_bytes(), b"\n"])
 }
 
-/// Appends a resource: a pin or a wire as its node stands in a `.route` file, and a pad likewise.
+/// Appends a resource: a pin or a wire as its node appears in a `.route` file, a pad in the form of
+/// its own.
 fn push_resource(reply: &mut MemorySink, rows: u32, resource: Resource) -> Result<(), AllocError>
     ensures { OnOk result (held reply.new
         ≡ held reply.old ++ resource_text rows resource resource.kind) }
@@ -62,7 +63,6 @@ fn push_resource(reply: &mut MemorySink, rows: u32, resource: Resource) -> Resul
     }
 }
 
-/// Appends a pad.
 fn push_pad(reply: &mut MemorySink, pad: Resource) -> Result<(), AllocError>
     ensures { OnOk result (held reply.new
         ≡ held reply.old ++ codes "PAD " ++ position_text pad.x pad.y ++ codes " Pad: "
@@ -75,7 +75,7 @@ fn push_pad(reply: &mut MemorySink, pad: Resource) -> Result<(), AllocError>
     push_parts(reply, &[b"PAD (", x, b",", y, b") Pad: ", n])
 }
 
-/// Appends a node of that kind, where a pin or a wire is.
+/// Appends a node of that kind, at the place of a pin or a wire.
 fn push_node(
     reply: &mut MemorySink,
     rows: u32,

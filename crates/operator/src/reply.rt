@@ -1,4 +1,4 @@
-//! The lines that the operator is answered with.
+//! The lines of the replies to the operator.
 ghost use Rattle.std.specs.Prelude.{◌≡◌, ◌++◌, ◌∷◌, [], OnOk, decimal};
 ghost use Rattle.std.specs.List.{flat_map};
 ghost use Rattle.operator.specs.Held.{held};
@@ -54,7 +54,7 @@ fn push_row<'t>(
     )
 }
 
-/// Appends the line of what an admission was answered.
+/// Appends the reply to an admission with that answer.
 pub(crate) fn push_admitted(
     reply: &mut MemorySink,
     answer: &Result<(u32, u32), OpRefusal>,
@@ -72,7 +72,7 @@ pub(crate) fn push_admitted(
     }
 }
 
-/// Appends the line of what the move of a strip to that offset was answered.
+/// Appends the reply to a move of a strip to that offset, with that answer.
 pub(crate) fn push_moved(
     reply: &mut MemorySink,
     offset: u32,
@@ -90,7 +90,7 @@ pub(crate) fn push_moved(
     }
 }
 
-/// Appends the line of what an eviction was answered.
+/// Appends the reply to an eviction with that answer.
 pub(crate) fn push_evicted(
     reply: &mut MemorySink,
     answer: &Result<(), OpRefusal>,
@@ -103,14 +103,14 @@ pub(crate) fn push_evicted(
     }
 }
 
-/// Appends what the making of a step came to.
+/// Appends the outcome of making a step.
 pub(crate) fn push_outcome(reply: &mut MemorySink, outcome: StepOutcome) -> Result<(), AllocError>
     ensures { OnOk result (held reply.new ≡ held reply.old ++ outcome_text outcome) }
 {
     push_parts(reply, &[outcome_word(outcome), b"\n"])
 }
 
-/// What the making of a step came to, as a word.
+/// The outcome of making a step, as a word.
 fn outcome_word(outcome: StepOutcome) -> &'static [u8]
     ensures { result.now ≡ outcome_word outcome }
 {
@@ -137,7 +137,7 @@ pub(crate) fn push_taken(reply: &mut MemorySink, number: Option<usize>) -> Resul
     }
 }
 
-/// Appends the parts, one behind the other.
+/// Appends the parts one after the other.
 pub(crate) fn push_parts(reply: &mut MemorySink, parts: &[&[u8]]) -> Result<(), AllocError>
     ensures { OnOk result (held reply.new
         ≡ held reply.old ++ flat_map (λ part. part.now) parts.now) }

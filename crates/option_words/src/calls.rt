@@ -1,4 +1,4 @@
-//! Words that call a tool.
+//! Words that call a tool of a toolbox.
 ghost use Rattle.std.specs.Prelude.{IfOk, IfSome};
 ghost use Rattle.std.specs.List.{Contains};
 
@@ -9,14 +9,15 @@ use clap::{ArgMatches, Command, Error};
 use std::alloc::Global;
 use std::convert::AsStr;
 
-/// A tool that is called, and what the words give its options.
+/// A tool that is called, and the values of its options.
 #[derive(Drop)]
 pub struct Call<'a> {
     pub tool: Program,
     pub given: Given<'a>,
 }
 
-/// Which tool the words of a program call, the first being its name. An error is clap's: the words are refused, or ask for help.
+/// The tool that a program's words call; the first word is the program's name. An error is clap's:
+/// the words are refused, or ask for help.
 pub fn read_call<'a, S: AsStr>(
     alloc: Global,
     toolbox: &Toolbox,
@@ -30,7 +31,7 @@ pub fn read_call<'a, S: AsStr>(
     call
 }
 
-/// The same, by the toolbox as clap takes it.
+/// Reads the words with the toolbox as a clap command.
 fn called_by<'a, S: AsStr>(
     alloc: Global,
     commands: &mut Command<'a>,
@@ -48,7 +49,7 @@ fn called_by<'a, S: AsStr>(
     }
 }
 
-/// The tool that clap found to be called.
+/// The tool of clap's subcommand match; `None` if there is no subcommand.
 fn call_of<'a>(
     alloc: Global,
     toolbox: &Toolbox,
@@ -67,7 +68,7 @@ fn call_of<'a>(
     Ok(Some(Call { tool: *tool, given }))
 }
 
-/// The refusal of words that called a tool and could be read, told as clap tells its own.
+/// The refusal of words that called a tool and could be parsed, in the form of clap's own errors.
 pub fn call_refusal(alloc: Global, toolbox: &Toolbox, tool: &Program, why: &str) -> Error {
     match refused_by(alloc, toolbox, tool, why) {
         Ok(refusal) => refusal,
@@ -75,7 +76,7 @@ pub fn call_refusal(alloc: Global, toolbox: &Toolbox, tool: &Program, why: &str)
     }
 }
 
-/// The same. An error is that memory lacks.
+/// Builds that refusal. Returns an error if memory runs out.
 fn refused_by(alloc: Global, toolbox: &Toolbox, tool: &Program, why: &str) -> Result<Error, Error> {
     let name = format!(in alloc; "{} {}", toolbox.name, tool.name)?;
     let mut command = command(alloc, tool)?.bin_name(name.as_str())?;

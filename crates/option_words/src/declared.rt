@@ -3,22 +3,23 @@ use clap::builder::ValueParser;
 use clap::{Arg, ArgAction, Command};
 use std::alloc::{AllocError, Global};
 
-/// What an option takes.
+/// What value an option takes.
 #[derive(Clone, Copy)]
 pub enum Takes {
     /// Any text.
     Text,
-    /// Any text; the option has to be given.
+    /// Any text; the option is required.
     GivenText,
-    /// A number from the first to the second.
+    /// A number from the first to the second, both included.
     Number(u32, u32),
     /// Any number of 64 bits.
     Long,
     /// One of these words.
     Word(&'static [&'static str]),
-    /// Nothing: the option is given, or it is not.
+    /// No value: the option is given or not.
     Nothing,
-    /// Any text, which has to be given and stands alone, without the option's name. Of several the first word is the first one's.
+    /// Any text, required and given without the option's name. If there are several such options,
+    /// the first word belongs to the first of them.
     Alone,
 }
 
@@ -26,11 +27,11 @@ pub enum Takes {
 #[derive(Clone, Copy)]
 pub struct OptionWord {
     pub name: &'static str,
-    /// What the help calls its value.
+    /// The name of its value in the help.
     pub value_name: &'static str,
     pub help: &'static str,
     pub takes: Takes,
-    /// Its value where the words do not give it.
+    /// Its value if the words don't give one.
     pub default: Option<&'static str>,
 }
 
@@ -38,27 +39,27 @@ pub struct OptionWord {
 #[derive(Clone, Copy)]
 pub struct Program {
     pub name: &'static str,
-    /// What its help begins with.
+    /// The beginning of its help.
     pub about: &'static str,
-    /// What its help ends with.
+    /// The end of its help.
     pub after_help: &'static str,
     /// Its options, in the help's order.
     pub options: &'static [OptionWord],
 }
 
-/// A program of several tools, each a program that the first word calls by its name.
+/// A program of several tools; the first word calls one by its name.
 #[derive(Clone, Copy)]
 pub struct Toolbox {
     pub name: &'static str,
-    /// What its help begins with.
+    /// The beginning of its help.
     pub about: &'static str,
-    /// What its help ends with.
+    /// The end of its help.
     pub after_help: &'static str,
     /// Its tools, in the help's order.
     pub tools: &'static [Program],
 }
 
-/// The toolbox as clap takes it.
+/// The toolbox as a clap command.
 pub(crate) fn commands<'a>(alloc: Global, toolbox: &Toolbox) -> Result<Command<'a>, AllocError> {
     let mut commands = Command::new(alloc, toolbox.name)
         .about(toolbox.about)
@@ -71,7 +72,7 @@ pub(crate) fn commands<'a>(alloc: Global, toolbox: &Toolbox) -> Result<Command<'
     Ok(commands)
 }
 
-/// The toolbox with one tool more.
+/// The clap command with one more tool.
 fn with_tool<'a>(
     alloc: Global,
     commands: Command<'a>,
@@ -86,7 +87,7 @@ fn with_tool<'a>(
     }
 }
 
-/// The program as clap takes it.
+/// The program as a clap command.
 pub(crate) fn command<'a>(alloc: Global, program: &Program) -> Result<Command<'a>, AllocError> {
     let mut command = named(alloc, program);
     for option in program.options {
@@ -95,14 +96,14 @@ pub(crate) fn command<'a>(alloc: Global, program: &Program) -> Result<Command<'a
     Ok(command)
 }
 
-/// The program without its options.
+/// The clap command without the program's options.
 fn named<'a>(alloc: Global, program: &Program) -> Command<'a> {
     Command::new(alloc, program.name)
         .about(program.about)
         .after_help(program.after_help)
 }
 
-/// An option as clap takes it.
+/// An option as a clap argument.
 fn argument<'a>(alloc: Global, option: &OptionWord) -> Arg<'a> {
     let argument = taking(Arg::new(alloc, option.name), option).help(option.help);
     match option.default {
@@ -111,7 +112,7 @@ fn argument<'a>(alloc: Global, option: &OptionWord) -> Arg<'a> {
     }
 }
 
-/// An option with its name in the words and what it takes.
+/// The argument with its name and the kind of value that it takes.
 fn taking<'a>(argument: Arg<'a>, option: &OptionWord) -> Arg<'a> {
     match option.takes {
         Takes::Nothing => argument.long(option.name).action(ArgAction::SetTrue),
@@ -122,12 +123,12 @@ fn taking<'a>(argument: Arg<'a>, option: &OptionWord) -> Arg<'a> {
     }
 }
 
-/// An option with its name in the words and what the help calls its value.
+/// The argument with its name and the name of its value in the help.
 fn valued<'a>(argument: Arg<'a>, option: &OptionWord) -> Arg<'a> {
     argument.long(option.name).value_name(option.value_name)
 }
 
-/// How clap checks what an option takes.
+/// The clap parser that checks an option's value.
 fn parser<'a>(takes: Takes) -> ValueParser<'a> {
     match takes {
         Takes::Number(least, most) => ValueParser::Signed(i64::from(least), i64::from(most)),

@@ -1,4 +1,4 @@
-//! What the words give.
+//! The values that the words give to the options.
 ghost use Rattle.std.specs.Prelude.{◌≡◌, IfOk, IfErr, Some, None, option_map};
 ghost use Rattle.option_words.specs.Values.{is_given, number_of, text_of};
 
@@ -7,10 +7,10 @@ use clap::ArgMatches;
 use line_text::{decimal_u32, decimal_u64};
 use std::alloc::{AllocError, Global};
 
-/// Why a number is refused that clap takes.
+/// Why a number is refused that clap accepts.
 const SIGNED: &str = "a number has a sign";
 
-/// The text that an option has which takes nothing, where it is given.
+/// The text of an option without a value, if it is given.
 const GIVEN: &str = "true";
 
 /// The value of an option.
@@ -20,14 +20,14 @@ struct Value<'a> {
     text: &'a str,
 }
 
-/// The values of a program's options: what its words give, and the defaults of the others.
+/// The values of a program's options: those that its words give, and the defaults of the others.
 #[derive(Drop)]
 pub struct Given<'a> {
     values: Vec<Value<'a>>,
 }
 
 impl<'a> Given<'a> {
-    /// What clap found of these options.
+    /// The values that clap found for these options.
     pub(crate) fn new(
         alloc: Global,
         options: &[OptionWord],
@@ -45,7 +45,7 @@ impl<'a> Given<'a> {
         Ok(Given { values })
     }
 
-    /// The text of an option. None where it has no value.
+    /// The text of an option. `None` if it has no value.
     pub fn text(&self, name: &str) -> Option<&'a str>
         ensures { option_map (λ text. text.now) result ≡ text_of self.now name.now }
     {
@@ -53,7 +53,7 @@ impl<'a> Given<'a> {
         Some(value.text)
     }
 
-    /// Whether an option is given that takes nothing.
+    /// Whether an option without a value is given.
     pub fn is_given(&self, name: &str) -> bool
         ensures { result ≡ is_given self.now name.now }
     {
@@ -63,7 +63,7 @@ impl<'a> Given<'a> {
         }
     }
 
-    /// The number of an option that takes one of 32 bits, or why the words are refused.
+    /// The value of an option that takes a number of 32 bits, or why the words are refused.
     pub fn number(&self, name: &str) -> Result<u32, &'static str>
         ensures told { IfOk result (λ number. number_of 32 self.now name.now ≡ Some number) }
         ensures none { IfErr result (λ _. number_of 32 self.now name.now ≡ None) }
@@ -74,7 +74,7 @@ impl<'a> Given<'a> {
         }
     }
 
-    /// The number of an option that takes one of 64 bits, or why the words are refused.
+    /// The value of an option that takes a number of 64 bits, or why the words are refused.
     pub fn long(&self, name: &str) -> Result<u64, &'static str>
         ensures told { IfOk result (λ number. number_of 64 self.now name.now ≡ Some number) }
         ensures none { IfErr result (λ _. number_of 64 self.now name.now ≡ None) }

@@ -1,10 +1,11 @@
 //! The options of a program, declared in a table and read from the program's words.
 //!
-//! - A `Program` has its texts for help and its options, each an `OptionWord`: `--name VALUE`, `--name`, or a word alone.
-//! - `read_words` reads a program's words, and `Given` tells the options' values by name.
-//! - `refusal` refuses words for what only the program knows.
-//! - A `Toolbox` is a program of several: `read_call` reads which of its tools the first word calls, and what the other words give that
-//!   tool's options; `call_refusal` refuses such words.
+//! - A `Program` has its help texts and its options, each an `OptionWord`: `--name VALUE`,
+//!   `--name`, or a word alone.
+//! - `read_words` reads a program's words, and `Given` returns the options' values by name.
+//! - `refusal` refuses words for a reason that only the program knows.
+//! - A `Toolbox` is a program of several tools: `read_call` reads which tool the first word calls
+//!   and the values that the other words give to its options; `call_refusal` refuses such words.
 #![tactic(auto)]
 
 mod calls;

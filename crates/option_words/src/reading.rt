@@ -1,4 +1,4 @@
-//! Words that are read.
+//! Reads the words of a program.
 use crate::declared::{Program, command};
 use crate::given::Given;
 use clap::error::ErrorKind;
@@ -6,7 +6,8 @@ use clap::{Command, Error};
 use std::alloc::Global;
 use std::convert::AsStr;
 
-/// What the words of a program, the first being its name, give its options. An error is clap's: the words are refused, or ask for help.
+/// The values that a program's words give to its options; the first word is the program's name. An
+/// error is clap's: the words are refused, or ask for help.
 pub fn read_words<'a, S: AsStr>(
     alloc: Global,
     program: &Program,
@@ -18,7 +19,7 @@ pub fn read_words<'a, S: AsStr>(
     given
 }
 
-/// The same, by the program as clap takes it.
+/// Reads the words with the program as a clap command.
 fn given_by<'a, S: AsStr>(
     alloc: Global,
     command: &mut Command<'a>,
@@ -31,7 +32,7 @@ fn given_by<'a, S: AsStr>(
     Ok(given?)
 }
 
-/// The refusal of words that could be read, told as clap tells its own.
+/// The refusal of words that could be parsed, in the form of clap's own errors.
 pub fn refusal<'a, S: AsStr>(alloc: Global, program: &Program, words: &'a [S], why: &str) -> Error {
     let mut command = match command(alloc, program) {
         Ok(command) => command,
@@ -45,7 +46,8 @@ pub fn refusal<'a, S: AsStr>(alloc: Global, program: &Program, words: &'a [S], w
     }
 }
 
-/// The same, by the program as clap takes it, which learns from the words how it is called. An error is that memory lacks.
+/// Builds that refusal with a clap command, which learns from the words how it is called. Returns
+/// an error if memory runs out.
 fn refused_by<'a, S: AsStr>(
     command: &mut Command<'a>,
     words: &'a [S],

@@ -1,4 +1,4 @@
--- Searches that are aimed at a sink.
+-- Searches towards a sink.
 use Rattle.std.proofs.Common.{◌≡◌, ℕ, ◌+◌, ◌<◌, ◌≤◌, true, ◌&&◌, List, Option, Some, None, arith, ap, subst, sym, refl, ◌∙◌, inl, inr}
 use Rattle.std.specs.Prelude.{Contains}
 use Rattle.std.proofs.lemmas.Bool.{and_parts}
@@ -23,7 +23,7 @@ use Rattle.pathfinder.specs.Entries.{AreEntries, IsNoMore, raised, bound_by}
 use Rattle.pathfinder.proofs.LastWires.{step_at}
 use Rattle.pathfinder.proofs.Growing.{all_by_member}
 
--- each node costs one or more
+-- each node costs at least 1
 by_cost : (cost : ℕ) (bound next : Option ℕ) → 1 ≤ cost → FallsByOne bound next → FallsByAtMost cost bound next
 by_cost cost bound None l f = tt
 by_cost cost None (Some next) l f = absurd f
@@ -32,7 +32,7 @@ by_cost cost (Some bound) (Some next) l f = omega (arith, f, l)
 edge_joins : (arch : Arch) (strip : Strip) (a b : Node) → is_edge arch strip a b ≡ true → joins arch strip a.kind b.kind a b ≡ true
 edge_joins arch strip a b h = (and_parts (is_node arch strip b) (joins arch strip a.kind b.kind a b) (and_parts (is_node arch strip a) (is_node arch strip b && joins arch strip a.kind b.kind a b) h).1).1
 
--- a bound in the place of the number of nodes
+-- a lower bound instead of a number of nodes
 by_bounds : (cost : ℕ) (p q : ℕ → ℕ) (further next : Option ℕ) → FallsByOne further next → ((m n : ℕ) → further ≡ Some m → next ≡ Some n → m ≤ 1 + n → p m ≤ cost + q n) →
     FallsByAtMost cost (option_map p further) (option_map q next)
 by_bounds cost p q further None f each = tt
@@ -46,7 +46,7 @@ raised_is pins lasts sink node (Some further) = refl
 none_follow : (pins : PinPrices) (lasts : List ℕ) (sink node : Node) (kind : NodeKind) → kind ≡ Sink → bound_by pins lasts sink kind node 0 ≡ 0
 none_follow pins lasts sink node kind e = rw e refl
 
--- less is a bound too
+-- a lesser number is a lower bound, too
 lower_still : (g : Graph) (goal node : ℕ) (less bound : Option ℕ) → IsNoMore less bound → IsLowerBound g goal node bound → IsLowerBound g goal node less
 lower_still g goal node None None n h = h
 lower_still g goal node None (Some b) n h = absurd n
@@ -58,11 +58,11 @@ no_way g goal node None e h = h
 no_way g goal node (Some bound) e h = absurd cc
 
 module _ (basis : Basis) (known : IsRoutingGraph basis (graph_of basis)) (goal : ℕ) (sink : Node) (aim : IsAim basis goal sink) where
-  -- how many nodes at least follow
+  -- a lower bound of the number of nodes that follow
   abbrev further : ℕ → Option ℕ
   further node = further_to basis.arch basis.strip sink ((graph_of basis).node node)
 
-  -- a graph with the ends of the strip's, or some of them
+  -- a graph with the strip's ends, or some of them
   pub consistent : (g : Graph) → IsLawful g → g.count ≡ (graph_of basis).count → ((node end : ℕ) → Contains (g.ends node) end → Contains ((graph_of basis).ends node) end) → IsConsistent g goal further
   consistent g lawful count back = record {
     at_goal = ap (λ (node : Node). further_to basis.arch basis.strip sink node) aim.is ∙ at_sink basis sink aim.kind;
@@ -104,7 +104,7 @@ module _ (basis : Basis) (known : IsRoutingGraph basis (graph_of basis)) (goal :
           ];
     }
 
-    -- the same for bounds that know what the last wires and the pins cost
+    -- consistent bounds that use the costs of the last wires and pins
     entered : (pins : PinPrices) (lasts : List ℕ) → AreEntries basis sink g pins lasts →
         IsConsistent (aimed basis sink g) goal (λ node. raised pins lasts sink ((graph_of basis).node node) (further node))
     entered pins lasts enters =
@@ -127,7 +127,7 @@ module _ (basis : Basis) (known : IsRoutingGraph basis (graph_of basis)) (goal :
               (enters.lasts_low.each next below) (enters.pins_low next below) joined));
         }
 
-    -- a bound for the search
+    -- a lower bound for the search
     pub aimed_bound : (pins : PinPrices) (lasts : List ℕ) → AreEntries basis sink g pins lasts → (node : ℕ) → node < g.count → (bound : Option ℕ) →
         IsNoMore bound (raised pins lasts sink ((graph_of basis).node node) (further node)) → IsLowerBound (aimed basis sink g) goal node bound
     aimed_bound pins lasts enters node b bound less =

@@ -1,4 +1,4 @@
--- What is said of a sink's pins.
+-- Lower bounds of a sink's pins.
 use Rattle.std.proofs.Common.{◌≡◌, ℕ, Option, Some, None, ap, arith}
 use Rattle.arch_file.specs.declared.arch.Sides.{Sides}
 use Rattle.pathfinder.specs.declared.entry.PinPrices.{PinPrices}
@@ -11,7 +11,7 @@ some_number a b e = ap (λ (o : Option ℕ). or_nothing o) e
     or_nothing None = 0
     or_nothing (Some n) = n
 
--- where less is said, it is true too
+-- lesser bounds are still bounds
 pub low_still : (sides : Sides) (pins others : PinPrices) (cost : ℕ) → AreNoDearer pins others → AreLow sides others cost → AreLow sides pins cost
 low_still sides pins others cost falls low = record {
   least = omega (arith, falls.least, low.least);

@@ -1,4 +1,4 @@
--- Bounds by last wires fall along an edge by no more than the edge's end costs.
+-- Lower bounds from last wires decrease along an edge by at most the cost of the edge's end.
 use Rattle.std.proofs.Common.{◌≡◌, ℕ, ◌+◌, ◌/◌, ◌≤◌, eqb, cond, Bool, true, false, ◌&&◌, ◌||◌, List, Option, Some, None, refl, sym, ap, subst, ◌∙◌, inl, inr, arith}
 use Rattle.std.proofs.lemmas.Bool.{and_parts, or_cases, cases_lt, eqb-true, eq-eqb, ne_eqb, false≢true}
 use Rattle.std.proofs.lemmas.Bool.Decides.{nat_tests}
@@ -15,7 +15,7 @@ use Rattle.pathfinder.specs.declared.entry.PinPrices.{PinPrices}
 use Rattle.pathfinder.specs.Entries.{IsPinAt, AreLow, AreOrdered, IsBeside, side_price, last_at, wire_bound, other_bound, bound_by}
 use Rattle.pathfinder.proofs.EntryPins.{some_number}
 
--- ---- by numbers
+-- ---- with numbers
 
 pub wires : (cost side last other other_last m n : ℕ) → 1 ≤ cost → 2 ≤ n → m ≤ 1 + n → ((n ≡ 2) → other_last ≤ cost + other) → last ≡ other_last →
     wire_bound side last m ≤ cost + wire_bound other other_last n
@@ -72,7 +72,7 @@ far_y : (met : Bool) (sink : Node) (x y n : ℕ) → wire_further met (from_sink
 far_y true sink x y n e = omega (arith, some_number _ n e)
 far_y false sink x y n e = absurd cc
 
--- a pin that the wire meets is on the wire's side
+-- a pin that a wire meets is on the wire's side
 on_side_x : (sides : Sides) (pins : PinPrices) (price : ℕ) (sink wire pin : Node) → runs_along sides pin ChanX wire.x wire.y ≡ true → pin.y ≡ sink.y → AreLow sides pins price →
     side_price pins sink ChanX wire ≤ price
 on_side_x sides pins price sink wire pin h e low =
@@ -105,7 +105,7 @@ on_side_y sides pins price sink wire pin h e low =
           rw other (low.left on.0))
     ]
 
--- no side is said to cost less than all pins
+-- the bound of each side is at least that of all pins
 least_by : (on : Bool) (least a b : ℕ) → least ≤ a → least ≤ b → least ≤ cond on a b
 least_by true least a b la lb = la
 least_by false least a b la lb = lb
@@ -118,7 +118,7 @@ least_side pins o sink Ipin wire = omega arith
 least_side pins o sink ChanX wire = least_by (eqb wire.y sink.y) pins.least pins.top pins.bottom o.top.0 o.bottom.0
 least_side pins o sink ChanY wire = least_by (eqb wire.x sink.x) pins.least pins.right pins.left o.right.0 o.left.0
 
--- a pin from which the sink is reached is at the sink's place
+-- a pin from which the sink is reached is in the sink's column and row
 own_test : (own : Bool) (n : ℕ) → cond own (Some 1) None ≡ Some n → (own ≡ true) × (n ≡ 1)
 own_test true n e = (refl, sym (some_number 1 n e))
 own_test false n e = absurd cc

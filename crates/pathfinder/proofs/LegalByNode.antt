@@ -34,7 +34,7 @@ module _ (basis : Basis) (lawful : IsRoutingGraph basis (graph_of basis)) where
   abbrev told : Tree → List (List Node)
   told tree = map (map (graph_of basis).node) tree
 
-  -- a node has one number
+  -- a node has only one number
   one_number : (a b : ℕ) → a < (graph_of basis).count → b < (graph_of basis).count → (graph_of basis).node a ≡ (graph_of basis).node b → a ≡ b
   one_number a b a_few b_few e =
       sym (number_found (graph_of basis) lawful.ordered a ((graph_of basis).node b) a_few e) ∙ number_found (graph_of basis) lawful.ordered b ((graph_of basis).node b) b_few refl
@@ -139,7 +139,7 @@ module _ (basis : Basis) (lawful : IsRoutingGraph basis (graph_of basis)) where
               (All-tail (HoldsWithin (wiring_of basis)) tree trees within) zip.1,
         )
 
-  -- ---- how many nets hold a node
+  -- ---- the number of nets that use a node
 
   held_told : (node : Node) (xs : List ℕ) → ((x : ℕ) → Contains xs x → x < (graph_of basis).count) →
       list_any (is_same_node node) (map (graph_of basis).node xs) ≡ list_any (λ other. eqb other (number_of (graph_of basis) node)) xs
@@ -179,7 +179,7 @@ module _ (basis : Basis) (lawful : IsRoutingGraph basis (graph_of basis)) where
         ];
   }
 
-  -- trees of numbers of the graph go over nodes of the strip
+  -- trees of the graph's numbers lead over nodes of the strip
   abbrev IsNumber : ℕ → Type 0
   IsNumber number = number < (graph_of basis).count
 

@@ -1,4 +1,4 @@
--- What is known of last wires and pins, with more and more wires.
+-- The bounds for last wires and pins, as wires are added.
 use Rattle.std.proofs.Common.{◌≡◌, ℕ, ◌+◌, ◌-◌, ◌<◌, ◌≤◌, true, List, length, get_or, set, min, refl, ap, subst, ◌∙◌, inl, inr, arith}
 use Rattle.std.specs.Prelude.{All, slice_index}
 use Rattle.std.proofs.lemmas.Bool.{cases_lt, cases_eq, eq-eqb, ne_eqb}
@@ -23,7 +23,7 @@ lowered_none basis g first side lasts = record {
   each = λ node from to. absurd (omega (arith, from, to));
 }
 
--- one entry falls
+-- one entry is lowered
 falls_at : (xs : List ℕ) (i v j : ℕ) → i < length xs → v ≤ get_or xs i 0 → get_or (set xs i v) j 0 ≤ get_or xs j 0
 falls_at xs i v j within le = elim (cases_eq j i) [
   | inl same ↦ rw same (rw (get_or-set_same xs i v 0 within) le)
@@ -36,7 +36,7 @@ stays_above xs i v low within le all = All-from_get_or (λ x. low ≤ x) (set xs
   | inr other ↦ rw (get_or-set_other xs i k v 0 other) (all k 0 (omega (arith, l, length-set xs i v)))
 ])
 
--- with one wire more
+-- one more wire
 pub lowered_more : (basis : Basis) (g : Graph) (first k side : ℕ) (old now : List ℕ) (track value : ℕ) → IsLowered basis g first k side old now → track ≡ ((graph_of basis).node k).n → track < length now
     → 1 ≤ g.cost k → value ≡ min (get_or now track 0) (g.cost k + side) → IsLowered basis g first (k + 1) side old (set now track value)
 lowered_more basis g first k side old now track value known is_track within some is =
@@ -69,7 +69,7 @@ lowered_to basis g first k end side old now le known = record {
 pub lowered_few : (basis : Basis) (g : Graph) (first end side m : ℕ) (old new : List ℕ) → IsLowered basis g first end side old new → All (λ last. last ≤ m) old → All (λ last. last ≤ m) new
 lowered_few basis g first end side m old new known all = All-from_get_or (λ last. last ≤ m) new 0 (λ k l. omega (arith, known.falls k, index_low old m all k))
 
--- the wires of a range have tracks
+-- the wires of a range are on tracks
 pub wires_within : (basis : Basis) → IsRoutingGraph basis (graph_of basis) → (kind : NodeKind) → is_wire kind ≡ true → (x y first end : ℕ) → AreNumbersAt (graph_of basis) kind x y first end
     → (node : ℕ) → first ≤ node → node < end → (node < (graph_of basis).count) × (((graph_of basis).node node).n < basis.arch.tracks)
 wires_within basis known kind wire x y first end numbers node from to =
@@ -79,7 +79,7 @@ wires_within basis known kind wire x y first end numbers node from to =
       wire_track basis.arch basis.strip ((graph_of basis).node node) (ap is_wire at.kind ∙ wire) (known.nodes node few),
     )
 
--- of the wires beside a block or pad, each has its number in one of four ranges
+-- each wire beside a block or pad has its number in one of four ranges
 module _ (basis : Basis) (known : IsRoutingGraph basis (graph_of basis)) (g : Graph) (same_count : g.count ≡ (graph_of basis).count) (sink : Node) (pins : PinPrices)
     (above_first above_end under_first under_end after_first after_end before_first before_end : ℕ)
     (above : AreNumbersAt (graph_of basis) ChanX sink.x sink.y above_first above_end)

@@ -20,7 +20,7 @@ not_before a b x k y n (inr (e, inr (f, inr (g, l)))) = omega (arith, l, n)
 same_itself : (a : Node) → is_same_node a a ≡ true
 same_itself a = rw (eq-eqb a.x a.x refl, eq-eqb (rank_of a.kind) (rank_of a.kind) refl, eq-eqb a.y a.y refl, eq-eqb a.n a.n refl) refl
 
--- nodes in order have numbers of their own
+-- nodes in order have different numbers
 pub number_found : (g : RoutingGraph) → ((i j : ℕ) → i < j → j < g.count → IsBefore (g.node i) (g.node j)) → (i : ℕ) (node : Node) → i < g.count → g.node i ≡ node → number_of g node ≡ i
 number_found g ordered i node within is =
     let numbers = range_with_len 0 g.count in
@@ -39,7 +39,7 @@ number_found g ordered i node within is =
     ] refl)
     (λ l. ap test (at i within) ∙ ap (λ (n : Node). is_same_node n node) is ∙ same_itself node)
 
--- nodes that pass the test are one
+-- nodes that pass the test are equal
 pub same_node : (a b : Node) → is_same_node a b ≡ true → a ≡ b
 same_node a b is =
     let column = and_parts (eqb a.x b.x) _ is in
@@ -49,7 +49,7 @@ same_node a b is =
     ∙ (ap (λ kind. make_node b.x kind a.y a.n) (same_kind a.kind b.kind (eqb-true (rank_of a.kind) (rank_of b.kind) kind.0))
     ∙ (ap (λ y. make_node b.x b.kind y a.n) (eqb-true a.y b.y row.0) ∙ ap (λ n. make_node b.x b.kind b.y n) (eqb-true a.n b.n row.1)))
 
--- a number of the graph that a node has is its own
+-- a number that a node has in the graph is its own
 pub number_there : (g : RoutingGraph) (node : Node) → number_of g node < g.count → g.node (number_of g node) ≡ node
 number_there g node few =
     let numbers = range_with_len 0 g.count in
@@ -57,7 +57,7 @@ number_there g node few =
     let at : get_or numbers (number_of g node) 0 ≡ number_of g node = get_or-range_with_len 0 g.count (number_of g node) 0 few ∙ omega arith in
     same_node (g.node (number_of g node)) node (subst (λ k. is_same_node (g.node k) node ≡ true) at passes)
 
--- whether a number of the graph is a node's
+-- whether a number is that of a node
 pub is_number : (g : RoutingGraph) → ((i j : ℕ) → i < j → j < g.count → IsBefore (g.node i) (g.node j)) → (node : Node) (i : ℕ) → i < g.count → is_same_node node (g.node i) ≡ eqb i (number_of g node)
 is_number g ordered node i few = elim (cases_Bool (is_same_node node (g.node i))) [
   | inl is ↦ is ∙ sym (eq-eqb i (number_of g node) (sym (number_found g ordered i node few (sym (same_node node (g.node i) is)))))

@@ -40,7 +40,7 @@ rates_more basis history count rates rate known f c p = record {
   ];
 }
 
--- the nodes of a graph are narrow
+-- the nodes of a graph are within the limits of a rate
 pub narrow : (basis : Basis) (node : Node) (nets : ℕ) → IsBasis basis → is_node basis.arch basis.strip node ≡ true → nets < 2 ^ 8 → IsNarrow node nets
 narrow basis node nets limits there few =
     let outer = and_parts (nat_le node.x basis.strip.width) ((nat_le 1 node.x || is_chan_y node.kind) && is_slot basis.arch basis.strip node.kind node.y node.n) there in
@@ -53,14 +53,14 @@ narrow basis node nets limits there few =
       capacity = few;
     }
 
--- what a node costs by its rate
+-- the cost of a node, from its rate
 pub rate_cost : (basis : Basis) (history : List ℕ) (rates : List Rate) (iterations held node : ℕ) (d : Rate) → AreRates basis history rates → node < (graph_of basis).count
     → (get_or rates node d).factor * (1 + iterations * (held + 1 - (get_or rates node d).capacity)) ≡ (1 + slice_index history node) * (1 + iterations * (held + 1 - (wiring_of basis).capacity node))
 rate_cost basis history rates iterations held node d known few =
     ap (λ f. f * (1 + iterations * (held + 1 - (get_or rates node d).capacity))) (known.factor node d few)
     ∙ ap (λ k. (1 + slice_index history node) * (1 + iterations * (held + 1 - k))) (known.capacity node d few)
 
--- a node carries few nets
+-- the number of nets that a node can carry is within the limit
 either_few : (on : Bool) (n : ℕ) → n < 2 ^ 8 → (if on then n else 1) < 2 ^ 8
 either_few true n few = few
 either_few false n few = omega arith

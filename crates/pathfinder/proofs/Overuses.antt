@@ -17,7 +17,7 @@ use Rattle.pathfinder.specs.declared.overuse.Overuse.{Overuse}
 below_next : (node count : ℕ) → node < count + 1 → node ≤ count
 below_next node count l = omega (arith, l)
 
--- one node more
+-- one more node
 pub count_more : (over : ℕ → ℕ) (count : ℕ) → count_over over (count + 1) ≡ count_over over count + cond (ltb 0 (over count)) 1 0
 count_more over count = sum_by-map-range_with_len_more (λ x. cond {A = ℕ} (ltb 0 x) 1 0) over 0 count count (omega arith)
 
@@ -27,7 +27,7 @@ counts_one over count nodes is some = (let one = ap (λ b. cond {A = ℕ} b 1 0)
 pub counts_none : (over : ℕ → ℕ) (count nodes : ℕ) → nodes ≡ count_over over count → over count ≡ 0 → nodes ≡ count_over over (count + 1)
 counts_none over count nodes is none = (let zero = ap (λ x. cond {A = ℕ} (ltb 0 x) 1 0) none in omega (arith, is, zero, count_more over count))
 
--- two that are the same at the first nodes
+-- two functions that agree on the first nodes
 pub count_same : (over other : ℕ → ℕ) (count : ℕ) → ((node : ℕ) → node < count → over node ≡ other node) → count_over over count ≡ count_over other count
 count_same over other zero same = refl
 count_same over other (suc count) same =
@@ -47,7 +47,7 @@ most_same over other count (Some most) same is =
       λ node l. (let within : node < count = omega (arith, l, is.0) in omega (arith, is.3 node l, same node within, here)),
     )
 
--- one node more, which is overused by no more trees, or by more
+-- one more node, which is overused by at most as many trees, or by more
 pub most_stays : (over : ℕ → ℕ) (count : ℕ) (most : Option ℕ) → IsMost over count most → over count ≤ over_at over most → IsMost over (count + 1) most
 most_stays over count None is le = λ node l. by node (eq-or-lt_of_le (below_next node count l))
   where
@@ -71,11 +71,11 @@ most_changes over count most is more = (omega arith, omega (arith, more), λ nod
     at node (inr less) = (let b = below most is more node less in omega (arith, b))
     at node (inl e) = omega (arith, ap over e)
 
--- by the table of how many trees hold each node
+-- the overuse, from the table of occupancies
 pub told_overuse : (basis : Basis) (held : List ℕ) (trees : List Tree) → Tells (wiring_of basis) held trees → (node : ℕ) → node < (graph_of basis).count → over_in basis held node ≡ overuse_at (wiring_of basis) trees node
 told_overuse basis held trees tells node l = ap (λ count. count - (wiring_of basis).capacity node) (tells node l)
 
--- the table tells the overuse
+-- the overuse that is computed from the table is that of the trees
 pub overuse_told : (basis : Basis) (held : List ℕ) (trees : List Tree) (overuse : Overuse) (number : Option ℕ) → Tells (wiring_of basis) held trees → overuse.nodes ≡ count_over (over_in basis held) (graph_of basis).count →
     IsMost (over_in basis held) (graph_of basis).count number → overuse.most ≡ option_map (graph_of basis).node number → IsOveruse basis trees overuse
 overuse_told basis held trees overuse number tells nodes is most =
@@ -87,7 +87,7 @@ overuse_told basis held trees overuse number tells nodes is most =
       most = most;
     }
 
--- without trees there is none
+-- without trees no node is overused
 pub no_overuse : (basis : Basis) (nets : List Net) (overuse : Overuse) → overuse ≡ record { nodes = 0; most = None } → IsOveruse basis (map (λ net. []) nets) overuse
 no_overuse basis nets overuse is =
     let over = overuse_at (wiring_of basis) (map (λ net. []) nets) in
@@ -105,12 +105,12 @@ no_overuse basis nets overuse is =
         let next : count + 1 ≡ suc count = omega arith in
         subst (λ n. count_over over n ≡ 0) next (sym (counts_none over count 0 (sym (counted_none over none count)) (none count)))
 
--- the most overused node is one of the strip's
+-- the most overused node is a node of the strip
 pub most_within : (over : ℕ → ℕ) (count : ℕ) (most : Option ℕ) → IsMost over count most → IfSome most (λ node. node < count)
 most_within over count None is = tt
 most_within over count (Some most) is = is.0
 
--- the table of overuse so far has an entry for each node
+-- the table of accumulated overuse has an entry for each node
 long_judged : (w : Wiring) (iterations : ℕ) (routed : Routed) (new : Result (List Tree) ℕ) → length routed.history ≡ w.count → length (judged w iterations routed new).history ≡ w.count
 long_judged w iterations routed (Err net) long = long
 long_judged w iterations routed (Ok trees) long = by (is_fair w trees)

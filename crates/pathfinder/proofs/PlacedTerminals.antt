@@ -52,11 +52,11 @@ sink_is arch strip block place at = by block at.column at.row
     by (OutputPad net) (x, w) (inr e, s) = grind (arith, nat_tests)
     by (Cluster cluster) (x, w) ((y, r), s) = grind (arith, nat_tests)
 
--- two places are one
+-- two places with equal parts are equal
 same_place : (a b : Place) → a.x ≡ b.x → a.y ≡ b.y → a.subblock ≡ b.subblock → a ≡ b
 same_place a b x y s = ap (λ k. place_at k a.y a.subblock) x ∙ ap (λ k. place_at b.x k a.subblock) y ∙ ap (λ k. place_at b.x b.y k) s
 
--- two blocks with one sink have one place
+-- two blocks with equal sinks have equal places
 same_sink : (strip : Strip) (a b : Block) (p q : Place) → IsInRow strip (kind_of a) p → IsInRow strip (kind_of b) q → sink_at a p ≡ sink_at b q → p ≡ q
 same_sink strip (InputPad a) (InputPad b) p q s t e = same_place p q (ap (λ (n : Node). n.x) e) (ap (λ (n : Node). n.y) e) (ap (λ (n : Node). n.n) e)
 same_sink strip (InputPad a) (OutputPad b) p q s t e = same_place p q (ap (λ (n : Node). n.x) e) (ap (λ (n : Node). n.y) e) (ap (λ (n : Node). n.n) e)
@@ -72,7 +72,7 @@ same_sink strip (InputPad a) (Cluster b) p q (inr t, _) ((l, h), _) e = absurd (
 same_sink strip (OutputPad a) (Cluster b) p q (inl t, _) ((l, h), _) e = absurd (omega (arith, l, t, ap (λ (n : Node). n.y) e))
 same_sink strip (OutputPad a) (Cluster b) p q (inr t, _) ((l, h), _) e = absurd (omega (arith, h, t, ap (λ (n : Node). n.y) e))
 
--- pairs of a list that a function keeps
+-- pairs that are in a relation after a function is applied
 AllPairs-map : {X Y : Type 0} (R : Y → Y → Type 0) (f : X → Y) (xs : List X) → AllPairs (λ x y. R (f x) (f y)) xs → AllPairs R (map f xs)
 AllPairs-map R f [] h i j d l m = absurd (omega arith)
 AllPairs-map {X} {Y} R f (x ∷ xs) h i j d l m =
@@ -86,7 +86,7 @@ AllPairs-map {X} {Y} R f (x ∷ xs) h i j d l m =
 -- ---- the nets to route
 
 module _ (basis : Basis) (known : IsBasis basis) (lawful : IsRoutingGraph basis (graph_of basis)) (packed : PackedCircuit) (places : List Place) (placed : ArePlaced basis.strip packed places) (within : (strip : Strip) (kind : Kind) → IsStripSize strip → All (IsPlaceIn strip kind) (places_of strip kind)) where
-  -- where a block stands
+  -- the place of a block
   pub block_stands : (block : ℕ) → block < length (blocks_of packed) → IsPlaceIn basis.strip (kind_of (block_at packed block)) (place_of places block)
   block_stands block b = All-contains (IsPlaceIn basis.strip (kind_of (block_at packed block))) (places_of basis.strip (kind_of (block_at packed block))) (place_of places block) (within basis.strip (kind_of (block_at packed block)) known.strip) (placed.by_kind block b)
 
@@ -139,7 +139,7 @@ module _ (basis : Basis) (known : IsBasis basis) (lawful : IsRoutingGraph basis 
                 omega (arith, n.rise i j d l m, sinks_apart (get_or net.readers i d) (get_or net.readers j d) (n.readers i d before) (n.readers j d m) e)));
           }
 
-  -- they are nets
+  -- the nets to route satisfy the conditions
   pub are_nets : IsLawfulPacking packed → AreNets (wiring_of basis) (nets_to_route basis packed places)
   unfolding nets_to_route
   are_nets law = record {

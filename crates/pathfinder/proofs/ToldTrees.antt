@@ -1,4 +1,4 @@
--- Trees with each node in place of its number.
+-- Trees with each number replaced by its node.
 use Rattle.std.proofs.Common.{◌≡◌, ℕ, refl, List, [], ◌∷◌, ◌++◌, map, arith, ◌∙◌, inl, inr, sym, ap, subst}
 use Rattle.std.specs.Prelude.{All}
 use Rattle.std.specs.List.{Contains, concat}

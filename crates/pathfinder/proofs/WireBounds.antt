@@ -1,4 +1,4 @@
--- What a way from a wire costs at least, by how far it lies from the sink.
+-- Lower bounds of ways from a wire, from its distance to the sink.
 use Rattle.std.proofs.Common.{◌≡◌, ℕ, ◌+◌, ◌-◌, ◌/◌, ◌<◌, ◌≤◌, Bool, true, false, ◌&&◌, ◌||◌, nat_le, List, Some, None, length, get_or, subst, arith}
 use Rattle.std.specs.Prelude.{nat_lt}
 use Rattle.std.proofs.lemmas.Bool.{and_parts, ltb-true, false≢true}
@@ -28,14 +28,14 @@ wire_track arch strip wire kind there =
     let slot = (and_parts (nat_le 1 wire.x || is_chan_y wire.kind) (is_slot arch strip wire.kind wire.y wire.n) (and_parts (nat_le wire.x strip.width) ((nat_le 1 wire.x || is_chan_y wire.kind) && is_slot arch strip wire.kind wire.y wire.n) there).1).1 in
     slot_track arch strip wire.kind wire.y wire.n kind slot
 
--- by numbers
+-- with numbers
 far : (side last apart : ℕ) → 2 < apart → (apart - 1) / 2 + last ≤ wire_bound side last ((apart + 3) / 2)
 far side last apart more = grind (arith, nat_tests, more)
 
 near : (side last apart low : ℕ) → apart ≤ 2 → low ≤ side → low ≤ last → low + 1 ≤ wire_bound side last ((apart + 3) / 2)
 near side last apart low few by_side by_last = grind (arith, nat_tests, few, by_side, by_last)
 
--- within the table the default does not matter
+-- within the table the default doesn't matter
 pub last_within : (pins : PinPrices) (lasts : List ℕ) (track : ℕ) → track < length lasts → get_or lasts track 0 ≡ last_at pins lasts track
 last_within pins lasts track within = get_or_default lasts track 0 (pins.least + 1) within
 
@@ -49,7 +49,7 @@ module _ (pins : PinPrices) (lasts : List ℕ) (sink wire : Node) (is_block : Bo
   none_by ChanX k met e = rw e tt
   none_by ChanY k met e = rw e tt
 
-  -- a bound of a wire by how far it lies from the sink
+  -- a lower bound for a wire, from its distance to the sink
   pub some_by : (kind : NodeKind) → wire.kind ≡ kind → is_wire kind ≡ true → (met : Bool) → met ≡ true → (bound : ℕ)
       → bound ≤ wire_bound (side_price pins sink kind wire) (last_at pins lasts wire.n) ((from_sink sink kind wire.x wire.y + 3) / 2)
       → IsNoMore (Some bound) (raised pins lasts sink wire (further_by met is_block sink kind wire))
@@ -60,7 +60,7 @@ module _ (pins : PinPrices) (lasts : List ℕ) (sink wire : Node) (is_block : Bo
   some_by ChanX w k met e bound le = rw (e, w) le
   some_by ChanY w k met e bound le = rw (e, w) le
 
--- from afar, and from beside the sink
+-- for a wire far from the sink, and for one beside it
 pub far_bound : (pins : PinPrices) (lasts : List ℕ) (sink wire : Node) (last apart : ℕ) → last ≡ last_at pins lasts wire.n → apart ≡ from_sink sink wire.kind wire.x wire.y → 2 < apart
     → (apart - 1) / 2 + last ≤ wire_bound (side_price pins sink wire.kind wire) (last_at pins lasts wire.n) ((from_sink sink wire.kind wire.x wire.y + 3) / 2)
 far_bound pins lasts sink wire last apart is_last is_apart more =

@@ -1,4 +1,4 @@
--- Private: bounds on ways to a sink, by what the last wires and the pins before it cost.
+-- Private: lower bounds of ways to a sink, from the costs of the last wires and pins before it.
 use Rattle.std.specs.Prelude.{ℕ, ◌≡◌, ◌+◌, ◌-◌, ◌<◌, ◌≤◌, ◌^◌, ◌==◌, ◌⊎◌, nat_le, true, List, All, length, slice_index, slice_index_or, Option, Some, None, if◌then◌else◌}
 use Rattle.arch_file.specs.declared.arch.Sides.{Sides}
 use Rattle.rr_graph.specs.declared.node.NodeKind.{NodeKind}
@@ -9,13 +9,13 @@ use Rattle.rr_graph.specs.Graph.{Basis, graph_of}
 use Rattle.least_path.specs.Graph.{Graph}
 use Rattle.pathfinder.specs.declared.entry.PinPrices.{PinPrices}
 
--- a pin at the sink's place
+-- the node is a pin in the column and row of the sink
 pub record IsPinAt (sink node : Node) : Type 0 where
   pub x : node.x ≡ sink.x
   pub kind : node.kind ≡ Ipin
   pub y : node.y ≡ sink.y
 
--- a pin on those sides costs no less than is said of them
+-- the cost of a pin on these sides is at least the bound of each
 pub record AreLow (sides : Sides) (pins : PinPrices) (price : ℕ) : Type 0 where
   pub least : pins.least ≤ price
   pub top : sides.top ≡ true → pins.top ≤ price
@@ -23,14 +23,14 @@ pub record AreLow (sides : Sides) (pins : PinPrices) (price : ℕ) : Type 0 wher
   pub left : sides.left ≡ true → pins.left ≤ price
   pub right : sides.right ≡ true → pins.right ≤ price
 
--- no side is said to cost less than all pins, or too much
+-- the bound of each side is at least that of all pins, and at most the largest cost of a node
 pub record AreOrdered (pins : PinPrices) : Type 0 where
   pub top : (pins.least ≤ pins.top) × (pins.top ≤ 2 ^ 36)
   pub bottom : (pins.least ≤ pins.bottom) × (pins.bottom ≤ 2 ^ 36)
   pub left : (pins.least ≤ pins.left) × (pins.left ≤ 2 ^ 36)
   pub right : (pins.least ≤ pins.right) × (pins.right ≤ 2 ^ 36)
 
--- nothing is said to cost more
+-- each bound is at most the other's
 pub record AreNoDearer (pins others : PinPrices) : Type 0 where
   pub least : pins.least ≤ others.least
   pub top : pins.top ≤ others.top
@@ -38,7 +38,7 @@ pub record AreNoDearer (pins others : PinPrices) : Type 0 where
   pub left : pins.left ≤ others.left
   pub right : pins.right ≤ others.right
 
--- each pin at the sink's place costs no less than is said of its sides
+-- each pin of the sink's block costs at least the bounds of its sides
 abbrev pub ArePinPrices : Basis → Node → Graph → PinPrices → Type 0
 ArePinPrices basis sink g pins = (node : ℕ) → node < g.count → IsPinAt sink ((graph_of basis).node node) →
     AreLow (sides_at basis.arch basis.strip ((graph_of basis).node node)) pins (g.cost node)
@@ -52,13 +52,13 @@ IsBeside sink Ipin wire = ⊥
 IsBeside sink ChanX wire = (wire.x ≡ sink.x) × ((wire.y ≡ sink.y) ⊎ (wire.y + 1 ≡ sink.y))
 IsBeside sink ChanY wire = (wire.y ≡ sink.y) × ((wire.x ≡ sink.x) ⊎ (wire.x + 1 ≡ sink.x))
 
--- what is said of the side along which the wire runs
+-- the bound of the side along which the wire runs
 abbrev pub side_price : PinPrices → Node → NodeKind → Node → ℕ
 side_price pins sink ChanX wire = if wire.y == sink.y then pins.top else pins.bottom
 side_price pins sink ChanY wire = if wire.x == sink.x then pins.right else pins.left
 side_price pins sink _ wire = pins.least
 
--- by track, at least what the last wire and a pin cost
+-- by track, a lower bound of the cost of the last wire and a pin
 abbrev pub last_at : PinPrices → List ℕ → ℕ → ℕ
 last_at pins lasts track = slice_index_or lasts track (pins.least + 1)
 
@@ -67,15 +67,15 @@ pub record AreLasts (basis : Basis) (sink : Node) (g : Graph) (pins : PinPrices)
   pub each : (node : ℕ) → node < g.count → IsBeside sink ((graph_of basis).node node).kind ((graph_of basis).node node) →
       last_at pins lasts ((graph_of basis).node node).n ≤ g.cost node + side_price pins sink ((graph_of basis).node node).kind ((graph_of basis).node node)
 
--- with the wires of these numbers, of which each costs so much more for a pin on its side, nothing is said to cost more, and
--- nothing less than a pin and one node
+-- after the wires with these numbers, each of which leads to a pin on its side at this cost, no
+-- bound is greater than before, and none is below the cost of a pin and one more node
 pub record IsLowered (basis : Basis) (g : Graph) (first end side : ℕ) (old new : List ℕ) : Type 0 where
   pub long : length new ≡ length old
   pub falls : (track : ℕ) → slice_index new track ≤ slice_index old track
   pub most : (low : ℕ) → low ≤ side → All (λ last. low + 1 ≤ last) old → All (λ last. low + 1 ≤ last) new
   pub each : (node : ℕ) → first ≤ node → node < end → slice_index new ((graph_of basis).node node).n ≤ g.cost node + side
 
--- what is known of the ways to the sink
+-- the bounds for ways to the sink are correct
 pub record AreEntries (basis : Basis) (sink : Node) (g : Graph) (pins : PinPrices) (lasts : List ℕ) : Type 0 where
   pub long : length lasts ≡ basis.arch.tracks
   pub few : All (λ last. last ≤ 2 ^ 37) lasts
@@ -86,16 +86,17 @@ pub record AreEntries (basis : Basis) (sink : Node) (g : Graph) (pins : PinPrice
 abbrev pub lesser : ℕ → ℕ → ℕ
 lesser a b = if nat_le a b then a else b
 
--- from a wire: where only a pin and the sink must follow, a pin on its side, or another last wire and a pin. Before a last
--- wire each costs one or more
+-- from a wire: if only a pin and the sink must follow, a pin on its side, or another last wire and
+-- a pin; otherwise a last wire and a pin, and at least 1 for each wire before them
 abbrev pub wire_bound : ℕ → ℕ → ℕ → ℕ
 wire_bound side last further = if nat_le further 2 then lesser side last + 1 else further - 3 + last + 1
 
--- from another node: where at least two nodes follow, these are a pin and the sink; the others cost one or more
+-- from another node: if at least two nodes must follow, a pin and the sink, and at least 1 for each
+-- node before them; otherwise at least 1 for each node
 abbrev pub other_bound : ℕ → ℕ → ℕ
 other_bound least further = if nat_le 2 further then further - 2 + (least + 1) else further
 
--- the bound on a way by how many nodes must follow
+-- the lower bound of a way, from the number of nodes that must follow
 abbrev pub bound_by : PinPrices → List ℕ → Node → NodeKind → Node → ℕ → ℕ
 bound_by pins lasts sink ChanX node further = wire_bound (side_price pins sink ChanX node) (last_at pins lasts node.n) further
 bound_by pins lasts sink ChanY node further = wire_bound (side_price pins sink ChanY node) (last_at pins lasts node.n) further
@@ -105,7 +106,7 @@ abbrev pub raised : PinPrices → List ℕ → Node → Node → Option ℕ → 
 raised pins lasts sink node None = None
 raised pins lasts sink node (Some further) = Some (bound_by pins lasts sink node.kind node further)
 
--- both are none, or the first is no greater
+-- both are `None`, or the first is at most the second
 abbrev pub IsNoMore : Option ℕ → Option ℕ → Type 0
 IsNoMore None None = Unit {0}
 IsNoMore None (Some b) = ⊥

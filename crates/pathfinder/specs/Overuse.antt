@@ -1,4 +1,4 @@
--- How far a routing is from its end: the nodes that more trees hold than they can carry.
+-- The progress of a routing: the nodes that are in more trees than they can carry.
 use Rattle.std.specs.Prelude.{ℕ, ◌≡◌, ◌-◌, ◌<◌, ◌≤◌, List, Option, Some, None, option_map, map, count_by, nat_lt, slice_index}
 use Rattle.std.specs.List.{range_with_len}
 use Rattle.rr_graph.specs.Graph.{Basis, graph_of}
@@ -7,27 +7,29 @@ use Rattle.pathfinder.specs.Negotiation.{Tree, occupancy}
 use Rattle.pathfinder.specs.PlacedNets.{wiring_of}
 use Rattle.pathfinder.specs.Wiring.{Wiring}
 
--- by how many of the trees the node is overused
+-- the number of trees by which the node is overused
 abbrev pub overuse_at : Wiring → List Tree → ℕ → ℕ
 overuse_at w trees node = occupancy trees node - w.capacity node
 
--- how many of the first nodes are overused
+-- the number of the first nodes that are overused
 abbrev pub count_over : (ℕ → ℕ) → ℕ → ℕ
 count_over over count = count_by (nat_lt 0) (map over (range_with_len 0 count))
 
--- of the first nodes that one is overused most, and is the first of those that are; none where none is overused
+-- this node is overused most of the first nodes, and is the first of those; `None` if no node is
+-- overused
 abbrev pub IsMost : (ℕ → ℕ) → ℕ → Option ℕ → Type 0
 IsMost over count None = (node : ℕ) → node < count → over node ≡ 0
 IsMost over count (Some most) = (most < count) × (0 < over most) × ((node : ℕ) → node < count → over node ≤ over most) × ((node : ℕ) → node < most → over node < over most)
 
--- it tells of the trees how many nodes of the strip are overused, and which one most
+-- the number of the strip's nodes that are overused by these trees, and the one that is overused
+-- most
 pub record IsOveruse (basis : Basis) (trees : List Tree) (overuse : Overuse) : Type 0 where
   pub nodes : overuse.nodes ≡ count_over (overuse_at (wiring_of basis) trees) (graph_of basis).count
   pub number : Option ℕ
   pub is_most : IsMost (overuse_at (wiring_of basis) trees) (graph_of basis).count number
   pub most : overuse.most ≡ option_map (graph_of basis).node number
 
--- Private: the same by the table of how many trees hold each node
+-- Private: the overuse of a node, from the table of occupancies
 abbrev pub over_in : Basis → List ℕ → ℕ → ℕ
 over_in basis held node = slice_index held node - (wiring_of basis).capacity node
 

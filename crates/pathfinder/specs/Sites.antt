@@ -6,7 +6,7 @@ use Rattle.grid.specs.declared.Strip.{Strip}
 use Rattle.grid.specs.declared.place.Place.{Place}
 use Rattle.block_places.specs.Placed.{ArePlaced}
 
--- the blocks have places, and it is one of them
+-- the blocks have places, and this is the number of one of them
 pub record IsPlacedBlock (strip : Strip) (packed : PackedCircuit) (places : List Place) (block : ℕ) : Type 0 where
   pub placed : ArePlaced strip packed places
   pub within : block < length (blocks_of packed)

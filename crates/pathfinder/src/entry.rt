@@ -1,4 +1,4 @@
-//! What it costs at least to come to a sink over one of its pins.
+//! Lower bounds of the cost of entering a sink over one of its pins.
 ghost use Rattle.std.specs.Prelude.{◌≡◌, ◌+◌, ◌<◌, ◌≤◌, ◌^◌, true, All, ℕ, length, IfOk};
 
 use crate::rate::price;
@@ -7,10 +7,11 @@ use arch_file::Sides;
 use rr_graph::{Node, NodeKind, Numbers, StripGraph, sides_at};
 use std::alloc::{AllocError, Global};
 
-/// No node costs more.
+/// The largest cost of a node.
 const MOST: u64 = 1 << 36;
 
-/// At least what a sink's pins cost: all of them, and those on each side of its block or pad.
+/// Lower bounds of the costs of a sink's pins: of all of them, and of those on each side of its
+/// block or pad.
 #[derive(Clone, Copy)]
 pub(crate) struct PinPrices {
     pub(crate) least: u64,
@@ -20,7 +21,7 @@ pub(crate) struct PinPrices {
     pub(crate) right: u64,
 }
 
-/// What is said of a side, and of a pin if it is on it.
+/// The bound of a side with one more pin, which lowers it only if it is on that side.
 fn lower(price: u64, is_on: bool, other: u64) -> u64
     ensures falls { result ≤ price }
     ensures on { is_on ≡ true → result ≤ other }
@@ -32,7 +33,7 @@ fn lower(price: u64, is_on: bool, other: u64) -> u64
 impl PinPrices {
     ghost use Rattle.pathfinder.specs.Entries.{AreLow, AreNoDearer, AreOrdered};
 
-    /// What is known with one pin more.
+    /// The bounds with one more pin.
     fn with(self, sides: Sides, price: u64) -> PinPrices
         requires { AreOrdered self }
         ensures ordered { AreOrdered result }
@@ -56,7 +57,7 @@ impl<G: StripGraph> Round<'_, G> {
     ghost use Rattle.pathfinder.specs.PlacedNets.{wiring_of};
     ghost use Rattle.pathfinder.specs.Tables.{IsTable, tabled};
 
-    /// What a node costs, where a table tells how many trees hold each node.
+    /// The cost of a node, given each node's occupancy.
     pub(crate) fn price(&self, held: &[u32], node: usize) -> u64
         requires within { node < (wiring_of (G.basis self.now.graph.now)).count }
         requires held { IsTable (wiring_of (G.basis self.now.graph.now)).count 8192 held.now }
@@ -68,7 +69,7 @@ impl<G: StripGraph> Round<'_, G> {
         price(self.rates[node], self.iterations, held[node])
     }
 
-    /// The node of a number.
+    /// The node with this number.
     fn node(&self, number: usize) -> Node
         requires { number < (graph_of (G.basis self.now.graph.now)).count }
         ensures { result ≡ (graph_of (G.basis self.now.graph.now)).node number }
@@ -76,7 +77,7 @@ impl<G: StripGraph> Round<'_, G> {
         self.rates[number].node()
     }
 
-    /// At least what the sink's pins cost.
+    /// Lower bounds of the costs of the sink's pins.
     pub(crate) fn pin_prices(&self, held: &[u32], sink: Node) -> PinPrices
         requires { IsTable (wiring_of (G.basis self.now.graph.now)).count 8192 held.now }
         ensures ordered { AreOrdered result }
@@ -101,7 +102,8 @@ impl<G: StripGraph> Round<'_, G> {
         pins
     }
 
-    /// What is known of last wires and pins with some wires more, by what a pin on their side costs.
+    /// Lowers the bounds for last wires and pins by some more wires; `side` is the bound of the
+    /// pins on their side.
     fn lowered(&self, held: &[u32], lasts: Vec<u64>, wires: Numbers, side: u64) -> Vec<u64>
         requires held { IsTable (wiring_of (G.basis self.now.graph.now)).count 8192 held.now }
         requires wires { MayLower (G.basis self.now.graph.now) (length lasts.items) wires.first
@@ -119,7 +121,7 @@ impl<G: StripGraph> Round<'_, G> {
         lasts
     }
 
-    /// For each track, at least what a last wire and a pin of the sink cost.
+    /// For each track, a lower bound of the cost of a last wire and a pin of the sink.
     pub(crate) fn last_prices(
         &self,
         alloc: Global,

@@ -1,4 +1,5 @@
-//! The nets of a packed circuit whose blocks have places, by the nodes of the routing graph.
+//! The nets of a packed circuit whose blocks have places, in terms of the nodes of the routing
+//! graph.
 ghost use Rattle.std.specs.Prelude.{◌≡◌, ◌<◌, All, IfOk, length, map, true};
 ghost use Rattle.cluster.specs.Blocks.{blocks_of};
 ghost use Rattle.rr_graph.specs.Geometry.{is_node};
@@ -15,7 +16,7 @@ use rr_graph::{Node, NodeKind, StripGraph};
 use std::alloc::{AllocError, Global};
 use std::marker::Model;
 
-/// Where a net starts, and where it is wanted, in order.
+/// The source of a net and its sinks, in order, by node number.
 #[derive(Drop)]
 pub(crate) struct Terminals {
     pub(crate) source: usize,
@@ -44,7 +45,8 @@ impl Terminals {
     }
 }
 
-/// Where a block drives nets: a pad's source has the pad's number, a cluster's is of class 1.
+/// The node at which a block drives nets: a pad's source has the pad's number, a cluster's is class
+/// 1.
 fn source_at(block: Block, place: Place) -> Node
     ensures { result ≡ source_at block place }
 {
@@ -57,7 +59,7 @@ fn source_at(block: Block, place: Place) -> Node
     Node { x, kind, y, n }
 }
 
-/// Where a block reads nets: a pad's sink has the pad's number, a cluster's is of class 0.
+/// The node at which a block reads nets: a pad's sink has the pad's number, a cluster's is class 0.
 fn sink_at(block: Block, place: Place) -> Node
     ensures { result ≡ sink_at block place }
 {
@@ -122,7 +124,7 @@ fn sinks_of<G: StripGraph>(
     Ok(sinks)
 }
 
-/// The nodes between which a net is to be routed: a global net is wanted at none.
+/// The nodes between which a net is routed; a global net has no sinks.
 fn terminals_of<G: StripGraph>(
     alloc: Global,
     graph: &G,
@@ -156,7 +158,7 @@ fn terminals_of<G: StripGraph>(
     Ok(Terminals { source, sinks })
 }
 
-/// The nodes between which each net is to be routed, by the number of the net.
+/// The nodes between which each net is routed, by net number.
 pub(crate) fn nets_of<G: StripGraph>(
     alloc: Global,
     graph: &G,

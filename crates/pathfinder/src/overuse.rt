@@ -1,4 +1,4 @@
-//! How far a routing is from its end: the nodes that more trees hold than they can carry.
+//! The progress of a routing: the nodes that are in more trees than they can carry.
 ghost use Rattle.std.specs.Prelude.{◌≡◌, ◌<◌, length, option_map, IfSome};
 ghost use Rattle.rr_graph.specs.Graph.{graph_of};
 ghost use Rattle.pathfinder.specs.Negotiation.{More};
@@ -9,17 +9,17 @@ ghost use Rattle.pathfinder.specs.Routings.{IsAfter};
 use crate::routing::Routing;
 use rr_graph::{Node, StripGraph};
 
-/// Which nodes are in more trees than they can carry.
+/// The nodes that are in more trees than they can carry.
 #[derive(Clone, Copy, PartialEq, Eq)]
 pub struct Overuse {
-    /// How many there are.
+    /// Their number.
     pub nodes: usize,
-    /// The one that is overused by most trees, and of several the first in node order.
+    /// The one that is overused by most trees; of several, the first in node order.
     pub most: Option<Node>,
 }
 
 impl Routing {
-    /// The overuse after the iterations that were made. Takes no memory.
+    /// The overuse after the iterations made so far. Takes no memory.
     pub fn overuse<G: StripGraph>(&self, graph: &G) -> Overuse
         requires { IsAfter (wiring_of (G.basis graph.now)) self.now More }
         ensures { IsOveruse (G.basis graph.now) self.now.trees result }
@@ -34,7 +34,7 @@ impl Routing {
     }
 }
 
-/// How many trees hold each node of a graph.
+/// The occupancy of each node of a graph.
 #[derive(Drop)]
 struct Counts<'a, G: StripGraph> {
     graph: &'a G,
@@ -43,7 +43,7 @@ struct Counts<'a, G: StripGraph> {
 }
 
 impl<G: StripGraph> Counts<'_, G> {
-    /// How many nodes are overused.
+    /// The number of overused nodes.
     fn overused(&self) -> usize
         ensures { result ≡ count_over (over_in (G.basis self.now.graph.now) self.now.held.now)
             (length self.now.held.now) }
@@ -59,7 +59,7 @@ impl<G: StripGraph> Counts<'_, G> {
         nodes
     }
 
-    /// The node that is overused most, the first of several.
+    /// The node that is overused most; of several, the first.
     fn most_overused(&self) -> Option<usize>
         ensures { IsMost (over_in (G.basis self.now.graph.now) self.now.held.now)
             (length self.now.held.now) result }
@@ -79,7 +79,7 @@ impl<G: StripGraph> Counts<'_, G> {
     }
 }
 
-/// The node of a number, if there is one.
+/// The node with this number, if there is one.
 fn node_of<G: StripGraph>(graph: &G, number: Option<usize>) -> Option<Node>
     requires { IfSome number (λ node. node < (graph_of (G.basis graph.now)).count) }
     ensures { result ≡ option_map (graph_of (G.basis graph.now)).node number }

@@ -1,4 +1,4 @@
-//! What a node is, and what it costs in an iteration, but for the trees that hold it.
+//! What a node is, and the part of its cost in an iteration that doesn't depend on the trees.
 ghost use Rattle.std.specs.Prelude.{◌≡◌, ◌+◌, ◌-◌, ◌*◌, ◌/◌, ◌<◌, ◌≤◌, ◌^◌};
 ghost use Rattle.rr_graph.specs.Geometry.{across_of, up_of};
 ghost use Rattle.rr_graph.specs.Ways.{from_sink};
@@ -6,18 +6,18 @@ ghost use Rattle.pathfinder.specs.Limits.{MayCost};
 
 use rr_graph::{Node, NodeKind, across_of, point_from_sink, up_of};
 
-/// What a node is, and what it costs, but for how many trees hold it.
+/// What a node is, and the part of its cost that doesn't depend on its occupancy.
 #[derive(Clone, Copy)]
 pub(crate) struct Rate {
-    /// One more than its overuse so far.
+    /// Its accumulated overuse plus one.
     pub(crate) factor: u32,
-    /// Where it is along the rows, in half steps: of a wire the middle.
+    /// Its horizontal position, in half steps; for a wire that of its middle.
     across: u16,
-    /// Where it is along the columns.
+    /// Its vertical position, in half steps.
     up: u16,
     pub(crate) n: u8,
     pub(crate) kind: NodeKind,
-    /// How many nets it can carry.
+    /// The number of nets that it can carry.
     pub(crate) capacity: u8,
     ghost in_row: { across ≡ across_of kind (across / 2) },
     ghost in_column: { up ≡ up_of kind (up / 2) },
@@ -26,7 +26,7 @@ pub(crate) struct Rate {
 impl Rate {
     ghost use Rattle.pathfinder.specs.Rates.{IsNarrow, node_of};
 
-    /// What a node is and costs.
+    /// The rate of a node.
     pub(crate) fn new(place: Node, factor: u32, capacity: u32) -> Rate
         requires { IsNarrow place capacity }
         ensures factor { result.factor ≡ factor }
@@ -43,7 +43,7 @@ impl Rate {
         }
     }
 
-    /// Which node it is.
+    /// The node of the rate.
     pub(crate) fn node(self) -> Node
         ensures { result ≡ node_of self }
     {
@@ -55,7 +55,7 @@ impl Rate {
         }
     }
 
-    /// How far the middle of a wire lies from that of the sink's block or pad, in half steps.
+    /// The distance of a wire's middle from that of the sink's block or pad, in half steps.
     #[inline(always)]
     pub(crate) fn from_sink(self, sink: Node) -> u64
         ensures { result ≡ from_sink sink self.kind (self.across / 2) (self.up / 2) }
@@ -64,7 +64,7 @@ impl Rate {
     }
 }
 
-/// What a node costs after so many iterations, while so many trees hold it.
+/// The cost of a node after this number of iterations, with this occupancy.
 pub(crate) fn price(rate: Rate, iterations: u32, held: u32) -> u64
     requires { MayCost iterations held }
     ensures { result ≡ rate.factor * (1 + iterations * (held + 1 - rate.capacity)) }

@@ -1,4 +1,4 @@
-//! What all nodes are and cost in an iteration, but for the trees that hold them.
+//! What all nodes are, and the parts of their costs in an iteration that don't depend on the trees.
 ghost use Rattle.std.specs.Prelude.{◌≡◌, ◌<◌, ◌^◌, IfOk};
 ghost use Rattle.rr_graph.specs.Geometry.{capacity_of};
 ghost use Rattle.rr_graph.specs.Graph.{graph_of};
@@ -10,7 +10,7 @@ use crate::rate::Rate;
 use rr_graph::{Node, NodeKind, StripGraph};
 use std::alloc::{AllocError, Global};
 
-/// How many nets a node can carry. Of pins and wires the graph is not asked: each carries one.
+/// The number of nets that a node can carry. For pins and wires it is 1, without asking the graph.
 fn capacity_at<G: StripGraph>(graph: &G, number: usize, place: Node) -> u32
     requires number { number < (graph_of (G.basis graph.now)).count }
     requires place { place ≡ (graph_of (G.basis graph.now)).node number }
@@ -22,7 +22,7 @@ fn capacity_at<G: StripGraph>(graph: &G, number: usize, place: Node) -> u32
     }
 }
 
-/// The rates of all nodes, by their overuse so far.
+/// The rates of all nodes, from their accumulated overuse.
 pub(crate) fn rates_of<G: StripGraph>(
     alloc: Global,
     graph: &G,

@@ -1,4 +1,4 @@
-//! Finished routes, by nodes.
+//! Finished routes, in terms of nodes.
 ghost use Rattle.std.specs.Prelude.{◌≡◌, ◌<◌, All, IfOk, Some, length, map, slice_get, slice_index_or, []};
 ghost use Rattle.rr_graph.specs.Graph.{graph_of};
 ghost use Rattle.pathfinder.specs.Routings.{told_by_node};
@@ -8,9 +8,9 @@ use rr_graph::{Node, StripGraph};
 use std::alloc::{AllocError, Global};
 use std::marker::Model;
 
-/// The routes of all nets, by the number of the net. Each has its paths in the order in which they were found, and each
-/// path its nodes from where it starts: the first at the driver's source, later ones where they leave the tree. A net that
-/// is routed nowhere has no path.
+/// The routes of all nets, by net number. Each has its paths in the order in which they were found,
+/// and each path its nodes from its start: the first path starts at the driver's source, later ones
+/// at the node at which they leave the tree. A net without sinks has no path.
 #[derive(Drop)]
 pub struct Routes {
     nets: Vec<Vec<Vec<Node>>>,
@@ -25,7 +25,7 @@ impl Model for Routes {
     ghost view = { λ r. map (λ paths. map (λ path. path.items) paths.items) r.nets.items };
 }
 
-/// The nodes of these numbers.
+/// The nodes with these numbers.
 fn nodes_on<G: StripGraph>(
     alloc: Global,
     graph: &G,
@@ -63,7 +63,7 @@ fn paths_of<G: StripGraph>(
 }
 
 impl Routes {
-    /// The routes that these trees are.
+    /// The routes of these trees.
     pub(crate) fn new<G: StripGraph>(
         alloc: Global,
         graph: &G,
@@ -81,14 +81,14 @@ impl Routes {
         Ok(Routes { nets })
     }
 
-    /// How many nets there are.
+    /// The number of nets.
     pub fn len(&self) -> usize
         ensures { result ≡ length self.now }
     {
         self.nets.len()
     }
 
-    /// How many paths a net has.
+    /// The number of a net's paths.
     pub fn path_count(&self, net: usize) -> usize
         requires { net < length self.now }
         ensures { result ≡ length (slice_index_or self.now net []) }
@@ -96,7 +96,7 @@ impl Routes {
         self.nets[net].len()
     }
 
-    /// The nodes of a net's path, both by number.
+    /// The nodes of the path with this number of this net.
     pub fn path(&self, net: usize, number: usize) -> &[Node]
         requires net { net < length self.now }
         requires path { number < length (slice_index_or self.now net []) }

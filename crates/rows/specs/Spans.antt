@@ -7,6 +7,6 @@ use Rattle.rows.specs.declared.span.Span.{Span}
 abbrev pub part_of : {A : Type 0} → List A → Span → List A
 part_of items span = take (span.end - span.start) (drop span.start items)
 
--- the spans stand within so many items
+-- each span is ordered and lies within a list of this length
 abbrev pub AreWithin : ℕ → List Span → Type 0
 AreWithin count spans = AllByRecursion (λ span. (span.start ≤ span.end) × (span.end ≤ count)) spans

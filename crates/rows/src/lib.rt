@@ -1,8 +1,9 @@
 //! Lists of lists of numbers, in two flat vectors.
 //!
-//! [`Rows`] are lists of numbers that stand one after another in one vector, and where each begins and ends in another: no
-//! list has memory of its own. They are pushed row by row, or made of keyed items by counting ([`Rows::by_key`]). Their value is
-//! the list of the rows. A [`Span`] is a part of such a vector, for those who keep more with each row.
+//! [`Rows`] are lists of numbers, one after another in one vector; a second vector keeps where each
+//! begins and ends. No list has memory of its own. They are built row by row, or from items with
+//! keys by a counting sort ([`Rows::by_key`]). Their value is the list of the rows. A [`Span`] is a
+//! part of such a vector, for callers who keep more data with each row.
 #![tactic(auto)]
 
 mod by_key;

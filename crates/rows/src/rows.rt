@@ -6,7 +6,7 @@ use crate::span::Span;
 use std::alloc::{AllocError, Global};
 use std::marker::Model;
 
-/// Rows of numbers, which stand one after another in one list. Its value is the list of rows.
+/// Rows of numbers, one after another in one list. Its value is the list of rows.
 #[derive(Drop)]
 pub struct Rows {
     numbers: Vec<u32>,
@@ -35,7 +35,7 @@ impl Rows {
         }
     }
 
-    /// The rows that stand at these spans of the numbers.
+    /// The rows at these spans of the numbers.
     pub(crate) fn at_spans(numbers: Vec<u32>, spans: Vec<Span>) -> Self
         requires { AreWithin (length numbers.items) spans.items }
         ensures { result ≡ map (part_of numbers.items) spans.items }
@@ -43,14 +43,14 @@ impl Rows {
         Rows { numbers, spans }
     }
 
-    /// How many rows there are.
+    /// The number of rows.
     pub fn len(&self) -> usize
         ensures { result ≡ length self.now }
     {
         self.spans.len()
     }
 
-    /// The row of that number.
+    /// The row with this number, from 0.
     pub fn row(&self, number: usize) -> &[u32]
         requires { number < length self.now }
         ensures { slice_get self.now number ≡ Some result.now }
@@ -59,7 +59,7 @@ impl Rows {
         &self.numbers[span.start..span.end]
     }
 
-    /// Adds a row at the end. Without memory nothing changes.
+    /// Adds a row at the end. If memory runs out nothing changes.
     pub fn push(&mut self, row: &[u32]) -> Result<(), AllocError>
         ensures added { IfOk result (λ _. self.new ≡ self.old ++ row.now ∷ []) }
         ensures unchanged { OnErr result (self.new ≡ self.old) }

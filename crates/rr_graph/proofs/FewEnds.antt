@@ -1,4 +1,4 @@
--- How many ends a node can have.
+-- The number of ends that a node can have.
 use Rattle.std.proofs.Common.{ℕ, zero, suc, ◌≡◌, ◌+◌, ◌<◌, ◌≤◌, List, length, subst, inl, inr, arith}
 use Rattle.std.specs.Prelude.{All, Contains, filter, slice_index}
 use Rattle.std.specs.List.Sorted.{IsStrictlyIncreasing}
@@ -11,7 +11,7 @@ use Rattle.rr_graph.specs.Ways.{is_passing, ends_towards}
 use Rattle.rr_graph.proofs.Listing.{has_contains, contains_has, filter_has}
 use Rattle.std.proofs.lemmas.List.Elements.{All-contains_itself}
 
--- each number is at least its place
+-- each number is at least its index
 at_least_place : (xs : List ℕ) → IsStrictlyIncreasing xs → (k : ℕ) → k < length xs → k ≤ slice_index xs k
 at_least_place xs rises zero within = omega arith
 at_least_place xs rises (suc k) within =
@@ -20,7 +20,7 @@ at_least_place xs rises (suc k) within =
     let step : slice_index xs k < slice_index xs (suc k) = subst (λ n. slice_index xs k < slice_index xs n) e (rises k (omega arith)) in
     omega arith
 
--- a rising list of numbers below a bound has no more numbers than the bound
+-- an increasing list of numbers below a bound has at most as many numbers as the bound
 rising_few : (xs : List ℕ) (bound : ℕ) → IsStrictlyIncreasing xs → All (λ x. x < bound) xs → length xs ≤ bound
 rising_few xs bound rises below = elim (cases_lt bound (length xs)) [
   | inl more ↦ absurd (

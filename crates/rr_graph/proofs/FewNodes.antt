@@ -1,4 +1,4 @@
--- A strip has few nodes.
+-- The number of nodes of a strip is within the limit.
 use Rattle.std.proofs.Common.{ℕ, zero, suc, ◌≡◌, ◌+◌, ◌-◌, ◌*◌, ◌^◌, ◌<◌, ◌≤◌, List, [], ◌∷◌, map, length, sym, ap, ◌∙◌, subst, inl, inr, arith, Bool, true, ◌&&◌, ◌||◌, nat_le}
 use Rattle.std.specs.Prelude.{filter}
 use Rattle.std.specs.List.{flat_map, range_with_len}
@@ -30,7 +30,7 @@ few_numbers test f most a (suc count) small =
       | inr isn't ↦ subst (λ (xs : List Node). length xs ≤ most - a) (sym (cond-false (test (f a)) (f a ∷ rest) rest isn't)) (omega (arith, few))
     ]
 
--- what passes of one list and of the others
+-- the elements that pass, of one list and of the others
 few_more : {X : Type 0} (test : Node → Bool) (f : X → List Node) (x : X) (xs : List X) (m n : ℕ) → length (filter test (f x)) ≤ m → length (filter test (flat_map f xs)) ≤ n →
     length (filter test (flat_map f (x ∷ xs))) ≤ m + n
 few_more test f x xs m n here rest =

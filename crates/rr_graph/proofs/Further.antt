@@ -1,4 +1,4 @@
--- Along an edge the number of nodes that follow falls by at most one.
+-- Along an edge the number of nodes that follow decreases by at most one.
 use Rattle.std.proofs.Common.{ℕ, ◌≡◌, ◌+◌, ◌*◌, ◌/◌, ◌≤◌, ◌<◌, refl, sym, ap, ◌∙◌, inl, inr, ◌⊎◌, arith, Some, None, Bool, true, false, cond, ◌&&◌, ◌||◌, not}
 use Rattle.std.specs.Prelude.{◌==◌, nat_le, nat_lt, Contains}
 use Rattle.std.proofs.lemmas.Bool.{and_parts, and_from, or_cases, or_left, or_right, eqb-true, eq-eqb, cases_Bool, false≢true}
@@ -19,7 +19,7 @@ use Rattle.rr_graph.proofs.Listing.{has_contains, contains_has, has_filter, filt
 
 -- ---- wires
 
--- half of a number that is greater by at most two is greater by at most one
+-- if a number is greater by at most two, its half is greater by at most one
 half_step : (a b : ℕ) → a ≤ b + 2 → a / 2 ≤ 1 + b / 2
 half_step a b le = omega (arith, le)
 
@@ -33,7 +33,7 @@ nearer sink p q r s e =
 
 -- ---- pins
 
--- A wire that a pin of the block meets lies one half step from the block's middle.
+-- A wire that a pin of the block meets is one half step from the block's middle.
 beside : (sides : Sides) (pin : Node) (kind : NodeKind) (x y : ℕ) → runs_along sides pin kind x y ≡ true → gap (across_of kind x) (2 * pin.x) + gap (up_of kind y) (2 * pin.y) ≡ 1
 beside sides pin Source x y h = absurd (false≢true h)
 beside sides pin Sink x y h = absurd (false≢true h)
@@ -54,7 +54,7 @@ beside sides pin ChanY x y h =
       | inr e ↦ omega (arith, row, eqb-true (x + 1) pin.x (and_parts sides.left (x + 1 == pin.x) e).1)
     ]
 
--- what an own pin or sink is
+-- the parts of the condition that a pin or sink is the sink's own
 own_parts : (is_block : Bool) (sink node : Node) → is_own is_block sink node ≡ true → (node.x ≡ sink.x) × (node.y ≡ sink.y) × ((is_block || (node.n == sink.n)) ≡ true)
 own_parts is_block sink node h =
     let parts = and_parts (node.x == sink.x) ((node.y == sink.y) && (is_block || (node.n == sink.n))) h in
@@ -69,7 +69,7 @@ own_from is_block sink node x y n =
 own_itself : (is_block : Bool) (sink : Node) → is_own is_block sink sink ≡ true
 own_itself is_block sink = own_from is_block sink sink refl refl (or_right is_block (sink.n == sink.n) (eq-eqb sink.n sink.n refl))
 
--- The pin from which an edge leads to an own sink is an own one.
+-- A pin from which an edge leads to the sink's block or pad is an own pin.
 own_pin : (strip : Strip) (is_block : Bool) (sink pin end : Node) → is_block ≡ is_block_row strip sink.y → is_together strip pin end ≡ true → is_own is_block sink end ≡ true → is_own is_block sink pin ≡ true
 own_pin strip is_block sink pin end block h own =
     let parts = and_parts (pin.x == end.x) ((pin.y == end.y) && (is_block_row strip pin.y || (pin.n == end.n))) h in
@@ -86,7 +86,7 @@ own_pin strip is_block sink pin end block h own =
 
 -- ---- all edges
 
--- to a pin, from a wire whose track is met where the pin is an own one
+-- to a pin, from a wire; if the pin is an own one, the wire's track is met
 to_pin : (arch : Arch) (strip : Strip) (met is_block : Bool) (sink wire pin : Node) → meets arch strip pin wire ≡ true → (is_own is_block sink pin ≡ true → met ≡ true) →
     FallsByOne (wire_further met (from_sink sink wire.kind wire.x wire.y)) (cond (is_own is_block sink pin) (Some 1) None)
 to_pin arch strip met is_block sink wire pin h open' = elim (cases_Bool (is_own is_block sink pin)) [
@@ -152,14 +152,14 @@ pad_reads arch strip sink wire pin pad kind there own h =
     let number : pin.n ≡ sink.n = eqb-true pin.n sink.n o.2 in
     ap (λ n. meets_track arch.fc_pad arch.tracks n wire.n) (sym number) ∙ rw flexible at met
 
--- An own pin's track is met.
+-- A wire that an own pin meets has a track that is met.
 own_met : (arch : Arch) (strip : Strip) (sink wire pin : Node) → pin.kind ≡ Ipin → is_node arch strip pin ≡ true → meets arch strip pin wire ≡ true → is_own (is_block_row strip sink.y) sink pin ≡ true → is_met arch strip sink wire.n ≡ true
 own_met arch strip sink wire pin kind there h own = elim (cases_Bool (is_block_row strip sink.y)) [
   | inl block ↦ rw block (own_reads arch strip sink wire pin (sym block) kind there (rw block at own) h)
   | inr pad ↦ rw pad (pad_reads arch strip sink wire pin pad kind there (rw pad at own) h)
 ]
 
--- a block is no further from the sink than a wire beside it, but for one half step
+-- a block is at most one half step further from the sink than a wire beside it
 double_gap : (a b : ℕ) → gap (2 * a) (2 * b) ≡ 2 * gap a b
 double_gap a b = omega arith
 
@@ -233,7 +233,7 @@ falls_by arch strip met is_block sink ChanY ChanY a b block ea eb reads there h 
 edge_parts : (arch : Arch) (strip : Strip) (a b : Node) → is_edge arch strip a b ≡ true → (is_node arch strip b ≡ true) × (joins arch strip a.kind b.kind a b ≡ true)
 edge_parts arch strip a b h = and_parts (is_node arch strip b) (joins arch strip a.kind b.kind a b) (and_parts (is_node arch strip a) (is_node arch strip b && joins arch strip a.kind b.kind a b) h).1
 
--- Along an edge the number falls by at most one.
+-- Along an edge the number decreases by at most one.
 pub falls : (basis : Basis) (sink a b : Node) → is_edge basis.arch basis.strip a b ≡ true → FallsByOne (further_to basis.arch basis.strip sink a) (further_to basis.arch basis.strip sink b)
 falls basis sink a b h =
     let parts = edge_parts basis.arch basis.strip a b h in
@@ -249,7 +249,7 @@ at_sink basis sink e = at_sink_by basis.arch basis.strip sink.kind sink e
 
 -- ---- ends that matter
 
--- no pin that a passing wire meets is an own one
+-- a pin that meets a passing wire is not an own one
 passed_pin : (arch : Arch) (strip : Strip) (is_block : Bool) (sink wire pin : Node) → is_passing sink wire ≡ true → meets arch strip pin wire ≡ true → is_own is_block sink pin ≡ false
 passed_pin arch strip is_block sink wire pin passing h = elim (cases_Bool (is_own is_block sink pin)) [
   | inr other ↦ other
@@ -262,7 +262,7 @@ passed_pin arch strip is_block sink wire pin passing h = elim (cases_Bool (is_ow
       false≢true (rw (eq-eqb (from_sink sink wire.kind wire.x wire.y) 1 one) at apart))
 ]
 
--- an end of a passing wire that is no wire leads nowhere
+-- an end of a passing wire that isn't a wire leads nowhere
 passed : (arch : Arch) (strip : Strip) (met is_block : Bool) (sink : Node) (ka kb : NodeKind) (a b : Node) → a.kind ≡ ka → is_wire ka ≡ true → is_passing sink a ≡ true → is_wire kb ≡ false → joins arch strip ka kb a b ≡ true → further_by met is_block sink kb b ≡ None
 passed arch strip met is_block sink Source kb a b e wire passing other h = absurd (false≢true wire)
 passed arch strip met is_block sink Sink kb a b e wire passing other h = absurd (false≢true wire)
@@ -281,7 +281,7 @@ passed arch strip met is_block sink ChanY Ipin a b e wire passing other h = rw (
 passed arch strip met is_block sink ChanY ChanX a b e wire passing other h = absurd (false≢true (sym other))
 passed arch strip met is_block sink ChanY ChanY a b e wire passing other h = absurd (false≢true (sym other))
 
--- What is left out leads nowhere.
+-- The ends that are left out lead nowhere.
 pub towards : (basis : Basis) (g : RoutingGraph) (sink : Node) (i end : ℕ) → IsRoutingGraph basis g → i < g.count → Contains (g.ends i) end → Contains (ends_towards g sink i) end ⊎ (further_to basis.arch basis.strip sink (g.node end) ≡ None)
 towards basis g sink i end lawful within found =
     let pair = (lawful.pairs i end within).0 found in
@@ -296,7 +296,7 @@ towards basis g sink i end lawful within found =
       ]
     ]
 
--- The others are ends.
+-- The ends that are kept are ends.
 pub towards_back : (g : RoutingGraph) (sink : Node) (i end : ℕ) → Contains (ends_towards g sink i) end → Contains (g.ends i) end
 towards_back g sink i end found = elim (cases_Bool (is_passing sink (g.node i))) [
   | inl passing ↦ (let among = rw passing at found in has_contains end (g.ends i) (filter_has (λ j. is_wire (g.node j).kind) end (g.ends i) (contains_has end _ among)).0)

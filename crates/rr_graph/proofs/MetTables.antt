@@ -1,4 +1,4 @@
--- Lemmas on the table of tracks that are met.
+-- Lemmas about the table of tracks that are met.
 use Rattle.std.proofs.Common.{ℕ, ◌≡◌, ◌+◌, ◌-◌, ◌*◌, ◌/◌, ◌%◌, ◌<◌, ◌≤◌, List, [], ◌∷◌, ◌++◌, length, get_or, ap, ◌∙◌, subst, inl, inr, arith, Bool, true, false, ◌&&◌, ◌||◌, nat_le}
 use Rattle.std.specs.Prelude.{◌==◌, nat_lt, if◌then◌else◌}
 use Rattle.std.proofs.lemmas.Bool.{cases_lt, cond-false, and_parts, or_cases, ltb-true}
@@ -37,7 +37,7 @@ met_pad arch pad track =
     cond-false (pad + 1 == 0) (is_read arch track) (meets_track arch.fc_pad arch.tracks (pad + 1 - 1) track) some
     ∙ ap (λ p. meets_track arch.fc_pad arch.tracks p track) less
 
--- a sink is of a block, or of one of the pads
+-- a sink belongs to a block, or to one of the pads
 pub sink_row : (arch : Arch) (strip : Strip) (sink : Node) → sink.kind ≡ Sink → is_node arch strip sink ≡ true → (if is_block_row strip sink.y then 0 else sink.n + 1) ≤ strip.io_rat
 sink_row arch strip sink kind there =
     let outer = and_parts (nat_le sink.x strip.width) ((nat_le 1 sink.x || is_chan_y sink.kind) && is_slot arch strip sink.kind sink.y sink.n) there in

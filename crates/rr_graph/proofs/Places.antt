@@ -14,7 +14,7 @@ use Rattle.rr_graph.proofs.Columns.{same_kind, separates_order}
 use Rattle.rr_graph.proofs.Numberings.{place_of, node_of_place, node_small, all_small}
 use Rattle.rr_graph.proofs.Graphs.{nodes_there, last_chan_y}
 
--- a node's place is its column and its index there
+-- a node's number results from its column and its index there
 pub indexed : (nodes : Numbering) (kind : NodeKind) (x y first end i : ℕ) → IsNumbering nodes → y < 67 →
     Separates nodes.members.items (rank_of kind * 65536 + y * 256) first → Separates nodes.members.items (rank_of kind * 65536 + (y + 1) * 256) end →
     x * column_count nodes + first ≤ i + nodes.before → i + nodes.before < x * column_count nodes + end → IsAt kind x y (node_of nodes i)
@@ -57,7 +57,7 @@ found nodes kind x y first end i lawful at_first at_end at =
     ] in
     (omega (arith, from, place.3, products), omega (arith, to, place.3, products))
 
--- a column that has nodes of the kind is not the part of column 0 that is not there
+-- a column that has nodes of the kind doesn't begin in the missing part of column 0
 pub room : (nodes : Numbering) (kind : NodeKind) (x y first : ℕ) → IsNumbering nodes → (nat_le 1 x || is_chan_y kind) ≡ true →
     Separates nodes.members.items (rank_of kind * 65536 + y * 256) first → nodes.before ≤ x * column_count nodes + first
 room nodes kind x y first lawful has at = elim (cases_lt 0 x) [
@@ -71,7 +71,7 @@ room nodes kind x y first lawful has at = elim (cases_lt 0 x) [
   ]
 ]
 
--- the strip has the columns and rows of its nodes
+-- the columns and rows of nodes are those of the strip
 pub has_place : (nodes : Numbering) (kind : NodeKind) (x y i : ℕ) → IsNumbering nodes → i + nodes.before < (nodes.strip.width + 1) * column_count nodes →
     IsAt kind x y (node_of nodes i) → (y < 66) × ((nat_le x nodes.strip.width && (nat_le 1 x || is_chan_y kind)) ≡ true)
 has_place nodes kind x y i lawful within at =

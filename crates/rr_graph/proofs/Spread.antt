@@ -1,4 +1,5 @@
--- Whether a pin meets a track, by arithmetic: the spread numbers rise, so the first that may be far enough tells.
+-- Whether a pin meets a track, by arithmetic: the spread numbers increase, so only the first that
+-- is far enough has to be tested.
 use Rattle.std.proofs.Common.{ℕ, ◌≡◌, ◌+◌, ◌-◌, ◌*◌, ◌/◌, ◌%◌, ◌<◌, ◌≤◌, Bool, false, get_or, inl, inr, sym, ap, ◌∙◌, subst, arith, mul_comm}
 use Rattle.std.specs.Prelude.{◌==◌}
 use Rattle.std.specs.List.{range_with_len}
@@ -9,7 +10,7 @@ use Rattle.std.proofs.lemmas.Nat.{mod-mul-add, mod_below, div-add-mod', div_belo
 use Rattle.rr_graph.specs.Geometry.{meets_track}
 use Rattle.rr_graph.proofs.Nearness.{any_in_range}
 
--- so far after the pin's own number lies the track
+-- the track is at this distance after the pin's own number
 pub record IsApart (w p track apart : ℕ) : Type 0 where
   pub below : apart < w
   pub meets : (apart + p) % w ≡ track
@@ -32,7 +33,7 @@ is_apart w p track low =
           subst (IsApart w p track) (sym is) (record { below = omega (arith, low); meets = ap (λ n. n % w) at ∙ mod-mul-add q w track low }))
     ]
 
--- no other number does
+-- no other number is at this distance
 one_apart : (w p track apart other : ℕ) → IsApart w p track apart → other < w → (other + p) % w ≡ track → other ≡ apart
 one_apart w p track apart other is low meets =
     let m : ℕ = (other + p) / w in
@@ -42,7 +43,7 @@ one_apart w p track apart other is low meets =
     let same : n * w + other ≡ m * w + apart = omega (arith, here, there, meets, is.meets) in
     (same_from_place n other m apart w low is.below same).1
 
--- the first number that is spread so far
+-- the first number that is spread at least this far
 reaches : (f w apart : ℕ) → 0 < w → apart * f ≤ (apart * f + w - 1) / w * w
 reaches f w apart some = omega (arith, div-add-mod' (apart * f + w - 1) w, mod_below (apart * f + w - 1) w some)
 
@@ -55,7 +56,7 @@ least f w apart k some far =
       | inr ge ↦ ge
     ]
 
--- where it is spread just so far, it is one of the pin's
+-- if it is spread exactly this far, it is one of the pin's
 among : (f w apart first : ℕ) → 0 < f → apart < w → first * w / f ≡ apart → first < f
 among f w apart first some low is = elim (cases_lt first f) [
   | inl less ↦ less
@@ -63,7 +64,7 @@ among f w apart first some low is = elim (cases_lt first f) [
       omega (arith, le-div w (first * w) f some (omega (arith, m, mul_comm w f)), is, low))
 ]
 
--- one of the pin's that meets the track is spread so far, and so is the first
+-- if one of the pin's numbers is spread exactly this far, so is the first
 spread_to : (f w p track apart j : ℕ) → 0 < f → IsApart w p track apart → j < f → (j * w / f + p) % w ≡ track → (apart * f + w - 1) / w * w / f ≡ apart
 spread_to f w p track apart j some is few meets =
     let some_w : 0 < w = omega (arith, is.below) in
@@ -79,7 +80,7 @@ spread_to f w p track apart j some is few meets =
     let low : first * w / f < apart + 1 = div_below (first * w) f (apart + 1) some (omega (arith, most, whole, rest)) in
     omega (arith, high, low)
 
--- so the first one tells
+-- the test of the first number decides
 pub first_tells : (f w p track apart first : ℕ) → 0 < f → IsApart w p track apart → first ≡ (apart * f + w - 1) / w →
     (first * w / f == apart) ≡ meets_track f w p track
 first_tells f w p track apart first some is e =
@@ -97,7 +98,7 @@ first_tells f w p track apart first some is e =
           ]))
     ]
 
--- there is no track past the last one
+-- no track comes after the last one
 pub past_tracks : (f w p track : ℕ) → 0 < w → w ≤ track → meets_track f w p track ≡ false
 past_tracks f w p track some high =
     let test : ℕ → Bool = λ j. (j * w / f + p) % w == track in

@@ -1,4 +1,4 @@
--- Wires of one track, and where they stand in a column.
+-- Wires of one track, and their indices in a column.
 use Rattle.std.proofs.Common.{ℕ, zero, suc, ◌≡◌, ◌+◌, ◌-◌, ◌*◌, ◌<◌, ◌≤◌, List, [], ◌∷◌, ◌++◌, length, get_or, refl, sym, ap, ◌∙◌, subst, inl, inr, arith, true, false}
 use Rattle.std.specs.Prelude.{Contains, nat_lt, nat_le, ◌&&◌}
 use Rattle.std.proofs.lemmas.Bool.{cases_lt, and_parts, and_from, ltb-true, le-leb, lt-ltb, false≢true}
@@ -41,9 +41,9 @@ firsts_push members firsts kind y index low old at = record {
   ];
 }
 
--- ---- where the wires of a row stand
+-- ---- the indices of the wires of a row
 
--- the member of a place stands at the place's index
+-- the member at a position is at the position's index
 separates_at : (members : List Member) (p i : ℕ) (member : Member) → IsRising members → Separates members p i → Contains members member → member_key member ≡ p → (i < length members) × (get_or members i member ≡ member)
 separates_at members p i member rising at (k, within, is) e =
     let key : member_key (get_or members k member) ≡ p = ap member_key is ∙ e in
@@ -58,13 +58,13 @@ separates_at members p i member rising at (k, within, is) e =
       ]
     ]
 
--- within a list the default does not matter
+-- within a list the default doesn't matter
 any_default : (xs : List Member) (j : ℕ) (c d : Member) → j < length xs → get_or xs j d ≡ get_or xs j c
 any_default [] j c d lt = absurd (omega arith)
 any_default (x ∷ xs) zero c d lt = refl
 any_default (x ∷ xs) (suc j) c d lt = any_default xs j c d (omega arith)
 
--- and the next place has the next index
+-- the next position has the next index
 separates_next : (members : List Member) (p i : ℕ) (member : Member) → IsRising members → Separates members p i → Contains members member → member_key member ≡ p → Separates members (p + 1) (i + 1)
 separates_next members p i member rising at found e =
     let stands = separates_at members p i member rising at found e in
@@ -83,7 +83,7 @@ separates_next members p i member rising at found e =
           omega (arith, r, here);
     }
 
--- the tracks before one of a row are there too
+-- a row has all tracks before one that it has
 earlier_track : (arch : Arch) (strip : Strip) (kind : NodeKind) (y m : ℕ) → is_wire kind ≡ true → is_slot arch strip kind y (suc m) ≡ true → is_slot arch strip kind y m ≡ true
 earlier_track arch strip Source y m wire h = absurd (false≢true wire)
 earlier_track arch strip Sink y m wire h = absurd (false≢true wire)
@@ -100,7 +100,7 @@ earlier_track arch strip ChanY y m wire h =
 contained : (nodes : Numbering) (kind : NodeKind) (y n : ℕ) → IsNumbering nodes → y < 68 → n < 256 → is_slot nodes.arch nodes.strip kind y n ≡ true → Contains nodes.members.items (member_of kind y n)
 contained nodes kind y n lawful low few is = member_found nodes.members.items (member_of kind y n) (lawful.column.all.complete (member_of kind y n) is (omega (arith, rank_few kind, low, few)))
 
--- a track's place has the index that many after the row's first
+-- a track's index is that of the row's first track plus its number
 pub track_index : (nodes : Numbering) (kind : NodeKind) (y first n : ℕ) → IsNumbering nodes → y < 68 → n < 256 → is_wire kind ≡ true → is_slot nodes.arch nodes.strip kind y n ≡ true →
     Separates nodes.members.items (rank_of kind * 65536 + y * 256) first → Separates nodes.members.items (rank_of kind * 65536 + y * 256 + n) (first + n)
 track_index nodes kind y first zero lawful low few wire is at =
@@ -125,7 +125,7 @@ wire_is Ipin h = false≢true h
 wire_is ChanX h = tt
 wire_is ChanY h = tt
 
--- the members between two rows' places
+-- the members between the positions of two rows
 row_member : (nodes : Numbering) (kind : NodeKind) (y r : ℕ) → IsNumbering nodes → y < 68 → r < column_count nodes →
     rank_of kind * 65536 + y * 256 ≤ member_key (member_at nodes r) → member_key (member_at nodes r) < rank_of kind * 65536 + (y + 1) * 256 →
     ((member_at nodes r).kind ≡ kind) × ((member_at nodes r).y ≡ y) × (member_key (member_at nodes r) ≡ rank_of kind * 65536 + y * 256 + (member_at nodes r).n)
@@ -135,11 +135,11 @@ row_member nodes kind y r lawful low here from to =
     let row : (member_at nodes r).y ≡ y = omega (arith, small.0, small.1, from, to, rank) in
     (same_kind (member_at nodes r).kind kind rank, row, omega (arith, rank, row))
 
--- where an edge of the wire leads in the row, the track is its own
+-- an edge from the wire into the row leads to its own track
 own_number : (nodes : Numbering) (a : Node) (x : ℕ) (member : Member) → is_wire a.kind ≡ true → is_wire member.kind ≡ true → leads nodes a (in_column x member) ≡ true → a.n ≡ member.n
 own_number nodes a x member wa wb h = own_track nodes.arch nodes.strip a.kind member.kind a (in_column x member) (wire_is a.kind wa) (wire_is member.kind wb) h
 
--- no other member of the row is led to
+-- no edge leads to another member of the row
 pass_others : (nodes : Numbering) (a : Node) (row : List ℕ) (x from to y : ℕ) (kind : NodeKind) → IsNumbering nodes → y < 68 → is_wire a.kind ≡ true → is_wire kind ≡ true → from ≤ to → to ≤ column_count nodes →
     IsRowBelow nodes a row (x * column_count nodes + from) →
     ((r : ℕ) → from ≤ r → r < to → (rank_of kind * 65536 + y * 256 ≤ member_key (member_at nodes r)) × (member_key (member_at nodes r) < rank_of kind * 65536 + (y + 1) * 256)) →
@@ -156,7 +156,7 @@ pass_others nodes a row x from to y kind lawful low wa wb order within old betwe
     let own : a.n ≡ (member_at nodes r).n = own_number nodes a x (member_at nodes r) wa (ap is_wire member.0 ∙ wb) led in
     none r (omega arith) (omega arith) led (omega (arith, member.2, own)))
 
--- the row has no such wire
+-- the row doesn't have this wire
 pub wire_none : (nodes : Numbering) (a : Node) (row : List ℕ) (x y : ℕ) (kind : NodeKind) → IsNumbering nodes → y < 68 → is_wire a.kind ≡ true → is_wire kind ≡ true →
     IsRowAt nodes a row x (rank_of kind * 65536 + y * 256) →
     (is_slot nodes.arch nodes.strip kind y a.n ≡ true → leads nodes a (in_column x (member_of kind y a.n)) ≡ true → ⊥) →
@@ -179,7 +179,7 @@ wire_none nodes a row x y kind lawful low wa wb old isn't index at =
     same_parts : (member : Member) (k : NodeKind) (v n : ℕ) → member.kind ≡ k → member.y ≡ v → member.n ≡ n → member ≡ member_of k v n
     same_parts member k v n ek ev en = ap (λ z. member_of z member.y member.n) ek ∙ (ap (λ z. member_of k z member.n) ev ∙ ap (λ z. member_of k v z) en)
 
--- only the vertical channel stands in column 0
+-- column 0 has only the vertical channel
 pub wire_there : (nodes : Numbering) (x y first n : ℕ) (kind : NodeKind) → IsNumbering nodes → Separates nodes.members.items (rank_of kind * 65536 + y * 256) first → ((x ≡ 0) → rank_of kind ≡ 5) →
     nodes.before ≤ x * column_count nodes + (first + n)
 wire_there nodes x y first n kind lawful at there = elim (cases_lt 0 x) [
@@ -190,7 +190,7 @@ wire_there nodes x y first n kind lawful at there = elim (cases_lt 0 x) [
       omega arith)
 ]
 
--- the row has it, and it is added
+-- the row has this wire, and it is appended
 pub wire_added : (nodes : Numbering) (a : Node) (row : List ℕ) (x y first : ℕ) (kind : NodeKind) → IsNumbering nodes → y < 68 → a.n < 145 → is_wire a.kind ≡ true → is_wire kind ≡ true →
     ((x ≡ 0) → rank_of kind ≡ 5) → Separates nodes.members.items (rank_of kind * 65536 + y * 256) first →
     IsRowAt nodes a row x (rank_of kind * 65536 + y * 256) →
@@ -215,7 +215,7 @@ wire_added nodes a row x y first kind lawful low few wa wb there at_first old is
 
 -- ---- all rows of a kind
 
--- no node of the kind is led to
+-- no edge leads to a node of this kind
 led_kind : (arch : Arch) (strip : Strip) (ka kb : NodeKind) (a b : Node) → joins arch strip ka kb a b ≡ true → may_lead ka kb ≡ true
 led_kind arch strip Source Source a b h = absurd (false≢true h)
 led_kind arch strip Source Sink a b h = absurd (false≢true h)
@@ -254,7 +254,7 @@ led_kind arch strip ChanY Ipin a b h = refl
 led_kind arch strip ChanY ChanX a b h = refl
 led_kind arch strip ChanY ChanY a b h = refl
 
--- what an edge leads to may be reached
+-- a node to which an edge leads can be reached
 reached : (nodes : Numbering) (a b : Node) → leads nodes a b ≡ true → may_reach a b.kind b.x ≡ true
 reached nodes a b led =
     let is = leads_reached nodes a b led in
@@ -279,12 +279,12 @@ kind_none nodes a row x kind lawful isn't old index at =
     let same : (member_at nodes r).kind ≡ kind = same_kind (member_at nodes r).kind kind (omega (arith, small.0, small.1, from, to)) in
     false≢true (sym isn't ∙ (ap (λ k. may_reach a k x) (sym same) ∙ reached nodes a (in_column x (member_at nodes r)) led)))
 
--- the rows before those in which the ends may stand
+-- the rows before those that can have ends
 pub track_begins : (nodes : Numbering) (a : Node) (row : List ℕ) (x : ℕ) (kind : NodeKind) → IsNumbering nodes → a.y < 66 →
     IsRowAt nodes a row x (rank_of kind * 65536) → IsRowAt nodes a row x (rank_of kind * 65536 + (a.y - rows_above kind a.kind) * 256)
 track_begins nodes a row x kind lawful low old index at = kind_begins nodes a row x index kind lawful low at old
 
--- and those after them
+-- the rows after those that can have ends
 pub track_ends : (nodes : Numbering) (a : Node) (row : List ℕ) (x : ℕ) (kind : NodeKind) → IsNumbering nodes → a.y + rows_above a.kind kind + 1 < 68 →
     IsRowAt nodes a row x (rank_of kind * 65536 + (a.y + rows_above a.kind kind + 1) * 256) → IsRowAt nodes a row x ((rank_of kind + 1) * 65536)
 track_ends nodes a row x kind lawful few old =

@@ -1,4 +1,4 @@
--- What a graph keeps serves any number of columns.
+-- The data of a graph are correct for any number of columns.
 use Rattle.std.proofs.Common.{ℕ, zero, suc, ◌≡◌, ◌+◌, ◌*◌, ◌<◌, ◌≤◌, List, Bool, refl, ap, subst, arith, true}
 use Rattle.std.proofs.lemmas.Nat.{mul-le}
 use Rattle.rr_graph.specs.declared.node.Node.{Node}
@@ -11,7 +11,7 @@ use Rattle.rr_graph.specs.Table.{IsRowBelow, IsRows}
 use Rattle.rr_graph.specs.Fabric.{IsKept, IsPart, HaveRows, AreTables, with_width}
 use Rattle.rr_graph.proofs.GeometryLaws.{node_moved}
 
--- the nodes of a column don't depend on how many columns there are
+-- the nodes of a column don't depend on the number of columns
 pub numbering_of_width : (nodes : Numbering) (width : ℕ) → IsNumbering nodes → 1 ≤ width → width ≤ 256 → IsNumbering (with_width nodes width)
 numbering_of_width nodes width lawful some few = record {
   arch = lawful.arch;
@@ -29,7 +29,7 @@ numbering_of_width nodes width lawful some few = record {
   firsts = lawful.firsts;
 }
 
--- nor do the ends of its nodes
+-- the ends of a column's nodes don't depend on the number of columns
 row_of_width : (nodes : Numbering) (width : ℕ) (a : Node) (row : List ℕ) (cursor : ℕ) → IsRowBelow nodes a row cursor → IsRowBelow (with_width nodes width) a row cursor
 row_of_width nodes width a row cursor is = record { rising = is.rising; below = is.below; sound = is.sound; complete = is.complete }
 
@@ -63,7 +63,7 @@ part_of nodes width tables wires met inputs kept some few = record {
   kept = kept_of_width nodes width tables wires met inputs kept some (omega (arith, few, kept.fabric.lawful.strip.width.1));
 }
 
--- a node of the first columns is one of all
+-- a node of the first columns is one of all columns
 pub node_of_all : (nodes : Numbering) (width : ℕ) (node : Node) → width ≤ nodes.strip.width → is_node nodes.arch (with_width nodes width).strip node ≡ true →
     is_node nodes.arch nodes.strip node ≡ true
 node_of_all nodes width node few is =
@@ -71,13 +71,13 @@ node_of_all nodes width node few is =
     subst (λ a. is_node nodes.arch nodes.strip a ≡ true) same
     (node_moved nodes.arch (with_width nodes width).strip nodes.strip 0 node refl refl (omega (arith, few)) is)
 
--- and has a number among them
+-- its number is within the first columns
 pub number_of_width : (c x i before width : ℕ) → i + before < (x + 1) * c → x ≤ width → i + before < (width + 1) * c
 number_of_width c x i before width less few =
     let m : (x + 1) * c ≤ (width + 1) * c = mul-le (x + 1) c (width + 1) c (omega (arith, few)) (omega arith) in
     omega (arith, less, m)
 
--- tables of both kinds of columns
+-- a property of the tables for both kinds of columns
 pub both_tables : (P : ℕ → ℕ → List ℕ → Type 0) (nodes : Numbering) (tables : Tables) →
     ((count : ℕ) → count + nodes.before ≡ 3 * column_count nodes → IsRows (P 1) tables.inner.starts.items tables.inner.ends.items count) →
     ((count : ℕ) → count + nodes.before ≡ 3 * column_count nodes → IsRows (P 0) tables.last.starts.items tables.last.ends.items count) → HaveRows P nodes tables

@@ -1,4 +1,5 @@
--- Private: the table of the tracks that inputs of a logic block meet, and each pad.
+-- Private: the table of the tracks that the inputs of a logic block meet, and those that each pad
+-- meets.
 use Rattle.std.specs.Prelude.{ℕ, ◌≡◌, ◌-◌, ◌/◌, ◌%◌, ◌<◌, ◌==◌, Bool, List, length, slice_index_or, if◌then◌else◌}
 use Rattle.arch_file.specs.declared.arch.Arch.{Arch}
 use Rattle.rr_graph.specs.Geometry.{is_read, meets_track}

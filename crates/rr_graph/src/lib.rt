@@ -1,17 +1,24 @@
-//! The routing graph of a strip: which wires, pins and pads there are, and which of them a net can go between.
+//! The routing graph of a strip: its wires, pins and pads, and those between which a net can go
+//! directly.
 //!
-//! The definition is two tests on the geometry, of what is a node and of what is a pair, and no list. A node is a source
-//! or a sink of a block or a pad, one of their pins, or a wire of a channel; nodes are ordered by column, kind, row and
-//! number, and numbered in that order. Edges lead from sources over output pins, wires and input pins to sinks, and
-//! between wires of one track that meet at a point, both ways.
+//! The definition is two tests on the geometry, whether something is a node and whether two nodes
+//! are an edge, and no list. A node is a source or a sink of a block or a pad, one of their pins,
+//! or a wire of a channel; nodes are ordered by column, kind, row and number, and numbered in that
+//! order. Edges lead from sources over output pins, wires and input pins to sinks, and between
+//! wires of one track that meet at a point, in both directions.
 //!
-//! [`StripGraph`] is what a router uses: nodes by number, and the other ends of each node's edges in node order. For a
-//! search that goes to a sink it tells which ends matter and how many nodes at least follow a node; [`laws_of_ways`] says
-//! why that is right. An architecture and a strip determine the graph, which [`one_graph`] says, so any two are the same.
-//! [`Fabric`] implements it. All columns of blocks have the same nodes, so it keeps the nodes of one column in a table, and
-//! the edges of the columns that differ, all and the wires among them: column 0 with its vertical channel, the first of
-//! blocks, and one for all others, each where a column follows and where none does. The tables don't ask how many columns
-//! there are: [`Fabric::part`] reads in them the graph of any narrower strip, and takes no memory.
+//! [`StripGraph`] is the graph as a router uses it: nodes by number, and the ends of each node's
+//! edges in node order. For a search to a sink it also returns the ends that matter, and a lower
+//! bound of the number of nodes that follow a node; [`laws_of_ways`] states why these are correct.
+//! An architecture and a strip determine the graph ([`one_graph`]), so any two graphs of them are
+//! equal.
+//!
+//! [`Fabric`] implements it. All columns of blocks have the same nodes, so it stores the nodes of
+//! one column in a table, and the edges, all of them and the wires among them, of the columns that
+//! differ: column 0 with its vertical channel, the first column of blocks, and one for all others;
+//! each for the case that a column follows, and for the case that it is the last. The tables don't
+//! depend on the number of columns: [`Fabric::part`] is the graph of any narrower strip over the
+//! same tables, and takes no memory.
 #![tactic(auto)]
 
 mod column;

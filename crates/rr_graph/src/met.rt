@@ -1,4 +1,4 @@
-//! Which tracks the inputs of a logic block meet, and those of each pad, in a table.
+//! The table of the tracks that the inputs of a logic block meet, and those that each pad meets.
 ghost use Rattle.std.specs.Prelude.{◌≡◌, ◌+◌, ◌*◌, ◌≤◌, ◌<◌, IfOk, length, if◌then◌else◌};
 ghost use Rattle.arch_file.specs.declared.arch.Arch.{Arch};
 ghost use Rattle.arch_file.specs.Arch.{IsArch};
@@ -28,7 +28,7 @@ fn is_read(arch: &Arch, track: u32) -> bool
     false
 }
 
-/// Whether what the row is for meets the track.
+/// Whether the logic block or the pad of this row meets the track.
 fn met_by(arch: &Arch, row: u32, track: u32) -> bool
     requires { IsArch arch.now }
     ensures { result ≡ met_by arch.now row track }
@@ -39,7 +39,7 @@ fn met_by(arch: &Arch, row: u32, track: u32) -> bool
     meets_track(arch.fc_pad, arch.tracks, row - 1, track)
 }
 
-/// The table of an architecture, with a row of 64 tracks for logic blocks and for each pad.
+/// The table of an architecture, with a row of 64 tracks for logic blocks and one for each pad.
 pub(crate) fn met_table(alloc: Global, arch: &Arch, pads: u32) -> Result<Vec<bool>, AllocError>
     requires arch { IsArch arch.now }
     requires pads { pads ≤ 8 }
@@ -53,7 +53,8 @@ pub(crate) fn met_table(alloc: Global, arch: &Arch, pads: u32) -> Result<Vec<boo
     Ok(table)
 }
 
-/// Whether what the row is for meets the track, by the table where it has the track.
+/// Whether the logic block or the pad of this row meets the track, looked up in the table if it has
+/// the track.
 fn met_in(table: &[bool], arch: &Arch, row: u32, track: u32) -> bool
     requires arch { IsArch arch.now }
     requires table { IsMetTable arch.now table.now }
@@ -82,7 +83,8 @@ pub(crate) fn is_met(table: &[bool], arch: &Arch, strip: Strip, sink: Node, trac
     }
 }
 
-/// Which tracks the inputs of the sink's block meet, or its pad, from the first one on: as many as the table has there.
+/// For each track from the first on, whether an input of the sink's block, or its pad, meets it, as
+/// far as the table goes.
 pub(crate) fn met_row(table: &[bool], strip: Strip, sink: Node) -> &[bool]
     ensures long { (if is_block_row strip sink.y then 0 else sink.n + 1) * 64 + 64
         ≤ length table.now → length result.now ≡ 64 }

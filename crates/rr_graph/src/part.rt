@@ -1,4 +1,4 @@
-//! The graph of some columns, in the tables of all.
+//! The graph of some columns, over the tables of all.
 ghost use Rattle.std.specs.Prelude.{◌≡◌, ◌<◌, ◌+◌, ◌≤◌, map, length, true};
 ghost use Rattle.rr_graph.specs.Geometry.{is_node};
 ghost use Rattle.rr_graph.specs.Graph.{Basis, graph_of};
@@ -17,8 +17,8 @@ use arch_file::Arch;
 use grid::Strip;
 use std::marker::Model;
 
-/// The graph of a strip that has so many of a graph's columns: it reads that graph's tables, and keeps none of its own. Its
-/// value is what it stands on, the architecture and the strip.
+/// The graph of a strip with the first columns of a graph: it reads that graph's tables, and stores
+/// none of its own. Its value is the architecture and the strip.
 #[derive(Drop)]
 pub struct Part<'a> {
     pub(crate) nodes: &'a Nodes,
@@ -41,7 +41,7 @@ impl<'a> Model for Part<'a> {
         p.inputs };
 }
 
-/// The ends of a node's edges in the tables, where there are so many columns.
+/// The ends of a node's edges in the tables, if the strip has `width` columns.
 #[inline(always)]
 fn row_from<'a>(nodes: &Nodes, tables: &'a Tables, width: u32, node: usize, x: u32) -> Ends<'a>
     requires column { x ≡ column_of nodes.now.numbering node }
@@ -82,7 +82,7 @@ impl<'a> Part<'a> {
         }
     }
 
-    /// Of the first tracks, whether a way to the sink leads over wires of each.
+    /// For each of the first tracks, whether a way to the sink can lead over its wires.
     pub(crate) fn tracks_of(&self, sink: Node) -> &'a [bool]
         requires { is_node self.now.arch self.now.strip sink ≡ true }
         ensures long { sink.kind ≡ Sink → self.now.arch.tracks ≤ length result.now }

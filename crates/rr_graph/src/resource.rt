@@ -1,11 +1,11 @@
-//! What of a device a circuit holds.
+//! The resources of a device that a circuit occupies.
 ghost use Rattle.std.specs.Prelude.{◌≡◌, ◌+◌, ◌<◌, ◌^◌};
 ghost use Rattle.std.specs.Bool.{MatchBool};
 ghost use Rattle.rr_graph.specs.Resources.{IsEarlier, moved_resource, resource_of};
 
 use crate::node::{Node, NodeKind};
 
-/// What kind of thing it is, in node order.
+/// The kinds of resources, in node order.
 #[derive(Clone, Copy, PartialEq, Eq, PartialOrd, Ord)]
 pub enum ResourceKind {
     /// An output pin of a block, or of a pad.
@@ -14,26 +14,27 @@ pub enum ResourceKind {
     Ipin,
     /// A wire of a channel above a row.
     ChanX,
-    /// A wire of a channel right of a column.
+    /// A wire of a channel to the right of a column.
     ChanY,
     /// A pad.
     Pad,
 }
 
-/// A pin, a wire or a pad. They are ordered by column, kind, row and number, as the fields stand here.
+/// A pin, a wire or a pad. They are ordered by column, kind, row and number, in the order of the
+/// fields.
 #[derive(Clone, Copy, PartialEq, Eq, PartialOrd, Ord)]
 pub struct Resource {
-    /// The column. Blocks and their pads stand in columns from 1.
+    /// The column. Blocks and their pads are in columns from 1.
     pub x: u32,
     pub kind: ResourceKind,
-    /// The row. Blocks stand in rows from 1, pads in row 0 and above the last row.
+    /// The row. Blocks are in rows from 1, pads in row 0 and above the last row.
     pub y: u32,
     /// The number of a pin, of a pad or of a track.
     pub n: u32,
 }
 
 impl Resource {
-    /// The pin or the wire that a node stands for. A source and a sink stand for none of their own.
+    /// The pin or wire that a node represents; `None` for a source or a sink.
     pub fn of(node: Node) -> Option<Resource>
         ensures { result ≡ resource_of node }
     {
@@ -48,7 +49,7 @@ impl Resource {
         Some(Resource { x, kind, y, n })
     }
 
-    /// The same, so many columns to the right.
+    /// The resource, moved this number of columns to the right.
     pub fn moved(self, columns: u32) -> Resource
         requires { self.x + columns < 2 ^ 32 }
         ensures { result ≡ moved_resource columns self }
@@ -59,7 +60,7 @@ impl Resource {
         }
     }
 
-    /// Whether it stands before another in node order.
+    /// Whether it comes before another in node order.
     pub fn is_before(self, other: Resource) -> bool
         ensures { MatchBool result (IsEarlier self other) (IsEarlier self other → ⊥) }
     {

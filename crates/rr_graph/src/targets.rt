@@ -1,4 +1,5 @@
-//! The ends of a node's edges, looked for where they can be: in a node's own column and row, or in the next one too.
+//! Searches for the ends of a node's edges only where they can be: in the node's own column and
+//! row, and in the next ones.
 ghost use Rattle.std.specs.Prelude.{◌≡◌, ◌+◌, ◌-◌, ◌*◌, ◌<◌, ◌≤◌, OnOk, []};
 ghost use Rattle.arch_file.specs.Arch.{IsWithin};
 ghost use Rattle.rr_graph.specs.Node.{rank_of};
@@ -12,7 +13,7 @@ use crate::numbering::Nodes;
 use crate::ways::is_wire;
 use std::alloc::AllocError;
 
-/// The nodes of one kind in a column, among which the ends of the edges of a node `a` are looked for.
+/// The nodes of one kind in a column, among which the ends of the edges of a node `a` are searched.
 #[derive(Clone, Copy)]
 struct Targets<'a> {
     nodes: &'a Nodes,
@@ -26,14 +27,14 @@ struct Targets<'a> {
 }
 
 impl Targets<'_> {
-    /// The first row in which ends may stand.
+    /// The first row that can have ends.
     fn first_row(&self) -> u32
         ensures { result ≡ self.now.a.y - rows_above self.now.kind self.now.a.kind }
     {
         self.a.y.saturating_sub(rows_above(self.kind, self.a.kind))
     }
 
-    /// The row behind the last of them.
+    /// The row after the last that can have ends.
     fn end_row(&self) -> u32
         ensures value { result ≡ self.now.a.y + rows_above self.now.a.kind self.now.kind + 1 }
         ensures few { result < 68 }
@@ -41,7 +42,7 @@ impl Targets<'_> {
         self.a.y + rows_above(self.a.kind, self.kind) + 1
     }
 
-    /// Whether edges of `a` may lead to nodes of the kind in the column.
+    /// Whether edges of `a` can lead to nodes of the kind in the column.
     fn may_reach(&self) -> bool
         ensures { result ≡ may_reach self.now.a self.now.kind self.now.x }
     {
@@ -53,7 +54,7 @@ impl Targets<'_> {
         may_lead(self.a.kind, self.kind) && first <= self.x && own <= self.a.x
     }
 
-    /// Adds the ends in a part of the column.
+    /// Appends the ends in a part of the column.
     fn add_part(&self, row: &mut Vec<u32>, from: usize, to: usize) -> Result<(), AllocError>
         requires span { IsSpan self.now.nodes.now.numbering self.now.x from to }
         requires row { IsRowBelow self.now.nodes.now.numbering self.now.a row.old.items
@@ -78,7 +79,8 @@ impl Targets<'_> {
         Ok(())
     }
 
-    /// Adds the wire in a row to which an edge of the wire `a` leads, if there is one: it is of a's own track.
+    /// Appends the wire in a row to which an edge of the wire `a` leads, if there is one: it has
+    /// the same track as `a`.
     fn add_wire(&self, row: &mut Vec<u32>, y: u32) -> Result<(), AllocError>
         requires y { y < 68 }
         requires wires { AreWires self.now.a.kind self.now.kind }
@@ -101,7 +103,7 @@ impl Targets<'_> {
         }
     }
 
-    /// Adds the wires to which edges of the wire `a` lead.
+    /// Appends the wires to which edges of the wire `a` lead.
     fn add_track(&self, row: &mut Vec<u32>) -> Result<(), AllocError>
         requires wires { AreWires self.now.a.kind self.now.kind }
         requires row { IsRowAt self.now.nodes.now.numbering self.now.a row.old.items self.now.x
@@ -115,7 +117,7 @@ impl Targets<'_> {
         Ok(())
     }
 
-    /// Adds the ends, looked for among all nodes of the rows in which they may stand.
+    /// Appends the ends, searching all nodes of the rows that can have them.
     fn add_rows(&self, row: &mut Vec<u32>) -> Result<(), AllocError>
         requires { IsRowAt self.now.nodes.now.numbering self.now.a row.old.items self.now.x
             (rank_of self.now.kind * 65536) }
@@ -127,7 +129,7 @@ impl Targets<'_> {
         self.add_part(row, from, to)
     }
 
-    /// Adds the ends.
+    /// Appends the ends of this kind in this column.
     fn add_kind(&self, row: &mut Vec<u32>) -> Result<(), AllocError>
         requires { IsRowAt self.now.nodes.now.numbering self.now.a row.old.items self.now.x
             (rank_of self.now.kind * 65536) }
@@ -146,7 +148,7 @@ impl Targets<'_> {
     }
 }
 
-/// Whether edges lead from nodes of one kind to nodes of another.
+/// Whether edges can lead from nodes of one kind to nodes of another.
 fn may_lead(from: NodeKind, to: NodeKind) -> bool
     ensures { result ≡ may_lead from to }
 {
@@ -162,8 +164,8 @@ fn may_lead(from: NodeKind, to: NodeKind) -> bool
     }
 }
 
-/// By how many rows an end of the second kind may stand above a node of the first: a horizontal channel lies between two
-/// rows, and a wire of a vertical channel meets the next one.
+/// The largest number of rows by which an end of the second kind can be above a node of the first:
+/// a horizontal channel is between two rows, and a wire of a vertical channel meets the next one.
 fn rows_above(from: NodeKind, to: NodeKind) -> u32
     ensures value { result ≡ rows_above from to }
     ensures few { result ≤ 1 }
@@ -176,7 +178,8 @@ fn rows_above(from: NodeKind, to: NodeKind) -> u32
     }
 }
 
-/// By how many columns it may stand right of it.
+/// The largest number of columns by which an end of the second kind can be to the right of a node
+/// of the first.
 fn columns_right(from: NodeKind, to: NodeKind) -> u32
     ensures { result ≡ columns_right from to }
 {
@@ -188,7 +191,7 @@ fn columns_right(from: NodeKind, to: NodeKind) -> u32
     }
 }
 
-/// Adds the nodes of a column to which edges of `a` lead.
+/// Appends the nodes of a column to which edges of `a` lead.
 fn add_column(row: &mut Vec<u32>, nodes: &Nodes, a: Node, x: u32) -> Result<(), AllocError>
     requires small { HasSmallNumbers a }
     requires x { x ≤ 256 }
@@ -213,7 +216,8 @@ fn add_column(row: &mut Vec<u32>, nodes: &Nodes, a: Node, x: u32) -> Result<(), 
     Targets { nodes, a, x, kind }.add_kind(row)
 }
 
-/// Adds the nodes of the columns up to the last to which edges of `a` lead. They stand in columns next to its own.
+/// Appends the nodes of the columns up to `last` to which edges of `a` lead. They are in its own
+/// column or a neighbouring one.
 pub(crate) fn add_row(
     row: &mut Vec<u32>,
     nodes: &Nodes,

@@ -1,18 +1,19 @@
-//! Ways to a sink: how many nodes at least follow a node, and whether its ends that are no wires matter.
+//! Ways to a sink: a lower bound of the number of nodes that follow a node, and whether its ends
+//! that aren't wires matter.
 ghost use Rattle.std.specs.Prelude.{◌≡◌, ◌+◌, ◌*◌};
 ghost use Rattle.rr_graph.specs.Geometry.{is_wire, gap, across_of, up_of};
 ghost use Rattle.rr_graph.specs.Ways.{is_own, from_sink, wire_further, blocks_apart, further_by, is_passing};
 
 use crate::node::{Node, NodeKind};
 
-/// How far two numbers lie apart.
+/// The distance of two numbers.
 fn gap(a: u64, b: u64) -> u64
     ensures { result ≡ gap a b }
 {
     if a < b { b - a } else { a - b }
 }
 
-/// Where the middle of a wire is along the rows, in half steps.
+/// The horizontal position of a wire's middle, in half steps.
 pub fn across_of(kind: NodeKind, x: u32) -> u64
     ensures { result ≡ across_of kind x }
 {
@@ -20,7 +21,7 @@ pub fn across_of(kind: NodeKind, x: u32) -> u64
     2 * x as u64 + is_right as u64
 }
 
-/// Where the middle of a wire is along the columns, in half steps.
+/// The vertical position of a wire's middle, in half steps.
 pub fn up_of(kind: NodeKind, y: u32) -> u64
     ensures { result ≡ up_of kind y }
 {
@@ -28,7 +29,7 @@ pub fn up_of(kind: NodeKind, y: u32) -> u64
     2 * y as u64 + is_above as u64
 }
 
-/// How far the middle of a wire lies from that of the sink's block or pad, in half steps.
+/// The distance of a wire's middle from that of the sink's block or pad, in half steps.
 #[inline(always)]
 fn from_sink(sink: Node, wire: Node) -> u64
     ensures { result ≡ from_sink sink wire.kind wire.x wire.y }
@@ -37,7 +38,7 @@ fn from_sink(sink: Node, wire: Node) -> u64
         + gap(up_of(wire.kind, wire.y), 2 * sink.y as u64)
 }
 
-/// How far a point lies from the middle of the sink's block or pad, in half steps.
+/// The distance of a point from the middle of the sink's block or pad, in half steps.
 #[inline(always)]
 pub fn point_from_sink(sink: Node, across: u32, up: u32) -> u64
     ensures { result ≡ gap across (2 * sink.x) + gap up (2 * sink.y) }
@@ -45,7 +46,7 @@ pub fn point_from_sink(sink: Node, across: u32, up: u32) -> u64
     gap(across as u64, 2 * sink.x as u64) + gap(up as u64, 2 * sink.y as u64)
 }
 
-/// Whether the kind is that of a wire.
+/// Whether the kind is a wire.
 pub(crate) fn is_wire(kind: NodeKind) -> bool
     ensures { result ≡ is_wire kind }
 {
@@ -55,14 +56,14 @@ pub(crate) fn is_wire(kind: NodeKind) -> bool
     }
 }
 
-/// Whether a pin or a sink is of the sink's block, or of its pad.
+/// Whether the pin or sink belongs to the sink's block, or to its pad.
 fn is_own(is_block: bool, sink: Node, node: Node) -> bool
     ensures { result ≡ is_own is_block sink node }
 {
     node.x == sink.x && node.y == sink.y && (is_block || node.n == sink.n)
 }
 
-/// How many nodes at least follow a wire, by whether its track is met.
+/// A lower bound of the number of nodes that follow a wire; `met` says whether its track is met.
 fn wire_further(met: bool, sink: Node, wire: Node) -> Option<u64>
     ensures { result ≡ wire_further met (from_sink sink wire.kind wire.x wire.y) }
 {
@@ -72,14 +73,15 @@ fn wire_further(met: bool, sink: Node, wire: Node) -> Option<u64>
     Some((from_sink(sink, wire) + 3) / 2)
 }
 
-/// How many columns and rows lie between a block or pad and that of the sink.
+/// The distance of a block or pad from that of the sink, in columns plus rows.
 fn blocks_apart(sink: Node, node: Node) -> u64
     ensures { result ≡ blocks_apart sink node }
 {
     gap(node.x as u64, sink.x as u64) + gap(node.y as u64, sink.y as u64)
 }
 
-/// How many nodes at least follow a node on any way to the sink, by whether a wire's track is met there.
+/// A lower bound of the number of nodes that follow a node on any way to the sink; `met` says
+/// whether a wire's track is met there.
 pub(crate) fn further(met: bool, is_block: bool, sink: Node, node: Node) -> Option<u64>
     ensures { result ≡ further_by met is_block sink node.kind node }
 {
@@ -93,7 +95,7 @@ pub(crate) fn further(met: bool, is_block: bool, sink: Node, node: Node) -> Opti
     }
 }
 
-/// Whether the node is a wire that does not lie beside the sink's block or pad.
+/// Whether the node is a wire that isn't beside the sink's block or pad.
 #[inline(always)]
 pub(crate) fn is_passing(sink: Node, node: Node) -> bool
     ensures { result ≡ is_passing sink node }

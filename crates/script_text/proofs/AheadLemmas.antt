@@ -1,4 +1,4 @@
--- A text as it is read ahead, line by line or at once.
+-- A text up to the line that ends it, read line by line or at once.
 use Rattle.std.proofs.Common.{◌≡◌, ℕ, List, [], ◌∷◌, ◌++◌, true, false, cond, eqb, Option, Some, None, refl, sym, ap, ◌∙◌, append_assoc}
 use Rattle.std.specs.Prelude.{⊤, option_map}
 use Rattle.std.specs.List.{flat_map, onto_first}
@@ -8,7 +8,7 @@ use Rattle.script_text.specs.Cuts.{without_crs}
 use Rattle.script_text.specs.Texts.{bytes_ahead}
 use Rattle.script_text.proofs.LineLemmas.{ended_line}
 
--- no LF stands in a line
+-- the line has no LF
 abbrev pub HasNoLf : List ℕ → Type 0
 HasNoLf [] = ⊤
 HasNoLf (b ∷ line) = (eqb b 10 ≡ false) × HasNoLf line
@@ -47,6 +47,6 @@ ahead_lines (line ∷ lines) plain =
       | false ↦ ap (option_map (λ text. without_cr line ++ 10 ∷ text)) (ahead_lines lines plain.1) ∙ line_ahead line plain.0 (bytes_ahead lines)
     ]
 
--- the text ahead is that of the bytes ahead
+-- the text up to its end is that of the bytes up to its end
 pub text_of_bytes : (text : List ℕ) → text_ahead (physical_lines text) ≡ option_map without_crs (bytes_ahead (physical_lines text))
 text_of_bytes text = ahead_lines (physical_lines text) (plain_lines text)

@@ -1,4 +1,4 @@
--- No two sessions of a threaded script are of one name.
+-- No two sessions of a threaded script have one name.
 use Rattle.std.proofs.Common.{◌≡◌, ◌≢◌, ℕ, ◌+◌, List, [], ◌∷◌, ◌++◌, Bool, true, false, length, refl, sym, subst, arith}
 use Rattle.std.specs.Prelude.{All, Ok, Some, None, Option, IfOk, IfSome, ◌==◌, if◌then◌else◌}
 use Rattle.std.specs.Str.{bytes_eq}
@@ -15,12 +15,12 @@ use Rattle.script_text.specs.Threaded.{AreApart, Heard, Parts, Said, Threaded, W
 use Rattle.script_text.specs.Threads.{goes_on, hears}
 use Rattle.script_text.specs.Threaded.Within.{Script, Head, Upload}
 
--- none of them has the name
+-- no session has the name
 abbrev Others : List ℕ → List Said → Type 0
 Others name [] = Unit {0}
 Others name (s ∷ said) = (name ≢ s.name) × Others name said
 
--- no two have one name
+-- no two sessions have one name
 abbrev pub Apart : List Said → Type 0
 Apart [] = Unit {0}
 Apart (s ∷ said) = Others s.name said × Apart said

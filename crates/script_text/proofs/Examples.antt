@@ -1,4 +1,4 @@
--- Examples that are computed.
+-- Examples computed by the checker.
 use Rattle.std.proofs.Common.{◌≡◌, ◌∷◌, [], codes, Ok, Err, refl}
 use Rattle.script_text.specs.declared.operator_line.OperatorLine.TheVariants.{Admit, Step}
 use Rattle.sessions.specs.declared.refusal.SessionRefusal.TheVariants.{UnfinishedUpload}

@@ -1,4 +1,4 @@
--- What sessions say, found by their names.
+-- The inputs of sessions, found by name.
 use Rattle.std.proofs.Common.{◌≡◌, ℕ, ◌<◌, ◌≤◌, List, [], ◌∷◌, ◌++◌, true, false, suc, zero, length, get_or, refl, sym, ap, ◌∙◌, arith}
 use Rattle.std.specs.Prelude.{map, OnOk, Result, Ok, Err}
 use Rattle.std.specs.Str.{bytes_eq}
@@ -41,7 +41,7 @@ names_in-set [] k v within same = absurd (omega arith)
 names_in-set (x ∷ xs) zero v within same = ap (λ n. n ∷ names_in xs) same
 names_in-set (x ∷ xs) (suc k) v within same = ap (λ ns. x.name.now ∷ ns) (names_in-set xs k v (omega arith) same)
 
--- a name that is one of them
+-- a name that is already in the list
 pub with_name-found : (names : List (List ℕ)) (name : List ℕ) → number_of names name < length names → with_name names name ≡ names
 with_name-found [] name h = absurd (omega arith)
 with_name-found (n ∷ names) name h =
@@ -50,7 +50,7 @@ with_name-found (n ∷ names) name h =
       | false ↦ λ e. let later = number_of-later n names name e in with_name-later n names name e ∙ ap (λ ns. n ∷ ns) (with_name-found names name (omega (arith, h, later)))
     ] refl
 
--- and one that is none of them
+-- a name that isn't yet in the list
 pub with_name-new : (names : List (List ℕ)) (name : List ℕ) → length names ≤ number_of names name → with_name names name ≡ names ++ name ∷ []
 with_name-new [] name h = refl
 with_name-new (n ∷ names) name h =

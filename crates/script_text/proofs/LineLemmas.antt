@@ -1,4 +1,4 @@
--- What is kept of a text, and the CRs at the ends of its lines.
+-- The text that is kept, without the CRs at the ends of its lines.
 use Rattle.std.proofs.Common.{◌≡◌, ℕ, zero, suc, ◌-◌, ◌<◌, ◌≤◌, List, [], ◌∷◌, ◌++◌, Bool, true, false, cond, eqb, length, take, min, inl, inr, length-append, append_assoc, refl, sym, ap, ◌∙◌, arith}
 use Rattle.std.specs.Prelude.{slice_index}
 use Rattle.std.specs.List.{flat_map, onto_first}
@@ -16,7 +16,7 @@ is_lf b = eqb b 10
 abbrev pub is_cr : ℕ → Bool
 is_cr b = eqb b 13
 
--- the bytes up to that number, or all of them
+-- the bytes up to that index, or all of them
 take-min : (n : ℕ) (xs : List ℕ) → take (min (length xs) n) xs ≡ take n xs
 take-min n xs = elim (cases_lt n (length xs)) [
   | inl h ↦ let e : min (length xs) n ≡ n = omega arith in ap (λ k. take k xs) e
@@ -31,11 +31,11 @@ pub no_lines : (text : List ℕ) → length text ≡ 0 → physical_lines text �
 no_lines [] h = refl
 no_lines (b ∷ bytes) h = absurd (omega arith)
 
--- a line as it stands in a text
+-- a line with its LF
 abbrev pub ended_line : List ℕ → List ℕ
 ended_line line = without_cr line ++ 10 ∷ []
 
--- a byte that is no CR stays ahead of its line
+-- a byte other than CR before a line is unaffected when the line's CR is removed
 without_cr-later : (b : ℕ) (line : List ℕ) → eqb b 13 ≡ false → without_cr (b ∷ line) ≡ b ∷ without_cr line
 without_cr-later b [] e =
     rw e (elim (eqb (slice_index [] 0) 13) as (λ v. b ∷ [] ≡ b ∷ cond v [] []) [ true ↦ refl | false ↦ refl ])
@@ -47,7 +47,7 @@ without_cr-later b (c ∷ line) e =
 without_cr-none : without_cr [] ≡ []
 without_cr-none = elim (eqb (slice_index [] 0) 13) as (λ v. cond {A = List ℕ} v [] [] ≡ []) [ true ↦ refl | false ↦ refl ]
 
--- and so among the lines of a text
+-- this also holds for the first of a text's lines
 onto_line : (b : ℕ) (lines : List (List ℕ)) → eqb b 13 ≡ false → 0 < length lines → flat_map ended_line (onto_first b lines) ≡ b ∷ flat_map ended_line lines
 onto_line b [] e some = absurd (omega arith)
 onto_line b (line ∷ lines) e some = ap (λ l. (l ++ 10 ∷ []) ++ flat_map ended_line lines) (without_cr-later b line e)
@@ -67,11 +67,11 @@ lines_ahead : (text : List ℕ) → 0 < length text → 0 < length (physical_lin
 lines_ahead [] some = absurd (omega arith)
 lines_ahead (b ∷ text) some = some_lines b text
 
--- no byte of it is a CR
+-- no byte is a CR
 abbrev pub HasNoCr : List ℕ → Type 0
 HasNoCr bytes = (k : ℕ) → k < length bytes → eqb (slice_index bytes k) 13 ≡ false
 
--- so that its lines are as they stand
+-- if no byte is a CR, the lines stay as they are
 whole_lines : (front : List ℕ) → HasNoCr front → without_crs (front ++ 10 ∷ []) ≡ front ++ 10 ∷ []
 whole_lines [] none = ap (λ l. (l ++ 10 ∷ []) ++ []) without_cr-none
 whole_lines (b ∷ front) none =
@@ -89,7 +89,7 @@ slice_index-front (b ∷ front) rest (suc k) within = slice_index-front front re
 HasNoCr-front : (front rest : List ℕ) → HasNoCr (front ++ rest) → HasNoCr front
 HasNoCr-front front rest none = λ k within. ap (λ b. eqb b 13) (sym (slice_index-front front rest k within)) ∙ none k (rw (length-append front rest) (omega arith))
 
--- a text without CRs is as it stands
+-- a text without CRs stays as it is
 pub without_crs-none : (text : List ℕ) → IsEnded text → HasNoCr text → without_crs text ≡ text
 without_crs-none text (inl empty) none = rw empty refl
 without_crs-none text (inr ended) none =

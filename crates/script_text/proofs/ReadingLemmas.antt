@@ -1,4 +1,4 @@
--- What a script that is being read comes to.
+-- The acts of a script that is being read.
 use Rattle.std.proofs.Common.{◌≡◌, ℕ, ◌+◌, List, [], ◌∷◌, ◌++◌, true, false, Ok, Err, refl, sym, ap, ◌∙◌, append_assoc}
 use Rattle.std.specs.Prelude.{map}
 use Rattle.std.specs.Borrow.{Bor}
@@ -18,19 +18,19 @@ with_acts-push : (acts : List (Act (List ℕ))) (act : Act (List ℕ)) (rest : A
 with_acts-push acts act (Ok more) = ap Ok (append_assoc acts (act ∷ []) more)
 with_acts-push acts act (Err fault) = refl
 
--- one more act is taken
+-- one more act is appended
 pushed : (acts all : List (Act (Bor (List ℕ)))) (act : Act (Bor (List ℕ))) (rest : Acts) → all ≡ acts ++ act ∷ [] → with_acts (map named_act acts) (with_act (named_act act) rest) ≡ with_acts (map named_act all) rest
 pushed acts all act rest is =
     sym (with_acts-push (map named_act acts) (named_act act) rest) ∙ ap (λ told. with_acts told rest) (sym (map_push named_act acts act) ∙ ap (map named_act) (sym is))
 
--- what the first line makes of the others
+-- how the first line determines the acts, with those of the other lines
 line_step : (number : ℕ) (line rest after : List ℕ) (form : Form (Bor (List ℕ))) → physical_lines rest ≡ line ∷ physical_lines after → named_form form ≡ form_in (without_cr line) →
     acts_from number false (physical_lines rest) ≡ with_line number (named_form form) (physical_lines after) (acts_from (number + 1) (begins_text (named_form form)) (physical_lines after))
 line_step number line rest after form lines named =
     ap (acts_from number false) lines
     ∙ ap (λ (f : Form (List ℕ)). with_line number f (physical_lines after) (acts_from (number + 1) (begins_text f) (physical_lines after))) (sym named)
 
--- a line that asks by itself
+-- a line that is an act by itself
 pub asks_step : (acts all : List (Act (Bor (List ℕ)))) (act : Act (Bor (List ℕ))) (number : ℕ) (line rest after : List ℕ) (form : Form (Bor (List ℕ))) →
     physical_lines rest ≡ line ∷ physical_lines after → named_form form ≡ form_in (without_cr line) → form ≡ Asks act → all ≡ acts ++ act ∷ [] →
     with_acts (map named_act acts) (acts_from number false (physical_lines rest)) ≡ with_acts (map named_act all) (acts_from (number + 1) false (physical_lines after))

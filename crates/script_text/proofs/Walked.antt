@@ -1,4 +1,4 @@
--- The lines of a text on the way to the one that ends it.
+-- The lines of a text before the one that ends it.
 use Rattle.std.proofs.Common.{◌≡◌, ℕ, ◌+◌, ◌-◌, ◌⊎◌, ◌<◌, ◌≤◌, List, [], ◌∷◌, ◌++◌, true, false, Option, Some, None, inl, inr, length, take, get_or, refl, sym, ap, ◌∙◌, arith, append_assoc, append-nil, length-append, length-drop}
 use Rattle.std.specs.Prelude.{option_map}
 use Rattle.std.specs.List.{position_or_len, before_first, after_first}
@@ -15,7 +15,7 @@ use Rattle.sessions.specs.Items.{ends_text}
 use Rattle.script_text.specs.Texts.{bytes_ahead}
 use Rattle.script_text.proofs.LineLemmas.{is_lf}
 
--- a text is its first line, LF and the rest, unless nothing follows the line
+-- a text is its first line, LF and the rest, unless nothing comes after the line
 pub first_of : (text : List ℕ) → (text ≡ before_first is_lf text ++ 10 ∷ after_first is_lf text) ⊎ (after_first is_lf text ≡ [])
 first_of text = elim (cases_lt (position_or_len is_lf text) (length text)) [
   | inl within ↦
@@ -27,15 +27,15 @@ first_of text = elim (cases_lt (position_or_len is_lf text) (length text)) [
 pub shorter : (text : List ℕ) → 0 < length text → length (after_first is_lf text) < length text
 shorter text some = rw (length-drop (position_or_len is_lf text + 1) text) (omega arith)
 
--- with that much text in front
+-- with that text in front
 abbrev pub behind : List ℕ → Option (List ℕ) → Option (List ℕ)
 behind front text = option_map (λ bytes. front ++ bytes) text
 
--- nothing is said yet, and the next line stands in the text at the script's head
+-- nothing is read yet, and the next line is in the text at the script's start
 abbrev pub at_head : Heard
 at_head = heard nothing_said Head
 
--- the front of the text has no line that ends it, and the rest begins with the line of that number
+-- no line in the front part of the text ends it, and the rest begins with the line of that number
 pub record Walked (first : ℕ) (text rest : List ℕ) (number : ℕ) : Type 0 where
   pub front : List ℕ
   pub whole : text ≡ front ++ rest

@@ -1,4 +1,4 @@
--- Private: how a text is cut off from a script.
+-- Private: how a text is cut off from the start of a script.
 use Rattle.std.specs.Prelude.{ℕ, ◌≡◌, ◌≤◌, ◌+◌, ◌⊎◌, List, [], ◌∷◌, ◌++◌, length, true, false, Some, None, Ok}
 use Rattle.line_text.specs.Lines.{physical_lines}
 use Rattle.std.specs.List.{flat_map}
@@ -7,15 +7,15 @@ use Rattle.script_text.specs.Texts.{bytes_ahead}
 use Rattle.script_text.specs.Script.{acts_from}
 use Rattle.script_text.specs.Threaded.{nothing_said, threaded_behind, threaded_of}
 
--- no line of the bytes ends a text, so that nothing of the script is left
+-- no line of the bytes ends the text, so all of them belong to it
 abbrev pub HasNoEnd : ℕ → List ℕ → Type 0
 HasNoEnd number bytes = (bytes_ahead (physical_lines bytes) ≡ None) × (acts_from number true (physical_lines bytes) ≡ Ok []) × (threaded_behind number bytes ≡ Ok nothing_said)
 
--- whether each line of the bytes is ended by LF
+-- each line of the bytes ends with LF
 abbrev pub IsEnded : List ℕ → Type 0
 IsEnded bytes = (bytes ≡ []) ⊎ ((front : List ℕ) × (bytes ≡ front ++ 10 ∷ []))
 
--- the lines of the bytes, each ended by LF without a CR before it
+-- the lines of the bytes, each ended by LF, without a CR before it
 abbrev pub without_crs : List ℕ → List ℕ
 without_crs bytes = flat_map (λ line. without_cr line ++ 10 ∷ []) (physical_lines bytes)
 

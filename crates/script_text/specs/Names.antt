@@ -1,4 +1,4 @@
--- Private: the names of sessions in the order of first sight.
+-- Private: the names of sessions in the order of their first lines.
 use Rattle.std.specs.Prelude.{ℕ, ◌≡◌, List, map}
 use Rattle.script_text.specs.declared.inputs.SessionInput.{SessionInput}
 use Rattle.script_text.specs.declared.inputs.Sessions.{Sessions}

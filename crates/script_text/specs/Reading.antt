@@ -1,4 +1,4 @@
--- Private: a script that is being read, and what it comes to from there.
+-- Private: a script that is being read, and the acts that follow from its current state.
 use Rattle.std.specs.Prelude.{ℕ, ◌≡◌, ◌≤◌, ◌<◌, ◌+◌, List, ◌++◌, length, map, true, false, Result, Ok, Err, ⊤}
 use Rattle.line_text.specs.Lines.{physical_lines}
 use Rattle.script_text.specs.declared.act.Act.{Act}
@@ -14,17 +14,17 @@ abbrev pub with_acts : List (Act (List ℕ)) → Acts → Acts
 with_acts acts (Ok more) = Ok (acts ++ more)
 with_acts acts (Err fault) = Err fault
 
--- the acts so far, and those of the lines that are left
+-- the acts so far, and those of the remaining lines
 abbrev pub comes_to : Reader → Acts
 comes_to reader = with_acts (map named_act reader.acts.items) (acts_from reader.number false (physical_lines reader.rest.now))
 
--- a part of the script is read, and its acts are taken or its fault is told
+-- a part of the script is read: its acts are appended, or its fault is returned
 abbrev pub Reads : Reader → Result (Unit {0}) ScriptError → Reader → Type 0
 Reads old (Ok u) new = (comes_to old ≡ comes_to new) × (length new.rest.now < length old.rest.now) × (new.number + length new.rest.now ≤ old.number + length old.rest.now)
 Reads old (Err (Fault fault)) new = comes_to old ≡ Err fault
 Reads old (Err NoMemory) new = ⊤
 
--- the text that the script goes on with is read, if it ends
+-- the text at the start of the remaining script is read, up to its end if it has one
 pub record ReadsText (old : Reader) (kind : TextKind) (line : SessionLine) (new : Reader) : Type 0 where
   pub line_is : line ≡ text_item kind (text_ahead (physical_lines old.rest.now))
   pub acts : new.acts ≡ old.acts

@@ -1,4 +1,4 @@
--- What a script says, line by line.
+-- The meaning of a script, line by line.
 use Rattle.std.specs.Prelude.{ℕ, ◌≡◌, ◌+◌, List, [], ◌∷◌, length, drop, not, codes, Bool, true, false, ◌&&◌, ◌||◌, ◌==◌, nat_le, nat_lt, Option, Some, None, option_map, Result, Ok, Err, ⊤, if◌then◌else◌}
 use Rattle.std.specs.Borrow.{Bor}
 use Rattle.std.specs.Char.{is_ascii_alphanumeric}
@@ -25,11 +25,11 @@ use Rattle.line_text.specs.Decimal.{decimal_of}
 abbrev pub is_name_byte : ℕ → Bool
 is_name_byte b = is_ascii_alphanumeric b || b == 95
 
--- a name has 1 to 32 of them
+-- a name has 1 to 32 name bytes
 abbrev pub is_name : List ℕ → Bool
 is_name name = nat_lt 0 (length name) && nat_le (length name) 32 && list_all is_name_byte name
 
--- what the words after `op` ask, if they ask something
+-- the operator's line for the words after `op`; `None` if they aren't one
 abbrev pub operator_line : List (List ℕ) → Option (OperatorLine (List ℕ))
 operator_line (verb ∷ []) =
     if bytes_eq verb (codes "list") then Some ListAll else
@@ -49,7 +49,7 @@ abbrev pub session_form : List ℕ → LineForm → Form (List ℕ)
 session_form name (LineAsks line) = Asks (Session name line)
 session_form name (LineBegins kind) = Begins name kind
 
--- a line by its first word and what stands after it and one blank
+-- a line by its first word, and by its rest after one blank
 abbrev pub form_by : List ℕ → List ℕ → Form (List ℕ)
 form_by [] rest = Skipped
 form_by (b ∷ name) rest =
@@ -57,18 +57,18 @@ form_by (b ∷ name) rest =
     if b == 64 then (if is_name name then session_form name (line_form rest) else Faulty) else
     if bytes_eq (b ∷ name) (codes "op") then option_map_or (λ line. Asks (Operator line)) (operator_line (words_of rest)) Faulty else Faulty
 
--- the blanks ahead of a line are not looked at
+-- blanks at the start of a line are skipped
 abbrev pub without_blanks : List ℕ → List ℕ
 without_blanks line = drop (position_or_len (λ b. not (is_blank b)) line) line
 
--- what a line of the script, without the CR at its end, is by itself
+-- the form of a line without the CR at its end
 unfoldable pub form_in : List ℕ → Form (List ℕ)
 form_in line = form_by (before_first is_blank (without_blanks line)) (after_first is_blank (without_blanks line))
 
 abbrev pub form_of : List ℕ → Form (List ℕ)
 form_of line = form_in (without_cr line)
 
--- what the lines of a script ask, in order, or the number of the least faulty line
+-- the acts of a script's lines, in order, or the number of the first faulty line
 abbrev pub Acts : Type 0
 Acts = Result (List (Act (List ℕ))) ℕ
 
@@ -76,7 +76,7 @@ abbrev pub with_act : Act (List ℕ) → Acts → Acts
 with_act act (Ok acts) = Ok (act ∷ acts)
 with_act act (Err fault) = Err fault
 
--- what a line of that number makes of the acts of the lines after it
+-- the acts from a line of that number on, given those of the lines after it
 abbrev pub with_line : ℕ → Form (List ℕ) → List (List ℕ) → Acts → Acts
 with_line number Skipped lines rest = rest
 with_line number Faulty lines rest = Err number
@@ -87,7 +87,8 @@ abbrev pub begins_text : Form (List ℕ) → Bool
 begins_text (Begins name kind) = true
 begins_text form = false
 
--- the acts of the lines, the first of which has that number; those of a text are none of the script's
+-- the acts of the lines, the first of which has that number; lines within a text aren't acts of the
+-- script
 abbrev pub acts_from : ℕ → Bool → List (List ℕ) → Acts
 acts_from number within [] = Ok []
 acts_from number true (line ∷ lines) = acts_from (number + 1) (not (ends_text line)) lines
@@ -97,13 +98,13 @@ acts_from number false (line ∷ lines) = with_line number (form_of line) lines 
 abbrev pub script_of : ℕ → List ℕ → Acts
 script_of number text = acts_from number false (physical_lines text)
 
--- a reader of that script may answer this
+-- the possible results of a reader of that script
 abbrev pub Gives : Acts → Result (List (Act (List ℕ))) ScriptError → Type 0
 Gives meant (Ok acts) = meant ≡ Ok acts
 Gives meant (Err (Fault number)) = meant ≡ Err number
 Gives meant (Err NoMemory) = ⊤
 
--- what a name or an act is without where it lies in memory
+-- the value of an operator's line, an act or a form: its names as lists of bytes
 abbrev pub named_operator : OperatorLine (Bor (List ℕ)) → OperatorLine (List ℕ)
 named_operator (Admit name width) = Admit name.now width
 named_operator (Evict name) = Evict name.now
@@ -124,6 +125,6 @@ named_form Faulty = Faulty
 named_form (Asks act) = Asks (named_act act)
 named_form (Begins name kind) = Begins name.now kind
 
--- private: a line of the operator, where its words ask something
+-- private: the form of an operator's line, faulty if it is missing
 abbrev pub operator_form : Option (OperatorLine (List ℕ)) → Form (List ℕ)
 operator_form line = option_map_or (λ asked. Asks (Operator asked)) line Faulty

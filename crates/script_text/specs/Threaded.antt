@@ -1,4 +1,4 @@
--- What a script says as threads run it: the operator's lines, and what each name's session says.
+-- A script as threads run it: the operator's lines, and the input of each name's session.
 use Rattle.std.specs.Prelude.{ℕ, ◌≡◌, ◌≢◌, ◌+◌, List, [], ◌∷◌, ◌++◌, length, map, AllPairs, Bool, true, false, ◌==◌, Option, Some, None, Result, Ok, Err, ⊤, if◌then◌else◌}
 use Rattle.std.specs.List.{after_first}
 use Rattle.std.specs.Option.{option_map_or}
@@ -17,17 +17,17 @@ use Rattle.script_text.specs.declared.inputs.SessionInput.{SessionInput}
 use Rattle.script_text.specs.declared.threaded.ThreadedScript.{ThreadedScript}
 use Rattle.script_text.specs.Script.{form_of, named_operator, without_blanks}
 
--- what a name's session says
+-- a session's name and its input
 pub record Said : Type 0 where
   pub name : List ℕ
   pub input : List ℕ
 
--- no two sessions are of one name
+-- no two sessions have one name
 abbrev pub AreApart : List Said → Type 0
 AreApart said = AllPairs (λ a b. a.name ≢ b.name) said
 
--- the operator's lines before the first session's line, what each name's session says, in the order of their first lines, and the
--- operator's other lines
+-- the operator's lines before the first session's line; the input of each name's session, in the
+-- order of their first lines; and the operator's other lines
 pub record Parts : Type 0 where
   pub ahead : List (OperatorLine (List ℕ))
   pub sessions : List Said
@@ -36,12 +36,13 @@ pub record Parts : Type 0 where
 abbrev pub nothing_said : Parts
 nothing_said = record { ahead = []; sessions = []; rest = [] }
 
--- a line of the operator more
+-- one more line of the operator
 abbrev pub with_operator : Parts → OperatorLine (List ℕ) → Parts
 with_operator parts line =
     if length parts.sessions == 0 then record parts { ahead = parts.ahead ++ line ∷ [] } else record parts { rest = parts.rest ++ line ∷ [] }
 
--- bytes go to the end of what the name's session says; the first ones of a name open its session, the last
+-- bytes are appended to the input of the name's session; if the name has none, its session is added
+-- at the end
 abbrev pub with_input : List Said → List ℕ → List ℕ → List Said
 with_input [] name bytes = record { name = name; input = bytes } ∷ []
 with_input (s ∷ said) name bytes = if bytes_eq name s.name then record s { input = s.input ++ bytes } ∷ said else s ∷ with_input said name bytes
@@ -52,24 +53,25 @@ with_said parts name bytes = record parts { sessions = with_input parts.sessions
 abbrev pub ended : List ℕ → List ℕ
 ended line = line ++ 10 ∷ []
 
--- what stands behind a line's first word and one blank
+-- a line's rest after its first word and one blank
 abbrev pub behind_word : List ℕ → List ℕ
 behind_word line = after_first is_blank (without_blanks line)
 
--- a job that is taken, stepped or put by hand
+-- a line that takes, steps or puts a job by hand
 abbrev pub is_by_hand : OperatorLine (List ℕ) → Bool
 is_by_hand (Step name count) = true
 is_by_hand (Take name) = true
 is_by_hand (Put number) = true
 is_by_hand line = false
 
--- where the next line stands: in no text, in the one at the script's head, or in one of that name's session
+-- what the next line belongs to: the script itself, the text at the script's start, or a text of
+-- that name's session
 pub data Within : Type 0 where
   Script : Within
   Head : Within
   Upload : List ℕ → Within
 
--- what the lines so far say, and where the next one stands
+-- the parts read so far, and what the next line belongs to
 pub record Heard : Type 0 where
   pub parts : Parts
   pub within : Within
@@ -77,7 +79,7 @@ pub record Heard : Type 0 where
 abbrev pub heard : Parts → Within → Heard
 heard parts within = record { parts = parts; within = within }
 
--- a line that stands in no text; none where it is faulty
+-- a line outside of texts; `None` if it is faulty
 abbrev pub hears_form : Parts → Form (List ℕ) → List ℕ → Option Heard
 hears_form parts Skipped line = Some (heard parts Script)
 hears_form parts Faulty line = None
@@ -85,37 +87,37 @@ hears_form parts (Asks (Operator asked)) line = if is_by_hand asked then None el
 hears_form parts (Asks (Session name item)) line = Some (heard (with_said parts name (ended (behind_word line))) Script)
 hears_form parts (Begins name kind) line = Some (heard (with_said parts name (ended (behind_word line))) (Upload name))
 
--- a line more, where the next one stands behind the text that this one ends; none where it is faulty
+-- one more line, also within a text; `None` if it is faulty
 abbrev pub hears_in : Within → Parts → List ℕ → Option Heard
 hears_in Script parts line = hears_form parts (form_of line) line
 hears_in Head parts line = Some (heard parts (if ends_text line then Script else Head))
 hears_in (Upload name) parts line = Some (heard (with_said parts name (ended line)) (if ends_text line then Script else Upload name))
 
--- what a script's lines say, or the number of the least faulty line
+-- the parts of a script, or the number of its first faulty line
 abbrev pub Threaded : Type 0
 Threaded = Result Parts ℕ
 
--- what these lines say behind those that were heard, the first of them having that number
+-- the parts after these lines too, the first of which has that number
 abbrev pub threaded_from : ℕ → Heard → List (List ℕ) → Threaded
 threaded_from number h [] = Ok h.parts
 threaded_from number h (line ∷ lines) = option_map_or (λ next. threaded_from (number + 1) next lines) (hears_in h.within h.parts line) (Err number)
 
--- what a script says whose first line has that number
+-- the parts of a script whose first line has that number
 abbrev pub threaded_of : ℕ → List ℕ → Threaded
 threaded_of number text = threaded_from number (heard nothing_said Script) (physical_lines text)
 
--- and one that has a text at its head
+-- the parts of a script that starts with the rest of a text
 abbrev pub threaded_behind : ℕ → List ℕ → Threaded
 threaded_behind number text = threaded_from number (heard nothing_said Head) (physical_lines text)
 
--- what a session says without where its name lies in memory
+-- the value of a session's input, and of a threaded script: names and inputs as lists of bytes
 abbrev pub said_by : SessionInput → Said
 said_by s = record { name = s.name.now; input = s.input.items }
 
 abbrev pub parts_of : ThreadedScript → Parts
 parts_of script = record { ahead = map named_operator script.ahead.items; sessions = map said_by script.sessions.items; rest = map named_operator script.rest.items }
 
--- a reader of that script may answer this
+-- the possible results of a reader of that script
 abbrev pub GivesThreaded : Threaded → Result ThreadedScript ScriptError → Type 0
 GivesThreaded meant (Ok script) = meant ≡ Ok (parts_of script)
 GivesThreaded meant (Err (Fault number)) = meant ≡ Err number

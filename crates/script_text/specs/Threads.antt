@@ -12,7 +12,7 @@ use Rattle.script_text.specs.Names.{AreNamed}
 use Rattle.script_text.specs.Threaded.{Heard, Parts, Threaded, Within, heard, hears_form, hears_in, said_by, with_operator}
 use Rattle.script_text.specs.Threaded.Within.{Script, Upload}
 
--- where the next line stands, by the name whose text is being read
+-- what the next line belongs to, by the name whose text is being read
 abbrev pub within_of : Option (Bor (List ℕ)) → Within
 within_of None = Script
 within_of (Some name) = Upload name.now
@@ -20,28 +20,28 @@ within_of (Some name) = Upload name.now
 abbrev pub parts_read : ThreadedReader → Parts
 parts_read r = record { ahead = map named_operator r.ahead.items; sessions = map said_by r.sessions.said.items; rest = map named_operator r.rest.items }
 
--- a line more behind those that were heard
+-- one more line after those read so far
 abbrev pub hears : Heard → List ℕ → Option Heard
 hears h line = hears_in h.within h.parts line
 
--- what comes of it, and of the rest; it has that number
+-- the result from a line with that number on: its fault, or the result of the rest
 abbrev pub goes_on : ℕ → Option Heard → (Heard → Threaded) → Threaded
 goes_on number next rest = option_map_or rest next (Err number)
 
 abbrev pub heard_by : ThreadedReader → Heard
 heard_by r = heard (parts_read r) (within_of r.within)
 
--- a line of the operator more
+-- one more line of the operator
 abbrev pub AddsOperator : ThreadedReader → OperatorLine (List ℕ) → ThreadedReader → Type 0
 AddsOperator old line new = (parts_read new ≡ with_operator (parts_read old) line) × (new.sessions ≡ old.sessions) × (new.within ≡ old.within)
 
--- a line of that form is heard, which stands in no text, or its fault is told
+-- a line of that form, outside of texts, is read, or its fault is returned
 abbrev pub HearsForm : ThreadedReader → ℕ → Form (Bor (List ℕ)) → List ℕ → Result (Unit {0}) ScriptError → ThreadedReader → Type 0
 HearsForm old number form line (Ok u) new = (hears_form (parts_read old) (named_form form) line ≡ Some (heard_by new)) × AreNamed new.sessions
 HearsForm old number form line (Err (Fault fault)) new = (hears_form (parts_read old) (named_form form) line ≡ None) × (fault ≡ number)
 HearsForm old number form line (Err NoMemory) new = ⊤
 
--- a line is heard, or its fault is told
+-- a line is read, or its fault is returned
 abbrev pub Hears : ThreadedReader → ℕ → List ℕ → Result (Unit {0}) ScriptError → ThreadedReader → Type 0
 Hears old number line (Ok u) new = (hears (heard_by old) line ≡ Some (heard_by new)) × AreNamed new.sessions
 Hears old number line (Err (Fault fault)) new = (hears (heard_by old) line ≡ None) × (fault ≡ number)

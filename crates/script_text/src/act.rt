@@ -1,7 +1,7 @@
 use crate::operator_line::OperatorLine;
 use sessions::SessionLine;
 
-/// What a line of a script asks. An upload stands with its text.
+/// One act of a script. An upload includes its text.
 #[derive(Drop)]
 pub enum Act<N> {
     Operator(OperatorLine<N>),

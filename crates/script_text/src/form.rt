@@ -1,4 +1,4 @@
-//! What a line of a script is.
+//! The forms of a script's lines.
 ghost use Rattle.std.specs.Prelude.{◌≡◌, drop, option_map, IfOk};
 ghost use Rattle.script_text.specs.Script.{form_by, form_in, named_form, named_operator, operator_form, session_form};
 ghost use Rattle.script_text.specs.Threaded.{behind_word};
@@ -10,17 +10,17 @@ use line_text::{append_words, is_word, skip_blanks, split_word};
 use sessions::{LineForm, TextKind, line_form};
 use std::alloc::AllocError;
 
-/// What a line of a script is by itself.
+/// The form of a script's line.
 #[derive(Drop)]
 pub(crate) enum Form<N> {
     Skipped,
     Faulty,
     Asks(Act<N>),
-    /// The text follows.
+    /// The line begins a text of that kind, for that name's session.
     Begins(N, TextKind),
 }
 
-/// What a line, without its CR, is by itself.
+/// Returns the form of a line without its CR.
 #[tactic(auto, unfolding(crate::specs::Script::form_in))]
 pub(crate) fn form_of<'t>(
     words: &mut Vec<&'t [u8]>,
@@ -32,7 +32,7 @@ pub(crate) fn form_of<'t>(
     form_by(words, first, behind_blank(rest))
 }
 
-/// What stands behind a line's first word and one blank.
+/// Returns a line's rest after its first word and one blank.
 pub(crate) fn behind_word(line: &[u8]) -> &[u8]
     ensures { result.now ≡ behind_word line.now }
 {
@@ -40,7 +40,7 @@ pub(crate) fn behind_word(line: &[u8]) -> &[u8]
     behind_blank(rest)
 }
 
-/// The bytes behind the blank that they begin with.
+/// The bytes after the blank that they begin with.
 fn behind_blank(bytes: &[u8]) -> &[u8]
     ensures { result.now ≡ drop 1 bytes.now }
 {
@@ -50,7 +50,7 @@ fn behind_blank(bytes: &[u8]) -> &[u8]
     }
 }
 
-/// The same, by the first word and what stands after it and one blank.
+/// Returns a line's form, by its first word, and by its rest after one blank.
 fn form_by<'t>(
     words: &mut Vec<&'t [u8]>,
     first: &'t [u8],
@@ -76,7 +76,7 @@ fn form_by<'t>(
     Ok(operator_form(operator_line(words)))
 }
 
-/// What a line of that name's session is.
+/// The form of a line of that name's session.
 fn session_form<'t>(name: &'t [u8], line: LineForm) -> Form<&'t [u8]>
     ensures { named_form result ≡ session_form name.now line }
 {
@@ -86,7 +86,7 @@ fn session_form<'t>(name: &'t [u8], line: LineForm) -> Form<&'t [u8]>
     }
 }
 
-/// What a line of the operator is.
+/// The form of a line of the operator; faulty if it is missing.
 fn operator_form<'t>(line: Option<OperatorLine<&'t [u8]>>) -> Form<&'t [u8]>
     ensures { named_form result ≡ operator_form (option_map named_operator line.entry) }
 {

@@ -1,4 +1,4 @@
-//! What the names' sessions say.
+//! The inputs of the names' sessions.
 ghost use Rattle.std.specs.Prelude.{◌≡◌, ◌++◌, ◌==◌, [], length, map, OnOk};
 ghost use Rattle.script_text.specs.Names.{AreNamed};
 ghost use Rattle.script_text.specs.Threaded.{ended, said_by, with_input};
@@ -6,14 +6,15 @@ ghost use Rattle.script_text.specs.Threaded.{ended, said_by, with_input};
 use line_text::NameSet;
 use std::alloc::{AllocError, Global};
 
-/// What a name's session says: its lines as they stand behind the name and one blank, and those of its texts, each ended by LF.
+/// The input of a name's session: the rests of its lines after the name and one blank, and the
+/// lines of its texts, each ended by LF.
 #[derive(Drop)]
 pub struct SessionInput<'t> {
     pub name: &'t [u8],
     pub input: Vec<u8>,
 }
 
-/// What each name's session says, in the order of their first lines.
+/// The input of each name's session, in the order of their first lines.
 #[derive(Drop)]
 pub(crate) struct Sessions<'t> {
     alloc: Global,
@@ -33,14 +34,14 @@ impl<'t> Sessions<'t> {
         }
     }
 
-    /// Whether no session says anything.
+    /// Returns whether there is no session.
     pub(crate) fn is_empty(&self) -> bool
         ensures { result ≡ (length self.now.said.items == 0) }
     {
         self.said.is_empty()
     }
 
-    /// Appends a line, ended by LF, to what the name's session says.
+    /// Appends a line, ended by LF, to the input of the name's session.
     pub(crate) fn add(&mut self, name: &'t [u8], line: &[u8]) -> Result<(), AllocError>
         requires { AreNamed self.old }
         ensures said { OnOk result (map said_by self.new.said.items
@@ -60,7 +61,7 @@ impl<'t> Sessions<'t> {
         Ok(())
     }
 
-    /// All of them.
+    /// The inputs of all sessions.
     pub(crate) fn into_said(self) -> Vec<SessionInput<'t>>
         ensures { result.items ≡ self.entry.said.items }
     {
@@ -74,7 +75,7 @@ impl<'t> Sessions<'t> {
     }
 }
 
-/// Appends a line, ended by LF, to what a session says.
+/// Appends a line, ended by LF, to a session's input.
 fn append(said: &mut SessionInput<'_>, line: &[u8]) -> Result<(), AllocError>
     ensures name { said.new.name ≡ said.old.name }
     ensures input { OnOk result (said.new.input.items ≡ said.old.input.items ++ ended line.now) }

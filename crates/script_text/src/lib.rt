@@ -1,12 +1,13 @@
-//! What a script says.
+//! Reads scripts.
 //!
-//! - `read_script` reads a script to its acts, or to the number of its least faulty line. Each line is an operator's or a
-//!   session's, empty, or a comment; an upload stands with its text.
-//! - `read_threaded` reads a script as threads run it: the operator's lines ahead of all sessions, what each name's session says, and
-//!   the operator's other lines.
-//! - `is_name` tells what may be a tenancy's name.
-//! - `cut_text` cuts off the text that a script begins with, up to a line that is `.` alone.
-//! - In `specs/`, `Script` says what each line asks, `Threaded` what they come to on threads, and `Texts` where a text ends.
+//! - `read_script` reads a script into its acts, or returns the number of its first faulty line.
+//!   Each line is an operator's or a session's, empty, or a comment; an upload includes its text.
+//! - `read_threaded` reads a script as threads run it: the operator's lines before all sessions,
+//!   the input of each name's session, and the operator's other lines.
+//! - `is_name` checks whether bytes may be a tenancy's name.
+//! - `cut_text` cuts off the text at the start of a script, up to a line that is only `.`.
+//! - In `specs/`, `Script` defines the act of each line, `Threaded` the parts of a script on
+//!   threads, and `Texts` the end of a text.
 #![tactic(auto)]
 
 mod act;

@@ -2,7 +2,7 @@ ghost use Rattle.std.specs.Prelude.{◌≡◌};
 ghost use Rattle.std.specs.List.{list_all};
 ghost use Rattle.script_text.specs.Script.{is_name, is_name_byte};
 
-/// Whether the bytes may be a tenancy's name: 1 to 32 letters, digits and `_`.
+/// Returns whether the bytes may be a tenancy's name: 1 to 32 letters, digits and `_`.
 pub fn is_name(name: &[u8]) -> bool
     ensures { result ≡ is_name name.now }
 {

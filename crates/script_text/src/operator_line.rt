@@ -1,4 +1,4 @@
-//! What a line of the operator asks.
+//! The lines of the operator.
 ghost use Rattle.std.specs.Prelude.{◌≡◌, map, option_map};
 ghost use Rattle.script_text.specs.Script.{named_operator, operator_line};
 
@@ -6,20 +6,20 @@ use crate::name::is_name;
 use line_text::{decimal_u32, is_word};
 use std::alloc::AllocError;
 
-/// What the operator asks, of a tenancy by its name.
+/// A line of the operator, for a tenancy by its name.
 pub enum OperatorLine<N> {
     Admit(N, u32),
     Evict(N),
-    /// Its strip moves to that offset.
+    /// Moves the tenancy's strip to that offset.
     Move(N, u32),
     List,
-    /// Who owns which pin, wire and pad.
+    /// Asks who owns which pin, wire and pad.
     Owners,
-    /// So many steps of its running job.
+    /// Makes that number of steps of the tenancy's running job.
     Step(N, u32),
-    /// Its running job's next step is taken, and held.
+    /// Takes the next step of the tenancy's running job, to be held.
     Take(N),
-    /// The job of that number is stepped and put.
+    /// Steps and puts the held job of that number.
     Put(u32),
 }
 
@@ -37,7 +37,7 @@ impl<N: Copy> Clone for OperatorLine<N> {
 
 impl<N: Copy> Copy for OperatorLine<N> {}
 
-/// What the words after `op` ask, if they ask something.
+/// Returns the operator's line for the words after `op`; `None` if they aren't one.
 pub(crate) fn operator_line<'t>(words: &[&'t [u8]]) -> Option<OperatorLine<&'t [u8]>>
     ensures { option_map named_operator result ≡ operator_line (map (λ w. w.now) words.now) }
 {

@@ -1,4 +1,4 @@
-//! A script, read whole: what each of its lines asks.
+//! A script, read whole into its acts.
 ghost use Rattle.std.specs.Prelude.{◌≡◌, ◌+◌, ◌<◌, ◌^◌, ◌++◌, ◌∷◌, [], length, IfOk, OnOk, map};
 ghost use Rattle.script_text.specs.Script.{Gives, script_of, named_act};
 
@@ -15,7 +15,7 @@ use tenant_slot::SharedText;
 #[derive(Clone, Copy)]
 pub enum ScriptError {
     NoMemory,
-    /// The number of the least line of no form.
+    /// The number of the first faulty line.
     Fault(usize),
 }
 
@@ -30,7 +30,7 @@ impl From<AllocError> for ScriptError {
     }
 }
 
-/// What the lines of a script ask, in order. Its value is their list.
+/// The acts of a script's lines, in order. Its value is their list.
 #[derive(Drop)]
 pub struct Script<'t> {
     acts: Vec<Act<&'t [u8]>>,
@@ -47,7 +47,7 @@ impl<'t> Model for Script<'t> {
 }
 
 impl<'t> Script<'t> {
-    /// The acts.
+    /// The acts, in the script's order.
     pub fn into_acts(self) -> Vec<Act<&'t [u8]>>
         ensures { map named_act result.items ≡ self.entry }
     {
@@ -67,7 +67,8 @@ struct Reader<'t> {
     words: Vec<&'t [u8]>,
 }
 
-/// The acts of a script whose first line has that number, or the number of its least faulty line.
+/// Reads the acts of a script whose first line has that number. Fails with the number of the first
+/// faulty line, or if memory runs out.
 pub fn read_script(alloc: Global, text: &[u8], number: usize) -> Result<Script<'_>, ScriptError>
     requires { number + length text.now < 2 ^ 64 }
     ensures { Gives (script_of number text.now) result }
@@ -117,7 +118,7 @@ impl<'t> Reader<'t> {
         }
     }
 
-    /// Reads the text that the rest begins with. Where it doesn't end, nothing is left.
+    /// Reads the text at the start of the rest. If the text doesn't end, nothing is left.
     #[tactic(auto, using(crate::proofs::AheadLemmas::text_of_bytes))]
     fn read_text(&mut self, kind: TextKind) -> Result<SessionLine, AllocError>
         requires { self.old.number + length self.old.rest.now < 2 ^ 64 }
@@ -135,7 +136,6 @@ impl<'t> Reader<'t> {
     }
 }
 
-/// Appends an act.
 fn push<'t>(acts: &mut Vec<Act<&'t [u8]>>, act: Act<&'t [u8]>) -> Result<(), AllocError>
     ensures { OnOk result (acts.new.items ≡ acts.old.items ++ act.entry ∷ []) }
 {

@@ -1,4 +1,4 @@
-//! Texts within a script: the lines up to one that is `.` alone.
+//! Texts within a script: the lines up to one that is only `.`.
 ghost use Rattle.std.specs.Prelude.{◌≡◌, ◌+◌, ◌<◌, ◌^◌, length, IfOk, MatchOption};
 ghost use Rattle.sessions.specs.Items.{kept};
 ghost use Rattle.script_text.specs.Cuts.{HasNoEnd, IsCut, IsEnded, without_crs};
@@ -8,18 +8,19 @@ use memchr::memchr;
 use sessions::{MAX_KEPT, append_kept, is_point, without_cr};
 use std::alloc::{AllocError, Global};
 
-/// A text that is cut off from a script.
+/// A text at the start of a script, cut off.
 #[derive(Clone, Copy)]
 pub struct Cut<'t> {
     /// The lines of the text.
     pub ahead: &'t [u8],
-    /// The number of the line behind the one that ends the text.
+    /// The number of the line after the one that ends the text.
     pub number: usize,
     /// The script from that line on.
     pub rest: &'t [u8],
 }
 
-/// Cuts off the text that these bytes of a script begin with, if a line ends it. Their first line has that number.
+/// Cuts off the text at the start of these bytes of a script; `None` if no line ends it. The first
+/// line has that number.
 pub fn cut_text(bytes: &[u8], number: usize) -> Option<Cut<'_>>
     requires { number + length bytes.now < 2 ^ 64 }
     ensures { MatchOption result (HasNoEnd number bytes.now)
@@ -42,7 +43,7 @@ pub fn cut_text(bytes: &[u8], number: usize) -> Option<Cut<'_>>
     None
 }
 
-/// The lines of a text without the CRs at their ends, as far as they are kept.
+/// The lines of a text without the CRs at their ends, as many as are kept.
 pub(crate) fn kept_text(alloc: Global, ahead: &[u8]) -> Result<Vec<u8>, AllocError>
     requires { IsEnded ahead.now }
     ensures { IfOk result (λ text. text.items ≡ kept (without_crs ahead.now)) }

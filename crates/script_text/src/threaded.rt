@@ -17,14 +17,15 @@ use std::alloc::{AllocError, Global};
 pub struct ThreadedScript<'t> {
     /// The operator's lines before the first session's line.
     pub ahead: Vec<OperatorLine<&'t [u8]>>,
-    /// What each name's session says, in the order of their first lines.
+    /// The input of each name's session, in the order of their first lines.
     pub sessions: Vec<SessionInput<'t>>,
     /// The operator's other lines.
     pub rest: Vec<OperatorLine<&'t [u8]>>,
 }
 
-/// What the lines of a script say whose first line has that number, or the number of its least faulty line. A line that takes, steps or
-/// puts a job by hand is faulty.
+/// Reads a script as threads run it; its first line has that number. Fails with the number of the
+/// first faulty line, or if memory runs out. A line that takes, steps or puts a job by hand is
+/// faulty.
 pub fn read_threaded<'t>(
     alloc: Global,
     text: &'t [u8],
@@ -53,7 +54,7 @@ struct ThreadedReader<'t> {
     ahead: Vec<OperatorLine<&'t [u8]>>,
     sessions: Sessions<'t>,
     rest: Vec<OperatorLine<&'t [u8]>>,
-    /// Whose text the next line stands in, if it does.
+    /// The name whose text the next line belongs to, if it belongs to one.
     within: Option<&'t [u8]>,
 }
 
@@ -78,7 +79,7 @@ impl<'t> ThreadedReader<'t> {
         }
     }
 
-    /// Takes the next line, which has that number.
+    /// Reads the next line, which has that number.
     fn hear(&mut self, number: usize, line: &'t [u8]) -> Result<(), ScriptError>
         requires { AreNamed self.old.sessions }
         ensures { Hears self.old number line.now result self.new }
@@ -94,7 +95,7 @@ impl<'t> ThreadedReader<'t> {
         Ok(())
     }
 
-    /// Takes a line of that form, which stands in no text.
+    /// Reads a line of that form, outside of texts.
     fn hear_form(
         &mut self,
         number: usize,
@@ -123,7 +124,8 @@ impl<'t> ThreadedReader<'t> {
         }
     }
 
-    /// Takes a line of the operator.
+    /// Adds a line of the operator: before the sessions, or to the other lines once there is a
+    /// session.
     fn add_operator(&mut self, line: OperatorLine<&'t [u8]>) -> Result<(), AllocError>
         ensures { OnOk result (AddsOperator self.old (named_operator line.entry) self.new) }
     {
@@ -155,7 +157,7 @@ impl<'t> ThreadedReader<'t> {
     }
 }
 
-/// Whether the line takes, steps or puts a job by hand.
+/// Returns whether the line takes, steps or puts a job by hand.
 fn is_by_hand(line: &OperatorLine<&[u8]>) -> bool
     ensures { result ≡ is_by_hand (named_operator line.now) }
 {

@@ -1,4 +1,4 @@
--- Two tenancies that asked the same of strips of one width were told the same.
+-- Two tenancies with strips of one width and equal events got equal replies.
 use Rattle.std.proofs.Common.{◌≡◌, ℕ, List, Option, Some, None, refl, sym, ap, ◌∙◌}
 use Rattle.std.specs.Prelude.{IfSome}
 use Rattle.tenant_slot.specs.declared.event.Event.{Event}
@@ -15,7 +15,7 @@ use Rattle.service_core.proofs.Alone.{each_alone}
 same_strip : (device other : Device) (h g : History) → AreAlike device other h g → strip_on device h.strip.width ≡ strip_on other g.strip.width
 same_strip device other h g alike = rw (alike.arch, alike.rows, alike.width) refl
 
--- what each leads to alone is the same
+-- alone, equal events have equal results on both
 same_run : (device other : Device) (h g : History) (events same : List Event) → AreAlike device other h g → events ≡ same → run device.arch (strip_on device h.strip.width) events ≡ run other.arch (strip_on other g.strip.width) same
 same_run device other h g events same alike is =
     ap (λ es. run device.arch (strip_on device h.strip.width) es) is

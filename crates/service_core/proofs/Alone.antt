@@ -70,24 +70,24 @@ asked xs = map (λ x. x.0) xs
 abbrev told : List (Event × Option Reply) → List (Option Reply)
 told xs = map (λ x. x.1) xs
 
--- the entries of a journal, and which exchanges are recorded
+-- the entries of a journal, and the exchanges that are recorded
 abbrev recorded : List Entry → List (Event × Option Reply)
 recorded entries = map (λ (entry : Entry). (entry.event, Some entry.reply)) entries
 
 abbrev has_reply : Event × Option Reply → Bool
 has_reply x = is_some x.1
 
--- between two states of the service a tenancy asked and was told just this
+-- between two states of the service, the tenancy has exactly these events, with these replies
 record Exchanged (first : State) (old new : ServiceState) (id : ℕ) (xs : List (Event × Option Reply)) : Type 0 where
   replies : told xs ≡ replies_to (alone first old id) (asked xs)
   state : alone first new id ≡ state_after (alone first old id) (asked xs)
   journal : recorded (journal_of new id) ≡ recorded (journal_of old id) ++ filter has_reply xs
 
--- nothing was asked, and the journal stayed
+-- the tenancy had no event, and its journal stayed
 same_journal : (first : State) (old new : ServiceState) (id : ℕ) → journal_of new id ≡ journal_of old id → Exchanged first old new id []
 same_journal first old new id same = record { replies = refl; state = ap (λ es. state_after first (events_of es)) same; journal = ap recorded same ∙ sym (append-nil (recorded (journal_of old id))) }
 
--- an entry is what was asked and told
+-- an entry is an event with its reply
 own_entry : (first : State) (old new : ServiceState) (id : ℕ) (h : History) (e : Entry) → IsNext old id e h → new ≡ with_entry_of old id e → HasFirst first old id → Exchanged first old new id ((e.event, Some e.reply) ∷ [])
 own_entry first old new id h e next changes has =
     let its : first_of h ≡ first = rw next.here at has in
@@ -100,7 +100,7 @@ own_entry first old new id h e next changes has =
       journal = rw (was, is) (map_push (λ (entry : Entry). (entry.event, Some entry.reply)) h.entries e);
     }
 
--- where the journal is full, it is told nothing
+-- if the journal is full, the event has no reply
 own_full : (first : State) (old new : ServiceState) (id : ℕ) (event : Event) → IsSomeAnd (live_of old.histories id) (λ h. length h.entries ≡ 65536) → new ≡ old → AreAlone old → HasFirst first old id → Exchanged first old new id ((event, None) ∷ [])
 own_full first old new id event limit same alone_all has =
     let got : (h : History) × (history_of old.histories id ≡ Some h) × (length h.entries ≡ 65536) = of_live (λ h. length h.entries ≡ 65536) old id limit in
@@ -222,7 +222,7 @@ run_exchanged first old (call ∷ calls) new id run was has =
     let before : HasFirst first old id = run_back first old (call ∷ calls) new id run has in
     Exchanged-append first old mid new id (own_exchange id call) (own_exchanges id calls) (exchanged first old call mid id run.1 was.alone before) (run_exchanged first mid calls new id run.2 (kept_after old call mid run.1 was) has)
 
--- each tenancy's first state is the one that it has alone
+-- each tenancy's first state is its first state alone
 first_on : (device : Device) (h : History) → IsAloneOn device h → first_of h ≡ start device.arch (strip_on device h.strip.width)
 first_on device h is = rw is.arch (ap (λ (strip : Strip). start device.arch strip) is.strip)
 
@@ -240,7 +240,7 @@ each_alone device calls state runs id = by_history (history_of state.histories i
         let first : first_of h ≡ start device.arch (strip_on device h.strip.width) = first_on device h on in
         rw (after, answers, first) refl
 
--- each journal is what the tenancy asked and was told, and was recorded
+-- each journal has the tenancy's events with their replies, as far as they were recorded
 pub own_journals : (device : Device) (calls : List Call) (state : ServiceState) → Run (empty device) calls state → AreOwnJournals calls state
 own_journals device calls state runs id = by_history (history_of state.histories id) refl
   where
@@ -250,7 +250,7 @@ own_journals device calls state runs id = by_history (history_of state.histories
         let its : Exchanged (first_of h) (empty device) state id (own_exchanges id calls) = run_exchanged (first_of h) (empty device) calls state id runs (IsService-empty device) (rw e refl) in
         ap (λ o. recorded (entries_in o)) (sym e) ∙ its.journal
 
--- a live tenancy is in the state that its own events lead to alone
+-- a live tenancy is in the state that its own events result in alone
 pub state_alone : (device : Device) (calls : List Call) (state : ServiceState) (id : ℕ) (h : History) → Run (empty device) calls state → live_of state.histories id ≡ Some h →
     state_of h ≡ (run device.arch (strip_on device h.strip.width) (own_events id calls)).0
 state_alone device calls state id h runs live =

@@ -87,7 +87,7 @@ sound_taken book device strips hs id old answer new was live is taken = record {
 pub sound_given : (book : Owners) (device : Device) (strips : List PlacedStrip) (hs : List History) (id : ℕ) (old : History) (job : JobState) (new : History) → IsSound book device strips hs → IsLiveIn hs id → old ≡ get_or hs (id - 1) old → GivesHistoryBack old job new → IsSound book device strips (set hs (id - 1) new)
 sound_given book device strips hs id old job new was live is given = record { lawful = was.lawful; kept = IsService-given device strips hs id old job new was.kept live is given; book = turned book device strips hs id old new given.0 was.book live is given.2 }
 
--- a live tenancy that is written, with what it holds
+-- a live tenancy is written back, with what it occupies
 module _ (book left : Owners) (device : Device) (strips : List PlacedStrip) (hs : List History) (id offset : ℕ) (old new : History)
     (was : KeepsBook book (state_on device strips hs)) (live : IsLiveIn hs id) (is : old ≡ get_or hs (id - 1) old) (at : offset_of strips id ≡ Some offset) (its : new.live ≡ true) where
   was_owned : owned_in strips hs id ≡ held_at offset old
@@ -141,7 +141,7 @@ sound_served book left device strips hs id offset old command answer new was liv
     by_held (inl given) = gives_up book left device strips hs id offset old new was.book live is at its given.0 given.1
     by_held (inr kept) = keeps_held book left device strips hs id offset old new was.book live is at its kept.0 kept.1
 
--- what a served tenancy holds
+-- what a tenancy occupies after a command
 next_state : (old new : History) (e : Entry) → new ≡ with_entry e old → state_of new ≡ (step (state_of old) e.event).0
 next_state old new e is = ap state_of is ∙ state_after-push (start old.arch old.strip) old.entries e
 
@@ -199,7 +199,7 @@ sound_evicted book left device strips hs id offset old was live is at released =
   };
 }
 
--- where a live tenancy's strip stands
+-- the offset of a live tenancy's strip
 pub placed_strip : (strips : List PlacedStrip) (id offset : ℕ) → offset_of strips id ≡ Some offset → (s : PlacedStrip) × (strip_of strips id ≡ Some s) × (s.offset ≡ offset)
 placed_strip strips id offset at = by_strip (strip_of strips id) refl at
   where
@@ -220,7 +220,7 @@ pub its_width : (strips : List PlacedStrip) (hs : List History) (id : ℕ) (s : 
 its_width strips hs id s h linked found live =
     same_Some _ _ (sym (ap (option_map (λ (s : PlacedStrip). s.width)) found) ∙ (linked id ∙ ap (option_map (λ (g : History). g.strip.width)) live))
 
--- what a live tenancy takes up is nobody's
+-- nobody owns what a live tenancy starts to occupy
 pub put_free : (book : Owners) (device : Device) (strips : List PlacedStrip) (hs : List History) (id offset : ℕ) (old : History) (done : JobStep) (reply : StepReply) (new : History) →
     IsSound book device strips hs → IsParted (record { columns = device.columns; strips = strips }) → IsLiveIn hs id → old ≡ get_or hs (id - 1) old → offset_of strips id ≡ Some offset → PutsHistory old done (Ok reply) new →
     reply ≡ Finished → AreFree book offset new
@@ -257,7 +257,7 @@ put_free book device strips hs id offset old done reply new was parted live is a
         by_id false differ = nobody_else (record { columns = device.columns; strips = strips }) hs id k place.0 r parted was.kept.linked place.1
             (omega (arith, window.0, same_place)) (omega (arith, window.1, same_place, width)) owned (λ same. false≢true (sym differ ∙ (Decides-eqb k id).1 same))
 
--- a live tenancy's strip stands in the book
+-- the book has a place for everything in a live tenancy's strip
 pub stands_there : (state : ServiceState) (id offset : ℕ) (h : History) → AreParted state.device state → AreAlone state → offset_of state.plan.strips id ≡ Some offset → live_of state.histories id ≡ Some h →
     StandsIn (extent_of state.device.arch state.device.columns state.device.rows) offset h.arch h.strip
 stands_there state id offset h parted all at live = λ r there.
@@ -272,7 +272,7 @@ stands_there state id offset h parted all at live = λ r there.
     let is : is_there device.arch (strip_on device h.strip.width) r ≡ true = ap (λ a. is_there a (strip_on device h.strip.width) r) (sym alone.arch) ∙ (ap (λ s. is_there h.arch s r) (sym alone.strip) ∙ there) in
     stands device.arch (strip_on device h.strip.width) device.columns offset r refl wide is
 
--- a list that has just what it holds
+-- a list of exactly what it occupies
 pub stand_in : (book : Owners) (offset : ℕ) (arch : Arch) (strip : Strip) (resources : List Resource) → StandsIn book.extent offset arch strip → All (λ r. is_there arch strip r ≡ true) resources → StandIn book.extent offset resources
 stand_in book offset arch strip resources stand there = λ i d lt. stand (get_or resources i d) (there i d lt)
 
@@ -288,14 +288,14 @@ has_offset strips hs id h linked live = by_strip (strip_of strips id) refl
     by_strip (Some s) e = (s.offset, ap (option_map (λ (s : PlacedStrip). s.offset)) e)
     by_strip None e = absurd (none-some h.strip.width (sym (ap (option_map (λ (s : PlacedStrip). s.width)) e) ∙ (linked id ∙ ap (option_map (λ (g : History). g.strip.width)) live)))
 
--- a live tenancy is one of them
+-- a live tenancy has a history
 pub live_some : (device : Device) (hs : List History) (id : ℕ) → IsLiveIn hs id → (h : History) × (live_of hs id ≡ Some h)
 live_some device hs id live =
     let d : History = admitted device 0 0 in
     let h : History = get_or hs (id - 1) d in
     (h, ap (λ o. if_live o) (live.history d) ∙ ap (λ b. if b then Some h else None) (live.flag d))
 
--- what a slot's strip has, a tenancy's has
+-- what a slot's strip has, its tenancy's strip has
 pub there_for : (arch : Arch) (strip : Strip) (state : State) (resources : List Resource) → IsOnStrip arch strip state → All (λ r. is_there state.arch state.strip r ≡ true) resources → All (λ r. is_there arch strip r ≡ true) resources
 there_for arch strip state resources on all = λ i d lt.
     ap (λ a. is_there a strip (get_or resources i d)) (sym on.arch_is) ∙ (ap (λ s. is_there state.arch s (get_or resources i d)) (sym on.strip_is) ∙ all i d lt)
@@ -304,7 +304,7 @@ pub stands_for : (book : Owners) (offset : ℕ) (arch : Arch) (strip : Strip) (s
 stands_for book offset arch strip state on stand = λ r there.
     stand r (ap (λ a. is_there a strip r) (sym on.arch_is) ∙ (ap (λ s. is_there state.arch s r) (sym on.strip_is) ∙ there))
 
--- what is released and claimed where a list has just what is held
+-- a release and a claim of a list of exactly what is occupied
 pub released_held : (book left : Owners) (offset : ℕ) (held resources : List Resource) → ((r : Resource) → has resources r ≡ has held r) → Releases book (map (moved_resource offset) resources) left → Releases book (map (moved_resource offset) held) left
 released_held book left offset held resources same released = owned_same book left (map (moved_resource offset) resources) (map (moved_resource offset) held) None (moved_same offset resources held same) released
 
@@ -319,16 +319,16 @@ slot_gives_up book left offset old new state command reply is told after given =
     let held : GivesUp book (held_at offset old) reply left = subst (λ s. GivesUp book (map (moved_resource offset) (routed_set s)) reply left) is given in
     gives_up_or_keeps book left offset old new reply held (subst (λ s. HeldAfter (state_of old) s reply) (sym after) (command_held (state_of old) command reply said))
 
--- so in the book at hand
+-- and in the current book
 pub in_book_there : (book : Owners) (device : Device) (offset : ℕ) (h : History) → book.extent ≡ extent_of device.arch device.columns device.rows →
     StandsIn (extent_of device.arch device.columns device.rows) offset h.arch h.strip → StandsIn book.extent offset h.arch h.strip
 in_book_there book device offset h extent stand = subst (λ e. StandsIn e offset h.arch h.strip) (sym extent) stand
 
--- the book has one owner of each
+-- each resource of the book has one owner
 pub one_in_book : (book : Owners) (state : ServiceState) → KeepsBook book state → HasOneOwner state
 one_in_book book state keeps = λ r id other is is_other. same_Some _ _ (sym ((keeps.exact r id).1 ((owner_has state r id).0 is)) ∙ (keeps.exact r other).1 ((owner_has state r other).0 is_other))
 
--- and lists them
+-- and the book lists them
 pub listed_owners : (book : Owners) (state : ServiceState) (list : List Owned) → KeepsBook book state → ListsOwners book list → ListsOwnersOf state list
 listed_owners book state list keeps listed = (
   listed.in_order,

@@ -1,4 +1,4 @@
--- What a tenancy holds of its strip stands in the strip's columns.
+-- What a tenancy occupies is in its strip's columns.
 use Rattle.std.proofs.Common.{◌≡◌, ℕ, zero, suc, ◌+◌, ◌*◌, ◌%◌, ◌≤◌, inl, inr, Bool, true, false, cond, Option, Some, None, List, [], ◌∷◌, ◌++◌, length, get_or, map, ◌&&◌, ◌||◌, nat_le, Result, Ok, Err, refl, arith}
 use Rattle.std.specs.Prelude.{All, IfSome, find, not, option_and_then, unwrap_or}
 use Rattle.std.specs.List.{flat_map, list_any, range_with_len, zip}
@@ -79,7 +79,7 @@ module _ (strip : Strip) where
   unfolding places_of
   places_in kind = in_columns_from kind 1 strip.width (omega arith)
 
-  -- a draw leaves each block on a place of the strip
+  -- a random draw leaves each block on a place of the strip
   placed_in : (places : List Place) (block : ℕ) → All Stands places → Stands (place_of places block)
   placed_in places block all = at_any Stands places block (place_at 0 0 0) all (omega arith)
 
@@ -117,7 +117,7 @@ module _ (strip : Strip) where
   passes_in task start seed effort zero all = all
   passes_in task start seed effort (suc passes) all = pass_in task (temperature_at strip passes) _ (effort * length task.kinds) (placed_after strip task start seed effort passes) (passes_in task start seed effort passes all)
 
-  -- so does the start
+  -- and so does the initial placing
   abbrev MayStand : Option Place → Type 0
   MayStand found = IfSome found Stands
 
@@ -170,7 +170,7 @@ module _ (strip : Strip) where
       one (OutputPad net) place low = All-cons IsIn _ [] low (All-nil IsIn)
       one (Cluster cluster) place low = All-nil IsIn
 
-  -- a node of the graph, or none
+  -- a node of the graph, or `None`
   abbrev NodeIn : Node → Type 0
   NodeIn node = All IsIn (option_to_list (resource_of node))
 
@@ -194,7 +194,7 @@ module _ (strip : Strip) where
   unfolding graph_of nodes_of
   number_in arch number = at_any NodeIn (nodes_of (record { arch = arch; strip = strip })) number (make_node 0 Nodes.Source 0 0) (filtered_in arch (nodes_of (record { arch = arch; strip = strip })) (filter_passes (is_node arch strip) _)) (All-nil IsIn)
 
-  -- trees of any numbers
+  -- trees by node numbers
   on_path_in : (arch : Arch) (path : List ℕ) → All IsIn (on_path (map (graph_of (record { arch = arch; strip = strip })).node path))
   on_path_in arch [] = All-nil IsIn
   on_path_in arch (number ∷ path) = All-append IsIn (option_to_list (resource_of ((graph_of (record { arch = arch; strip = strip })).node number))) (on_path (map (graph_of (record { arch = arch; strip = strip })).node path)) (number_in arch number) (on_path_in arch path)

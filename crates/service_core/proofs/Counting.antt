@@ -1,4 +1,4 @@
--- A step that is put counts exactly where it is the next one of the running job.
+-- A step that is put counts exactly if it is the next one of the running job.
 use Rattle.std.proofs.Common.{◌≡◌, ◌≢◌, ℕ, ◌+◌, Bool, true, false, not, eqb, List, Option, Some, None, Ok, refl, sym, ap, ◌∙◌}
 use Rattle.std.specs.Prelude.{◌&&◌, ◌==◌, IsSomeAnd, option_map, if◌then◌else◌}
 use Rattle.std.proofs.lemmas.Bool.Decides.{Decides-eqb}
@@ -26,7 +26,7 @@ use Rattle.service_core.specs.Headline.{Counts}
 use Rattle.service_core.proofs.Keeps.{IsService-empty, if_live_some}
 use Rattle.service_core.proofs.Effects.{Kept, run_keeps}
 
--- an event that has a reply is answered with it
+-- an event that has a reply gets the reply of `answer_to`
 told_answer : (state : State) (event : Event) (reply : Reply) → (step state event).1 ≡ Some reply → (answer_to state event).1 ≡ reply
 told_answer state event reply told =
     let room : state.entries ≢ 65536 = (step-served state event reply told).1 in
@@ -41,7 +41,7 @@ not_true : (a : Bool) → not a ≡ true → a ≡ false
 not_true true is = absurd (cc)
 not_true false is = refl
 
--- what a step that is the next one has
+-- the properties of a step that is the next one
 record IsNextOf (state : State) (made : Advance) : Type 0 where
   generation : made.generation ≡ state.generation
   number : made.number ≡ state.steps + 1
@@ -90,7 +90,7 @@ next_counts Stale P next false is = absurd (cc)
 next_counts Advanced P next last is = next
 next_counts Finished P next last is = next
 
--- the reply of what an event changes, with its reply
+-- the reply in the result of an event
 abbrev reply_in : Option State × Reply → Reply
 reply_in answer = answer.1
 

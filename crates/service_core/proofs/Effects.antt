@@ -1,4 +1,4 @@
--- What a call makes of the state: one of six changes, whatever was called.
+-- How a call changes the state: in one of six ways, whichever call it is.
 use Rattle.std.proofs.Common.{◌≡◌, ℕ, List, [], ◌∷◌, Bool, Option, Some, None, Ok, Err, refl, ap, ◌∙◌}
 use Rattle.std.specs.Prelude.{IsSomeAnd}
 use Rattle.strips.specs.Plan.{IsFirstFit, IsParted, with_moved}
@@ -94,7 +94,7 @@ effect_device old new (Moved id offset parted is) = ap (λ (s : ServiceState). s
 effect_device old new (Entered id e h next is) = ap (λ (s : ServiceState). s.device) is
 effect_device old new (Turned id here is) = ap (λ (s : ServiceState). s.device) is
 
--- no call breaks what the core keeps
+-- each call keeps the core's invariant
 abbrev pub Kept : ServiceState → Type 0
 Kept s = IsService s.device s.plan.strips s.histories
 

@@ -8,7 +8,7 @@ use Rattle.rr_graph.specs.declared.resource.Resource.{Resource}
 use Rattle.rr_graph.specs.Resources.{has}
 use Rattle.device_book.specs.Owners.{AreOwned, Owners, Shifts, owner_of}
 
--- the book has just these owners, of what each has
+-- the book has exactly these owners, each with what it owns
 abbrev pub Exact : Owners → (ℕ → List Resource) → Type 0
 Exact book owned = (resource : Resource) (id : ℕ) → (owner_of book resource ≡ Some id) ↔ (has (owned id) resource ≡ true)
 
@@ -18,7 +18,7 @@ exact_same book old new same exact = λ r id. subst (λ xs. (owner_of book r ≡
 ids_differ : (id k : ℕ) → eqb k id ≡ false → k ≢ id
 ids_differ id k e same = false≢true (sym e ∙ (Decides-eqb k id).1 same)
 
--- what one has is nobody's now
+-- nobody owns now what that one owned
 pub exact_released : (book left : Owners) (old new : ℕ → List Resource) (id : ℕ) → AreOwned book (old id) None left → new id ≡ [] → ((k : ℕ) → k ≢ id → new k ≡ old k) → Exact book old → Exact left new
 exact_released book left old new id released nothing others exact = λ r k. by_id r k (eqb k id) refl (has (old id) r) refl
   where
@@ -40,7 +40,7 @@ exact_released book left old new id released nothing others exact = λ r k. by_i
       (λ in_new. owner r false h ∙ (exact r k).1 (ap (λ xs. has xs r) (sym (others k (ids_differ id k e))) ∙ in_new)),
     )
 
--- what nobody had is that one's now
+-- that one owns now what nobody owned
 pub exact_claimed : (book left : Owners) (old new : ℕ → List Resource) (id : ℕ) → AreOwned book (new id) (Some id) left → old id ≡ [] → ((k : ℕ) → k ≢ id → new k ≡ old k) →
     ((r : Resource) → has (new id) r ≡ true → owner_of book r ≡ None) → Exact book old → Exact left new
 exact_claimed book left old new id claimed nothing others free exact = λ r k. by_id r k (eqb k id) refl (has (new id) r) refl
@@ -63,7 +63,7 @@ exact_claimed book left old new id claimed nothing others free exact = λ r k. b
       (λ in_new. owner r false h ∙ (exact r k).1 (ap (λ xs. has xs r) (sym (others k (ids_differ id k e))) ∙ in_new)),
     )
 
--- what one has stands elsewhere, where nobody else has anything
+-- what one owns moves to places at which nobody else owns anything
 pub exact_shifted : (book left : Owners) (old new : ℕ → List Resource) (id : ℕ) → Shifts book id (old id) (new id) left → ((k : ℕ) → k ≢ id → new k ≡ old k) →
     ((r : Resource) (k : ℕ) → k ≢ id → has (new id) r ≡ true → has (new k) r ≡ true → ⊥) → Exact book old → Exact left new
 exact_shifted book left old new id shifted others apart exact = λ r k. by_id r k (eqb k id) refl (has (new id) r) refl (has (old id) r) refl

@@ -1,4 +1,4 @@
--- What the definitions say of small cases, computed by the checker.
+-- The definitions on small cases, computed by the checker.
 use Rattle.std.proofs.Common.{◌≡◌, List, [], ◌∷◌, true, false, Ok, Err, Some, None, refl}
 use Rattle.tenant_slot.specs.declared.reply.StateName.TheVariants.{Empty}
 use Rattle.tenant_slot.specs.declared.command.Command.TheVariants.{Status, Withdraw}
@@ -35,7 +35,7 @@ one_closed device = refl
 other_live : (device : Device) → live_of (modified (admitted device 1 4 ∷ admitted device 2 3 ∷ []) 2 closed) 1 ≡ Some (admitted device 1 4)
 other_live device = refl
 
--- two tenancies admitted, the first evicted: its id stays its own
+-- two tenancies are admitted, and the first is evicted: its id is not given again
 admitted_and_evicted : (device : Device) →
     (without_tenancy (with_tenancy (with_tenancy (empty device) 4 0) 4 5) 1)
     ≡ record {
@@ -45,8 +45,8 @@ admitted_and_evicted : (device : Device) →
     }
 admitted_and_evicted device = refl
 
--- a tenancy's own events are its served commands, and those that found its journal full; not what others asked, nor what found
--- no memory or no tenancy, nor a look at the book
+-- a tenancy's own events are its served commands, and those that found its journal full; not the
+-- commands of others, those that ran out of memory or found no tenancy, nor a look at the book
 abbrev calls : List Call
 calls =
     Admit 1 (Ok (1, 0))
@@ -67,8 +67,8 @@ own_replies_of_one = refl
 own_events_of_another : own_events 2 calls ≡ []
 own_events_of_another = refl
 
--- and the steps of its jobs that were put and recorded, or found its journal full; not what was taken or given back, nor what
--- others' jobs did
+-- they also include the steps of its jobs that were put and recorded, or found its journal full;
+-- not takes, not jobs given back, nor steps of others' jobs
 abbrev steps : JobState → JobStep → JobStep → List Call
 steps job own other =
     Take own.id (Some job)

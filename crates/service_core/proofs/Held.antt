@@ -1,4 +1,4 @@
--- What an event makes of what a tenancy holds of its strip.
+-- How an event changes what a tenancy occupies of its strip.
 use Rattle.std.proofs.Common.{◌≡◌, ℕ, List, [], ◌∷◌, Result, Ok, Err, Bool, true, false, eqb, Option, Some, None, refl, sym, ap, ◌∙◌, subst}
 use Rattle.std.specs.Prelude.{◌+◌, ⊤, is_some, nat_lt, if◌then◌else◌}
 use Rattle.std.proofs.lemmas.Bool.{false≢true}
@@ -33,12 +33,12 @@ use Rattle.tenant_slot.specs.SingleUser.{State, advance, after, answer_to, at_re
 use Rattle.tenant_slot.proofs.Leading.{advanced, begun, begun_placing, emptied, load, net, pack, placing, stopped}
 use Rattle.tenant_slot.proofs.Runs.{step-room, step-served}
 
--- the state of that name holds nothing
+-- a state of that name occupies nothing
 nothing_in : (state : State) (name : StateName) → state.name ≡ name → held_in name state ≡ [] → routed_set state ≡ []
 unfolding routed_set
 nothing_in state name is nothing = ap (λ n. held_in n state) is ∙ nothing
 
--- nor does one in which a job runs
+-- nor does a state in which a job runs
 running_holds : (name : StateName) (kind : JobKind) (state : State) → running name ≡ Some kind → held_in name state ≡ []
 running_holds Packing kind state runs = refl
 running_holds Placing kind state runs = refl
@@ -50,7 +50,7 @@ running_holds Placed kind state runs = refl
 running_holds Unrouted kind state runs = refl
 running_holds Routed kind state runs = absurd (none-some kind runs)
 
--- nor one that goes back where a job ran
+-- nor does the state to which a job that is given up returns
 rest_holds : (name : StateName) (state : State) → is_some (running name) ≡ true → held_in (at_rest name) state ≡ []
 rest_holds Packing state runs = refl
 rest_holds Placing state runs = refl
@@ -62,7 +62,7 @@ rest_holds Placed state runs = refl
 rest_holds Unrouted state runs = refl
 rest_holds Routed state runs = absurd (false≢true runs)
 
--- how many entries there are doesn't matter
+-- the number of entries doesn't matter
 entries_in : (name : StateName) (state : State) (entries : ℕ) → held_in name (record state { entries = entries }) ≡ held_in name state
 entries_in Empty state entries = refl
 entries_in Loaded state entries = refl
@@ -181,7 +181,7 @@ step_changes state made = by_running (running state.name) refl
     by_running None e = tt
     by_running (Some kind) e = by_next kind e (is_next state made)
 
--- after a command a tenancy holds nothing, or what it held
+-- after a command a tenancy occupies nothing, or what it occupied before
 abbrev pub HeldAfter : State → State → Reply → Type 0
 HeldAfter old new (Accepted name) = routed_set new ≡ []
 HeldAfter old new reply = routed_set new ≡ routed_set old
@@ -217,7 +217,7 @@ command_held state command reply told =
     subst (λ new. HeldAfter state new reply) (sym given.state_is)
     (subst (HeldAfter state (after state (answer_to state (Asked command)).0)) given.reply (held_after state (answer_to state (Asked command)).0 (answer_to state (Asked command)).1 (command_changes state command)))
 
--- after a step it holds what it held, unless it held nothing and its job is finished
+-- after a step it occupies what it did before, unless that was nothing and its job is finished
 abbrev pub StepHeld : State → State → StepReply → Type 0
 StepHeld old new Finished = routed_set old ≡ []
 StepHeld old new reply = routed_set new ≡ routed_set old
@@ -238,7 +238,7 @@ step_held state made reply told =
     let given = gives state (Stepped made) (Step reply) told in
     subst (λ new. StepHeld state new reply) (sym given.state_is) (step_held_after state (answer_to state (Stepped made)).0 (answer_to state (Stepped made)).1 reply given.reply (step_changes state made))
 
--- no event changes what a tenancy stands on
+-- no event changes the architecture and the strip of a tenancy
 abbrev Stays : State → Option State → Type 0
 Stays state None = ⊤
 Stays state (Some new) = IsOnStrip state.arch state.strip new
@@ -282,6 +282,6 @@ events_stay state (event ∷ events) =
     let rest = events_stay (step state event).0 events in
     record { arch_is = rest.arch_is ∙ one.arch_is; strip_is = rest.strip_is ∙ one.strip_is }
 
--- a tenancy holds nothing as it is admitted
+-- a tenancy occupies nothing at its admission
 pub start_holds : (arch : Arch) (strip : Strip) → routed_set (start arch strip) ≡ []
 start_holds arch strip = nothing_in (start arch strip) Empty refl refl

@@ -1,4 +1,4 @@
--- One more entry.
+-- A history with one more entry.
 use Rattle.std.proofs.Common.{◌≡◌, ℕ, ◌+◌, ◌≢◌, List, [], ◌∷◌, ◌++◌, Option, Some, sym, ap, ◌∙◌, arith, length-append}
 use Rattle.std.proofs.lemmas.List.{map-append}
 use Rattle.arch_file.specs.declared.arch.Arch.{Arch}
@@ -19,7 +19,7 @@ replies_to-push : (first : State) (es : List Entry) (e : Entry) → replies_to f
 replies_to-push first es e =
     ap (λ events. replies_to first events) (map-append (λ (x : Entry). x.event) es (e ∷ [])) ∙ replies_to-append first (events_of es) (e.event ∷ [])
 
--- the journal goes on by a step
+-- the journal is extended by a step
 pub IsReplayed-push : (arch : Arch) (strip : Strip) (es : List Entry) (e : Entry) → IsReplayed arch strip es → (step (state_after (start arch strip) (events_of es)) e.event).1 ≡ Some e.reply → IsReplayed arch strip (es ++ e ∷ [])
 IsReplayed-push arch strip es e was told =
     let here : State = state_after (start arch strip) (events_of es) in

@@ -1,4 +1,4 @@
--- Resources that are had, and had where a strip stands.
+-- Membership in lists of resources, also after a move by the strip's offset.
 use Rattle.std.proofs.Common.{◌≡◌, ℕ, ◌-◌, List, [], ◌∷◌, get_or, map, ◌&&◌, ◌||◌, nat_le, Bool, true, false, Option, refl, sym, ap, ◌∙◌, subst, arith}
 use Rattle.std.specs.Prelude.{All, if◌then◌else◌}
 use Rattle.std.proofs.lemmas.Bool.Decides.{nat_tests}
@@ -10,7 +10,7 @@ use Rattle.rr_graph.specs.Resources.{has, is_same, moved_resource}
 use Rattle.device_book.specs.Owners.{AreOwned, Owners, owner_of}
 use Rattle.device_book.proofs.Places.{same_resource}
 
--- a resource so many columns to the left
+-- the resource moved a number of columns to the left
 abbrev pub moved_left : ℕ → Resource → Resource
 moved_left columns resource = record resource { x = resource.x - columns }
 
@@ -32,11 +32,11 @@ has-moved o (x ∷ xs) r =
     ∙ (ap (λ b. (nat_le o r.x && is_same (moved_left o r) x) || b) (has-moved o xs r)
     ∙ or_and (nat_le o r.x) (is_same (moved_left o r) x) (has xs (moved_left o r)))
 
--- the same are had where the strip stands
+-- lists with equal members have equal members after the move
 pub moved_same : (o : ℕ) (xs ys : List Resource) → ((r : Resource) → has xs r ≡ has ys r) → (r : Resource) → has (map (moved_resource o) xs) r ≡ has (map (moved_resource o) ys) r
 moved_same o xs ys same r = has-moved o xs r ∙ (ap (λ b. nat_le o r.x && b) (same (moved_left o r)) ∙ sym (has-moved o ys r))
 
--- what is had is one of them
+-- what holds of all resources of a list holds of each member
 pub has_all : (P : Resource → Type 0) (xs : List Resource) (r : Resource) → All P xs → has xs r ≡ true → P r
 has_all P [] r all is = absurd (false≢true is)
 has_all P (x ∷ xs) r all is =
@@ -51,6 +51,6 @@ is_same-self r = grind (arith, nat_tests)
 pub all_had : (P : Resource → Type 0) (xs : List Resource) → ((r : Resource) → has xs r ≡ true → P r) → All P xs
 all_had P xs each = λ i d lt. each (get_or xs i d) (list_any_at (is_same (get_or xs i d)) xs i d lt (is_same-self (get_or xs i d)))
 
--- owners by another list of the same
+-- a change of owners depends only on the members of the list
 pub owned_same : (old new : Owners) (xs ys : List Resource) (owner : Option ℕ) → ((r : Resource) → has xs r ≡ has ys r) → AreOwned old xs owner new → AreOwned old ys owner new
 owned_same old new xs ys owner same owned = (owned.0, λ r. owned.1 r ∙ ap (λ b. if b then owner else owner_of old r) (same r))

@@ -1,4 +1,5 @@
--- What a change of one tenancy keeps: just the live tenancies have strips, and each is alone.
+-- What a change of one tenancy preserves: exactly the live tenancies have strips, and each is
+-- served as if alone.
 use Rattle.std.proofs.Common.{◌≡◌, ℕ, ◌+◌, ◌-◌, ◌<◌, List, [], ◌∷◌, ◌++◌, length, get_or, Bool, true, false, eqb, Option, Some, None, refl, sym, ap, ◌∙◌, arith, length-append}
 use Rattle.std.specs.Prelude.{option_map, if◌then◌else◌}
 use Rattle.std.proofs.lemmas.Bool.Decides.{nat_tests, Decides-eqb}
@@ -18,7 +19,7 @@ use Rattle.service_core.specs.Kept.{IsLiveIn, IsService}
 use Rattle.service_core.proofs.Lists.{history_of-past, history_of-modified, history_of-push, length-modified, All-modified, set-modified}
 use Rattle.service_core.proofs.Histories.{IsReplayed-push}
 
--- a change that keeps who a tenancy is and what it stands on
+-- a change that keeps a tenancy's id, its architecture and its strip
 pub record Keeps (change : History → History) : Type 0 where
   pub id : (h : History) → (change h).id ≡ h.id
   pub arch : (h : History) → (change h).arch ≡ h.arch
@@ -39,7 +40,7 @@ width_in o = option_map (λ h. h.strip.width) (if_live o)
 width_some : (g : History) → width_in (Some g) ≡ (if g.live then Some g.strip.width else None)
 width_some g = elim g.live as (λ b. option_map (λ (h : History). h.strip.width) (if b then Some g else None) ≡ (if b then Some g.strip.width else None)) [ true ↦ refl | false ↦ refl ]
 
--- what stays live keeps its width
+-- a tenancy that stays live keeps its width
 same_width : (change : History → History) → Keeps change → ((h : History) → (change h).live ≡ h.live) → (o : Option History) → width_in (option_map change o) ≡ width_in o
 same_width change keeps live None = refl
 same_width change keeps live (Some h) = width_some (change h) ∙ ((rw (live h, keeps.strip h) refl) ∙ sym (width_some h))
@@ -122,7 +123,7 @@ IsService-admitted device strips hs width offset was few =
 pub IsService-empty : (device : Device) → IsService device [] []
 IsService-empty device = record { linked = λ id. refl; few = omega arith; ids = λ id h never. cc; alone = All-nil (IsAloneOn device) }
 
--- the live tenancy is the one at its place
+-- a live tenancy is the one at its index
 pub history-live : (hs : List History) (id : ℕ) (old : History) → IsLiveIn hs id → old ≡ get_or hs (id - 1) old → history_of hs id ≡ Some old
 history-live hs id old live is = live.history old ∙ ap Some (sym is)
 
@@ -132,11 +133,11 @@ live_is hs id old live is =
     let here : history_of hs id ≡ Some old = history-live hs id old live is in
     rw (here, flag) refl
 
--- a write of the live tenancy
+-- a live tenancy is written back
 pub set-live : (hs : List History) (id : ℕ) (old : History) (change : History → History) (new : History) → IsLiveIn hs id → old ≡ get_or hs (id - 1) old → new ≡ change old → set hs (id - 1) new ≡ modified hs id change
 set-live hs id old change new live is changes = rw changes (set-modified hs id old change live.positive live.within is)
 
--- a write of the live tenancy as it was
+-- a live tenancy is written back unchanged
 pub set-kept : (hs : List History) (id : ℕ) (old new : History) → old ≡ get_or hs (id - 1) old → new ≡ old → set hs (id - 1) new ≡ hs
 set-kept hs id old new is kept = ap (λ h. set hs (id - 1) h) (kept ∙ is) ∙ set-get_or hs (id - 1) old
 

@@ -7,7 +7,7 @@ use Rattle.std.proofs.lemmas.List.Elements.{All-cons, All-head, All-tail}
 use Rattle.service_core.specs.History.{History}
 use Rattle.service_core.specs.Service.{history_of, modified}
 
--- no tenancy has the id 0, or one past the last
+-- no tenancy has the id 0, or an id past the last
 pub history_of-zero : (hs : List History) → history_of hs 0 ≡ None
 history_of-zero [] = refl
 history_of-zero (h ∷ hs) = history_of-zero hs
@@ -35,7 +35,7 @@ modified-next [] i d change lt = absurd (omega arith)
 modified-next (h ∷ hs) zero d change lt = refl
 modified-next (h ∷ hs) (suc i) d change lt = grind (arith, nat_tests, modified-next hs i d change (omega arith))
 
--- a write of the changed tenancy
+-- the changed tenancy is written back
 pub set-modified : (hs : List History) (id : ℕ) (old : History) (change : History → History) → 0 < id → id ≤ length hs → old ≡ get_or hs (id - 1) old → set hs (id - 1) (change old) ≡ modified hs id change
 set-modified hs id old change pos le is =
     let e : id - 1 + 1 ≡ id = omega arith in
@@ -58,7 +58,7 @@ pub history_of-push : (hs : List History) (h : History) (id : ℕ) → history_o
 history_of-push [] h id = grind (arith, nat_tests)
 history_of-push (g ∷ hs) h id = grind (arith, nat_tests, history_of-push hs h (id - 1))
 
--- what holds of each tenancy holds of that one
+-- what holds of each tenancy holds of the one with that id
 pub All-history_of : (P : History → Type 0) (hs : List History) (id : ℕ) (h : History) → history_of hs id ≡ Some h → All P hs → P h
 All-history_of P [] id h is all = cc
 All-history_of P (g ∷ hs) id h is all =

@@ -1,4 +1,4 @@
--- A strip that moves keeps its id and its width, and all that tenancies are.
+-- A strip that moves keeps its id and its width, and no tenancy changes.
 use Rattle.std.proofs.Common.{◌≡◌, ℕ, List, [], ◌∷◌, map, true, false, eqb, Result, Ok, Err, Option, Some, None, refl, ap, ◌∙◌}
 use Rattle.std.specs.Prelude.{option_map, if◌then◌else◌}
 use Rattle.strips.specs.declared.placed_strip.PlacedStrip.{PlacedStrip}
@@ -17,7 +17,7 @@ same_id id offset s = elim (eqb s.id id) as (λ b. (if b then record s { offset 
 pub same_width : (id offset : ℕ) (s : PlacedStrip) → (moved_strip id offset s).width ≡ s.width
 same_width id offset s = elim (eqb s.id id) as (λ b. (if b then record s { offset = offset } else s).width ≡ s.width) [ true ↦ refl | false ↦ refl ]
 
--- the strip of an id is the one that was, moved
+-- the strip with an id after a move is the one before, moved
 pub strip_of-moved : (id offset : ℕ) (strips : List PlacedStrip) (k : ℕ) → strip_of (map (moved_strip id offset) strips) k ≡ option_map (moved_strip id offset) (strip_of strips k)
 strip_of-moved id offset [] k = refl
 strip_of-moved id offset (s ∷ strips) k =

@@ -1,4 +1,4 @@
--- A strip that moves, with what its tenancy owns, keeps the book exact.
+-- A strip's move, with all that its tenancy owns, keeps the book exact.
 use Rattle.std.proofs.Common.{◌≡◌, ◌≢◌, inl, inr, ℕ, ◌+◌, ◌-◌, ◌≤◌, List, get_or, map, Bool, true, false, eqb, Option, Some, None, refl, sym, ap, ◌∙◌, subst, arith}
 use Rattle.std.proofs.Common.{Result, Ok, Err}
 use Rattle.std.specs.Prelude.{All, option_map, if◌then◌else◌}
@@ -25,7 +25,7 @@ use Rattle.service_core.proofs.Keeps.{live_is}
 use Rattle.service_core.proofs.MovedStrips.{IsService-moved, placed_width-moved, strip_of-moved}
 use Rattle.service_core.proofs.Owning.{in_window, nobody_else, own_owned, owned_in}
 
--- the other strips stand where they stood
+-- the other strips keep their offsets
 moved_not : (id offset k : ℕ) (o : Option PlacedStrip) → ((s : PlacedStrip) → o ≡ Some s → eqb s.id id ≡ false) → option_map (moved_strip id offset) o ≡ o
 moved_not id offset k None other = refl
 moved_not id offset k (Some s) other = ap (λ b. Some (if b then record s { offset = offset } else s)) (other s refl)
@@ -38,7 +38,7 @@ pub other_stands : (strips : List PlacedStrip) (id offset k : ℕ) → k ≢ id 
 other_stands strips id offset k differ =
     strip_of-moved id offset strips k ∙ moved_not id offset k (strip_of strips k) (λ s is. ap (λ j. eqb j id) (found_id strips k s is) ∙ differs k id differ (eqb k id) refl)
 
--- that one stands there now
+-- the moved strip has the new offset
 pub own_stands : (strips : List PlacedStrip) (id from offset : ℕ) → offset_of strips id ≡ Some from → offset_of (map (moved_strip id offset) strips) id ≡ Some offset
 own_stands strips id from offset at =
     let place = placed_strip strips id from at in
@@ -48,7 +48,7 @@ own_stands strips id from offset at =
 other_owned : (strips : List PlacedStrip) (hs : List History) (id offset k : ℕ) → k ≢ id → owned_in (map (moved_strip id offset) strips) hs k ≡ owned_in strips hs k
 other_owned strips hs id offset k differ = ap (λ o. placed_at (option_map (λ (s : PlacedStrip). s.offset) o) (routed_in (live_of hs k))) (other_stands strips id offset k differ)
 
--- the plan with the strip where it stands then, and a live tenancy of it
+-- the plan with the strip at its new offset, and a live tenancy that has it
 module _ (book : Owners) (device : Device) (strips : List PlacedStrip) (hs : List History) (id from offset : ℕ) (h : History)
     (was : IsSound book device strips hs) (live : IsLiveIn hs id) (is : h ≡ get_or hs (id - 1) h) (at : offset_of strips id ≡ Some from)
     (parted : IsParted (record { columns = device.columns; strips = map (moved_strip id offset) strips })) where
@@ -61,7 +61,7 @@ module _ (book : Owners) (device : Device) (strips : List PlacedStrip) (hs : Lis
   new_owned : owned_in moved hs id ≡ held_at offset h
   new_owned = own_owned moved hs id offset h (own_stands strips id from offset at) (live_is hs id h live is)
 
-  -- nobody else has anything where it stands then
+  -- nobody else owns anything at the new offset
   others_apart : (r : Resource) (k : ℕ) → k ≢ id → has (held_at offset h) r ≡ true → has (owned_in moved hs k) r ≡ true → ⊥
   others_apart r k differ its theirs =
       let place = placed_strip moved id offset (own_stands strips id from offset at) in
@@ -72,7 +72,7 @@ module _ (book : Owners) (device : Device) (strips : List PlacedStrip) (hs : Lis
       nobody_else (record { columns = device.columns; strips = moved }) hs id k place.0 r parted linked place.1
       (omega (arith, window.0, same_place)) (omega (arith, window.1, same_place, width)) theirs differ
 
-  -- it stands in the book
+  -- the book has a place for everything in the moved strip
   pub stands_moved : StandsIn (extent_of device.arch device.columns device.rows) offset h.arch h.strip
   stands_moved = stands_there (record { device = device; plan = record { columns = device.columns; strips = moved }; histories = hs }) id offset h
       (record { columns = refl; parted = parted; of_live = λ j. placed_width-moved id offset strips j ∙ was.kept.linked j }) was.kept.alone (own_stands strips id from offset at) (live_is hs id h live is)
@@ -110,7 +110,7 @@ module _ (book : Owners) (device : Device) (strips : List PlacedStrip) (hs : Lis
     };
   }
 
--- what shifts where a list has just what is held
+-- a shift by a list of exactly what is occupied
 pub shifted_held : (book left : Owners) (id from offset : ℕ) (held resources : List Resource) → ((r : Resource) → has resources r ≡ has held r) →
     Shifts book id (map (moved_resource from) resources) (map (moved_resource offset) resources) left → Shifts book id (map (moved_resource from) held) (map (moved_resource offset) held) left
 shifted_held book left id from offset held resources same shifted = (

@@ -36,7 +36,7 @@ placed_nothing (Some offset) = refl
 by_live : (h : History) → routed_in (if_live (Some h)) ≡ (if h.live then routed_set (state_of h) else [])
 by_live h = elim h.live as (λ b. routed_in (if b then Some h else None) ≡ (if b then routed_set (state_of h) else [])) [ true ↦ refl | false ↦ refl ]
 
--- a tenancy that stays live and holds what it held
+-- a tenancy that stays live and occupies what it did before
 routed_same : (change : History → History) (o : Option History) → ((h : History) → o ≡ Some h → ((change h).live ≡ h.live) × (routed_set (state_of (change h)) ≡ routed_set (state_of h))) →
     routed_in (if_live (option_map change o)) ≡ routed_in (if_live o)
 routed_same change None same = refl
@@ -60,11 +60,11 @@ same_owned strips hs id change same k = by_id (eqb k id) refl
         ap (λ o. placed_at (offset_of strips k) (routed_in (if_live o))) (history_of-modified hs id k change ∙ ap (λ b. if b then option_map change (history_of hs k) else history_of hs k) e)
         ∙ ap (placed_at (offset_of strips k)) (routed_same change (history_of hs k) (λ h is. same h (ap (history_of hs) (sym its) ∙ is)))
 
--- a live tenancy where its strip stands
+-- what a live tenancy owns, by its strip's offset
 pub own_owned : (strips : List PlacedStrip) (hs : List History) (id offset : ℕ) (h : History) → offset_of strips id ≡ Some offset → live_of hs id ≡ Some h → owned_in strips hs id ≡ map (moved_resource offset) (routed_set (state_of h))
 own_owned strips hs id offset h at live = ap (λ o. placed_at o (routed_in (live_of hs id))) at ∙ ap (λ o. map (moved_resource offset) (routed_in o)) live
 
--- a write of a live tenancy
+-- a live tenancy is written back
 pub set_live_of : (hs : List History) (id : ℕ) (old new : History) → IsLiveIn hs id → old ≡ get_or hs (id - 1) old → new.live ≡ true → live_of (set hs (id - 1) new) id ≡ Some new
 set_live_of hs id old new live is its =
     let written : set hs (id - 1) new ≡ modified hs id (λ h. new) = set-live hs id old (λ h. new) new live is refl in
@@ -120,13 +120,13 @@ admitted_owned device strips hs width offset k was = by_id (eqb k (length hs + 1
         ap (λ o. placed_at (option_map (λ (s : PlacedStrip). s.offset) o) (routed_in (live_of (hs ++ h ∷ []) k))) (strip_of-push strips strip k (no_strip-next device strips hs was) ∙ ap (λ b. if b then Some strip else strip_of strips k) e)
         ∙ ap (λ o. placed_at (offset_of strips k) (routed_in (if_live o))) (history_of-push hs h k ∙ ap (λ b. if b then Some h else history_of hs k) e)
 
--- where what a tenancy owns stands
+-- the strip and the columns of what a tenancy owns
 record OwnsAt (strips : List PlacedStrip) (k : ℕ) (r : Resource) (s : PlacedStrip) : Type 0 where
   found : strip_of strips k ≡ Some s
   from : s.offset ≤ r.x
   to : r.x ≤ s.offset + s.width
 
--- in the columns of its strip
+-- it is in the columns of its strip
 pub in_window : (offset : ℕ) (h : History) (r : Resource) → has (map (moved_resource offset) (routed_set (state_of h))) r ≡ true → (offset ≤ r.x) × (r.x ≤ offset + h.strip.width)
 in_window offset h r is =
     let both = and_parts (nat_le offset r.x) (has (routed_set (state_of h)) (moved_left offset r)) (sym (has-moved offset (routed_set (state_of h)) r) ∙ is) in
@@ -150,7 +150,7 @@ owns_at strips hs k r linked is = by_strip (strip_of strips k) refl is
             let width : s.width ≡ g.strip.width = same_Some _ _ (sym (ap (option_map (λ (s : PlacedStrip). s.width)) e) ∙ (linked ∙ ap (option_map (λ (g : History). g.strip.width)) l)) in
             (s, record { found = e; from = window.0; to = omega (arith, window.1, width) })
 
--- what is in the columns of one strip nobody else owns
+-- nobody else owns what is in the columns of one strip
 pub nobody_else : (plan : Plan) (hs : List History) (id k : ℕ) (s : PlacedStrip) (r : Resource) → IsParted plan → ((j : ℕ) → placed_width plan.strips j ≡ live_width hs j) →
     strip_of plan.strips id ≡ Some s → s.offset ≤ r.x → r.x ≤ s.offset + s.width → has (owned_in plan.strips hs k) r ≡ true → k ≢ id → ⊥
 nobody_else plan hs id k s r parted linked found from to is differ =
@@ -161,7 +161,7 @@ nobody_else plan hs id k s r parted linked found from to is differ =
     apart s t at (inl before) from to = omega (arith, before, from, at.to)
     apart s t at (inr after) from to = omega (arith, after, to, at.from)
 
--- an owner has what its tenancy holds, where its strip stands
+-- an owner has what its tenancy occupies, at its strip's offset
 pub owner_has : (state : ServiceState) (r : Resource) (id : ℕ) → IsOwner state r id ↔ (has (owned_in state.plan.strips state.histories id) r ≡ true)
 owner_has state r id = by_both (live_of state.histories id) (offset_of state.plan.strips id)
   where

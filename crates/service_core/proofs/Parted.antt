@@ -1,4 +1,4 @@
--- The strips stay parted, over every run.
+-- The strips stay separated over every run.
 use Rattle.std.proofs.Common.{◌≡◌, ◌+◌, ◌≤◌, ℕ, List, [], ◌∷◌, Bool, not, eqb, refl, arith}
 use Rattle.std.proofs.lemmas.List.Elements.{All-filter, All-nil}
 use Rattle.std.proofs.lemmas.List.Kept.{AllPairs-filter}
@@ -20,7 +20,7 @@ IsParted-without plan id parted =
       apart = AllPairs-filter AreApart others plan.strips parted.apart;
     }
 
--- the strips are parted on a device of so many columns
+-- the strips are separated on a device of `columns` columns
 record IsPartedOn (columns : ℕ) (state : ServiceState) : Type 0 where
   same : state.plan.columns ≡ columns
   parted : IsParted state.plan

@@ -1,4 +1,4 @@
--- What a call of a live tenancy makes of the core.
+-- How a call of a live tenancy changes the core.
 use Rattle.std.proofs.Common.{◌≡◌, ℕ, ◌-◌, ◌<◌, List, length, get_or, false, Result, Ok, Err, Option, Some, None, refl, ap, subst}
 use Rattle.std.specs.Prelude.{IsSomeAnd}
 use Rattle.std.specs.declared.alloc.AllocError.{AllocError}
@@ -28,7 +28,7 @@ use Rattle.service_core.specs.Tenancy.{GivesHistoryBack, PutsHistory, ServesHist
 use Rattle.service_core.specs.Kept.{IsLiveIn, IsService}
 use Rattle.service_core.proofs.Keeps.{IsService-entry, IsService-here, history-live, live_is, set-kept, set-live}
 
--- the core with that tenancy written
+-- the core with that tenancy written back
 abbrev pub written : ServiceState → ℕ → History → ServiceState
 written old id new = record old { histories = set old.histories (id - 1) new }
 
@@ -67,7 +67,7 @@ IsTaken-live old id here (Some job) new live is its taken =
     (rw (live_is old.histories id here live is) (its, taken.0, taken.1, taken.2), changed_to old id here (with_here None) new live is taken.3)
 IsTaken-live old id here None new live is its taken = (rw (live_is old.histories id here live is) taken.0, kept_as_it_was old id here new is taken.1)
 
--- what is known of a step is known of it where its tenancy stands
+-- what is known of a step is known of it in its tenancy's slot
 pub origin_at : (state : ServiceState) (here : History) (done : JobStep) (origin : Origin) → IsLiveIn state.histories done.id → here ≡ get_or state.histories (done.id - 1) here → IsOriginIn state done origin → IsOrigin (slot_of here) done origin
 origin_at state here done Running live is next = subst (λ o. IsSomeAnd o (λ h. next_job (slot_of h) ≡ Some done)) (live_is state.histories done.id here live is) next
 origin_at state here done Unknown live is none = none

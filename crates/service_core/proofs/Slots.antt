@@ -1,4 +1,4 @@
--- What a slot's calls make of its tenancy.
+-- How a slot's calls change its tenancy.
 use Rattle.std.proofs.Common.{◌≡◌, ℕ, Some, Option, refl, ap, sym, ◌∙◌}
 use Rattle.job_state.specs.declared.step.JobStep.{JobStep}
 use Rattle.job_state.specs.Job.{JobState}
@@ -30,7 +30,7 @@ gives_back h slot new back is given =
     let its : GivesBack (slot_of h) back new = rw is at given in
     record { only_here = refl; ready = its.ready; dropped = its.dropped }
 
--- a step that is put in the slot is put in the tenancy
+-- a step that is put into the slot is put into the tenancy
 pub record Stands (h : History) (slot new : SlotState) (done : JobStep) (advance : Advance) (reply : StepReply) : Type 0 where
   pub entry : step_entry done advance.foreign reply ≡ record { event = Stepped advance; reply = Step reply }
   pub made : IsStepOf h done advance.foreign reply

@@ -1,4 +1,4 @@
--- What a strip has stands in the book.
+-- The book has a place for each resource of a strip.
 use Rattle.std.proofs.Common.{◌≡◌, ◌⊎◌, inl, inr, ℕ, ◌+◌, ◌<◌, ◌≤◌, List, length, Bool, true, false, ◌&&◌, ◌||◌, nat_le, nat_lt, Option, Some, None, refl, subst, arith}
 use Rattle.std.specs.Prelude.{max, slice_get, ◌==◌, if◌then◌else◌, replicate, slice_index_or}
 use Rattle.std.specs.Option.{option_map_or}
@@ -19,7 +19,7 @@ use Rattle.device_book.specs.declared.book.Extent.{Extent}
 use Rattle.device_book.specs.Owners.{extent_of, in_book, nobody, number_of, owner_of, size_of}
 use Rattle.device_book.proofs.Places.{place_within}
 
--- more than any number of a pin, of a track or of a pad
+-- a number greater than any number of a pin, a track or a pad
 abbrev numbers_in : Arch → ℕ → ℕ
 numbers_in arch io_rat = max (max (length arch.pins) arch.tracks) io_rat
 
@@ -90,7 +90,7 @@ stands arch strip columns offset r rate inside there =
     and_from (nat_le (r.x + offset) columns) (nat_le r.y (strip.rows + 1) && nat_lt r.n (numbers_in arch arch.io_rat)) (le-leb (r.x + offset) columns (let low : r.x ≤ strip.width = bounds.column in omega (arith, low, inside)))
     (and_from (nat_le r.y (strip.rows + 1)) (nat_lt r.n (numbers_in arch arch.io_rat)) (le-leb r.y (strip.rows + 1) bounds.row) (lt-ltb r.n (numbers_in arch arch.io_rat) few))
 
--- nobody owns anything of a new device
+-- nobody owns anything on a new device
 pub nobody_owns : (extent : Extent) (r : Resource) → owner_of (nobody extent) r ≡ None
 nobody_owns extent r = by_place (in_book extent r) refl
   where

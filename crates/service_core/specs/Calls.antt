@@ -1,4 +1,4 @@
--- What each function of the core may answer, with the states before and after it: as the call that it is.
+-- The possible results of each function of the core, with the states before and after it, as calls.
 use Rattle.std.specs.Prelude.{ℕ, ◌≡◌, Bool, false, Option, Some, IsSomeAnd, Result, ⊤}
 use Rattle.std.specs.Option.{option_map_or}
 use Rattle.std.specs.declared.alloc.AllocError.{AllocError}
@@ -35,22 +35,23 @@ IsTaken old id answer new = Happens old (Take id answer) new
 abbrev pub IsPut : ServiceState → JobStep → Bool → Result PutReply (JobStep × AllocError) → ServiceState → Type 0
 IsPut old done foreign answer new = Happens old (Put done foreign answer) new
 
--- a put, whose event's flag isn't told
+-- a put; the flag of its event isn't part of the reply
 abbrev pub Puts : ServiceState → JobStep → Result PutReply (JobStep × AllocError) → ServiceState → Type 0
 Puts old done answer new = (foreign : Bool) × IsPut old done foreign answer new
 
 abbrev pub IsGivenBack : ServiceState → JobState → ServiceState → Type 0
 IsGivenBack old job new = Happens old (GiveBack job) new
 
--- a live tenancy's job runs, its next step is here, and its journal has room
+-- a live tenancy's job runs, its next step is here, and its journal has space for an entry
 abbrev pub takeable_in : Option History → Bool
 takeable_in live = option_map_or (λ h. is_takeable (slot_of h)) live false
 
--- the step is the next one of a live tenancy's running job: the tenancy, the generation, the number and all sources are its own
+-- the step is the next one of a live tenancy's running job: the tenancy, the generation, the number
+-- and all sources are its own
 abbrev pub IsNextStep : ServiceState → JobStep → Type 0
 IsNextStep state done = IsSomeAnd (live_of state.histories done.id) (λ h. next_job (slot_of h) ≡ Some done)
 
--- what is known of a step that is put is so
+-- what the caller knows of a step that it puts is true
 abbrev pub IsOriginIn : ServiceState → JobStep → Origin → Type 0
 IsOriginIn state done Running = IsNextStep state done
 IsOriginIn state done Unknown = ⊤

@@ -1,4 +1,4 @@
--- One tenancy's history: its journal, and what the replies in it have to be.
+-- One tenancy's history: its journal, and the replies that it must contain.
 use Rattle.std.specs.Prelude.{ℕ, ◌≡◌, ◌≤◌, List, [], ◌∷◌, ◌++◌, length, map, Bool, Option, Some}
 use Rattle.arch_file.specs.declared.arch.Arch.{Arch}
 use Rattle.grid.specs.declared.Strip.{Strip}
@@ -7,8 +7,9 @@ use Rattle.tenant_slot.specs.SingleUser.{State, start, state_after, replies_to}
 use Rattle.tenant_slot.specs.Slot.{SlotState, after_event}
 use Rattle.service_core.specs.declared.entry.Entry.{Entry}
 
--- a tenancy, live or closed: its id, what its device is made of, its strip's size, what is here of the next step of its running
--- job (nothing where it is out, else whether it was made already), and its journal
+-- a tenancy, live or closed: its id, the device's architecture, its strip's size, whether the next
+-- step of its running job is here (`None` if it is out, otherwise whether it was made already), and
+-- its journal
 pub record History : Type 0 where
   pub id : ℕ
   pub arch : Arch
@@ -20,11 +21,11 @@ pub record History : Type 0 where
 abbrev pub events_of : List Entry → List Event
 events_of entries = map (λ entry. entry.event) entries
 
--- the state that the stored events lead to, alone
+-- the state that the stored events result in, alone
 abbrev pub state_of : History → State
 state_of h = state_after (start h.arch h.strip) (events_of h.entries)
 
--- the same as a slot
+-- the slot in that state
 abbrev pub slot_of : History → SlotState
 slot_of h = record { id = h.id; state = state_of h; here = h.here }
 
@@ -34,10 +35,10 @@ pub record IsReplayed (arch : Arch) (strip : Strip) (entries : List Entry) : Typ
   pub count : (state_after (start arch strip) (events_of entries)).entries ≡ length entries
   pub few : length entries ≤ 65536
 
--- one entry more
+-- with one more entry
 abbrev pub with_entry : Entry → History → History
 with_entry entry h = record h { entries = h.entries ++ entry ∷ []; here = (after_event (slot_of h) entry.event).here }
 
--- with that of a step here
+-- with that state of its next step
 abbrev pub with_here : Option Bool → History → History
 with_here here h = record h { here = here }

@@ -1,4 +1,4 @@
--- What a tenancy sees of a list of calls.
+-- A tenancy's view of a list of calls.
 use Rattle.std.specs.Prelude.{ℕ, List, [], ◌∷◌, map, Ok, Err, Option, Some, None, ◌==◌, if◌then◌else◌}
 use Rattle.std.specs.List.{flat_map}
 use Rattle.tenant_slot.specs.declared.event.Event.{Event}
@@ -10,12 +10,12 @@ use Rattle.service_core.specs.declared.put_reply.PutReply.TheVariants.{Recorded,
 use Rattle.service_core.specs.Run.{Call, step_event}
 use Rattle.service_core.specs.Run.Call.{Tenant, Put}
 
--- an event of the tenancy `t` with its reply, where that is the one of `id`
+-- an event of the tenancy `t` with its reply, if `t` is `id`
 abbrev pub if_own : ℕ → ℕ → Event → Option Reply → List (Event × Option Reply)
 if_own id t event reply = if t == id then (event, reply) ∷ [] else []
 
--- a call as an event of that tenancy, with its reply, none where its journal was full. A call that found no memory, or the tenancy
--- not live, and any other call is none of its events
+-- a call as an event of that tenancy, with its reply; the reply is `None` if the journal was full.
+-- A call that ran out of memory or found no live tenancy, and every other call, is no event of it
 abbrev pub own_exchange : ℕ → Call → List (Event × Option Reply)
 own_exchange id (Tenant t command (Ok receipt)) = if_own id t (Asked command) (Some receipt.reply)
 own_exchange id (Tenant t command (Err (JournalFull note))) = if_own id t (Asked command) None
@@ -30,6 +30,6 @@ own_exchanges id calls = flat_map (own_exchange id) calls
 abbrev pub own_events : ℕ → List Call → List Event
 own_events id calls = map (λ exchange. exchange.0) (own_exchanges id calls)
 
--- and what it was told
+-- and their replies
 abbrev pub own_replies : ℕ → List Call → List (Option Reply)
 own_replies id calls = map (λ exchange. exchange.1) (own_exchanges id calls)

@@ -1,10 +1,10 @@
--- What a receipt and a note tell.
+-- The contents of a receipt and of a note.
 use Rattle.std.specs.Prelude.{ℕ}
 use Rattle.tenant_slot.specs.declared.command.Command.{Command}
 use Rattle.tenant_slot.specs.declared.reply.Reply.{Reply}
 use Rattle.service_core.specs.declared.not_served.NoteCause.{NoteCause}
 
--- a command of a tenancy, the place of its entry in the journal, and its reply
+-- a command of a tenancy, the index of its entry in the journal, and its reply
 pub record Receipted : Type 0 where
   pub id : ℕ
   pub place : ℕ

@@ -1,4 +1,5 @@
--- Calls of the core with their answers, and what they lead to, one after another. A refused call changes nothing.
+-- Calls of the core with their results, and the states that they result in, one after another. A
+-- refused call changes nothing.
 use Rattle.std.specs.Prelude.{ℕ, ◌≡◌, ◌+◌, ◌<◌, length, List, [], ◌∷◌, Bool, true, false, Option, Some, None, IfSome, IsSome, IsSomeAnd, MatchOption, Result, Ok, Err}
 use Rattle.std.specs.declared.alloc.AllocError.{AllocError}
 use Rattle.strips.specs.Plan.{IsFirstFit, IsParted, is_bad_width, with_moved}
@@ -25,7 +26,8 @@ use Rattle.service_core.specs.Owners.{ListsOwnersOf}
 use Rattle.service_core.specs.Receipt.{Receipted}
 use Rattle.service_core.specs.Service.{ServiceState, live_of, with_change, with_tenancy, without_tenancy}
 
--- a call with its answer; a put with the flag of its event, which isn't told; the last is a look at the book
+-- a call with its result; a put has its event's flag, which isn't part of the reply; the last is a
+-- look at the book
 pub data Call : Type 0 where
   Admit : ℕ → Result (ℕ × ℕ) OpRefusal → Call
   Evict : ℕ → Result (Unit {0}) OpRefusal → Call
@@ -36,14 +38,14 @@ pub data Call : Type 0 where
   GiveBack : JobState → Call
   Owners : List Owned → Call
 
--- a tenancy of that width is admitted, if there is room and memory
+-- a tenancy of that width is admitted, if a strip fits and memory suffices
 pub record CanAdmit (state : ServiceState) (width : ℕ) : Type 0 where
   pub good_width : is_bad_width state.plan width ≡ false
   pub few_strips : length state.plan.strips < 64
   pub ids_left : length state.histories < 65535
 
--- why a tenancy of that width isn't admitted: each refusal where none of those before it holds, in the order BadWidth,
--- TooManyStrips, IdsSpent, NoRoom, NoMemory
+-- why a tenancy of that width isn't admitted: each refusal applies if none before it does, in the
+-- order BadWidth, TooManyStrips, IdsSpent, NoRoom, NoMemory
 abbrev pub RefusesAdmission : ServiceState → ℕ → OpRefusal → Type 0
 RefusesAdmission state width BadWidth = is_bad_width state.plan width ≡ true
 RefusesAdmission state width TooManyStrips = (is_bad_width state.plan width ≡ false) × (length state.plan.strips ≡ 64)
@@ -52,7 +54,8 @@ RefusesAdmission state width NoRoom = CanAdmit state width × IsFirstFit state.p
 RefusesAdmission state width NoMemory = CanAdmit state width × ((offset : ℕ) × IsFirstFit state.plan width (Some offset))
 RefusesAdmission state width NoSuchTenancy = ⊥
 
--- a live tenancy's receipt has the place of the next entry, and the reply that the tenancy gets alone
+-- a live tenancy's receipt has the index of the next entry, and the reply that the tenancy gets
+-- alone
 abbrev pub IsReceipt : Option History → ℕ → Command → Receipted → Type 0
 IsReceipt live id command r = IsSomeAnd live (λ h. (r.id ≡ id) × (r.place ≡ length h.entries) × (r.command ≡ command) × ((step (state_of h) (Asked command)).1 ≡ Some r.reply))
 
@@ -63,17 +66,20 @@ step_event done foreign = Stepped (record { generation = done.generation; number
 abbrev pub step_entry : JobStep → Bool → StepReply → Entry
 step_entry done foreign reply = record { event = step_event done foreign; reply = Step reply }
 
--- the flag says whether the sources are others than the running job's, and the reply is the one that the tenancy gets alone
+-- the flag says whether the sources differ from the running job's, and the reply is the one that
+-- the tenancy gets alone
 pub record IsStepOf (h : History) (done : JobStep) (foreign : Bool) (reply : StepReply) : Type 0 where
   pub flag : IsAdvanceOf (state_of h) done (record { generation = done.generation; number = done.number; foreign = foreign })
   pub told : (step (state_of h) (step_event done foreign)).1 ≡ Some (Step reply)
 
--- a call with its answer led from one state to the next. An admission gives the next id and the least offset that parts the strips. An
--- eviction is refused just where the tenancy isn't live. A strip moves just where its tenancy is live and the strips are parted with it at
--- that offset; the columns that it leaves don't count. A command that is served, or a step that is put, adds its entry to its tenancy's
--- journal, and nothing else changes. A job is given exactly where there is a step to take: it is that step, made just where it came back
--- made, and is out then. One that is given back to a live tenancy is to be taken again where it is the next step of the running one, and
--- is dropped else
+-- a call with its result takes one state to the next. An admission returns the next id and the
+-- least offset at which the strips are separated. An eviction is refused exactly if the tenancy
+-- isn't live. A strip moves exactly if its tenancy is live and the strips are separated with it at
+-- that offset; the columns that it leaves don't count. A served command or a recorded step adds its
+-- entry to its tenancy's journal, and nothing else changes. A take returns a job exactly if there
+-- is a step to take: it is that step, made exactly if it came back made, and it is out afterwards.
+-- A job that is given back to a live tenancy can be taken again if it is the next step of the
+-- running one; otherwise it is dropped
 abbrev pub Happens : ServiceState → Call → ServiceState → Type 0
 Happens old (Admit width (Ok given)) new = CanAdmit old width × (given.0 ≡ length old.histories + 1) × IsFirstFit old.plan width (Some given.1) × (new ≡ with_tenancy old width given.1)
 Happens old (Admit width (Err refusal)) new = RefusesAdmission old width refusal × (new ≡ old)
@@ -96,7 +102,7 @@ Happens old (Put done foreign (Err back)) new = IsSomeAnd (live_of old.histories
 Happens old (GiveBack job) new = MatchOption (live_of old.histories job.step.id) (new ≡ old) (λ h. (here : Option Bool) × GivesBack (slot_of h) job (slot_of (with_here here h)) × (new ≡ with_change old job.step.id (with_here here)))
 Happens old (Owners list) new = ListsOwnersOf old list × (new ≡ old)
 
--- and so one after another
+-- the calls one after another
 abbrev pub Run : ServiceState → List Call → ServiceState → Type 0
 Run old [] new = new ≡ old
 Run old (call ∷ calls) new = (mid : ServiceState) × Happens old call mid × Run mid calls new

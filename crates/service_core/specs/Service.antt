@@ -8,13 +8,14 @@ use Rattle.service_core.specs.declared.device.Device.{Device}
 use Rattle.service_core.specs.declared.entry.Entry.{Entry}
 use Rattle.service_core.specs.History.{History, IsReplayed}
 
--- the device, where the live tenancies' strips stand, and the history of each id from 1 on
+-- the device, the strips of the live tenancies with their offsets, and the history of each id from
+-- 1
 pub record ServiceState : Type 0 where
   pub device : Device
   pub plan : Plan
   pub histories : List History
 
--- a device that no one uses
+-- a device without tenancies
 abbrev pub empty : Device → ServiceState
 empty device = record { device = device; plan = record { columns = device.columns; strips = [] }; histories = [] }
 
@@ -23,7 +24,7 @@ abbrev pub history_of : List History → ℕ → Option History
 history_of [] id = None
 history_of (h ∷ hs) id = if id == 1 then Some h else history_of hs (id - 1)
 
--- the histories, that one changed
+-- the histories, with that one changed
 abbrev pub modified : List History → ℕ → (History → History) → List History
 modified [] id change = []
 modified (h ∷ hs) id change = if id == 1 then change h ∷ hs else h ∷ modified hs (id - 1) change
@@ -35,7 +36,7 @@ live_of histories id = option_and_then (λ h. if h.live then Some h else None) (
 abbrev pub entries_in : Option History → List Entry
 entries_in o = option_map_or (λ h. h.entries) o []
 
--- the journal of that id, closed or not
+-- the journal of that id, live or closed
 abbrev pub journal_of : ServiceState → ℕ → List Entry
 journal_of state id = entries_in (history_of state.histories id)
 
@@ -43,11 +44,11 @@ journal_of state id = entries_in (history_of state.histories id)
 abbrev pub strip_on : Device → ℕ → Strip
 strip_on device width = record { width = width; rows = device.rows; io_rat = device.arch.io_rat }
 
--- a tenancy of that id and width as it is admitted
+-- a tenancy of that id and width at its admission
 abbrev pub admitted : Device → ℕ → ℕ → History
 admitted device id width = record { id = id; arch = device.arch; strip = strip_on device width; live = true; here = Some false; entries = [] }
 
--- one tenancy more, of the next id
+-- one more tenancy, with the next id
 abbrev pub with_tenancy : ServiceState → ℕ → ℕ → ServiceState
 with_tenancy state width offset = record state {
   plan = record state.plan { strips = state.plan.strips ++ record { id = length state.histories + 1; offset = offset; width = width } ∷ [] };
@@ -65,17 +66,17 @@ without_tenancy state id = record state {
 abbrev pub with_change : ServiceState → ℕ → (History → History) → ServiceState
 with_change state id change = record state { histories = modified state.histories id change }
 
--- the tenancy is one of that device, and its journal is that of the tenancy alone
+-- the tenancy has that device, and its journal is that of the tenancy alone
 pub record IsAloneOn (device : Device) (h : History) : Type 0 where
   pub arch : h.arch ≡ device.arch
   pub strip : h.strip ≡ strip_on device h.strip.width
   pub replayed : IsReplayed h.arch h.strip h.entries
 
--- so are all
+-- this holds of all tenancies
 abbrev pub AreAlone : ServiceState → Type 0
 AreAlone state = All (IsAloneOn state.device) state.histories
 
--- the width of that id's strip, as it is placed and as its tenancy has it
+-- the width of that id's strip: in the list of strips, and in the tenancy's history
 abbrev pub placed_width : List PlacedStrip → ℕ → Option ℕ
 placed_width strips id = option_map (λ s. s.width) (strip_of strips id)
 

@@ -1,6 +1,6 @@
 use tenant_slot::{Event, Reply};
 
-/// An entry of a journal: what happened to the tenancy, and what it was told.
+/// An entry of a journal: an event of the tenancy, and its reply.
 #[derive(Drop)]
 pub struct Entry {
     pub event: Event,

@@ -10,11 +10,13 @@ ghost use Rattle.service_core.specs.Headline.{AreOwnJournals, AreParted, AreTold
 ghost use Rattle.service_core.specs.OwnEvents.{own_events};
 ghost use Rattle.service_core.specs.Owners.{HasOneOwner};
 
-/// The main theorem. Whatever calls are made of the core of a device, in any order, with jobs out for any time and put, late or never,
-/// each tenancy was told what the service for a single user tells it for its own events, on a device of its strip's size, and
-/// is in that service's state, and its journal is those events with their replies. The strips of the live tenancies are parted. A
-/// resource is owned by a tenancy exactly while that is live and has it routed, alone, where its strip stands, and nothing has two
-/// owners. A look at the book is a call too, and lists just that.
+/// The main theorem. It holds for any calls of a device's core, in any order, with jobs out for any
+/// time and put, late or never. Each tenancy's replies are those of the service for a single user
+/// to its own events, on a device of its strip's size; the tenancy is in that service's state, and
+/// its journal is those events with their replies. The strips of the live tenancies are separated.
+/// A tenancy owns a resource exactly while it is live and its state alone has the resource routed,
+/// at its strip's offset; nothing has two owners. A look at the book is also a call, and lists
+/// exactly that.
 pub fn headline()
     ensures alone { (device : Device) (calls : List Call) (state : ServiceState) →
         Run (empty device) calls state → EachIsAlone device calls state }
@@ -28,9 +30,9 @@ pub fn headline()
         Run (empty device) calls state → HasOneOwner state }
 {}
 
-/// Two runs, on devices of the same architecture and rows that may differ in columns, and in which strips may stand anywhere
-/// beside any others: where two tenancies, one of each, have strips of one width and asked the same, they were told the same and
-/// are in the same state.
+/// Compares two runs on devices of one architecture and one number of rows. The devices may differ
+/// in columns, and strips may be at any offsets beside any others. If two tenancies, one of each
+/// run, have strips of one width and equal events, they got equal replies and are in equal states.
 pub fn same_alone()
     ensures { (device other : Device) (calls other_calls : List Call)
         (state other_state : ServiceState) (id other_id : ℕ) → Run (empty device) calls state →
@@ -40,8 +42,9 @@ pub fn same_alone()
         AreToldTheSame state id calls other_state other_id other_calls }
 {}
 
-/// A step that is put counts exactly where it is the next one of its tenancy's running job: of that tenancy and generation, with
-/// that number, and made from the same sources, by value. Any other is stale.
+/// A step that is put counts exactly if it is the next one of its tenancy's running job: of that
+/// tenancy and generation, with that number, and made from equal sources, by value. Any other step
+/// is stale.
 pub fn believed()
     ensures { (device : Device) (calls : List Call) (old new : ServiceState) (done : JobStep)
         (foreign : Bool) (reply : StepReply) → Run (empty device) calls old →

@@ -1,12 +1,17 @@
-//! All tenancies on one device: who is admitted and where, and what each is answered.
+//! All tenancies on one device: who is admitted and at which offset, and the reply to each call.
 //!
-//! - `Service` is the machine. The operator's calls are `admit` and `evict`, a tenant's is `tenant`.
-//! - The next step of a tenancy's running job leaves the service by `take`, is made anywhere, and comes back by `put`, or by
-//!   `give_back` if it wasn't made: at once, late or never. `put_from` compares nothing where the step is known to be the next one.
-//! - A tenancy has a journal of its own, kept when it ends: each event that was served, with its reply.
-//! - What a routed circuit holds of the device is its tenancy's, and is told by `owners`: nothing has two owners.
-//! - Each tenancy is answered as if it were alone on a device of its strip's size (`headline`). `specs/`
-//!   says what one call does (`Calls`), and what any list of them does (`Run`, `Headline`).
+//! - `Service` is the machine. The operator's calls are `admit`, `evict`, `move_strip` and
+//!   `owners`; a tenant's is `tenant`.
+//! - The next step of a tenancy's running job leaves the service by `take`, is made anywhere, and
+//!   comes back by `put`, or by `give_back` if it wasn't made: at once, late or never. `put_from`
+//!   compares nothing if the step is known to be the next one.
+//! - A tenancy has a journal of its own: each event that was served, with its reply. The journal is
+//!   kept when the tenancy ends.
+//! - A tenancy owns what its routed circuit occupies of the device; `owners` lists it. Nothing has
+//!   two owners.
+//! - Each tenancy is answered as if it were alone on a device of its strip's size (`headline`).
+//!   `specs/` says what one call does (`Calls`), and what any list of them does (`Run`,
+//!   `Headline`).
 #![tactic(auto)]
 
 mod device;

@@ -4,16 +4,16 @@ ghost use Rattle.service_core.specs.declared.not_served.NotServed.TheVariants.{N
 use std::alloc::AllocError;
 use std::marker::Model;
 
-/// Why the core has no reply for a tenant, and won't have one later.
+/// Why the core has no reply for a tenant, now and later.
 #[derive(Clone, Copy, PartialEq, Eq)]
 pub enum NoteCause {
-    /// The tenancy's journal has all the entries that it may have.
+    /// The tenancy's journal is full: it has 65,536 entries.
     JournalFull,
     /// The tenancy was never admitted, or was evicted.
     NoSuchTenancy,
 }
 
-/// A note that the core had no reply for that tenancy. The core alone makes it.
+/// A note that the core had no reply for that tenancy. Only the core makes notes.
 #[derive(Drop)]
 pub struct Note {
     pub(crate) id: u32,
@@ -29,13 +29,14 @@ impl Model for Note {
 }
 
 impl Note {
-    /// The tenancy that was asked for.
+    /// The id for which the call was made.
     pub fn id(&self) -> u32
         ensures { result ≡ self.now.id }
     {
         self.id
     }
 
+    /// Why the core had no reply.
     pub fn cause(&self) -> NoteCause
         ensures { result ≡ self.now.cause }
     {
@@ -43,7 +44,7 @@ impl Note {
     }
 }
 
-/// Why a command has no receipt, and no entry. Nothing changed.
+/// Why a command has no receipt and no entry. Nothing changed.
 #[derive(Drop)]
 pub enum NotServed {
     NoMemory,

@@ -8,13 +8,13 @@ use std::alloc::AllocError;
 #[derive(Clone, Copy, PartialEq, Eq)]
 pub enum OpRefusal {
     NoMemory,
-    /// No offset parts a strip of that width from the others.
+    /// A strip of that width is at no offset separated from the others.
     NoRoom,
     /// The device has 64 strips.
     TooManyStrips,
-    /// The width is 0, or above the device's columns.
+    /// The width is 0, or more than the device's columns.
     BadWidth,
-    /// The id is that of no live tenancy.
+    /// No live tenancy has that id.
     NoSuchTenancy,
     /// All ids have been given.
     IdsSpent,

@@ -3,8 +3,8 @@ ghost use Rattle.std.specs.Prelude.{◌≡◌};
 use std::marker::Model;
 use tenant_slot::{Command, Reply};
 
-/// A command that was served, its reply, and the number of its entry in the tenancy's journal, from 0.
-/// The core alone makes it.
+/// A command that was served, its reply, and the index of its entry in the tenancy's journal, from
+/// 0. Only the core makes receipts.
 #[derive(Drop)]
 pub struct Receipt {
     pub(crate) id: u32,
@@ -22,24 +22,28 @@ impl Model for Receipt {
 }
 
 impl Receipt {
+    /// The id of the tenancy.
     pub fn id(&self) -> u32
         ensures { result ≡ self.now.id }
     {
         self.id
     }
 
+    /// The index of the entry in the tenancy's journal, from 0.
     pub fn place(&self) -> u32
         ensures { result ≡ self.now.place }
     {
         self.place
     }
 
+    /// The command that was served.
     pub fn command(&self) -> &Command
         ensures { result.now ≡ self.now.command }
     {
         &self.command
     }
 
+    /// The reply to the command.
     pub fn reply(&self) -> &Reply
         ensures { result.now ≡ self.now.reply }
     {

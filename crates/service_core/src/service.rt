@@ -23,11 +23,12 @@ use std::marker::Model;
 use strips::{Layout, PlacedStrip};
 use tenant_slot::{Command, MAX_ENTRIES, Origin, StateName, StepReply};
 
-/// The most admissions: ids are 1 to 65,535, and no id is given twice.
+/// The largest number of admissions: ids are 1 to 65,535, and no id is given twice.
 pub const MAX_ADMISSIONS: usize = 65_535;
 
-/// The tenancies on one device. The tenancy of an id stands at `id - 1`, live or closed. Its value is the
-/// device, where the strips of the live tenancies stand, and each tenancy's history.
+/// The tenancies on one device. The tenancy of an id is at the index `id - 1`, live or closed. The
+/// value is the device, the strips of the live tenancies with their offsets, and each tenancy's
+/// history.
 #[derive(Drop)]
 pub struct Service {
     alloc: Global,
@@ -56,7 +57,8 @@ impl Model for Service {
 }
 
 impl Service {
-    /// The service of a device that no one uses.
+    /// Returns the service of a device without tenancies. Fails with [`AllocError`] if memory runs
+    /// out.
     pub fn new(alloc: Global, device: Device) -> Result<Self, AllocError>
         requires { IsDevice device }
         ensures { IfOk result (λ service. service ≡ empty device) }
@@ -77,7 +79,7 @@ impl Service {
         })
     }
 
-    /// How many tenancies have been admitted so far: their ids are 1 to that number.
+    /// The number of admissions so far: the ids are 1 to that number.
     pub fn admissions(&self) -> u32
         ensures value { result ≡ length self.now.histories }
         ensures few { result ≤ 65535 }
@@ -86,7 +88,7 @@ impl Service {
         self.tenancies.len() as u32
     }
 
-    /// The state of a live tenancy.
+    /// The state of a live tenancy; `None` if the tenancy isn't live.
     pub fn state(&self, id: u32) -> Option<StateName>
         ensures value { result ≡ option_map (λ h. (state_of h).name)
             (live_of self.now.histories id) }
@@ -98,21 +100,21 @@ impl Service {
         Some(self.tenancies[id as usize - 1].state())
     }
 
-    /// Whether `take` would give a job.
+    /// Returns whether [`Service::take`] would return a job.
     pub fn has_step(&self, id: u32) -> bool
         ensures { result ≡ takeable_in (live_of self.now.histories id) }
     {
         is_live(&self.tenancies, id) && self.tenancies[id as usize - 1].has_step()
     }
 
-    /// How many rows of logic blocks the device has.
+    /// The number of the device's rows of logic blocks.
     pub fn rows(&self) -> u32
         ensures value { result ≡ self.now.device.rows }
     {
         self.rows
     }
 
-    /// The width of a live tenancy's strip, in columns.
+    /// The width of a live tenancy's strip, in columns; `None` if the tenancy isn't live.
     pub fn width(&self, id: u32) -> Option<u32>
         ensures value { result ≡ option_map (λ h. h.strip.width) (live_of self.now.histories id) }
         ensures alone { AreAlone self.now }
@@ -123,7 +125,8 @@ impl Service {
         Some(self.tenancies[id as usize - 1].width())
     }
 
-    /// Where a live tenancy's strip stands: how many columns lie before it. All strips are parted.
+    /// The offset of a live tenancy's strip: the number of columns to the left of it. All strips
+    /// are separated. `None` if the tenancy isn't live.
     pub fn offset(&self, id: u32) -> Option<u32>
         ensures value { result ≡ offset_of self.now.plan.strips id }
         ensures laid_out { IsLaidOut self.now.plan }
@@ -133,7 +136,8 @@ impl Service {
         self.layout.offset(id)
     }
 
-    /// An entry of a journal, of closed tenancies too. Each journal's replies are those of its tenancy alone.
+    /// An entry of a journal, also of a closed tenancy; `None` if there is no such entry. Each
+    /// journal's replies are those of its tenancy alone.
     #[tactic(auto, using(crate::proofs::Lists::by_id))]
     pub fn entry(&self, id: u32, place: u32) -> Option<&Entry>
         ensures value { option_copied result ≡ slice_get (journal_of self.now id) place }
@@ -145,8 +149,9 @@ impl Service {
         self.tenancies[id as usize - 1].entry(place)
     }
 
-    /// Each pin, wire and pad of the device that is owned, with its owner, in node order: what the tenancy has routed, where
-    /// its strip stands. Nothing has two owners.
+    /// Lists each pin, wire and pad of the device that is owned, with its owner, in node order:
+    /// what the tenancy has routed, at its strip's offset. Nothing has two owners. Fails with
+    /// [`AllocError`] if memory runs out.
     pub fn owners(&self) -> Result<Vec<Owned>, AllocError>
         ensures value { IfOk result (λ list. ListsOwnersOf self.now list.items) }
         ensures exact { HasOneOwner self.now }
@@ -155,7 +160,8 @@ impl Service {
         self.book.owned(self.alloc)
     }
 
-    /// Where a tenancy of that width would be admitted now, if there is memory, or why not. All strips are parted.
+    /// Returns the offset at which a tenancy of that width would be admitted now, if memory
+    /// suffices, or why it would be refused. All strips are separated.
     pub fn room_for(&self, width: u32) -> Result<u32, OpRefusal>
         ensures admits { ChecksAdmission self.now width result }
         ensures laid_out { IsLaidOut self.now.plan }
@@ -165,7 +171,8 @@ impl Service {
         self.check_admission(width)
     }
 
-    /// Admits a tenancy, at the least offset that parts its strip from the others. Answers its id and offset.
+    /// Admits a tenancy, at the least offset at which its strip is separated from the others.
+    /// Returns its id and offset, or why it is refused; then nothing changes.
     pub fn admit(&mut self, width: u32) -> Result<(u32, u32), OpRefusal>
         ensures { IsAdmitted self.old width result self.new }
     {
@@ -183,7 +190,7 @@ impl Service {
         Ok((id, offset))
     }
 
-    /// Where a tenancy of that width is admitted, if there is memory.
+    /// Returns the offset at which a tenancy of that width is admitted, if memory suffices.
     fn check_admission(&self, width: u32) -> Result<u32, OpRefusal>
         ensures { ChecksAdmission self.now width result }
     {
@@ -202,7 +209,8 @@ impl Service {
         }
     }
 
-    /// Ends a tenancy. Its strip is free again, and its journal stays. Takes no memory.
+    /// Ends a tenancy. Its strip is free again, and its journal stays. Refused if the tenancy isn't
+    /// live. Takes no memory.
     pub fn evict(&mut self, id: u32) -> Result<(), OpRefusal>
         ensures { IsEvicted self.old id result self.new }
     {
@@ -217,8 +225,9 @@ impl Service {
         Ok(())
     }
 
-    /// Moves a live tenancy's strip to that offset, with all that the tenancy owns. Refused as NoRoom exactly where the strips would not be
-    /// parted then. Jobs that are out go on. Takes no memory.
+    /// Moves a live tenancy's strip to that offset, with all that the tenancy owns. Refused as
+    /// `NoRoom` exactly if the strips would not be separated then; a refused move changes nothing.
+    /// Jobs that are out go on. Takes no memory.
     pub fn move_strip(&mut self, id: u32, offset: u32) -> Result<(), OpRefusal>
         ensures { IsMoved self.old id offset result self.new }
     {
@@ -234,7 +243,7 @@ impl Service {
         Ok(())
     }
 
-    /// Where a live tenancy's strip stands.
+    /// The offset of a live tenancy's strip.
     fn place_of(&self, id: u32) -> u32
         requires { IsLiveIn self.now.histories id }
         ensures { IsPlaceOf self.now id result }
@@ -242,7 +251,8 @@ impl Service {
         self.offset(id).unwrap()
     }
 
-    /// Serves a command of a live tenancy, as if it were alone.
+    /// Serves a command of a live tenancy, as if it were alone. If the tenancy isn't live, its
+    /// journal is full or memory runs out, it fails with [`NotServed`] and nothing changes.
     pub fn tenant(&mut self, id: u32, command: Command) -> Result<Receipt, NotServed>
         ensures { IsServed self.old id command result self.new }
     {
@@ -268,8 +278,9 @@ impl Service {
         }
     }
 
-    /// The next step of a live tenancy's running job, which is out then; it is made just where it came back made. None where no job of it runs, that step is out, or the
-    /// journal is full. Takes no memory.
+    /// Takes the next step of a live tenancy's running job out; the step is made exactly if it came
+    /// back made. `None` if no job of it runs, that step is out already, or the journal is full.
+    /// Takes no memory.
     pub fn take(&mut self, id: u32) -> Option<AnyJob>
         ensures { IsTaken self.old id result self.new }
     {
@@ -279,15 +290,16 @@ impl Service {
         self.tenancies[id as usize - 1].take()
     }
 
-    /// Puts a step that was made, as if its tenancy were alone. Without memory it comes back.
+    /// Puts a step that was made, as if its tenancy were alone. If memory runs out, the step comes
+    /// back.
     pub fn put(&mut self, done: Done) -> Result<PutReply, (Done, AllocError)>
         ensures { Puts self.old done result self.new }
     {
         self.put_from(done, Origin::Unknown)
     }
 
-    /// Puts a step of which that is known, as `put` does. Where it is known to be its tenancy's next one, its sources are compared
-    /// with nothing. Without memory it comes back.
+    /// Puts a step as `put` does, with what the caller knows of it. If it is known to be its
+    /// tenancy's next one, its sources aren't compared. If memory runs out, the step comes back.
     pub fn put_from(&mut self, done: Done, origin: Origin) -> Result<PutReply, (Done, AllocError)>
         requires { IsOriginIn self.old done origin }
         ensures { Puts self.old done result self.new }
@@ -312,8 +324,9 @@ impl Service {
         }
     }
 
-    /// Takes back a job that wasn't stepped, or whose step couldn't be put. It is to be taken again where it is the next step of the
-    /// running one, and is dropped else. It is never recorded, and takes no memory.
+    /// Takes back a job that wasn't stepped, or whose step couldn't be put. If it is the next step
+    /// of the running one, it can be taken again; otherwise it is dropped. It is never recorded.
+    /// Takes no memory.
     pub fn give_back(&mut self, back: Back)
         ensures { IsGivenBack self.old back self.new }
     {
@@ -326,7 +339,7 @@ impl Service {
     }
 }
 
-/// Claims what a tenancy holds once a job of it has finished.
+/// Claims what a tenancy occupies after a job of it has finished.
 fn claim(book: &mut Book, id: u32, offset: u32, tenancy: &Tenancy, reply: StepReply)
     requires { CanTakeUp book.old id offset tenancy.now reply }
     ensures { TakesUp book.old id offset tenancy.now reply book.new }
@@ -337,7 +350,6 @@ fn claim(book: &mut Book, id: u32, offset: u32, tenancy: &Tenancy, reply: StepRe
     }
 }
 
-/// Whether that tenancy is live.
 #[tactic(auto, using(crate::proofs::Lists::by_id))]
 fn is_live(tenancies: &[Tenancy], id: u32) -> bool
     ensures { MatchBool result (IsLiveIn tenancies.now id) (live_of tenancies.now id ≡ None) }

@@ -43,7 +43,7 @@ impl Model for Tenancy {
 }
 
 impl Tenancy {
-    /// A tenancy as it is admitted.
+    /// A tenancy at its admission.
     pub(crate) fn new(
         alloc: Global,
         id: u32,
@@ -81,7 +81,7 @@ impl Tenancy {
         self.strip.width
     }
 
-    /// How many entries the journal has.
+    /// The number of entries in the journal.
     pub(crate) fn len(&self) -> u32
         ensures { result ≡ length self.now.entries }
     {
@@ -104,7 +104,7 @@ impl Tenancy {
         }
     }
 
-    /// Whether there is a step to take.
+    /// Returns whether there is a step to take.
     pub(crate) fn has_step(&self) -> bool
         requires { self.now.live ≡ true }
         ensures { result ≡ is_takeable (slot_of self.now) }
@@ -115,7 +115,7 @@ impl Tenancy {
         }
     }
 
-    /// What it holds of its strip, in node order.
+    /// What it occupies of its strip, in node order.
     pub(crate) fn routed(&self) -> &[Resource]
         requires { self.now.live ≡ true }
         ensures exact { (resource : Resource) →
@@ -129,8 +129,8 @@ impl Tenancy {
         }
     }
 
-    /// Serves a command, and keeps it with its reply. Hands out both. What the tenancy holds is given up where its state
-    /// changes.
+    /// Serves a command, records it with its reply, and returns copies of both. What the tenancy
+    /// occupies is released if its state changes.
     pub(crate) fn serve(
         &mut self,
         book: &mut Book,
@@ -168,7 +168,7 @@ impl Tenancy {
         }
     }
 
-    /// The next step of the running job, where it isn't out.
+    /// Takes the next step of the running job out; `None` if it is out already.
     pub(crate) fn take(&mut self) -> Option<AnyJob>
         requires { self.old.live ≡ true }
         ensures { TakesHistory self.old result self.new }
@@ -179,7 +179,8 @@ impl Tenancy {
         slot.take()
     }
 
-    /// Puts a step that was made, of which that is known, and keeps it with its reply. Without memory it is handed back.
+    /// Puts a step that was made, with what the caller knows of it, and records it with its reply.
+    /// If memory runs out, the step comes back.
     pub(crate) fn put(
         &mut self,
         done: Done,
@@ -206,7 +207,7 @@ impl Tenancy {
         Ok(reply)
     }
 
-    /// Takes a job back: it is to be taken again where it is the next step of the running one.
+    /// Takes a job back: if it is the next step of the running one, it can be taken again.
     pub(crate) fn give_back(&mut self, back: Back)
         requires live { self.old.live ≡ true }
         requires id { back.step.id ≡ self.old.id }
@@ -226,7 +227,7 @@ impl Tenancy {
     }
 }
 
-/// Gives up what a tenancy holds where it is answered that its state changes.
+/// Releases what a tenancy occupies if its reply says that its state changes.
 fn give_up(book: &mut Book, offset: u32, slot: &Slot, reply: &Reply)
     requires { StandsIn book.old.extent offset slot.now.state.arch slot.now.state.strip }
     ensures { GivesUp book.old (map (moved_resource offset) (routed_set slot.now.state)) reply.now
@@ -237,7 +238,7 @@ fn give_up(book: &mut Book, offset: u32, slot: &Slot, reply: &Reply)
     }
 }
 
-/// The answer to a command, and what is told of it. Nothing changes yet.
+/// The answer to a command, with copies of the command and of the reply. Nothing changes yet.
 fn answered(slot: &Slot, command: &Command) -> Result<(Answer, (Command, Reply)), NotServed>
     ensures ok { IfOk result (λ r. Answers slot.now command.now (Ok r.0) × (r.1.0 ≡ command.now)
         × (r.1.1 ≡ r.0.reply)) }

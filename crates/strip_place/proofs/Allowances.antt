@@ -1,4 +1,4 @@
--- By how much the cost may grow.
+-- The largest growth of the cost at which a change is kept.
 use Rattle.std.proofs.Common.{◌≡◌, ℕ, suc, ◌+◌, ◌-◌, ◌*◌, ◌^◌, ◌<◌, ◌≤◌, Bool, true, false, refl, sym, ap, ◌∙◌, ◌⊎◌, inl, inr, arith, mul-le-mul, mul_comm, zero-mul}
 use Rattle.std.specs.Prelude.{min, nat_le, nat_lt, ◌&&◌, ◌||◌}
 use Rattle.std.specs.Int.{div_ceil, leading_zeros, w32}
@@ -24,14 +24,15 @@ lt_true a b lt = grind (arith, nat_tests)
 lt_false : (a b : ℕ) → b ≤ a → nat_lt a b ≡ false
 lt_false a b le = grind (arith, nat_tests)
 
--- two tests that hold together
+-- two tests that imply each other are equal
 same_test : (a b : Bool) → (a ≡ true → b ≡ true) → (b ≡ true → a ≡ true) → a ≡ b
 same_test true true f g = refl
 same_test false false f g = refl
 same_test true false f g = sym (f refl)
 same_test false true f g = g refl
 
--- so many temperatures, rounded up, are within a number
+-- a loss in temperatures, rounded up, is at most n if and only if the loss is at most n
+-- temperatures
 ceil_within : (loss temperature n : ℕ) → 0 < temperature → div_ceil loss temperature ≤ n → loss ≤ temperature * n
 ceil_within loss temperature n warm le =
     let bounds = div_ceil_times loss temperature warm in
@@ -50,7 +51,7 @@ within_ceil loss temperature n warm le = by (cases_lt n (div_ceil loss temperatu
         let expand : (n + 1) * temperature ≡ temperature * n + temperature = grind arith in
         absurd (omega (arith, bounds.1, more, expand, le))
 
--- a word has so many leading zeros where it is below that power
+-- a word has at least k leading zeros if and only if it is below that power of two
 zeros_below : (word k : ℕ) → word < 2 ^ 32 → k ≤ count_leading_zeros 32 word → word < 2 ^ (32 - k)
 zeros_below word k small le =
     let length = leading_length 32 word small in

@@ -1,4 +1,4 @@
--- Sites are carried to their places: what is done to the one is done to the other.
+-- Operations on sites correspond to operations on their places.
 use Rattle.std.proofs.Common.{◌≡◌, ℕ, ◌+◌, ◌-◌, ◌%◌, ◌<◌, All, Bool, true, false, cond, eqb, List, [], ◌∷◌, length, get_or, map, refl, sym, ap, ◌∙◌, ◌⊎◌, arith, inl, inr, eq-eqb}
 use Rattle.std.proofs.lemmas.List.{get_or-map}
 use Rattle.std.proofs.lemmas.List.Elements.{All-head, All-tail}
@@ -19,7 +19,7 @@ use Rattle.strip_place.proofs.KeptSites.{is_itself, told_apart}
 use Rattle.strip_place.proofs.Standing.{place_is}
 use Rattle.strip_place.proofs.Starts.{site_inside, start_inside}
 
--- the place of a site that is drawn is the one that is drawn
+-- the place of a drawn site is the drawn place
 past_first : (target first number : ℕ) → target ≡ first + number → target - first ≡ number
 past_first target first number is = omega (arith, is)
 
@@ -57,7 +57,7 @@ module _ (strip : Strip) (distinct : AreDistinct strip) where
       let rest = map_carried home target sites h t (All-tail Inside site sites all) in
       cc
 
--- a draw that keeps what it did, one that undoes it, and one of the block's own place
+-- a draw that keeps its move, one that undoes it, and one to the block's own place
 draw_kept : (strip : Strip) (task : Task) (temperature : ℕ) (draw : Draw) (places : List Place) → is_kept temperature (cost_of task.nets places) (cost_of task.nets (after_move strip task draw places)) draw.a ≡ true → after_draw strip task temperature draw places ≡ after_move strip task draw places
 unfolding after_draw
 draw_kept strip task temperature draw places kept = ap (λ (b : Bool). cond b (after_move strip task draw places) places) kept
@@ -86,7 +86,7 @@ module _ (strip : Strip) (distinct : AreDistinct strip) (task : Task) (temperatu
   here : block < length sites
   here = omega (arith, within, standing.long)
 
-  -- what was drawn is the definition's
+  -- the move is that of the definition
   drawn_is : places_on strip moved ≡ after_move strip task draw places
   drawn_is =
       map_carried strip distinct (get_or sites block 0) target sites (start_inside strip task.kinds sites standing block 0 here) (site_inside strip (get_or task.kinds block Logic) target inside) (start_inside strip task.kinds sites standing)
@@ -98,7 +98,7 @@ module _ (strip : Strip) (distinct : AreDistinct strip) (task : Task) (temperatu
   draw_stays same =
       draw_own strip task temperature draw places (sym drawn_is ∙ ap (λ t. places_on strip (map (exchanged_site (get_or sites block 0) t) sites)) same ∙ ap (places_on strip) (map_itself (get_or sites block 0) sites))
 
-  -- a draw of another site: the move is kept or not, by what it costs
+  -- a draw to another site: the move is kept or not, as its cost decides
   pub draw_decided : (kept : Bool) → kept ≡ is_kept temperature (cost_of task.nets places) (cost_of task.nets (places_on strip moved)) draw.a → places_on strip (cond kept moved sites) ≡ after_draw strip task temperature draw places
   draw_decided kept decided = by kept (decided ∙ ap (λ (p : List Place). is_kept temperature (cost_of task.nets places) (cost_of task.nets p) draw.a) drawn_is)
     where

@@ -1,10 +1,10 @@
--- Passes become colder, and cold ones stay cold.
+-- Passes become colder, and cold ones are followed by cold ones.
 use Rattle.std.proofs.Common.{◌≡◌, ◌≢◌, ℕ, zero, suc, ◌+◌, ◌-◌, ◌*◌, ◌/◌, ◌≤◌, true, false, sym, ap, ◌∙◌, arith, eq-eqb}
 use Rattle.std.proofs.lemmas.Bool.{eqb-false, eqb-true}
 use Rattle.grid.specs.declared.Strip.{Strip}
 use Rattle.strip_place.specs.Anneal.{temperature_at, is_past_last}
 
--- a pass that is warm is one of few
+-- the number of warm passes is bounded
 cooled : (strip : Strip) (passes : ℕ) → temperature_at strip passes ≢ 0 → temperature_at strip passes + passes ≤ strip.width + strip.rows
 unfolding temperature_at
 cooled strip zero warm = omega arith

@@ -1,4 +1,4 @@
--- Boxes of nets of which a block goes elsewhere.
+-- Bounding boxes of nets one of whose blocks moves.
 use Rattle.std.proofs.Common.{◌≡◌, ◌≢◌, ℕ, ◌+◌, ◌-◌, ◌<◌, ◌≤◌, cond, eqb, List, length, map, get_or, refl, sym, subst, ◌∙◌, ◌⊎◌, inl, inr, arith}
 use Rattle.std.specs.Prelude.{max, min}
 use Rattle.std.proofs.lemmas.Bool.{cases_eq, cases_lt}
@@ -16,7 +16,7 @@ use Rattle.strip_place.proofs.Lengths.{is_in}
 use Rattle.strip_place.proofs.Nearness.{IsNearSoFar, near_all, near_more}
 use Rattle.strip_place.proofs.Swaps.{AreExchanged, box_counts, none_on, same_each, swapped, x_of, y_of}
 
--- what is near stays where as many as before stand up to there
+-- the nearest distances are unchanged if the numbers of blocks up to them are
 near_up_to : (old new : ℕ → ℕ) (near next : ℕ) → ((c : ℕ) → c ≤ next → new c ≡ old c) → IsNear old near next → IsNear new near next
 near_up_to old new near next same is = record {
   near_inside = is.near_inside;
@@ -38,7 +38,7 @@ near_up_to old new near next same is = record {
     by (inl far) = inl far
     by (inr more) = inr (omega (arith, same next (omega arith), more))
 
--- a block that stood farther than the two that are near goes elsewhere
+-- a block that was farther than the two nearest moves
 near_moved : (old new : ℕ → ℕ) (near next from to : ℕ) → next < from → to ≤ 65535 → 0 < old from → ((c : ℕ) → c ≤ 65535 → new c + cond {A = ℕ} (eqb from c) 1 0 ≡ old c + cond (eqb to c) 1 0) → IsNear old near next → IsNear new (min to near) (min next (max near to))
 near_moved old new near next from to deep small stood each is = near_all new 2 (min to near) (min next (max near to)) (omega arith) (near_more mid new 1 near next to small more so_far)
   where
@@ -58,14 +58,14 @@ near_moved old new near next from to deep small stood each is = near_all new 2 (
         by (inl e) at = (let some : 0 < old c = subst (λ n. 0 < old n) e stood in grind (arith, nat_tests, at))
         by (inr off) at = grind (arith, nat_tests, at)
 
--- the same, as seen from the other side
+-- a block that was farther than the two nearest moves, as seen from the other side
 near_moved_mirrored : (old new : ℕ → ℕ) (near next from to : ℕ) → next < 65535 - from → from ≤ 65535 → to ≤ 65535 → HasMoved old new from to → IsNear (mirrored old) near next → IsNear (mirrored new) (min (65535 - to) near) (min next (max near (65535 - to)))
 near_moved_mirrored old new near next from to deep from_inside to_inside moved is =
     near_moved (mirrored old) (mirrored new) near next (65535 - from) (65535 - to) deep (omega arith)
     (let e : from ≡ 65535 - (65535 - from) = omega arith in subst (λ n. 0 < old n) e moved.stood)
     (λ c inside. (let each = moved.each (65535 - c) in grind (arith, nat_tests, each))) is
 
--- what went there can go back
+-- a move can be undone
 moved_back : (old new : ℕ → ℕ) (from to : ℕ) → HasMoved old new from to → HasMoved new old to from
 moved_back old new from to moved = record {
   stood = by (cases_eq from to);
@@ -76,7 +76,7 @@ moved_back old new from to moved = record {
     by (inl e) = (let some : 0 < old to = subst (λ n. 0 < old n) e moved.stood in let each = moved.each to in grind (arith, nat_tests, each, some))
     by (inr ne) = (let each = moved.each to in grind (arith, nat_tests, each))
 
--- a box that meets a block of it where it is now
+-- a box that is extended to the block's new point
 box_moved : (columns new_columns rows new_rows : ℕ → ℕ) (box : NetBox) (from to : Point) → from.x ≤ 65535 → from.y ≤ 65535 → to.x ≤ 65535 → to.y ≤ 65535 → HasMoved columns new_columns from.x to.x → HasMoved rows new_rows from.y to.y → IsDeep box (sides_of from) → IsBoxBy columns rows box
     → IsBoxBy new_columns new_rows (met box (sides_of to))
 box_moved columns new_columns rows new_rows box from to from_x from_y to_x to_y across along deep is = record {
@@ -88,7 +88,8 @@ box_moved columns new_columns rows new_rows box from to from_x from_y to_x to_y 
   rows_inside = λ c past. (let each = along.each c in let off = is.rows_inside c past in grind (arith, nat_tests, each, off));
 }
 
--- two blocks changed places: the boxes of the nets of the one, there and back
+-- two blocks changed places: the boxes of the nets of one of them, for the move and for the move
+-- back
 module _ (old new : List Point) (nets : List (List ℕ)) (block other : ℕ) (from to : Point) (are : AreExchanged old new block other from to)
     (there : (number : ℕ) → number < length nets → 0 < times_on other (net_at nets number) → point_at old other ≡ to) (first second : List ℕ) (mine : AreTouched nets block first) (theirs : AreTouched nets other second)
     (from_x : from.x ≤ 65535) (from_y : from.y ≤ 65535) (to_x : to.x ≤ 65535) (to_y : to.y ≤ 65535) where
@@ -121,11 +122,11 @@ module _ (old new : List Point) (nets : List (List ℕ)) (block other : ℕ) (fr
             (moved_back (at_column old net) (at_column new net) from.x to.x (moves x_of refl k lt off)) (moved_back (at_row old net) (at_row new net) from.y to.y (moves y_of refl k lt off)) deep is;
       }
 
--- the first so many were renewed, and the number of another net comes later
+-- the first ones were updated, and the number of another net comes later
 pub later : (numbers : List ℕ) (count : ℕ) → ((k j : ℕ) → k < j → j < length numbers → get_or numbers k 0 < get_or numbers j 0) → count < length numbers → (k : ℕ) → k < count → get_or numbers k 0 ≢ get_or numbers count 0
 later numbers count rising lt k below e = absurd (omega (arith, rising k count below lt, e))
 
--- once the first list is renewed, so can the second be
+-- once the boxes of the first list are updated, those of the second can be
 pub renewed_first : (points : List Point) (nets : List (List ℕ)) (one two : List ℕ) (old new : List NetBox) (total : ℕ) (from to : Sides) → AreRenewed points nets one (length one) old new total → CanRenew points nets two one old from to → CanRenew points nets two one new from to
 renewed_first points nets one two old new total from to renewed can = record {
   lawful = can.lawful;

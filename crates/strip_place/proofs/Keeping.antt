@@ -1,4 +1,4 @@
--- Places that are kept.
+-- Kept places.
 use Rattle.std.proofs.Common.{ℕ, zero, suc, ◌≡◌, ◌≢◌, ◌+◌, ◌<◌, ◌≤◌, Bool, true, false, cond, List, [], ◌∷◌, ◌++◌, Some, Result, Ok, Err, IfOk, length, take, get_or, slice_get, refl, sym, ap, subst, ◌∙◌, arith}
 use Rattle.std.specs.Prelude.{AllPairs, Contains}
 use Rattle.std.specs.List.{IsDistinct, zip}
@@ -25,7 +25,7 @@ use Rattle.kept_places.proofs.Entries.{find-in_order, tied}
 use Rattle.strip_place.specs.Keeping.{AreKeptOn, kind_for}
 use Rattle.block_places.specs.Placed.{ArePlaced, block_at}
 
--- what is found by a key
+-- the place that is found for a key
 zip_found : (keys : List BlockKey) (places : List Place) (key : BlockKey) (place : Place) → find key_order key (zip keys places) ≡ Some place →
     (n : ℕ) × (n < length keys) × (n < length places) × ((d : BlockKey) → get_or keys n d ≡ key) × ((d : Place) → get_or places n d ≡ place)
 zip_found [] places key place is = absurd cc
@@ -46,7 +46,7 @@ key_kind packed (InputPad net) = refl
 key_kind packed (OutputPad net) = refl
 key_kind packed (Cluster cluster) = refl
 
--- places that are those of blocks may be kept
+-- the places of placed blocks may be kept
 pub placed_kept : (strip : Strip) (packed : PackedCircuit) (places : List Place) → ArePlaced strip packed places → AreKeptOn strip (in_order (zip (keys_of packed) places))
 placed_kept strip packed places placed = record {
   by_kind = λ key place is.
@@ -64,7 +64,7 @@ placed_kept strip packed places placed = record {
       sym (one.3 key) ∙ (ap (λ n. get_or (keys_of packed) n key) same ∙ two.3 key));
 }
 
--- entries that are gathered
+-- the entries that are gathered
 pub gathered : (packed : PackedCircuit) (places : List Place) (block : ℕ) (rows : List KeptPlace) (row : KeptPlace) → entries_of rows ≡ take block (zip (keys_of packed) places) → slice_get (keys_of packed) block ≡ Some (entry_of row).0 → slice_get places block ≡ Some row.place →
     entries_of (rows ++ row ∷ []) ≡ take (block + 1) (zip (keys_of packed) places)
 gathered packed places block rows row so_far key place =
@@ -105,13 +105,13 @@ other_key key other differs = by (eq_by_cmp key_order key other) refl
     by false is = refl
     by true is = absurd (differs (tied key other is))
 
--- their keys are different
+-- the keys of the entries are different
 pub keys_distinct : (strip : Strip) (packed : PackedCircuit) (places : List Place) (rows : List KeptPlace) → ArePlaced strip packed places → AllPairs (λ key other. key ≢ other) (keys_of packed) → entries_of rows ≡ zip (keys_of packed) places → IsDistinct (eq_by_cmp key_order) (entries.keys_of (entries_of rows))
 keys_distinct strip packed places rows placed apart are =
     let keys : entries.keys_of (entries_of rows) ≡ keys_of packed = ap entries.keys_of are ∙ zip_keys (keys_of packed) places (placed.long ∙ sym (length-map (blocks_of packed) (key_of packed))) in
     subst (IsDistinct (eq_by_cmp key_order)) (sym keys) (IsDistinct-from_apart (eq_by_cmp key_order) (keys_of packed) (λ i j d before lt. other_key _ _ (apart i j d before lt)))
 
--- what was made of them
+-- the map that is built from the entries
 pub kept_exact : {E : Type 0} (packed : PackedCircuit) (places : List Place) (rows : List KeptPlace) (made : Result KeptPlaces E) → entries_of rows ≡ zip (keys_of packed) places → IfOk made (λ kept. kept ≡ in_order (entries_of rows)) → IfOk made (λ kept. kept ≡ in_order (zip (keys_of packed) places))
 kept_exact packed places rows (Ok kept) are is = is ∙ ap in_order are
 kept_exact packed places rows (Err error) are is = tt

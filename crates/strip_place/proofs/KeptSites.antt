@@ -1,4 +1,4 @@
--- The sites of places that are kept.
+-- The sites of kept places.
 use Rattle.std.proofs.Common.{ℕ, zero, suc, ◌≡◌, ◌≢◌, ◌+◌, ◌-◌, ◌<◌, inl, inr, Bool, true, false, not, cond, List, [], ◌∷◌, Option, Some, None, length, map, get_or, slice_get, refl, sym, ap, subst, ◌∙◌, arith}
 use Rattle.std.specs.Prelude.{AllPairs, Contains, option_map}
 use Rattle.std.specs.List.{position_or_len}
@@ -39,7 +39,7 @@ told_apart a b differs = by (is_same_place a b) refl
     by false is = refl
     by true is = absurd (differs (sym (same_parts a b (grind (arith, nat_tests, is)) (grind (arith, nat_tests, is)) (grind (arith, nat_tests, is)))))
 
--- the place stands at its number
+-- a place is found at its index
 pub position_at : (places : List Place) (number : ℕ) (place : Place) → AllPairs (λ place next. place ≢ next) places → slice_get places number ≡ Some place → position_or_len (is_same_place place) places ≡ number
 position_at [] number place apart is = absurd (let lt = slice_get_within [] number place is in omega (arith, lt))
 position_at (first ∷ places) zero place apart is =
@@ -117,7 +117,7 @@ module _ (strip : Strip) (apart : (kind : Kind) → AllPairs (λ place next. pla
         at : (block : ℕ) → block < length (blocks_of packed) → get_or (keys_of packed) block (key_of packed no_block) ≡ key_of packed (get_or (blocks_of packed) block no_block)
         at block lt = get_or-map (key_of packed) (blocks_of packed) block no_block (key_of packed no_block) lt
 
-    -- the sites that blocks keep are of their kinds, and no two the same
+    -- the kept sites are of their blocks' kinds, and no two are the same
     pub kept_lawful_by : AreKeptSites strip (map kind_of (blocks_of packed)) (kept_sites_of strip packed kept)
     kept_lawful_by = record {
       long = length-map (keys_of packed) site_by ∙ (length-map (blocks_of packed) (key_of packed) ∙ sym kinds_long);
@@ -142,6 +142,6 @@ module _ (strip : Strip) (apart : (kind : Kind) → AllPairs (λ place next. pla
 pub kept_lawful : (strip : Strip) (packed : PackedCircuit) (kept : KeptPlaces) → ((kind : Kind) → AllPairs (λ place next. place ≢ next) (places_of strip kind)) → AllPairs (λ key other. key ≢ other) (keys_of packed) → AreKeptOn strip kept → AreKeptSites strip (map kind_of (blocks_of packed)) (kept_sites_of strip packed kept)
 kept_lawful strip packed kept apart keys lawful = kept_lawful_by strip apart packed kept keys lawful
 
--- where none is kept
+-- an empty map suits every strip
 pub none_kept : (strip : Strip) → AreKeptOn strip []
 none_kept strip = record { by_kind = λ key place is. absurd cc; one_to_one = λ key other place is also. absurd cc }

@@ -4,7 +4,7 @@ use Rattle.std.proofs.lemmas.List.{drop_all, drop_more}
 use Rattle.std.proofs.lemmas.List.Sums.{prefix_len-drop_all, prefix_len-drop_no, prefix_len-drop_yes}
 use Rattle.strip_place.specs.Vacancies.{first_from, mark_at, marked}
 
--- all from that one on are marked so far
+-- all sites from the first one up to this one are marked
 pub record IsSearching (marks : List Bool) (from site : ℕ) : Type 0 where
   pub within : site ≤ length marks
   pub first : first_from marks site ≡ first_from marks from
@@ -24,7 +24,7 @@ searching_free marks from site d lt is so_far = (let none = prefix_len-drop_no (
 pub searching_all : (marks : List Bool) (from site : ℕ) → length marks ≤ site → IsSearching marks from site → site ≡ first_from marks from
 searching_all marks from site past so_far = (let none = prefix_len-drop_all (λ (mark : Bool). mark) marks site past in omega (arith, none, so_far.first))
 
--- one site more is marked
+-- one more site is marked
 pub marked_more : (marks : List Bool) (kept : List (Option ℕ)) (index : ℕ) (d : Option ℕ) → index < length kept → marked marks (drop index kept) ≡ marked (mark_at marks (get_or kept index d)) (drop (index + 1) kept)
 marked_more marks kept index d lt = ap (marked marks) (drop_more kept index d lt)
 

@@ -1,4 +1,4 @@
--- What is near a side, as blocks are met and as they go.
+-- The distances nearest to a side, as blocks are added and as they move.
 use Rattle.std.proofs.Common.{◌≡◌, ℕ, ◌+◌, ◌-◌, ◌<◌, ◌≤◌, Bool, true, false, cond, eqb, refl, ap, subst, ◌∙◌, ◌⊎◌, inl, inr, arith}
 use Rattle.std.specs.Prelude.{max, min}
 use Rattle.std.proofs.lemmas.Bool.{cases_eq, cases_lt}
@@ -9,7 +9,7 @@ use Rattle.strip_place.specs.Extents.{HasCome, IsNear, IsReach, mirrored}
 use Rattle.strip_place.specs.Boxes.{IsBoxBy, met}
 use Rattle.strip_place.specs.Sides.{sides_of}
 
--- the nearest of those at the front
+-- the nearest distances of the first blocks
 pub record IsNearSoFar (at_each : ℕ → ℕ) (met near next : ℕ) : Type 0 where
   pub near_inside : near ≤ 65535
   pub next_inside : next ≤ 65535
@@ -78,11 +78,11 @@ near_more old new met near next value small more so_far = record {
 pub near_all : (at_each : ℕ → ℕ) (met near next : ℕ) → 0 < met → IsNearSoFar at_each met near next → IsNear at_each near next
 near_all at_each met near next some so_far = record { near_inside = so_far.near_inside; next_inside = so_far.next_inside; some = so_far.some some; below = so_far.below; again = so_far.again }
 
--- one block more, as seen from the other side
+-- one more block, as seen from the other side
 pub more_mirrored : (old new : ℕ → ℕ) (value : ℕ) → value ≤ 65535 → ((c : ℕ) → new c ≡ old c + cond (eqb value c) 1 0) → (c : ℕ) → c ≤ 65535 → mirrored new c ≡ mirrored old c + cond (eqb (65535 - value) c) 1 0
 more_mirrored old new value small more c inside = (let each = more (65535 - c) in grind (arith, nat_tests, each))
 
--- where the counts stay
+-- the nearest distances are unchanged if all numbers of blocks are
 pub near_same : (old new : ℕ → ℕ) (near next : ℕ) → ((c : ℕ) → new c ≡ old c) → IsNear old near next → IsNear new near next
 near_same old new near next same is = record {
   near_inside = is.near_inside;
@@ -96,7 +96,7 @@ near_same old new near next same is = record {
     by (inl none) = inl none
     by (inr g) = inr (omega (arith, same next, g))
 
--- both ends of what is near two sides
+-- the extent between the nearest distances of two sides
 pub reach_between : (at_each : ℕ → ℕ) (left left_next right right_next : ℕ) → IsNear at_each left left_next → IsNear (mirrored at_each) right right_next → ((c : ℕ) → 65535 < c → at_each c ≡ 0) → IsReach at_each left (65535 - right)
 reach_between at_each left left_next right right_next low high inside = record {
   low_some = low.some;
@@ -112,7 +112,7 @@ reach_between at_each left left_next right right_next low high inside = record {
         let fits = high.near_inside in
         ap at_each e ∙ high.below (65535 - c) (omega arith)
 
--- the ends are in order
+-- the ends of the extent are in order
 pub reach_ordered : (at_each : ℕ → ℕ) (low high : ℕ) → IsReach at_each low high → low ≤ high
 reach_ordered at_each low high is = by (cases_lt high low)
   where
@@ -120,14 +120,14 @@ reach_ordered at_each low high is = by (cases_lt high low)
     by (inl lt) = absurd (omega (arith, is.above low lt, is.low_some))
     by (inr le) = le
 
--- a block came, and others stayed
+-- a block arrived and the others are unchanged, as seen from the other side
 pub come_mirrored : (old new : ℕ → ℕ) (from to : ℕ) → from ≤ 65535 → to ≤ 65535 → HasCome old new from to → HasCome (mirrored old) (mirrored new) (65535 - from) (65535 - to)
 come_mirrored old new from to from_inside to_inside come = record {
   arrived = (let e : to ≡ 65535 - (65535 - to) = omega arith in subst (λ n. 0 < new n) e come.arrived);
   kept = λ c inside some. come.kept (65535 - c) (omega arith) (grind (arith, nat_tests, some));
 }
 
--- what is near once a block went is still there
+-- the nearest distance after a block left is still occupied
 pub still_there : (old new : ℕ → ℕ) (from to near next : ℕ) → to ≤ 65535 → IsNear old near next → HasCome old new from to → 0 < new (min (cond {A = ℕ} (eqb near from) next near) to)
 still_there old new from to near next small is come = by (eqb near from) refl
   where
@@ -144,7 +144,7 @@ still_there old new from to near next small is come = by (eqb near from) refl
     by true e = next_by (grind (arith, nat_tests)) (cases_lt next to) is.again
     by false e = near_by e (cases_lt near to)
 
--- the box of the blocks at the front
+-- the box of the first blocks
 pub record IsBoxSoFar (columns rows : ℕ → ℕ) (count : ℕ) (box : NetBox) : Type 0 where
   pub left : IsNearSoFar columns count box.near.left box.next.left
   pub right : IsNearSoFar (mirrored columns) count box.near.right box.next.right

@@ -1,4 +1,4 @@
--- Nets whose blocks change places.
+-- Nets two of whose blocks change places.
 use Rattle.std.proofs.Common.{◌≡◌, ◌≢◌, ℕ, ◌+◌, ◌<◌, ◌≤◌, true, false, List, [], ◌∷◌, ◌++◌, length, take, drop, set, get_or, refl, sym, ap, ◌∙◌, ◌⊎◌, inl, inr, arith, get_or-set_same, get_or-set_other, length-set}
 use Rattle.std.specs.Prelude.{nat_le, sum_by}
 use Rattle.std.proofs.lemmas.Bool.Decides.{nat_tests}
@@ -18,14 +18,14 @@ use Rattle.strip_place.proofs.Touches.{touched_few}
 abbrev pub wiring_of : List (List ℕ) → List Point → Wiring
 wiring_of nets points = record { nets = nets; points = points }
 
--- a list that was lent and written as a whole
+-- a list that is lent and written as a whole
 pub whole_back : (count : ℕ) (new old : List NetBox) → length new ≡ count → take count (new ++ drop (length new) old) ≡ new
 whole_back count new old long =
     let fits : count ≤ length new = omega arith in
     let all : length new ≤ count = omega arith in
     take-append-le count new (drop (length new) old) fits ∙ take_all count new all
 
--- wires on which two blocks change places
+-- the nets of a board on which two blocks change places
 module _ (nets touching : List (List ℕ)) (points : List Point) (boxes : List NetBox) (block other : ℕ) (there : Point) (first second : List ℕ)
     (wired : IsWired nets touching points boxes) (within : block < length points) (inside : other < length points) (differs : block ≢ other)
     (stood : (point_at points other ≡ there) ⊎ IsOnNone nets other) (first_is : get_or touching block [] ≡ first) (second_is : get_or touching other [] ≡ second) where
@@ -46,7 +46,7 @@ module _ (nets touching : List (List ℕ)) (points : List Point) (boxes : List N
   pub few_second : AreFewOf (length nets) second
   few_second = record { few = omega (arith, touched_few nets other second theirs, wired.lawful.few); within = theirs.within }
 
-  -- they come to be at least as long as their boxes say
+  -- they will be at least as long as their boxes say
   module _ (here_x : (point_at points block).x ≤ 65535) (here_y : (point_at points block).y ≤ 65535) (there_x : there.x ≤ 65535) (there_y : there.y ≤ 65535) where
     pub least_first : length_after boxes (sides_of (point_at points block)) (sides_of there) first ≤ reached_length (points_after points block other there) nets first
     least_first = least_after points (points_after points block other there) nets first block other (point_at points block) there boxes (exchanged_points points block other there within inside differs) wired.lawful mine wired.exact (known stood) here_x here_y there_x there_y
@@ -81,7 +81,7 @@ module _ (nets touching : List (List ℕ)) (points : List Point) (boxes : List N
     exact = renewed_again points (points_after points block other there) nets first second boxes told last total again wired.exact once twice;
   }
 
-  -- the boxes of the two blocks' nets can be worked out, there and back
+  -- the boxes of the two blocks' nets can be updated, for the move and for the move back
   module _ (here_x : (point_at points block).x ≤ 65535) (here_y : (point_at points block).y ≤ 65535) (there_x : there.x ≤ 65535) (there_y : there.y ≤ 65535) where
     stands : (k : ℕ) → k < length second → point_at points other ≡ there
     stands k lt = known stood (get_or second k 0) (theirs.within k lt) (omega (arith, theirs.on k lt))
@@ -127,12 +127,12 @@ module _ (nets touching : List (List ℕ)) (points : List Point) (boxes : List N
       ≡ nat_le (sum_by (reach_of (points_after points block other there)) nets) (sum_by (reach_of points) nets + allowance)
   fits_is allowance = grows points (points_after points block other there) nets first second block other (point_at points block) there allowance boxes (exchanged_points points block other there within inside differs) wired.lawful mine theirs wired.exact (known stood)
 
-  -- boxes are not longer than the field is wide and high
+  -- the half perimeter of a box is at most that of the field
   pub sums_small : (lent : List NetBox) → lent ≡ boxes → (number : ℕ) → number < length lent → sum_of (box_at lent number).near ≤ 131070
   sums_small lent same number lt =
       rw same (box_sum points (net_at nets number) (box_at boxes number) (wired.exact.exact number (omega (arith, ap length same, wired.exact.long))))
 
-  -- what is told of the lengths
+  -- the decision by the lengths is that of the definition
   pub kept_is : (allowance before total : ℕ) → before ≡ boxed_length boxes first + boxed_length boxes second → total ≡ reached_length (points_after points block other there) nets first + reached_length (points_after points block other there) nets second → total ≤ before + allowance
       → true ≡ nat_le (sum_by (reach_of (points_after points block other there)) nets) (sum_by (reach_of points) nets + allowance)
   kept_is allowance before total before_is total_is le =
@@ -149,7 +149,7 @@ module _ (nets touching : List (List ℕ)) (points : List Point) (boxes : List N
       le_false : (a b : ℕ) → b < a → false ≡ nat_le a b
       le_false a b lt = grind (arith, nat_tests)
 
--- points that were written and written back
+-- points that are written and then restored
 pub points_back : (points : List Point) (block other : ℕ) (there : Point) → block ≢ other → set (set (points_after points block other there) block (point_at points block)) other (point_at points other) ≡ points
 points_back points block other there differs = ext_get_or nowhere (set (set (points_after points block other there) block (point_at points block)) other (point_at points other)) points long (λ k lt. by k (omega (arith, long)) (cases_eq k other) (cases_eq k block))
   where

@@ -14,14 +14,14 @@ use Rattle.strip_place.specs.Sites.{AreOneToOne, IsSiteFor, first_site, is_among
 use Rattle.strip_place.specs.Starting.{AreKeptSites, HaveRoom, logic_in, pads_in}
 use Rattle.strip_place.proofs.Vacant.{IsLeast, all_free, among_before, among_last, free_count, free_less, free_past, free_same, least_found}
 
--- a block that starts: its kind, and the site that it keeps
+-- a block at the start: its kind, and the site that is kept for it
 abbrev pub Comer : Type 0
 Comer = Kind × Option ℕ
 
 abbrev pub nobody : Comer
 nobody = (Logic, None)
 
--- how many sites of a kind are free, and how many blocks need one of those
+-- the number of free sites of a kind, and the number of blocks that need one of them
 abbrev pub free : Strip → Kind → List ℕ → ℕ
 free strip kind taken = free_count taken (first_site strip kind) (site_count strip kind)
 
@@ -29,12 +29,12 @@ abbrev pub needs : Kind → List Comer → ℕ
 needs kind [] = 0
 needs kind (block ∷ blocks) = cond {A = ℕ} (is_same_kind kind block.0 && is_none block.1) 1 0 + needs kind blocks
 
--- there are enough, and what is kept is taken
+-- there are enough free sites, and the kept sites are taken
 pub record HasRoom (strip : Strip) (taken : List ℕ) (blocks : List Comer) : Type 0 where
   pub room : (kind : Kind) → needs kind blocks ≤ free strip kind taken
   pub kept : (block site : ℕ) → block < length blocks → (get_or blocks block nobody).1 ≡ Some site → is_among taken site ≡ true
 
--- the least site of a kind, where one is needed
+-- the least free site of a kind, when one is needed
 least_site : (strip : Strip) (kind : Kind) (taken : List ℕ) → 1 ≤ free strip kind taken → IsLeast taken (first_site strip kind) (site_count strip kind) (least_free strip kind taken)
 least_site strip kind taken some =
     let least = least_found taken (first_site strip kind) (site_count strip kind) some in
@@ -49,7 +49,7 @@ pub least_seat : (strip : Strip) (kind : Kind) (taken : List ℕ) (blocks : List
 least_seat strip Logic taken blocks room = least_site strip Logic taken (omega (arith, room.room Logic))
 least_seat strip Pad taken blocks room = least_site strip Pad taken (omega (arith, room.room Pad))
 
--- room for the others
+-- there are still enough sites for the remaining blocks
 pub room_more : (strip : Strip) (taken : List ℕ) (block : Comer) (blocks : List Comer) → HasRoom strip taken (block ∷ blocks) → HasRoom strip (taken ++ site_for strip taken block ∷ []) blocks
 room_more strip taken (kind, Some site) blocks room = record {
   room = λ k. omega (arith, room.room k, free_same taken site (first_site strip k) (site_count strip k) (room.kept 0 site (omega arith) refl), none_needed (is_same_kind k kind));
@@ -74,7 +74,7 @@ room_more strip taken (kind, None) blocks room =
     by Pad Logic room less past from below = omega (arith, room, past (inl (omega (arith, below))))
     by Pad Pad room less past from below = omega (arith, room, less)
 
--- where a block sits: on the site that it keeps, or on one of its kind that was free
+-- the site of a block: the one that is kept for it, or one of its kind that was free
 abbrev pub Sits : Strip → List ℕ → Comer → ℕ → Type 0
 Sits strip taken block site = (block.1 ≡ Some site) ⊎ ((block.1 ≡ None) × (is_among taken site ≡ false) × IsSiteFor strip block.0 site)
 
@@ -98,11 +98,11 @@ sits strip taken (first ∷ blocks) (suc block) room lt =
       | inr free ↦ inr (free.0, not_before taken site _ free.1, free.2)
     ]
 
--- no two blocks keep one site
+-- no two blocks keep the same site
 abbrev pub KeepApart : List Comer → Type 0
 KeepApart blocks = (block other site : ℕ) → block < length blocks → other < length blocks → (get_or blocks block nobody).1 ≡ Some site → (get_or blocks other nobody).1 ≡ Some site → block ≡ other
 
--- no two sit on one
+-- no two blocks have the same site
 differ : (strip : Strip) (taken : List ℕ) (blocks : List Comer) (i j : ℕ) → HasRoom strip taken blocks → KeepApart blocks → i < j → j < length blocks → get_or (seated_behind strip taken blocks) i 0 ≢ get_or (seated_behind strip taken blocks) j 0
 differ strip taken [] i j room apart lt within same = absurd (omega (arith, within))
 differ strip taken (first ∷ blocks) i zero room apart lt within same = absurd (omega (arith, lt))
@@ -133,12 +133,12 @@ pub length-seated : (strip : Strip) (taken : List ℕ) (blocks : List Comer) →
 length-seated strip taken [] = refl
 length-seated strip taken (block ∷ blocks) = ap suc (length-seated strip (taken ++ site_for strip taken block ∷ []) blocks)
 
--- how many blocks of a kind keep a site
+-- the number of blocks of a kind that keep a site
 abbrev keeps : Kind → List Comer → ℕ
 keeps kind [] = 0
 keeps kind (block ∷ blocks) = cond {A = ℕ} (is_same_kind kind block.0 && not (is_none block.1)) 1 0 + keeps kind blocks
 
--- and all of a kind
+-- the number of all blocks of a kind
 abbrev pub all_of : Kind → List Kind → ℕ
 all_of Logic kinds = logic_in kinds
 all_of Pad kinds = pads_in kinds
@@ -162,7 +162,7 @@ needs_and_keeps k (kind ∷ kinds) [] long = absurd (omega (arith, long))
 needs_and_keeps k (kind ∷ kinds) (site ∷ kept) long =
     omega (arith, needs_and_keeps k kinds kept (omega (arith, long)), split (is_same_kind k kind) site, all_more k kind kinds)
 
--- each kept site is one of its block's kind
+-- each kept site is of its block's kind
 abbrev KeepTheirs : Strip → List Comer → Type 0
 KeepTheirs strip blocks = (block site : ℕ) → block < length blocks → (get_or blocks block nobody).1 ≡ Some site → IsSiteFor strip (get_or blocks block nobody).0 site
 
@@ -188,7 +188,7 @@ room_left strip k taken (kind ∷ kinds) (None ∷ kept) long theirs =
     let rest = room_left strip k taken kinds kept (omega (arith, long)) (λ b s lt is. theirs (suc b) s (omega (arith, lt)) is) in
     omega (arith, rest, nothing_kept (is_same_kind k kind))
 
--- what is kept is among what is kept
+-- a block's kept site is among the kept sites
 kept_among : (kinds : List Kind) (kept : List (Option ℕ)) (block site : ℕ) → block < length (zip kinds kept) → (get_or (zip kinds kept) block nobody).1 ≡ Some site → is_among (kept_sites kept) site ≡ true
 kept_among [] kept block site lt is = absurd (omega (arith, lt))
 kept_among (kind ∷ kinds) [] block site lt is = absurd (omega (arith, lt))
@@ -225,14 +225,14 @@ module _ (strip : Strip) (kinds : List Kind) (kept : List (Option ℕ)) (lawful 
     all_fit Logic = room.logic
     all_fit Pad = room.pads
 
-    -- at the start there is room
+    -- at the start there are enough sites
     pub room_first : HasRoom strip (kept_sites kept) (zip kinds kept)
     room_first = record {
       room = λ k. omega (arith, needs_and_keeps k kinds kept lawful.long, room_left strip k [] kinds kept lawful.long theirs, all_free (first_site strip k) (site_count strip k), all_fit k);
       kept = kept_among kinds kept;
     }
 
-    -- the blocks stand one to one
+    -- the blocks are on different sites of their kinds
     pub start_standing : AreOneToOne strip kinds (start_of strip kinds kept)
     unfolding start_of
     start_standing = record {

@@ -1,4 +1,4 @@
--- Where blocks stand one to one on sites, they have places one to one.
+-- If blocks are on different sites of their kinds, they have different places of their kinds.
 use Rattle.std.proofs.Common.{◌≡◌, ◌≢◌, ℕ, ◌-◌, ◌⊎◌, inl, inr, ◌<◌, ◌≤◌, List, length, map, get_or, refl, sym, ap, ◌∙◌, subst, arith}
 use Rattle.std.specs.Prelude.{Contains, AllPairs}
 use Rattle.std.proofs.lemmas.List.{get_or-map, get_or-append_right, get_or_append_left, length-map}
@@ -18,7 +18,7 @@ use Rattle.strip_place.specs.Sites.{sites_of, first_site, site_place, IsSiteFor,
 use Rattle.block_places.specs.Placed.{ArePlaced, block_at}
 use Rattle.strip_place.proofs.Starts.{length-sites_of}
 
--- a site's place is the one of its kind by the number in that kind
+-- a site's place is the one of its kind with the site's number in that kind
 pub place_is : (strip : Strip) (kind : Kind) (site : ℕ) → IsSiteFor strip kind site → site_place strip site ≡ get_or (places_of strip kind) (site - first_site strip kind) (place_at 0 0 0)
 unfolding sites_of
 place_is strip Logic site is =
@@ -30,7 +30,7 @@ among : (strip : Strip) (kind : Kind) (site : ℕ) → IsSiteFor strip kind site
 among strip kind site is =
     subst (Contains (places_of strip kind)) (sym (place_is strip kind site is)) (Contains-get_or (places_of strip kind) (site - first_site strip kind) (place_at 0 0 0) (omega (arith, is.from, is.below)))
 
--- two sites of a kind have two places
+-- two sites of one kind have different places
 pub same_site : (strip : Strip) (kind : Kind) (site other : ℕ) → AllPairs (λ place next. place ≢ next) (places_of strip kind) → IsSiteFor strip kind site → IsSiteFor strip kind other → site_place strip site ≡ site_place strip other → site ≡ other
 same_site strip kind site other apart is there same = by (cases_order site other)
   where
@@ -43,7 +43,7 @@ same_site strip kind site other apart is there same = by (cases_order site other
     by (inr (inr more)) = absurd (apart (other - first_site strip kind) (site - first_site strip kind) (place_at 0 0 0) (omega (arith, there.from)) (omega (arith, is.from, is.below)) (sym places))
 
 module _ (strip : Strip) (apart : (kind : Kind) → AllPairs (λ place other. place ≢ other) (places_of strip kind)) (kinds_apart : (place : Place) → Contains (places_of strip Logic) place → Contains (places_of strip Pad) place → ⊥) where
-  -- two sites, of whichever kinds
+  -- two sites of any kinds have different places
   one_site : (kind next : Kind) (site other : ℕ) → IsSiteFor strip kind site → IsSiteFor strip next other → site_place strip site ≡ site_place strip other → site ≡ other
   one_site Logic Logic site other is there same = same_site strip Logic site other (apart Logic) is there same
   one_site Pad Pad site other is there same = same_site strip Pad site other (apart Pad) is there same

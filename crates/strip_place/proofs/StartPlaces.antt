@@ -1,4 +1,4 @@
--- The places at the start are those of the sites at the start.
+-- The places at the start are the places of the sites at the start.
 use Rattle.std.proofs.Common.{◌≡◌, ◌≢◌, ℕ, zero, suc, ◌+◌, ◌-◌, ◌<◌, ◌≤◌, All, Bool, true, false, not, cond, ◌||◌, List, [], ◌∷◌, ◌++◌, Option, Some, None, nat_eq, find, length, get_or, map, slice_get, refl, sym, ap, ◌∙◌, arith}
 use Rattle.std.specs.Prelude.{AllPairs, option_and_then, option_map, unwrap_or}
 use Rattle.std.specs.List.{flat_map, range_with_len, zip}
@@ -29,7 +29,7 @@ use Rattle.strip_place.proofs.Starting.{kept_inside}
 use Rattle.strip_place.proofs.Starts.{length-sites_of}
 use Rattle.strip_place.proofs.Vacant.{IsLeast}
 
--- places among others, by their numbers
+-- the place at an index of a list
 abbrev at_number : List Place → ℕ → Place
 at_number places n = get_or places n (place_at 0 0 0)
 
@@ -89,7 +89,7 @@ module _ (strip : Strip) (distinct : AreDistinct strip) where
       ∙ ap (λ (o : Option Place). unwrap_or o (place_at 0 0 0)) (find_carried taken (first_site strip kind) (site_count strip kind) all (kind_inside kind))
       ∙ ap (λ (o : Option ℕ). unwrap_or (option_map (site_place strip) o) (place_at 0 0 0)) least.found)
 
-  -- a block with the place of the site that it keeps
+  -- a block with the place of its kept site
   abbrev with_place : Comer → Kind × Option Place
   with_place block = (block.0, option_map (site_place strip) block.1)
 
@@ -126,7 +126,7 @@ module _ (strip : Strip) (distinct : AreDistinct strip) where
   zip_carried (kind ∷ kinds) [] = refl
   zip_carried (kind ∷ kinds) (site ∷ kept) = ap (λ (blocks : List (Kind × Option Place)). (kind, option_map (site_place strip) site) ∷ blocks) (zip_carried kinds kept)
 
-  -- the start by sites is the start by places
+  -- the start by sites corresponds to the start by places
   start_carried : (kinds : List Kind) (kept : List (Option ℕ)) → AreKeptSites strip kinds kept → HaveRoom strip kinds → places_on strip (start_of strip kinds kept) ≡ placed_first strip kinds (map (option_map (site_place strip)) kept)
   unfolding start_of placed_first
   start_carried kinds kept lawful room =
@@ -137,7 +137,7 @@ module _ (strip : Strip) (distinct : AreDistinct strip) where
       ∙ ap (λ (taken : List Place). placed_behind strip taken (map with_place (zip kinds kept))) (kept_places kept)
       ∙ ap (placed_behind strip (flat_map option_to_list (map (option_map (site_place strip)) kept))) (zip_carried kinds kept)
 
--- what is kept is found in the strip
+-- a kept place is found in the strip
 found : (a b : Place) → is_same_place a b ≡ true → b ≡ a
 found a b same = sym (same_parts a b (grind (arith, nat_tests, same)) (grind (arith, nat_tests, same)) (grind (arith, nat_tests, same)))
 

@@ -1,4 +1,4 @@
--- The start, block by block, with marks on the sites that are taken.
+-- The start, block by block, with marks on the taken sites.
 use Rattle.std.proofs.Common.{ℕ, zero, suc, ◌≡◌, ◌+◌, ◌-◌, ◌<◌, ◌≤◌, inl, inr, Bool, true, false, List, [], ◌∷◌, ◌++◌, Option, Some, None, drop, length, get_or, set, refl, sym, ap, subst, ◌∙◌, arith}
 use Rattle.std.proofs.lemmas.Bool.{cases_eq, cases_lt}
 use Rattle.std.proofs.lemmas.List.{append-nil, append_assoc, drop_all, drop_more, get_or-set_same, get_or-set_other, length-set}
@@ -12,7 +12,7 @@ use Rattle.strip_place.specs.Vacancies.{Vacancies, all_free, first_from, lowest,
 use Rattle.strip_place.proofs.Vacant.{IsLeast, among_before, among_last, among_other}
 use Rattle.strip_place.proofs.Seatings.{Comer, HasRoom, least_seat, nobody, room_more}
 
--- the marks are on the taken sites
+-- exactly the taken sites are marked
 abbrev pub AreMarks : List ℕ → List Bool → Type 0
 AreMarks taken marks = (site : ℕ) → site < length marks → get_or marks site false ≡ is_among taken site
 
@@ -40,7 +40,7 @@ no_marks zero site lt = refl
 no_marks (suc count) zero lt = refl
 no_marks (suc count) (suc site) lt = no_marks count site (omega (arith, lt))
 
--- the first without a mark
+-- the first site without a mark
 first_at : (marks : List Bool) (from gap : ℕ) → from + gap < length marks → ((site : ℕ) → from ≤ site → site < from + gap → get_or marks site false ≡ true) → get_or marks (from + gap) false ≡ false → first_from marks from ≡ from + gap
 first_at marks from zero lt before free =
     let none = prefix_len-drop_no (λ (mark : Bool). mark) marks from false (omega (arith, lt)) (ap (λ s. get_or marks s false) (omega arith) ∙ free) in
@@ -50,7 +50,7 @@ first_at marks from (suc gap) lt before free =
     let one = prefix_len-drop_yes (λ (mark : Bool). mark) marks from false (omega (arith, lt)) (before from (omega arith) (omega arith)) in
     omega (arith, next, one)
 
--- all of a kind below that one are taken
+-- all sites of a kind below this one are taken
 pub record IsLow (strip : Strip) (taken : List ℕ) (kind : Kind) (low : ℕ) : Type 0 where
   pub from : first_site strip kind ≤ low
   pub below : (site : ℕ) → first_site strip kind ≤ site → site < low → is_among taken site ≡ true
@@ -58,7 +58,7 @@ pub record IsLow (strip : Strip) (taken : List ℕ) (kind : Kind) (low : ℕ) : 
 low_stays : (strip : Strip) (taken : List ℕ) (site : ℕ) (kind : Kind) (low : ℕ) → IsLow strip taken kind low → IsLow strip (taken ++ site ∷ []) kind low
 low_stays strip taken site kind low is = record { from = is.from; below = λ s past lt. among_before taken site s (is.below s past lt) }
 
--- the sites of the first so many blocks, and what is known of the others
+-- the sites of the first `index` blocks, and the state for the others
 pub record IsStarting (strip : Strip) (blocks : List Comer) (kept : List ℕ) (index : ℕ) (vacancies : Vacancies) (sites : List ℕ) : Type 0 where
   pub all : seated_behind strip kept blocks ≡ sites ++ seated_behind strip (kept ++ sites) (drop index blocks)
   pub room : HasRoom strip (kept ++ sites) (drop index blocks)
@@ -67,7 +67,7 @@ pub record IsStarting (strip : Strip) (blocks : List Comer) (kept : List ℕ) (i
   pub logic : IsLow strip (kept ++ sites) Logic vacancies.logic
   pub pads : IsLow strip (kept ++ sites) Pad vacancies.pads
 
--- the lowest is the least that is free
+-- the lowest site without a mark is the least free one
 lowest_by : (strip : Strip) (taken : List ℕ) (kind : Kind) (marks : List Bool) (low : ℕ) → AreMarks taken marks → first_site strip kind + site_count strip kind ≤ length marks → IsLow strip taken kind low → IsLeast taken (first_site strip kind) (site_count strip kind) (least_free strip kind taken) → first_from marks low ≡ least_free strip kind taken
 lowest_by strip taken kind marks low are inside is least =
     let site = least_free strip kind taken in
@@ -106,7 +106,7 @@ module _ (strip : Strip) (blocks : List Comer) (kept : List ℕ) (index : ℕ) (
     room_then : HasRoom strip (kept ++ (sites ++ site_for strip taken block ∷ [])) (drop (index + 1) blocks)
     room_then = subst (λ (t : List ℕ). HasRoom strip t (drop (index + 1) blocks)) (sym (joined (site_for strip taken block))) (room_more strip taken block (drop (index + 1) blocks) room_here)
 
-  -- a block that keeps its site
+  -- a block that has a kept site
   pub starting_kept : (kind : Kind) (site : ℕ) → index < length blocks → get_or blocks index nobody ≡ (kind, Some site) → IsStarting strip blocks kept (index + 1) vacancies (sites ++ site ∷ [])
   starting_kept kind site lt here =
       let block : Comer = (kind, Some site) in
@@ -124,7 +124,7 @@ module _ (strip : Strip) (blocks : List Comer) (kept : List ℕ) (index : ℕ) (
         pads = subst (λ (t : List ℕ). IsLow strip t Pad vacancies.pads) (sym (joined block lt here site)) (low_stays strip taken site Pad vacancies.pads so_far.pads);
       }
 
-  -- a block that takes one
+  -- a block that takes a free site
   module _ (kind : Kind) (lt : index < length blocks) (here : get_or blocks index nobody ≡ (kind, None)) where
     least : IsLeast taken (first_site strip kind) (site_count strip kind) (least_free strip kind taken)
     least = least_seat strip kind taken (drop (index + 1) blocks) (room_here (kind, None) lt here)
@@ -189,7 +189,7 @@ starting_none strip blocks kept total room whole inside =
     length_free zero = refl
     length_free (suc count) = ap suc (length_free count)
 
--- what is kept is on the strip
+-- the kept sites are in the strip
 pub kept_inside : (strip : Strip) (kinds : List Kind) (kept : List (Option ℕ)) → AreKeptSites strip kinds kept → (block site : ℕ) → block < length kept → get_or kept block None ≡ Some site → site < site_count strip Logic + site_count strip Pad
 kept_inside strip kinds kept lawful block site lt is = by (get_or kinds block Logic) (lawful.by_kind block site (omega (arith, lt, lawful.long)) is)
   where

@@ -1,4 +1,4 @@
--- Two blocks that change places, and the boxes of their nets.
+-- Two blocks that change places, and the bounding boxes of their nets.
 use Rattle.std.proofs.Common.{◌≡◌, ◌≢◌, ℕ, ◌+◌, ◌-◌, ◌<◌, ◌≤◌, cond, eqb, List, [], ◌∷◌, ◌++◌, length, set, get_or, map, refl, sym, ap, ◌∙◌, ◌⊎◌, inl, inr, arith, get_or-set_same, get_or-set_other, length-set}
 use Rattle.std.specs.Prelude.{nat_le, sum_by}
 use Rattle.std.proofs.lemmas.List.{get_or_append_left, get_or_push, length_push, take_all}
@@ -16,7 +16,7 @@ use Rattle.strip_place.proofs.Ends.{HaveSwapped, coordinate_at, counted, swapped
 use Rattle.strip_place.proofs.Nearness.{near_same}
 use Rattle.strip_place.proofs.Lengths.{box_reach, boxed_is, is_in, lengths_grow, reach_least, sum_le}
 
--- the first so many nets have their boxes
+-- the first `count` nets have their boxes
 pub record AreBoxesSoFar (points : List Point) (nets : List (List ℕ)) (count : ℕ) (boxes : List NetBox) : Type 0 where
   pub long : length boxes ≡ count
   pub exact : (number : ℕ) → number < count → IsBox points (net_at nets number) (box_at boxes number)
@@ -41,7 +41,7 @@ boxes_all points nets count boxes all so_far = record {
   exact = λ number lt. so_far.exact number (omega arith);
 }
 
--- boxes are renewed, one after another
+-- boxes are updated, one after another
 pub renewed_none : (points : List Point) (nets : List (List ℕ)) (touched : List ℕ) (boxes : List NetBox) → AreRenewed points nets touched 0 boxes boxes 0
 renewed_none points nets touched boxes = record {
   long = refl;
@@ -81,7 +81,7 @@ renewed_more points nets touched count number old new total more box is lt at wi
     earlier k below ne (inl e) = absurd (ne (ap (λ j. get_or touched j 0) e ∙ sym at))
     earlier k below ne (inr other) = omega arith
 
--- both lists are renewed
+-- the boxes of both lists are updated
 pub both_renewed : (points : List Point) (nets : List (List ℕ)) (first second : List ℕ) (old mid new : List NetBox) (one two : ℕ) → AreRenewed points nets first (length first) old mid one → AreRenewed points nets second (length second) mid new two → AreBothRenewed points nets first second old new (one + two)
 both_renewed points nets first second old mid new one two firsts seconds = record {
   long = seconds.long ∙ firsts.long;
@@ -94,7 +94,7 @@ both_renewed points nets first second old mid new one two firsts seconds = recor
       omega (arith, a, b));
 }
 
--- a block went from one point to another, and the other came to where it had stood
+-- a block moved from one point to another, and the other block to where the first was
 pub record AreExchanged (old new : List Point) (block other : ℕ) (from to : Point) : Type 0 where
   pub differs : block ≢ other
   pub stood : point_at old block ≡ from
@@ -135,12 +135,12 @@ x_of point = point.x
 abbrev pub y_of : Point → ℕ
 y_of point = point.y
 
--- on a net with both or neither each coordinate has as many blocks as before
+-- on a net with both blocks or neither, each coordinate has as many blocks as before
 pub same_each : (f : Point → ℕ) → f nowhere ≡ 0 → (old new : List Point) (block other : ℕ) (from to : Point) (net : List ℕ) → AreExchanged old new block other from to → (0 < times_on other net → point_at old other ≡ to) → times_on block net ≡ times_on other net → (c : ℕ) → count_at (map f new) net c ≡ count_at (map f old) net c
 same_each f none old new block other from to net are there alike =
     swapped_same (map f old) (map f new) block other (f from) (f to) net (swapped f none old new block other from to are) (λ some. coordinate_at f old other none ∙ ap f (there some)) alike
 
--- a box stays where the counts do
+-- a box is unchanged if the numbers of blocks are
 pub box_counts : (columns new_columns rows new_rows : ℕ → ℕ) (box : NetBox) → ((c : ℕ) → new_columns c ≡ columns c) → ((c : ℕ) → new_rows c ≡ rows c) → IsBoxBy columns rows box → IsBoxBy new_columns new_rows box
 box_counts columns new_columns rows new_rows box across along is = record {
   left = near_same columns new_columns box.near.left box.next.left across is.left;
@@ -155,7 +155,7 @@ box_same : (old new : List Point) (block other : ℕ) (from to : Point) (net : L
 box_same old new block other from to net box are there alike is =
     box_counts (at_column old net) (at_column new net) (at_row old net) (at_row new net) box (same_each x_of refl old new block other from to net are there alike) (same_each y_of refl old new block other from to net are there alike) is
 
--- a block came, on a net of its own
+-- a block arrived on a net that doesn't have the other
 come_at : (f : Point → ℕ) → f nowhere ≡ 0 → (old new : List Point) (block other : ℕ) (from to : Point) (net : List ℕ) → AreExchanged old new block other from to → (0 < times_on other net → point_at old other ≡ to) → times_on block net ≡ 1 → times_on other net ≤ 1 → HasCome (count_at (map f old) net) (count_at (map f new) net) (f from) (f to)
 come_at f none old new block other from to net are there once few = record {
   arrived = counted (map f new) block (f to) net (coordinate_at f new block none ∙ ap f are.gone) (omega arith);
@@ -166,7 +166,7 @@ come_at f none old new block other from to net are there once few = record {
     kept c some (inl off) = (let each = (swapped_once (map f old) (map f new) block other (f from) (f to) net (swapped f none old new block other from to are) once off).each c in omega (arith, each, some))
     kept c some (inr on) = (let same = same_each f none old new block other from to net are there (omega arith) c in omega (arith, same, some))
 
--- nets are at least as long as their boxes say once a block came
+-- nets are at least as long as the bounds that their boxes give for a move
 pub least_after : (old new : List Point) (nets : List (List ℕ)) (touched : List ℕ) (block other : ℕ) (from to : Point) (boxes : List NetBox) → AreExchanged old new block other from to → AreNets (length old) nets → AreTouched nets block touched → AreBoxes old nets boxes
     → ((number : ℕ) → number < length nets → 0 < times_on other (net_at nets number) → point_at old other ≡ to) → from.x ≤ 65535 → from.y ≤ 65535 → to.x ≤ 65535 → to.y ≤ 65535
     → length_after boxes (sides_of from) (sides_of to) touched ≤ reached_length new nets touched
@@ -178,7 +178,7 @@ least_after old new nets touched block other from to boxes are lawful mine exact
     (come_at x_of refl old new block other from to (net_at nets number) are (there number within) (mine.on k lt) (lawful.once number other within))
     (come_at y_of refl old new block other from to (net_at nets number) are (there number within) (mine.on k lt) (lawful.once number other within))))
 
--- the nets of a block that are not among those touched
+-- a block is not on a net that isn't among the nets that it touches
 pub none_on : (nets : List (List ℕ)) (who : ℕ) (touched : List ℕ) (number : ℕ) → AreTouched nets who touched → number < length nets → ((k : ℕ) → k < length touched → get_or touched k 0 ≢ number) → times_on who (net_at nets number) ≡ 0
 none_on nets who touched number is lt off = by (cases_lt 0 (times_on who (net_at nets number)))
   where
@@ -186,7 +186,7 @@ none_on nets who touched number is lt off = by (cases_lt 0 (times_on who (net_at
     by (inl some) = (let found = is.found number lt some in absurd (off found.0 found.1 found.2))
     by (inr less) = omega arith
 
--- all boxes are exact once those of the two blocks' nets were renewed
+-- all boxes are exact once those of the two blocks' nets are updated
 pub renewed_boxes : (old new : List Point) (nets : List (List ℕ)) (first second : List ℕ) (block other : ℕ) (from to : Point) (boxes told : List NetBox) (total : ℕ) → AreExchanged old new block other from to → AreTouched nets block first → AreTouched nets other second → AreBoxes old nets boxes
     → ((number : ℕ) → number < length nets → 0 < times_on other (net_at nets number) → point_at old other ≡ to) → AreBothRenewed new nets first second boxes told total → AreBoxes new nets told
 renewed_boxes old new nets first second block other from to boxes told total are mine theirs exact there renewed = record {
@@ -201,7 +201,7 @@ renewed_boxes old new nets first second block other from to boxes told total are
         let alike : times_on block (net_at nets number) ≡ times_on other (net_at nets number) = none_on nets block first number mine lt off ∙ sym (none_on nets other second number theirs lt not) in
         rw (renewed.others number off not) (box_same old new block other from to (net_at nets number) (box_at boxes number) are (there number lt) alike (exact.exact number lt))
 
--- all boxes are exact again once those of the two blocks' nets were renewed twice
+-- all boxes are exact again once those of the two blocks' nets are updated twice
 pub renewed_again : (old new : List Point) (nets : List (List ℕ)) (first second : List ℕ) (boxes told last : List NetBox) (total again : ℕ) → AreBoxes old nets boxes → AreBothRenewed new nets first second boxes told total → AreBothRenewed old nets first second told last again → AreBoxes old nets last
 renewed_again old new nets first second boxes told last total again exact once twice = record {
   long = twice.long ∙ once.long ∙ exact.long;
@@ -213,7 +213,7 @@ renewed_again old new nets first second boxes told last total again exact once t
     by number lt (inr off) (inl found) = rw found.2 at (twice.seconds found.0 found.1)
     by number lt (inr off) (inr not) = rw (twice.others number off not, once.others number off not) (exact.exact number lt)
 
--- the nets of the two blocks grow as all nets do
+-- the nets of the two blocks grow by as much as all nets do
 pub grows : (old new : List Point) (nets : List (List ℕ)) (first second : List ℕ) (block other : ℕ) (from to : Point) (allowance : ℕ) (boxes : List NetBox) → AreExchanged old new block other from to → AreNets (length old) nets → AreTouched nets block first → AreTouched nets other second → AreBoxes old nets boxes
     → ((number : ℕ) → number < length nets → 0 < times_on other (net_at nets number) → point_at old other ≡ to)
     → nat_le (reached_length new nets first + reached_length new nets second) (boxed_length boxes first + boxed_length boxes second + allowance) ≡ nat_le (sum_by (reach_of new) nets) (sum_by (reach_of old) nets + allowance)

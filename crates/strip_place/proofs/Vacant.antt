@@ -1,4 +1,4 @@
--- Sites that are free, among those of a kind.
+-- The free sites among those of a kind.
 use Rattle.std.proofs.Common.{ℕ, zero, suc, ◌≡◌, ◌≢◌, ◌+◌, ◌<◌, ◌≤◌, ◌⊎◌, inl, inr, Bool, true, false, not, cond, ◌||◌, List, [], ◌∷◌, ◌++◌, Some, nat_eq, find, refl, sym, ap, subst, ◌∙◌, arith}
 use Rattle.std.specs.List.{range_with_len}
 use Rattle.std.proofs.lemmas.Bool.{cases_eq}
@@ -6,7 +6,7 @@ use Rattle.std.proofs.lemmas.Bool.Decides.{nat_tests}
 use Rattle.std.proofs.lemmas.List.Folds.{list_any-append}
 use Rattle.strip_place.specs.Sites.{is_among}
 
--- how many of so many sites from that one on are free
+-- the number of free ones among `count` sites from the first one on
 abbrev pub free_count : List ℕ → ℕ → ℕ → ℕ
 free_count taken start zero = 0
 free_count taken start (suc count) = cond {A = ℕ} (is_among taken start) 0 1 + free_count taken (start + 1) count
@@ -26,7 +26,7 @@ among_other taken site other differs = grind (arith, nat_tests, among_push taken
 pub among_either : (taken : List ℕ) (site other : ℕ) → is_among (taken ++ site ∷ []) other ≡ true → (other ≡ site) ⊎ (is_among taken other ≡ true)
 among_either taken site other is = elim (cases_eq other site) [ inl same ↦ inl same | inr differs ↦ inr (sym (among_other taken site other differs) ∙ is) ]
 
--- a site that isn't one of these takes none of them
+-- taking a site outside the range takes none of it
 pub free_past : (taken : List ℕ) (site start count : ℕ) → (site < start) ⊎ (start + count ≤ site) → free_count (taken ++ site ∷ []) start count ≡ free_count taken start count
 free_past taken site start zero outside = refl
 free_past taken site start (suc count) outside =
@@ -35,7 +35,7 @@ free_past taken site start (suc count) outside =
     let here = ap (λ (b : Bool). cond {A = ℕ} b 0 1) (among_other taken site start other) in
     omega (arith, here, rest)
 
--- one more that is taken takes at most one
+-- taking one more site takes at most one
 pub free_less : (taken : List ℕ) (site start count : ℕ) → free_count taken start count ≤ free_count (taken ++ site ∷ []) start count + 1
 free_less taken site start zero = omega arith
 free_less taken site start (suc count) = elim (cases_eq start site) [
@@ -53,7 +53,7 @@ free_less taken site start (suc count) = elim (cases_eq start site) [
     at_most true = omega arith
     at_most false = omega arith
 
--- one that was taken before takes none
+-- taking a site that is already taken takes none
 pub free_same : (taken : List ℕ) (site start count : ℕ) → is_among taken site ≡ true → free_count (taken ++ site ∷ []) start count ≡ free_count taken start count
 free_same taken site start zero is = refl
 free_same taken site start (suc count) is =
@@ -64,7 +64,7 @@ free_same taken site start (suc count) is =
     let here = ap (λ (b : Bool). cond {A = ℕ} b 0 1) same in
     omega (arith, here, free_same taken site (start + 1) count is)
 
--- where some are free, the least of them is found
+-- if some are free, the least of them is found
 pub record IsLeast (taken : List ℕ) (start count site : ℕ) : Type 0 where
   pub found : find (λ s. not (is_among taken s)) (range_with_len start count) ≡ Some site
   pub free : is_among taken site ≡ false
@@ -103,7 +103,7 @@ least_found taken start (suc count) some = by (is_among taken start) refl (least
           },
         )
 
--- where nothing is taken all are free
+-- if nothing is taken, all are free
 pub all_free : (start count : ℕ) → free_count [] start count ≡ count
 all_free start zero = refl
 all_free start (suc count) = omega (arith, all_free (start + 1) count)

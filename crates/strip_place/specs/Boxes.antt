@@ -1,4 +1,4 @@
--- Private: the boxes of nets whose blocks stand at points.
+-- Private: the bounding boxes of nets whose blocks are at points.
 use Rattle.std.specs.Prelude.{ℕ, ◌≡◌, ◌≢◌, ◌+◌, ◌-◌, ◌*◌, ◌<◌, ◌≤◌, ◌==◌, List, length, map, take, sum_by, slice_index, if◌then◌else◌}
 use Rattle.std.specs.List.{slice_index_or}
 use Rattle.strip_place.specs.declared.boxes.Move.{Move}
@@ -17,14 +17,15 @@ columns_at points = map (λ point. point.x) points
 abbrev pub rows_at : List Point → List ℕ
 rows_at points = map (λ point. point.y) points
 
--- how many blocks of the net stand in each column, and in each row
+-- the number of blocks of the net in each column, and in each row
 abbrev pub at_column : List Point → List ℕ → ℕ → ℕ
 at_column points net = count_at (columns_at points) net
 
 abbrev pub at_row : List Point → List ℕ → ℕ → ℕ
 at_row points net = count_at (rows_at points) net
 
--- a box tells what is near each side, by how many blocks stand in each column and in each row
+-- a box holds the nearest coordinates at each side, for these numbers of blocks in each column and
+-- in each row
 pub record IsBoxBy (columns rows : ℕ → ℕ) (box : NetBox) : Type 0 where
   pub left : IsNear columns box.near.left box.next.left
   pub right : IsNear (mirrored columns) box.near.right box.next.right
@@ -33,7 +34,7 @@ pub record IsBoxBy (columns rows : ℕ → ℕ) (box : NetBox) : Type 0 where
   pub columns_inside : (column : ℕ) → 65535 < column → columns column ≡ 0
   pub rows_inside : (row : ℕ) → 65535 < row → rows row ≡ 0
 
--- it tells that of the blocks of a net
+-- the box is that of the blocks of a net
 abbrev pub IsBox : List Point → List ℕ → NetBox → Type 0
 IsBox points net box = IsBoxBy (at_column points net) (at_row points net) box
 
@@ -41,11 +42,11 @@ IsBox points net box = IsBoxBy (at_column points net) (at_row points net) box
 abbrev pub half_of : NetBox → ℕ
 half_of box = 131070 - sum_of box.near
 
--- what is nearest once one that is so far goes
+-- the nearest distance after a block at distance `gone` is removed
 abbrev pub rest : ℕ → ℕ → ℕ → ℕ
 rest near next gone = if near == gone then next else near
 
--- the same at each side
+-- the nearest distances at all sides after a block is removed
 abbrev pub rest_of : NetBox → Sides → Sides
 rest_of box gone = record {
   left = rest box.near.left box.next.left gone.left;
@@ -54,22 +55,23 @@ rest_of box gone = record {
   top = rest box.near.top box.next.top gone.top;
 }
 
--- the width plus the height once a block goes from there to there
+-- the width plus the height after a block moves from one point to another
 abbrev pub half_after : NetBox → Sides → Sides → ℕ
 half_after box from to = 131070 - sum_of (nearer (rest_of box from) to)
 
--- a box with one block more
+-- a box with one more block
 abbrev pub met : NetBox → Sides → NetBox
 met box block = record { near = nearer block box.near; next = nearer box.next (farther box.near block) }
 
--- a block that is so far from the sides is farther than the two that are near each
+-- a block at these distances is farther from each side than the two nearest that the box keeps
+-- there
 pub record IsDeep (box : NetBox) (block : Sides) : Type 0 where
   pub left : box.next.left < block.left
   pub right : box.next.right < block.right
   pub bottom : box.next.bottom < block.bottom
   pub top : box.next.top < block.top
 
--- the width plus the height of the box of a net whose blocks stand at these points
+-- the width plus the height of the box of a net whose blocks are at these points
 abbrev pub reach_of : List Point → List ℕ → ℕ
 reach_of points net = spread (map (slice_index (columns_at points)) net) + spread (map (slice_index (rows_at points)) net)
 
@@ -79,7 +81,8 @@ no_sides = record { left = 0; right = 0; bottom = 0; top = 0 }
 abbrev pub box_at : List NetBox → ℕ → NetBox
 box_at boxes number = slice_index_or boxes number (record { near = no_sides; next = no_sides })
 
--- how long the nets of these numbers are by their boxes, by these once a block went, and by where their blocks stand
+-- the total length of the nets with these numbers: by their boxes, by their boxes after a block
+-- moved, and by the points of their blocks
 abbrev pub boxed_length : List NetBox → List ℕ → ℕ
 boxed_length boxes numbers = sum_by (λ number. half_of (box_at boxes number)) numbers
 
@@ -89,7 +92,8 @@ length_after boxes from to numbers = sum_by (λ number. half_after (box_at boxes
 abbrev pub reached_length : List Point → List (List ℕ) → List ℕ → ℕ
 reached_length points nets numbers = sum_by (λ number. reach_of points (net_at nets number)) numbers
 
--- of the nets of these numbers the first so many have the boxes of where their blocks stand, which are so long together
+-- of the nets with these numbers the first `count` have the boxes of their blocks' points, and this
+-- total length
 pub record AreRenewed (points : List Point) (nets : List (List ℕ)) (touched : List ℕ) (count : ℕ) (old new : List NetBox) (total : ℕ) : Type 0 where
   pub long : length new ≡ length old
   pub done : (k : ℕ) → k < count → IsBox points (net_at nets (slice_index touched k)) (box_at new (slice_index touched k))
@@ -98,7 +102,7 @@ pub record AreRenewed (points : List Point) (nets : List (List ℕ)) (touched : 
   pub total_is : total ≡ reached_length points nets (take count touched)
   pub small : total ≤ 131072 * count
 
--- so have those of two lists
+-- the nets of both lists have the boxes of their blocks' points, and this total length
 pub record AreBothRenewed (points : List Point) (nets : List (List ℕ)) (first second : List ℕ) (old new : List NetBox) (total : ℕ) : Type 0 where
   pub long : length new ≡ length old
   pub firsts : (k : ℕ) → k < length first → IsBox points (net_at nets (slice_index first k)) (box_at new (slice_index first k))
@@ -106,7 +110,7 @@ pub record AreBothRenewed (points : List Point) (nets : List (List ℕ)) (first 
   pub others : (number : ℕ) → ((k : ℕ) → k < length first → slice_index first k ≢ number) → ((k : ℕ) → k < length second → slice_index second k ≢ number) → box_at new number ≡ box_at old number
   pub total_is : total ≡ reached_length points nets first + reached_length points nets second
 
--- the numbers are few, and numbers of nets
+-- the numbers are those of nets, and their count is within the limit
 pub record AreFewOf (count : ℕ) (touched : List ℕ) : Type 0 where
   pub few : length touched ≤ 2147483648
   pub within : (k : ℕ) → k < length touched → slice_index touched k < count
@@ -115,12 +119,12 @@ pub record AreFewOf (count : ℕ) (touched : List ℕ) : Type 0 where
 abbrev pub AreInside : List NetBox → Type 0
 AreInside boxes = (number : ℕ) → number < length boxes → sum_of (box_at boxes number).near ≤ 131070
 
--- they can be summed up
+-- the lengths of these boxes can be summed in 64 bits
 pub record CanSum (all : List NetBox) : Type 0 where
   pub few : length all < 2147483648
   pub boxes : AreInside all
 
--- those of the nets of these numbers can be summed up
+-- the lengths of the boxes of these nets can be summed in 64 bits
 pub record CanWeigh (all : List NetBox) (numbers : List ℕ) : Type 0 where
   pub touched : AreFewOf (length all) numbers
   pub boxes : AreInside all
@@ -130,17 +134,18 @@ pub record AreBoxes (points : List Point) (nets : List (List ℕ)) (boxes : List
   pub long : length boxes ≡ length nets
   pub exact : (number : ℕ) → number < length nets → IsBox points (net_at nets number) (box_at boxes number)
 
--- the number is one of those
+-- the number is in the list
 abbrev pub IsAmong : List ℕ → ℕ → Type 0
 IsAmong numbers number = (k : ℕ) × (k < length numbers) × (slice_index numbers k ≡ number)
 
--- the box of a net once a block of it went from there to there: where another one came back, which the net's number among others tells, it is the same;
--- else, where the block had been deep inside, it has met it where it is now
+-- the box of a net after one of its blocks moved: if another of its blocks moved back, so that the
+-- net's number is among the others, the box is unchanged; otherwise, if the block was deep inside
+-- the box, the new box is the old one with the block at its new point
 pub record IsFollowed (points : List Point) (net others : List ℕ) (number : ℕ) (box : NetBox) (from to : Sides) : Type 0 where
   pub both : IsAmong others number → IsBox points net box
   pub alone : (IsAmong others number → ⊥) → IsDeep box from → IsBox points net (met box to)
 
--- the boxes of the nets of these numbers can be worked out once a block on each went from there to there
+-- the boxes of the nets with these numbers can be updated after a block of each of them moved
 pub record CanRenew (points : List Point) (nets : List (List ℕ)) (numbers others : List ℕ) (boxes : List NetBox) (from to : Sides) : Type 0 where
   pub lawful : AreNets (length points) nets
   pub long : length boxes ≡ length nets
@@ -149,7 +154,7 @@ pub record CanRenew (points : List Point) (nets : List (List ℕ)) (numbers othe
   pub follows : (k : ℕ) → k < length numbers →
       IsFollowed points (net_at nets (slice_index numbers k)) others (slice_index numbers k) (box_at boxes (slice_index numbers k)) from to
 
--- so can those of the nets on two lists
+-- the boxes of the nets on both lists can be updated
 pub record AreTouchedBy (points : List Point) (nets : List (List ℕ)) (one two : List ℕ) (boxes : List NetBox) (made : Move) : Type 0 where
   pub first : CanRenew points nets one two boxes made.from made.to
   pub second : CanRenew points nets two one boxes made.to made.from

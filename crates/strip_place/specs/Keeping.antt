@@ -1,4 +1,4 @@
--- The places that blocks keep.
+-- Places that are kept for blocks.
 use Rattle.std.specs.Prelude.{◌≡◌, Some, Contains}
 use Rattle.cluster.specs.Keys.{BlockKey}
 use Rattle.cluster.specs.declared.block.BlockKind.{BlockKind}
@@ -10,12 +10,13 @@ use Rattle.grid.specs.declared.place.Place.{Place}
 use Rattle.grid.specs.Places.{places_of}
 use Rattle.kept_places.specs.Kept.{KeptPlaces, kept_place}
 
--- the kind of places that blocks of a kind go to
+-- the kind of place that blocks of a kind need
 abbrev pub kind_for : BlockKind → Kind
 kind_for Cluster = Logic
 kind_for _ = Pad
 
--- each place that is kept is one of the strip's, for a block of its kind, and none is kept twice
+-- each kept place is a place of the strip, of the kind that its block needs, and no place is kept
+-- twice
 pub record AreKeptOn (strip : Strip) (kept : KeptPlaces) : Type 0 where
   pub by_kind : (key : BlockKey) (place : Place) → kept_place kept key ≡ Some place → Contains (places_of strip (kind_for key.kind)) place
   pub one_to_one : (key other : BlockKey) (place : Place) → kept_place kept key ≡ Some place → kept_place kept other ≡ Some place → key ≡ other

@@ -5,28 +5,28 @@ use Rattle.cluster.specs.Blocks.{BlockNet}
 use Rattle.rows.specs.declared.by_key.Keyed.{Keyed}
 use Rattle.rows.specs.ByKey.{items_by_key, pairs_with}
 
--- the net of that number
+-- the net with this number
 abbrev pub net_at : List (List ℕ) → ℕ → List ℕ
 net_at nets number = slice_index_or nets number []
 
--- how often the block stands on the net
+-- the number of times that the block occurs on the net
 abbrev pub times_on : ℕ → List ℕ → ℕ
 times_on block net = count_by (λ other. other == block) net
 
--- the blocks on a net: the one that drives it, and its readers
+-- the blocks on a net: its driver, and its readers
 abbrev pub blocks_on : BlockNet → List ℕ
 blocks_on net = net.driver ∷ net.readers
 
--- the blocks on each net that isn't global
+-- the blocks on each net that is not global
 abbrev pub placed_nets : List BlockNet → List (List ℕ)
 placed_nets nets = map blocks_on (filter (λ net. not net.global) nets)
 
--- a net has blocks of that many
+-- a net has at least one block, and its block numbers are below the count
 pub record IsNetOf (count : ℕ) (net : List ℕ) : Type 0 where
   pub some : 0 < length net
   pub within : All (λ block. block < count) net
 
--- nets have blocks of that many, each at most once
+-- nets whose block numbers are below the count, with each block at most once
 pub record AreNets (count : ℕ) (nets : List (List ℕ)) : Type 0 where
   pub some : (number : ℕ) → number < length nets → 0 < length (net_at nets number)
   pub within : (number : ℕ) → number < length nets → All (λ block. block < count) (net_at nets number)
@@ -34,18 +34,18 @@ pub record AreNets (count : ℕ) (nets : List (List ℕ)) : Type 0 where
   pub short : (number : ℕ) → number < length nets → length (net_at nets number) + 2 < 2 ^ 16
   pub few : length nets < 2 ^ 31
 
--- the numbers of the nets that the block is on, each once
+-- the numbers of the nets that the block is on, in increasing order
 pub record AreTouched (nets : List (List ℕ)) (block : ℕ) (touched : List ℕ) : Type 0 where
   pub rising : (k j : ℕ) → k < j → j < length touched → slice_index touched k < slice_index touched j
   pub within : (k : ℕ) → k < length touched → slice_index touched k < length nets
   pub on : (k : ℕ) → k < length touched → times_on block (net_at nets (slice_index touched k)) ≡ 1
   pub found : (number : ℕ) → number < length nets → 0 < times_on block (net_at nets number) → (k : ℕ) × (k < length touched) × (slice_index touched k ≡ number)
 
--- the blocks of nets with numbers from one on, each with its net's number
+-- the blocks of nets, each with its net's number, which is counted from `number`
 abbrev pub pairs_from : ℕ → List (List ℕ) → List Keyed
 pairs_from number [] = []
 pairs_from number (net ∷ nets) = pairs_with number net ++ pairs_from (number + 1) nets
 
--- the numbers of the nets by block
+-- the numbers of the nets that each block is on
 unfoldable pub touching_of : List (List ℕ) → ℕ → List (List ℕ)
 touching_of nets blocks = items_by_key (pairs_from 0 nets) blocks

@@ -1,13 +1,13 @@
--- Private: how far points are from the sides of a field that no strip is larger than.
+-- Private: the distances of points from the sides of a field that is larger than any strip.
 use Rattle.std.specs.Prelude.{ℕ, ◌+◌, ◌-◌, max, min}
 use Rattle.strip_place.specs.declared.point.Point.{Point}
 use Rattle.strip_place.specs.declared.sides.Sides.{Sides}
 
--- how far a point is from each side
+-- the distances of a point from the four sides
 abbrev pub sides_of : Point → Sides
 sides_of point = record { left = point.x; right = 65535 - point.x; bottom = point.y; top = 65535 - point.y }
 
--- of two, the nearer and the farther one at each side
+-- at each side, the nearer and the farther of two
 abbrev pub nearer : Sides → Sides → Sides
 nearer a b = record { left = min a.left b.left; right = min a.right b.right; bottom = min a.bottom b.bottom; top = min a.top b.top }
 

@@ -1,11 +1,11 @@
--- Private: which sites are taken.
+-- Private: the sites that are taken.
 use Rattle.std.specs.Prelude.{ℕ, ◌+◌, ◌<◌, ◌≤◌, ◌^◌, Bool, true, false, List, [], ◌∷◌, Option, Some, None, drop, length, replicate, slice_set, All}
 use Rattle.std.specs.List.{prefix_len}
 use Rattle.std.specs.Option.{ForSome}
 use Rattle.grid.specs.declared.place.Kind.{Kind}
 use Rattle.grid.specs.declared.place.Kind.TheVariants.{Logic, Pad}
 
--- a mark for each site, and from which on the free ones of each kind stand
+-- a mark for each site, and for each kind a site from which the free ones begin
 pub record Vacancies : Type 0 where
   pub marks : List Bool
   pub logic : ℕ
@@ -16,7 +16,7 @@ pub record IsVacancies (marks : List Bool) (logic pads : ℕ) : Type 0 where
   pub logic_inside : logic ≤ length marks
   pub pads_inside : pads ≤ length marks
 
--- there are so many sites, and those that are kept are of these
+-- there are `count` sites, and the kept sites are among them
 pub record AreSitesOf (count : ℕ) (kept : List (Option ℕ)) : Type 0 where
   pub few : count < 2 ^ 32
   pub inside : All (λ site. ForSome site (λ number. number < count)) kept
@@ -25,7 +25,7 @@ pub record AreSitesOf (count : ℕ) (kept : List (Option ℕ)) : Type 0 where
 abbrev pub all_free : ℕ → List Bool
 all_free count = replicate {A = Bool} count false
 
--- with marks at the sites that are kept
+-- the marks, with the kept sites marked
 abbrev pub mark_at : List Bool → Option ℕ → List Bool
 mark_at marks None = marks
 mark_at marks (Some site) = slice_set marks site true
@@ -34,7 +34,7 @@ abbrev pub marked : List Bool → List (Option ℕ) → List Bool
 marked marks [] = marks
 marked marks (site ∷ kept) = marked (mark_at marks site) kept
 
--- the first without a mark
+-- the first site without a mark
 abbrev pub first_from : List Bool → ℕ → ℕ
 first_from marks from = from + prefix_len (λ (mark : Bool). mark) (drop from marks)
 

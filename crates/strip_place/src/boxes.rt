@@ -1,4 +1,4 @@
-//! The boxes of all nets, and how long nets are by them.
+//! The bounding boxes of all nets, and the lengths of nets by their boxes.
 ghost use Rattle.std.specs.Prelude.{◌≡◌, ◌*◌, ◌<◌, ◌≤◌, length, sum_by, MatchBool};
 ghost use Rattle.strip_place.specs.Boxes.{AreBothRenewed, AreRenewed, AreTouchedBy, CanRenew, CanSum, CanWeigh, IsAmong, IsBox, IsFollowed, boxed_length, half_of, length_after};
 ghost use Rattle.strip_place.specs.Nets.{IsNetOf};
@@ -9,17 +9,18 @@ use crate::point::Point;
 use crate::sides::Sides;
 use rows::Rows;
 
-/// The box of a net of more blocks than this is worked out by the one before, where that can be.
+/// The box of a net with more blocks than this is updated from the box before, if possible.
 const FEW_BLOCKS: usize = 12;
 
-/// How long some nets are together, and how long they come to be at least.
+/// The total length of some nets, and a lower bound of it after a move.
 #[derive(Clone, Copy)]
 pub(crate) struct Lengths {
     pub(crate) before: u64,
     pub(crate) after: u64,
 }
 
-/// How long the nets of these numbers are, and come to be at least once a block on each of them goes from there to there.
+/// The total length of the nets with these numbers, and a lower bound of it after a block on each
+/// of them moves.
 pub(crate) fn weigh(boxes: &[NetBox], touched: &[u32], from: Sides, to: Sides) -> Lengths
     requires touched { CanWeigh boxes.now touched.now }
     requires to { sum_of to ≤ 131070 }
@@ -40,7 +41,7 @@ pub(crate) fn weigh(boxes: &[NetBox], touched: &[u32], from: Sides, to: Sides) -
     lengths
 }
 
-/// How long all nets are together.
+/// The total length of all nets.
 pub(crate) fn whole_length(boxes: &[NetBox]) -> u64
     requires { CanSum boxes.now }
     ensures { result ≡ sum_by half_of boxes.now }
@@ -52,15 +53,15 @@ pub(crate) fn whole_length(boxes: &[NetBox]) -> u64
     total
 }
 
-/// A block's move: how far from the sides it stood, and how far it stands now.
+/// A block's move, as distances from the sides: those before it and those after it.
 #[derive(Clone, Copy)]
 pub(crate) struct Move {
     pub(crate) from: Sides,
     pub(crate) to: Sides,
 }
 
-/// Works out the boxes of the nets on two lists once a block of those on the first made the move, and one of those on the
-/// second the move back; tells how long they are together.
+/// Updates the boxes of the nets on two lists, after a block of those on the first made the move
+/// and a block of those on the second made the opposite move. Returns their total length.
 pub(crate) fn renew_both(
     boxes: &mut [NetBox],
     nets: &Rows,
@@ -80,8 +81,8 @@ pub(crate) fn renew_both(
         + renew(boxes, nets, points, second, first, back)
 }
 
-/// Works out the boxes of the nets of these numbers once a block on each made the move, and on the others a block the move
-/// back; tells how long they are together.
+/// Updates the boxes of the nets with these numbers, after a block on each made the move and a
+/// block on each of the others made the opposite move. Returns their total length.
 fn renew(
     boxes: &mut [NetBox],
     nets: &Rows,
@@ -105,7 +106,8 @@ fn renew(
     total
 }
 
-/// The box of a net of that number that had another one: of one of few blocks it is worked out anew.
+/// The new bounding box of a net, given its box before. It is recomputed from all blocks if the net
+/// has few.
 #[inline(always)]
 fn renewed(
     stood: NetBox,
@@ -125,8 +127,9 @@ fn renewed(
     NetBox::of(net, points)
 }
 
-/// The box of a large net of that number that had another one. Where two blocks on it changed places it is the same; where one
-/// of it moved that was far from the sides, it has met that one where it is now; only else its blocks are looked at.
+/// The new bounding box of a large net, given its box before. It is unchanged if both exchanged
+/// blocks are on the net, extended to the block's new point if the block was deep inside the old
+/// box, and otherwise recomputed from all blocks.
 #[inline(never)]
 fn followed(
     stood: NetBox,
@@ -149,7 +152,7 @@ fn followed(
     NetBox::of(net, points)
 }
 
-/// Whether the number is one of those.
+/// Whether the number is in the list.
 fn is_among(numbers: &[u32], number: u32) -> bool
     ensures { MatchBool result (IsAmong numbers.now number) (IsAmong numbers.now number → ⊥) }
 {

@@ -1,4 +1,4 @@
-//! What may be taken for granted of passes, and of places that are kept.
+//! What may be assumed of passes and of kept places.
 ghost use Rattle.std.specs.Prelude.{◌≡◌, ◌+◌, ◌≤◌, ℕ, true, false, []};
 ghost use Rattle.grid.specs.declared.Strip.{Strip};
 ghost use Rattle.strip_place.specs.Anneal.{is_past_last};
@@ -6,16 +6,16 @@ ghost use Rattle.strip_place.specs.Keeping.{AreKeptOn};
 
 /// Laws of the passes of a placing.
 pub fn laws_of_passes()
-    // The last one comes after at most as many as a strip has columns and rows.
+    // The number of passes before the last is at most the number of columns and rows.
     ensures few { (strip : Strip) (passes : ℕ) → is_past_last strip passes ≡ false →
         passes ≤ strip.width + strip.rows }
-    // Past the last there is none.
+    // After the last pass no further pass follows.
     ensures stays { (strip : Strip) (few more : ℕ) → few ≤ more → is_past_last strip few ≡ true →
         is_past_last strip more ≡ true }
 {}
 
-/// Laws of places that are kept.
+/// Laws of kept places.
 pub fn laws_of_kept()
-    // Where none is kept, they suit every strip.
+    // An empty map suits every strip.
     ensures none { (strip : Strip) → AreKeptOn strip [] }
 {}

@@ -1,4 +1,4 @@
-//! The box of a net.
+//! The bounding box of a net.
 ghost use Rattle.std.specs.Prelude.{◌≡◌, ◌<◌, ◌≤◌, ⊤, MatchBool, length};
 ghost use Rattle.strip_place.specs.Nets.{IsNetOf};
 ghost use Rattle.strip_place.specs.Sides.{sum_of};
@@ -7,7 +7,8 @@ ghost use Rattle.strip_place.specs.Boxes.{IsBox, IsDeep, half_after, half_of, me
 use crate::point::Point;
 use crate::sides::{FAR, Sides};
 
-/// How far the blocks of a net are from each side: the nearest one, and another that is near too, or [`FAR`].
+/// The distances of a net's blocks from each side: the nearest, and that of another block near it,
+/// or [`FAR`].
 #[derive(Clone, Copy)]
 pub(crate) struct NetBox {
     pub(crate) near: Sides,
@@ -15,7 +16,7 @@ pub(crate) struct NetBox {
 }
 
 impl NetBox {
-    /// The box of a net whose blocks stand at these points.
+    /// The box of a net whose blocks are at these points.
     pub(crate) fn of(net: &[u32], points: &[Point]) -> Self
         requires { IsNetOf (length points.now) net.now }
         ensures { IsBox points.now net.now result }
@@ -45,8 +46,8 @@ impl NetBox {
         self.near.half_perimeter()
     }
 
-    /// At most what width and height come to once a block of the net goes from there to there, whatever other block of it
-    /// goes the other way.
+    /// A lower bound of the width plus the height after a block of the net moves, also if another
+    /// of its blocks makes the opposite move.
     pub(crate) fn half_after(self, from: Sides, to: Sides) -> u32
         requires { sum_of to ≤ 131070 }
         ensures value { result ≡ half_after self from to }
@@ -62,7 +63,8 @@ impl NetBox {
         .half_perimeter()
     }
 
-    /// Whether a block that is so far from the sides is farther than the two that are near each.
+    /// Whether a block at these distances is farther from each side than the two nearest that are
+    /// kept there.
     pub(crate) fn is_deep(self, block: Sides) -> bool
         ensures { MatchBool result (IsDeep self block) ⊤ }
     {
@@ -72,7 +74,7 @@ impl NetBox {
             && self.next.top < block.top
     }
 
-    /// The box with one block more.
+    /// The box with one more block.
     pub(crate) fn met(self, block: Sides) -> Self
         ensures { result ≡ met self block }
     {
@@ -83,7 +85,7 @@ impl NetBox {
     }
 }
 
-/// What is nearest once one that is so far goes.
+/// The nearest distance after a block at distance `gone` is removed.
 fn rest(near: u32, next: u32, gone: u32) -> u32
     ensures { result ≡ rest near next gone }
 {

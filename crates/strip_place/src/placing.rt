@@ -23,16 +23,16 @@ use rand_pcg::Pcg32;
 use std::alloc::{AllocError, Global};
 use std::marker::Model;
 
-/// What a pass answers.
+/// The result of a pass.
 #[derive(Clone, Copy, PartialEq, Eq)]
 pub enum PassEnd {
-    /// There are more.
+    /// More passes follow.
     More,
-    /// It was the last.
+    /// It was the last pass.
     Last,
 }
 
-/// The blocks of a packed circuit on a strip, after so many passes.
+/// The blocks of a packed circuit on a strip, after some passes.
 #[derive(Drop)]
 pub struct Placing {
     packed: SharedPacked,
@@ -59,8 +59,8 @@ impl Model for Placing {
 }
 
 impl Placing {
-    /// The packed circuit with each block at the start: on the place that is kept for it, or, block after block, on the least
-    /// of its kind that is free.
+    /// The packed circuit with each block at its start: on the place that is kept for it, or else,
+    /// block by block, on the least free one of its kind.
     pub fn start(
         alloc: Global,
         packed: &SharedPacked,
@@ -99,7 +99,8 @@ impl Placing {
         })
     }
 
-    /// Makes a pass, and tells whether it was the last; after that one it changes nothing. Takes no memory.
+    /// Makes a pass, and returns whether it was the last. After the last pass it changes nothing.
+    /// Takes no memory.
     pub fn pass(&mut self) -> PassEnd
         ensures new { self.new ≡ one_more self.old }
         ensures end { result ≡ end_of self.new }
@@ -125,14 +126,14 @@ impl Placing {
         self.packed.packed()
     }
 
-    /// The same, as it is shared.
+    /// The packed circuit, for sharing.
     pub fn shared_packed(&self) -> &SharedPacked
         ensures { result.now ≡ self.now.packed }
     {
         &self.packed
     }
 
-    /// The strip that they are placed on.
+    /// The strip on which the blocks are placed.
     pub fn strip(&self) -> Strip
         ensures value { result ≡ self.now.strip }
         ensures size { IsStripSize result }
@@ -148,7 +149,7 @@ impl Placing {
         self.board.place(block)
     }
 
-    /// The places of the blocks, by number.
+    /// The places of the blocks, by block number.
     pub fn places(&self, alloc: Global) -> Result<Vec<Place>, AllocError>
         ensures placed { IfOk result (λ places.
             ArePlaced self.now.strip self.now.packed places.items) }
@@ -162,15 +163,15 @@ impl Placing {
         Ok(places)
     }
 
-    /// What the places cost: the sum, over all nets that are not global, of the width plus the height of the box of the net's
-    /// blocks. Takes no memory.
+    /// The cost of the places: the sum, over all nets that are not global, of the width plus the
+    /// height of the bounding box of the net's blocks. Takes no memory.
     pub fn cost(&self) -> u64
         ensures { result ≡ cost_of (task_of self.now.packed).nets (places_by_block self.now) }
     {
         self.board.cost()
     }
 
-    /// The places, to be kept: by what the blocks are told by.
+    /// The places, as a map from the blocks' keys, to be kept.
     pub fn kept(&self, alloc: Global) -> Result<Kept, AllocError>
         ensures exact { IfOk result (λ kept.
             kept ≡ in_order (zip (keys_of self.now.packed) (places_by_block self.now))) }
@@ -190,7 +191,7 @@ impl Placing {
         Kept::of(alloc, entries)
     }
 
-    /// Each block has a place of its kind, and no two have the same. Computes nothing.
+    /// Each block has a place of its kind, and no two blocks have the same place. Computes nothing.
     pub fn laws(&self)
         ensures { ArePlaced self.now.strip self.now.packed (places_by_block self.now) }
     {
@@ -199,7 +200,6 @@ impl Placing {
     }
 }
 
-/// Makes so many draws.
 fn make_draws(board: &mut Board, words: &mut Pcg32, temperature: u32, draws: usize)
     requires { 0 < draws → 0 < length board.old.task.kinds }
     ensures board { board.new ≡ record board.old {

@@ -1,4 +1,4 @@
-//! Where a block stands.
+//! The point at which a block is.
 
 /// A column and a row.
 #[derive(Clone, Copy)]

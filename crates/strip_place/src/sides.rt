@@ -1,13 +1,14 @@
-//! How far points are from the sides of a field that no strip is larger than.
+//! The distances of points from the sides of a field that is larger than any strip.
 ghost use Rattle.std.specs.Prelude.{◌≡◌, ◌-◌, ◌≤◌, ◌<◌};
 ghost use Rattle.strip_place.specs.Sides.{farther, nearer, sides_of, sum_of};
 
 use crate::point::Point;
 
-/// How far the right side is from the left one, and the top from the bottom.
+/// The distance between opposite sides of the field.
 pub(crate) const FAR: u32 = 65535;
 
-/// How far something is from each side. All four are treated alike, so that a processor can do it at once.
+/// The distances from each side. All four are computed in the same way, so that a processor can
+/// compute them at once.
 #[derive(Clone, Copy)]
 pub(crate) struct Sides {
     pub(crate) left: u32,
@@ -17,7 +18,7 @@ pub(crate) struct Sides {
 }
 
 impl Sides {
-    /// How far a point is from each side.
+    /// The distances of a point from each side.
     pub(crate) fn of(point: Point) -> Self
         ensures value { result ≡ sides_of point }
         ensures x { point.x ≤ 65535 }
@@ -33,7 +34,7 @@ impl Sides {
         }
     }
 
-    /// Of two, the nearer one at each side.
+    /// At each side, the nearer of two distances.
     pub(crate) fn nearer(self, other: Self) -> Self
         ensures { result ≡ nearer self other }
     {
@@ -45,7 +46,7 @@ impl Sides {
         }
     }
 
-    /// Of two, the farther one at each side.
+    /// At each side, the farther of two distances.
     pub(crate) fn farther(self, other: Self) -> Self
         ensures { result ≡ farther self other }
     {
@@ -57,7 +58,7 @@ impl Sides {
         }
     }
 
-    /// How long a box is, its width and its height, that is so far from the sides.
+    /// The width plus the height of a box with these distances from the sides.
     pub(crate) fn half_perimeter(self) -> u32
         requires { sum_of self ≤ 131070 }
         ensures value { result ≡ 131070 - sum_of self }

@@ -1,4 +1,4 @@
-//! Which sites are taken.
+//! The sites that are taken.
 ghost use Rattle.std.specs.Prelude.{◌≡◌, ◌+◌, ◌<◌, ◌≤◌, All, Bool, drop, length, IfOk};
 ghost use Rattle.std.specs.List.{prefix_len};
 ghost use Rattle.std.specs.Option.{ForSome};
@@ -9,7 +9,8 @@ use grid::Kind;
 use std::alloc::{AllocError, Global};
 use std::marker::Model;
 
-/// Which sites are taken, and from which on the free ones of each kind stand. Its value is a record of these.
+/// The sites that are taken, and for each kind a site from which the free ones begin. Its value is
+/// a record of these.
 #[derive(Drop)]
 pub(crate) struct Vacancies {
     marks: Vec<bool>,
@@ -28,7 +29,7 @@ impl Model for Vacancies {
 }
 
 impl Vacancies {
-    /// So many sites, from that one on for pads; those that blocks keep are taken.
+    /// Sites for logic blocks, followed by sites for pads; the kept sites are taken.
     pub(crate) fn new(
         alloc: Global,
         logic: usize,
@@ -52,7 +53,7 @@ impl Vacancies {
         })
     }
 
-    /// The least free site of a kind, which is taken then.
+    /// Takes the least free site of a kind, and returns it.
     pub(crate) fn take(&mut self, kind: Kind) -> u32
         requires { lowest self.old kind < length self.old.marks }
         ensures site { result ≡ lowest self.old kind }
@@ -75,7 +76,7 @@ impl Vacancies {
     }
 }
 
-/// Marks those sites that are kept.
+/// Marks the kept sites.
 fn mark(marks: &mut [bool], kept: &[Option<u32>])
     requires { All (λ site. ForSome site (λ number. number < length marks.old)) kept.now }
     ensures { marks.new ≡ marked marks.old kept.now }
@@ -87,7 +88,7 @@ fn mark(marks: &mut [bool], kept: &[Option<u32>])
     }
 }
 
-/// The first site from that one on that isn't marked, or the number of sites.
+/// The first site without a mark from this one on, or the number of sites if there is no such site.
 fn first_free(marks: &[bool], from: usize) -> usize
     requires { from ≤ length marks.now }
     ensures { result ≡ from + prefix_len (λ (mark : Bool). mark) (drop from marks.now) }

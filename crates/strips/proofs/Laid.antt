@@ -1,4 +1,4 @@
--- What keeps strips laid out.
+-- A layout stays laid out when a strip is removed, added or moved.
 use Rattle.std.proofs.Common.{◌≡◌, ◌≢◌, ℕ, ◌+◌, ◌<◌, ◌≤◌, List, [], ◌∷◌, ◌++◌, length, get_or, filter, Bool, true, false, not, eqb, Option, Some, None, arith, length-append, zero, suc, refl, ap, sym, subst, ◌∙◌, ◌⊎◌, inl, inr}
 use Rattle.std.specs.Prelude.{if◌then◌else◌, option_map, All}
 use Rattle.std.proofs.Math.ListN.{get_or-append}
@@ -17,7 +17,7 @@ length_filter_le : (p : PlacedStrip → Bool) (xs : List PlacedStrip) → length
 length_filter_le p [] = omega arith
 length_filter_le p (x ∷ xs) = grind (arith, length_filter_le p xs)
 
--- the strips but for one are laid out
+-- without one of its strips, a layout is still laid out
 pub IsLaidOut-without : (plan : Plan) (id : ℕ) → IsLaidOut plan → IsLaidOut (record plan { strips = without plan.strips id })
 IsLaidOut-without plan id laid =
     let others : PlacedStrip → Bool = λ s. not (eqb s.id id) in
@@ -37,14 +37,14 @@ absent [] id none k d lt = absurd (omega arith)
 absent (s ∷ strips) id none zero d lt = grind (arith, nat_tests)
 absent (s ∷ strips) id none (suc k) d lt = let rest : offset_of strips id ≡ None = grind (arith, nat_tests) in absent strips id rest k d (omega arith)
 
--- with a strip that is apart from all others the strips are parted
+-- with a strip that is apart from all others, the strips are still separated
 pub IsParted-with : (plan : Plan) (strip : PlacedStrip) → IsParted plan → strip.offset + strip.width ≤ plan.columns → All (λ s. AreApart s strip) plan.strips → IsParted (with_strip plan strip)
 IsParted-with plan strip parted inside apart = record {
   inside = All-push (λ s. s.offset + s.width ≤ plan.columns) plan.strips strip parted.inside inside;
   apart = all_pairs_push AreApart plan.strips strip parted.apart apart;
 }
 
--- and else they are not
+-- with a strip that is too near to another, they are not
 pub IsParted-with-inside : (plan : Plan) (strip : PlacedStrip) → IsParted (with_strip plan strip) → strip.offset + strip.width ≤ plan.columns
 IsParted-with-inside plan strip parted =
     let here = parted.inside (length plan.strips) strip (omega (arith, length-append plan.strips (strip ∷ []))) in
@@ -67,7 +67,7 @@ IsLaidOut-with plan strip laid few fits new =
       distinct = all_pairs_push (λ s t. s.id ≢ t.id) plan.strips strip laid.distinct (absent plan.strips strip.id new);
     }
 
--- one strip less, or one more
+-- lookup by id, after a strip is removed or added
 pub strip_of-without : (strips : List PlacedStrip) (id other : ℕ) → strip_of (without strips id) other ≡ (if eqb other id then None else strip_of strips other)
 strip_of-without [] id other = grind (arith, nat_tests)
 strip_of-without (s ∷ strips) id other = grind (arith, nat_tests, strip_of-without strips id other)
@@ -76,7 +76,7 @@ pub strip_of-push : (strips : List PlacedStrip) (strip : PlacedStrip) (other : �
 strip_of-push [] strip other new = grind (arith, nat_tests)
 strip_of-push (s ∷ strips) strip other new = let rest : strip_of strips strip.id ≡ None = grind (arith, nat_tests) in grind (arith, nat_tests, strip_of-push strips strip other rest)
 
--- where a strip that is found stands in the list
+-- the index at which a strip is found in the list
 record FoundAt (strips : List PlacedStrip) (id : ℕ) (s : PlacedStrip) (i : ℕ) : Type 0 where
   within : i < length strips
   at : (d : PlacedStrip) → get_or strips i d ≡ s
@@ -94,7 +94,7 @@ AreApart-turned : (s t : PlacedStrip) → AreApart s t → AreApart t s
 AreApart-turned s t (inl before) = inr before
 AreApart-turned s t (inr after) = inl after
 
--- the strips of two ids are apart
+-- the strips of two different ids are apart
 pub apart_of : (plan : Plan) (j k : ℕ) (s t : PlacedStrip) → IsParted plan → strip_of plan.strips j ≡ Some s → strip_of plan.strips k ≡ Some t → j ≢ k → AreApart s t
 apart_of plan j k s t parted is_s is_t differ =
     let a : (i : ℕ) × FoundAt plan.strips j s i = found_at plan.strips j s is_s in
@@ -109,7 +109,7 @@ apart_of plan j k s t parted is_s is_t differ =
         by_equal true e = let same : p ≡ q = (Decides-eqb p q).0 e in let st : s ≡ t = sym (a.at s) ∙ (ap (λ n. get_or plan.strips n s) same ∙ b.at s) in absurd (differ (sym a.its_id ∙ (ap (λ (y : PlacedStrip). y.id) st ∙ b.its_id)))
         by_equal false e = let lt : q < p = grind (arith, nat_tests) in let w : p < length plan.strips = a.within in AreApart-turned t s (rw (b.at s, a.at s) at (parted.apart q p s lt w))
 
--- all strips of an id are that one
+-- every strip with the id is the one that is found
 only_one : (plan : Plan) (id : ℕ) (s : PlacedStrip) → IsLaidOut plan → strip_of plan.strips id ≡ Some s → (k : ℕ) (d : PlacedStrip) → k < length plan.strips → (get_or plan.strips k d).id ≡ id → get_or plan.strips k d ≡ s
 only_one plan id s laid is k d lt same =
     let a : (i : ℕ) × FoundAt plan.strips id s i = found_at plan.strips id s is in
@@ -129,7 +129,7 @@ moved_yes id offset s e = ap (λ (b : Bool). if b then at_offset s offset else s
 moved_not : (id offset : ℕ) (s : PlacedStrip) → eqb s.id id ≡ false → moved_strip id offset s ≡ s
 moved_not id offset s e = ap (λ (b : Bool). if b then at_offset s offset else s) e
 
--- the other strips are apart from that one
+-- all strips with another id are apart from the given one
 abbrev pub AreOthersApart : List PlacedStrip → ℕ → PlacedStrip → Type 0
 AreOthersApart strips id strip = All (λ s. (s.id ≡ id) ⊎ AreApart s strip) strips
 
@@ -140,7 +140,7 @@ module _ (plan : Plan) (id offset : ℕ) (s : PlacedStrip) (laid : IsLaidOut pla
   long : length (with_moved plan id offset).strips ≡ length plan.strips
   long = length-map plan.strips (moved_strip id offset)
 
-  -- a strip after the move: that one, or another
+  -- after the move, a strip is either the moved one or an unchanged other one
   each : (k : ℕ) (d : PlacedStrip) → k < length plan.strips → ((get_or plan.strips k d).id ≡ id × (get_or (with_moved plan id offset).strips k d ≡ at_offset s offset)) ⊎ ((eqb (get_or plan.strips k d).id id ≡ false) × (get_or (with_moved plan id offset).strips k d ≡ get_or plan.strips k d))
   each k d lt = by (eqb (get_or plan.strips k d).id id) refl
     where
@@ -223,7 +223,7 @@ found_id strips id s is = (found_at strips id s is).1.its_id
 pub others_by : (strips : List PlacedStrip) (id other : ℕ) (strip : PlacedStrip) → id ≡ other → AreOthersApart strips id strip → AreOthersApart strips other strip
 others_by strips id other strip same apart = subst (λ n. AreOthersApart strips n strip) same apart
 
--- what is found, and told as it is
+-- an equal option in its unfolded form
 pub found_is : (found : Option PlacedStrip) (s : PlacedStrip) → Some s ≡ option_map (λ (strip : PlacedStrip). strip) found → found ≡ Some s
 found_is None s is = absurd cc
 found_is (Some t) s is = sym is

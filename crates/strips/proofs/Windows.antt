@@ -1,4 +1,4 @@
--- Where pairs of the device's graph lie among its strips.
+-- Which strips of the device the two ends of an edge belong to.
 use Rattle.std.proofs.Common.{ℕ, ◌≡◌, ◌+◌, ◌-◌, ◌<◌, ◌≤◌, ◌⊎◌, refl, sym, ap, ◌∙◌, subst, inl, inr, arith, Bool, true, false, ◌&&◌, ◌||◌, nat_le}
 use Rattle.std.specs.Prelude.{◌==◌}
 use Rattle.std.proofs.lemmas.Bool.{and_parts, and_from, or_cases, or_left, or_right, eqb-true, leb-true, le-leb, cases_eq, cases_Bool, false≢true}
@@ -12,7 +12,8 @@ use Rattle.strips.specs.declared.placed_strip.PlacedStrip.{PlacedStrip}
 use Rattle.strips.specs.Plan.{AreApart}
 use Rattle.strips.specs.Windows.{strip_of_width, moved_back, is_in_window, IsPinOrAcross, IsBeside}
 
--- a column in which a strip has a node of that kind: one of its own, or for a wire beside them the one left of them
+-- a column in which a strip has a node of that kind: one of its own, or, for a wire that runs
+-- beside them, also the column to their left
 abbrev IsInside : ℕ → ℕ → NodeKind → ℕ → Type 0
 IsInside offset width Source x = (offset < x) × (x ≤ offset + width)
 IsInside offset width Sink x = (offset < x) × (x ≤ offset + width)
@@ -52,7 +53,7 @@ inside_from offset width Ipin x lo hi h = own_column offset width x lo hi h
 inside_from offset width ChanX x lo hi h = own_column offset width x lo hi h
 inside_from offset width ChanY x lo hi h = (lo, omega (arith, lo, hi))
 
--- what stands in a column doesn't depend on how many columns there are
+-- what a column contains doesn't depend on the number of columns
 slot_of_width : (arch : Arch) (device : Strip) (width : ℕ) (kind : NodeKind) (y n : ℕ) → is_slot arch (strip_of_width device width) kind y n ≡ is_slot arch device kind y n
 slot_of_width arch device width Source y n = refl
 slot_of_width arch device width Sink y n = refl
@@ -61,7 +62,7 @@ slot_of_width arch device width Ipin y n = refl
 slot_of_width arch device width ChanX y n = refl
 slot_of_width arch device width ChanY y n = refl
 
--- what a window says of a node
+-- what follows when a node is in a strip's window
 window_inside : (arch : Arch) (device : Strip) (strip : PlacedStrip) (node : Node) → is_in_window arch device strip node ≡ true → IsInside strip.offset strip.width node.kind node.x
 window_inside arch device strip node h =
     let outer = and_parts (nat_le strip.offset node.x) (is_node arch (strip_of_width device strip.width) (moved_back strip.offset node)) h in
@@ -79,7 +80,7 @@ inside_window arch device strip node is inside =
     (and_from _ _ (le-leb (node.x - strip.offset) strip.width (omega (arith, bounds.0, bounds.1)))
     (and_from _ _ (column_inside strip.offset strip.width node.kind node.x inside) (slot_of_width arch device strip.width node.kind node.y node.n ∙ inner.1)))
 
--- a column that isn't one of those between two is one of the two
+-- a column beside or in a range, but not strictly inside it, is one of the two at its ends
 outermost : (offset width x : ℕ) → offset ≤ x → x ≤ offset + width + 1 → ((offset < x) × (x ≤ offset + width) → ⊥) → (x ≡ offset) ⊎ (x ≡ offset + width + 1)
 outermost offset width x lo hi out = elim (cases_eq x offset) [
   | inl e ↦ inl e
@@ -107,11 +108,11 @@ crossing across up h = elim (or_cases (up.x == across.x) (up.x + 1 == across.x) 
   | inr less ↦ inr (eqb-true (up.x + 1) across.x less)
 ]
 
--- where an edge that leaves the columns of a strip ends
+-- the column in which an edge that leaves a strip's columns ends
 abbrev Ends : ℕ → ℕ → NodeKind → ℕ → Type 0
 Ends offset width kind x = IsPinOrAcross kind × ((x ≡ offset) ⊎ (x ≡ offset + width + 1))
 
--- none leaves them that stays in its column
+-- an edge within one column leaves no strip
 stays : (offset width x x' : ℕ) → (offset < x) × (x ≤ offset + width) → x ≡ x' → ((offset < x') × (x' ≤ offset + width) → ⊥) → ⊥
 stays offset width x x' inside e out = out (omega (arith, inside.0, e), omega (arith, inside.1, e))
 
@@ -171,7 +172,7 @@ leaves arch device offset width ChanY Ipin a b ea eb h inside out = (record {}, 
 leaves arch device offset width ChanY ChanX a b ea eb h inside out = (record {}, rim offset width a.x b.x inside (crossing b a h) out)
 leaves arch device offset width ChanY ChanY a b ea eb h inside out = absurd (out (subst (λ x. (offset ≤ x) × (x ≤ offset + width)) (eqb-true a.x b.x (and_parts _ _ (and_parts _ _ h).1).0) inside))
 
--- a pair that leaves a strip's window ends beside the strip
+-- an edge that leaves a strip's window ends beside the strip
 pub pair_leaves : (arch : Arch) (device : Strip) (strip : PlacedStrip) (a b : Node) → is_edge arch device a b ≡ true → is_in_window arch device strip a ≡ true →
     is_in_window arch device strip b ≡ false → IsBeside strip b
 pair_leaves arch device strip a b edge within without' =
@@ -188,7 +189,7 @@ beside_column strip other x (inl apart) (inr e) inside = omega (arith, apart, e,
 beside_column strip other x (inr apart) (inl e) inside = omega (arith, apart, e, inside.0, inside.1)
 beside_column strip other x (inr apart) (inr e) inside = omega (arith, apart, e, inside.0, inside.1)
 
--- what lies beside a strip is in the window of none that is apart from it
+-- a node beside a strip is not in the window of a strip that is apart from it
 not_inside : (strip other : PlacedStrip) (kind : NodeKind) (x : ℕ) → AreApart strip other → IsPinOrAcross kind →
     (x ≡ strip.offset) ⊎ (x ≡ strip.offset + strip.width + 1) → IsInside other.offset other.width kind x → ⊥
 not_inside strip other Source x apart is at' inside = is
@@ -216,7 +217,7 @@ windows_apart arch device strip other node apart within = elim (cases_Bool (is_i
   | inr without' ↦ without'
 ]
 
--- a node moved there and back
+-- moving a node right and back gives the node again
 there_and_back : (d : ℕ) (node : Node) → moved_back d (moved d node) ≡ node
 there_and_back d node = ap (λ x. record { x = x; kind = node.kind; y = node.y; n = node.n }) (omega arith)
 
@@ -236,7 +237,7 @@ window_node arch device strip node h =
     let parts = and_parts (nat_le strip.offset node.x) (is_node arch (strip_of_width device strip.width) (moved_back strip.offset node)) h in
     (leb-true strip.offset node.x parts.0, parts.1)
 
--- pairs within a window, where pairs of a strip stay pairs
+-- a pair of nodes in a window is an edge of the strip exactly if it is an edge of the device
 pub pair_within : (arch : Arch) (device : Strip) (strip : PlacedStrip) (a b : Node) → is_in_window arch device strip a ≡ true → is_in_window arch device strip b ≡ true →
     (is_node arch (strip_of_width device strip.width) (moved_back strip.offset a) ≡ true → is_node arch (strip_of_width device strip.width) (moved_back strip.offset b) ≡ true →
     is_edge arch device (moved strip.offset (moved_back strip.offset a)) (moved strip.offset (moved_back strip.offset b)) ≡ is_edge arch (strip_of_width device strip.width) (moved_back strip.offset a) (moved_back strip.offset b)) →

@@ -9,19 +9,19 @@ use Rattle.rr_graph.specs.Geometry.{is_node, is_edge, moved}
 use Rattle.rr_graph.specs.Graph.{Basis}
 use Rattle.strips.specs.declared.placed_strip.PlacedStrip.{PlacedStrip}
 
--- the device is a strip of all its columns; a strip on it has so many of them, and all rows
+-- the device is a strip of all its columns; a strip on it has `width` of them, and all rows
 abbrev pub strip_of_width : Strip → ℕ → Strip
 strip_of_width device width = record device { width = width }
 
--- the node so many columns to the left
+-- the node, moved that number of columns to the left
 abbrev pub moved_back : ℕ → Node → Node
 moved_back offset node = record { x = node.x - offset; kind = node.kind; y = node.y; n = node.n }
 
--- a node of the device in a strip's own columns, where it doesn't lie left of them
+-- a device node in a strip's own columns; `None` if it lies left of them
 abbrev pub unshifted : ℕ → Node → Option Node
 unshifted offset node = if nat_le offset node.x then Some (moved_back offset node) else None
 
--- the node of the device is one of the strip's, moved to where the strip stands
+-- the device node is one of the strip's nodes, moved to the strip's offset
 abbrev pub is_in_window : Arch → Strip → PlacedStrip → Node → Bool
 is_in_window arch device strip node = nat_le strip.offset node.x && is_node arch (strip_of_width device strip.width) (moved_back strip.offset node)
 
@@ -43,12 +43,13 @@ pub record IsBeside (strip : PlacedStrip) (node : Node) : Type 0 where
 abbrev pub device_strip : Arch → ℕ → ℕ → Strip
 device_strip arch columns rows = record { width = columns; rows = rows; io_rat = arch.io_rat }
 
--- the device has the strip, of one column at least, with so many columns to the left of it
+-- the device has the strip, of at least one column, at that offset
 abbrev pub is_on_device : Strip → Strip → ℕ → Bool
 is_on_device device strip offset =
     nat_le 1 strip.width && ((strip.rows == device.rows) && ((strip.io_rat == device.io_rat) && nat_le (offset + strip.width) device.width))
 
--- the strip's graph shows what the device's graph has in the strip's columns: two of its nodes are a pair just where they are one on the device
+-- the strip's graph shows what the device's graph has in the strip's columns: two of its nodes form
+-- an edge exactly if they form one on the device
 abbrev pub Shows : Basis → ℕ → Basis → Type 0
 Shows device offset strip = (a b : Node) → is_node strip.arch strip.strip a ≡ true → is_node strip.arch strip.strip b ≡ true →
     is_edge device.arch device.strip (moved offset a) (moved offset b) ≡ is_edge strip.arch strip.strip a b

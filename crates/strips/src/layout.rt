@@ -7,14 +7,14 @@ use crate::placed_strip::PlacedStrip;
 use arrayvec::ArrayVec;
 use std::marker::Model;
 
-/// The most strips that a layout holds.
+/// The largest number of strips in a layout.
 pub const MAX_STRIPS: usize = 64;
 
-/// There is no room for a strip at an offset.
+/// A strip doesn't fit at an offset.
 #[derive(Clone, Copy, PartialEq, Eq)]
 pub struct NoRoom;
 
-/// The strips on a device of so many columns, parted from one another.
+/// The strips on a device of `columns` columns, separated from one another.
 #[derive(Drop)]
 pub struct Layout {
     columns: u32,
@@ -32,7 +32,7 @@ impl Model for Layout {
 }
 
 impl Layout {
-    /// An empty device of so many columns.
+    /// Returns the layout of a device of `columns` columns without strips.
     pub fn new(columns: u32) -> Self
         ensures { result ≡ record { columns = columns; strips = [] } }
     {
@@ -42,7 +42,7 @@ impl Layout {
         }
     }
 
-    /// Whether there is room for no further strip.
+    /// Returns whether the layout already has [`MAX_STRIPS`] strips.
     pub fn is_full(&self) -> bool
         ensures value { result ≡ (length self.now.strips == MAX_STRIPS) }
         ensures few { length self.now.strips ≤ MAX_STRIPS }
@@ -50,14 +50,16 @@ impl Layout {
         self.strips.is_full()
     }
 
-    /// Whether a strip of that width stands on no such device: it has no column, or more than the device.
+    /// Returns whether no strip of that width fits even on an empty device: the width is zero, or
+    /// more than the device's columns.
     pub fn is_bad_width(&self, width: u32) -> bool
         ensures { result ≡ is_bad_width self.now width }
     {
         width == 0 || self.columns < width
     }
 
-    /// The least offset at which a strip of that width is parted from all others.
+    /// Returns the least offset at which a strip of that width is separated from all others; `None`
+    /// if there is no such offset.
     pub fn first_fit(&self, width: u32) -> Option<u32>
         ensures { IsFirstFit self.now width result }
     {
@@ -77,7 +79,7 @@ impl Layout {
         None
     }
 
-    /// Where the strip of that id stands.
+    /// Returns the offset of the strip with that id; `None` if there is no such strip.
     pub fn offset(&self, id: u32) -> Option<u32>
         ensures value { result ≡ offset_of self.now.strips id }
         ensures laid_out { IsLaidOut self.now }
@@ -88,7 +90,9 @@ impl Layout {
             .map(|strip| strip.offset)
     }
 
-    /// Places a strip of a new id where it fits, as at the offset of [`Layout::first_fit`].
+    /// Adds a strip at its offset, for example the one that [`Layout::first_fit`] returned. The
+    /// caller must ensure that the strip fits there, that its id is new, and that the layout is not
+    /// full.
     pub fn place(&mut self, strip: PlacedStrip)
         requires { HasRoomFor self.old strip }
         ensures { self.new ≡ with_strip self.old strip }
@@ -96,7 +100,8 @@ impl Layout {
         self.strips.push(strip);
     }
 
-    /// Moves the strip of that id, which there is, to that offset, where it is parted from all others. Takes no memory.
+    /// Moves the strip with that id, which must exist, to that offset. If it would not be separated
+    /// from all others there, it returns [`NoRoom`] and the layout stays as it is. Takes no memory.
     pub fn move_to(&mut self, id: u32, offset: u32) -> Result<(), NoRoom>
         requires { IsSome (strip_of self.old.strips id) }
         ensures { Moves self.old id offset result self.new }
@@ -115,7 +120,7 @@ impl Layout {
         Ok(())
     }
 
-    /// Takes the strip of that id away, if there is one.
+    /// Removes the strip with that id, if there is one.
     pub fn remove(&mut self, id: u32)
         ensures { self.new ≡ record self.old { strips = without self.old.strips id } }
     {
@@ -123,7 +128,7 @@ impl Layout {
     }
 }
 
-/// Whether a column lies unused between the strip and each of those.
+/// Returns whether at least one column is unused between the strip and each of `strips`.
 fn is_apart_from_all(strips: &[PlacedStrip], strip: PlacedStrip) -> bool
     requires { AreNear strips.now strip }
     ensures { IsTrue result ↔ All (λ s. AreApart s strip) strips.now }
@@ -133,7 +138,8 @@ fn is_apart_from_all(strips: &[PlacedStrip], strip: PlacedStrip) -> bool
     })
 }
 
-/// Whether a column lies unused between the strip and each of those but the one of its own id.
+/// Returns whether at least one column is unused between the strip and each of `strips` with
+/// another id.
 fn is_apart_from_others(strips: &[PlacedStrip], strip: PlacedStrip) -> bool
     requires { AreNear strips.now strip }
     ensures { IsTrue result ↔ All (λ s. (s.id ≡ strip.id) ⊎ AreApart s strip) strips.now }
@@ -145,7 +151,7 @@ fn is_apart_from_others(strips: &[PlacedStrip], strip: PlacedStrip) -> bool
     })
 }
 
-/// The strip of that id.
+/// Returns the strip with that id, if there is one.
 fn strip_of(strips: &[PlacedStrip], id: u32) -> Option<PlacedStrip>
     ensures { result ≡ option_map (λ strip. strip) (strip_of strips.now id) }
 {
@@ -155,7 +161,7 @@ fn strip_of(strips: &[PlacedStrip], id: u32) -> Option<PlacedStrip>
         .map(|strip| *strip)
 }
 
-/// Puts the strip of that id at that offset.
+/// Sets the offset of the strip with that id; the others stay as they are.
 fn move_one(strips: &mut [PlacedStrip], id: u32, offset: u32)
     ensures { strips.new ≡ map (moved_strip id offset) strips.old }
 {
@@ -164,7 +170,7 @@ fn move_one(strips: &mut [PlacedStrip], id: u32, offset: u32)
     }
 }
 
-/// The strip, at that offset where it has that id.
+/// Returns the strip at that offset if it has that id, otherwise unchanged.
 fn moved_strip(strip: PlacedStrip, id: u32, offset: u32) -> PlacedStrip
     ensures { result ≡ moved_strip id offset strip }
 {

@@ -1,13 +1,14 @@
-//! Where tenants' strips stand on the device.
+//! The positions of the tenants' strips on the device.
 //!
-//! A strip is a run of neighbouring columns, over all rows. Between two strips at least one column stays unused,
-//! so that no wire of one strip reaches the pins of another. A strip fits at an offset where this still holds;
-//! `first_fit` finds the least such offset, or none where there is none.
+//! A strip is a run of neighbouring columns, over all rows. At least one column between two strips
+//! stays unused, so that no wire of one strip reaches the pins of another. A strip fits at an
+//! offset if this still holds; `first_fit` finds the least such offset, if there is one.
 //!
-//! The device has one routing graph, the [`DeviceGraph`]. A strip reads it through its [`Window`], which shows the graph of
-//! the strip's own columns as if there were no others; [`laws_of_windows`] says how it lies in the device's.
+//! The device has one routing graph, the [`DeviceGraph`]. A strip reads it through its [`Window`],
+//! which shows the graph of the strip's own columns as if there were no others; [`laws_of_windows`]
+//! says how the strip's graph lies in the device's.
 //!
-//! A [`Layout`] has room for [`MAX_STRIPS`] strips in itself: no call takes memory.
+//! A [`Layout`] holds up to [`MAX_STRIPS`] strips in itself: no call takes memory.
 #![tactic(auto)]
 
 mod layout;

@@ -1,12 +1,12 @@
-//! A strip at its place.
+//! A strip at its offset.
 
 /// The strip of one tenancy: the columns from `offset` on, `width` of them.
 #[derive(Clone, Copy, Default, PartialEq, Eq)]
 pub struct PlacedStrip {
-    /// The tenancy whose strip it is.
+    /// The id of the tenancy that has the strip.
     pub id: u32,
-    /// The columns to the left of it.
+    /// The number of columns to the left of the strip.
     pub offset: u32,
-    /// Its columns.
+    /// The number of its columns.
     pub width: u32,
 }

@@ -1,4 +1,4 @@
-//! Where a strip's routing graph lies in its device's.
+//! How a strip's routing graph lies in its device's.
 ghost use Rattle.std.specs.Prelude.{◌≡◌, ◌+◌, ◌<◌, ◌≤◌, ◌^◌, true, false};
 ghost use Rattle.arch_file.specs.declared.arch.Arch.{Arch};
 ghost use Rattle.grid.specs.declared.Strip.{Strip};
@@ -10,7 +10,8 @@ ghost use Rattle.strips.specs.Windows.{IsBeside, is_in_window, moved_back, strip
 
 use rr_graph::{Node, laws_of_geometry};
 
-/// A node of a strip's own columns where the strip stands: with so many columns to the left of it.
+/// Returns the device's node for a node of a strip at that offset: the node moved `offset` columns
+/// to the right.
 pub fn shift(offset: u32, node: Node) -> Node
     requires { offset + node.x < 2 ^ 32 }
     ensures { result ≡ moved offset node }
@@ -21,7 +22,8 @@ pub fn shift(offset: u32, node: Node) -> Node
     }
 }
 
-/// A node of the device in the columns of a strip that stands there, or none where it lies to the left of them.
+/// Returns the strip's node for a node of the device, for a strip at that offset; `None` if the
+/// node lies to the left of the strip's columns.
 pub fn unshift(offset: u32, node: Node) -> Option<Node>
     ensures { result ≡ unshifted offset node }
 {
@@ -34,27 +36,31 @@ pub fn unshift(offset: u32, node: Node) -> Option<Node>
     })
 }
 
-/// Laws of windows. The device is a strip of all its columns; a strip on it sees the nodes in its window as those of a
-/// device of its own width, and what leaves the window meets no other strip's.
+/// The laws of windows. The device is a strip of all its columns. A strip on it sees the nodes in
+/// its window as those of a device of its own width, and an edge that leaves the window reaches no
+/// other strip.
 pub fn laws_of_windows()
-    // A node of a strip stands in its window, and goes back to where it was.
+    // A strip's node, moved to the strip's offset, is in its window, and moved back it is the node
+    // again.
     ensures there { (arch : Arch) (device : Strip) (strip : PlacedStrip) (node : Node) →
         is_node arch (strip_of_width device strip.width) node ≡ true →
         (is_in_window arch device strip (moved strip.offset node) ≡ true)
         × (moved_back strip.offset (moved strip.offset node) ≡ node) }
-    // A pair of the device's graph with both ends in a strip's window is a pair of the strip's graph, moved there, and each of these is there.
+    // An edge of the device's graph with both ends in a strip's window is an edge of the strip's
+    // graph, moved there, and each edge of the strip's graph is one of these.
     ensures pairs { (arch : Arch) (device : Strip) (strip : PlacedStrip) (a b : Node) →
         strip.offset + strip.width ≤ device.width →
         is_in_window arch device strip a ≡ true → is_in_window arch device strip b ≡ true →
         is_edge arch device a b
         ≡ is_edge arch (strip_of_width device strip.width) (moved_back strip.offset a)
         (moved_back strip.offset b) }
-    // A pair that leaves a window ends in a pin, or a wire above a row, of a column beside the strip.
+    // An edge that leaves a window ends in a pin, or in a wire above a row, of a column beside the
+    // strip.
     ensures leaving { (arch : Arch) (device : Strip) (strip : PlacedStrip) (a b : Node) →
         is_edge arch device a b ≡ true →
         is_in_window arch device strip a ≡ true → is_in_window arch device strip b ≡ false →
         IsBeside strip b }
-    // These are in the window of no strip that is apart from it.
+    // Those pins and wires are in no window of a strip that is apart from this one.
     ensures beside { (arch : Arch) (device : Strip) (strip other : PlacedStrip) (node : Node) →
         AreApart strip other → IsBeside strip node →
         is_in_window arch device other node ≡ false }

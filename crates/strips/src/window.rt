@@ -12,7 +12,7 @@ use rr_graph::{Ends, Fabric, Node, NodeKind, Numbers, Part, StripGraph, laws_of_
 use std::alloc::{AllocError, Global};
 use std::marker::Model;
 
-/// The routing graph of a device, of all its columns. Its value is what it stands on.
+/// The routing graph of a device, of all its columns. Its value is its basis.
 #[derive(Drop)]
 pub struct DeviceGraph {
     fabric: Fabric,
@@ -27,7 +27,8 @@ impl Model for DeviceGraph {
 }
 
 impl DeviceGraph {
-    /// The graph of a device of so many columns and rows. What is read through windows takes no memory.
+    /// Builds the graph of a device of `columns` columns and `rows` rows. Reading it through
+    /// windows takes no memory. Fails with [`AllocError`] if memory runs out.
     pub fn new(alloc: Global, arch: &Arch, columns: u32, rows: u32) -> Result<Self, AllocError>
         requires arch { IsArch arch.now }
         requires size { IsStripSize (device_strip arch.now columns rows) }
@@ -44,9 +45,10 @@ impl DeviceGraph {
     }
 }
 
-/// A strip's window on the device's graph: the strip's own routing graph, in its own columns, read in the device's tables.
-/// All columns have the same nodes and the same pairs beside them, so where the strip stands only decides whether there is
-/// a window. Its value is what the strip's graph stands on.
+/// A strip's window on the device's graph: the strip's own routing graph, in its own columns, read
+/// from the device's tables. All columns have the same nodes and the same edges beside them, so the
+/// strip's offset only decides whether there is a window. Its value is the basis of the strip's
+/// graph.
 #[derive(Drop)]
 pub struct Window<'a> {
     part: Part<'a>,
@@ -61,8 +63,9 @@ impl<'a> Model for Window<'a> {
 }
 
 impl<'a> Window<'a> {
-    /// The window of a strip with so many columns to the left of it, if the device has it there: all its columns, one at least,
-    /// and just its rows and pads. Takes no memory.
+    /// Returns the window of a strip at that offset; `None` if the device doesn't have the strip
+    /// there. The strip must lie within the device's columns, have at least one column, and have
+    /// exactly the device's rows and pads. Takes no memory.
     pub fn new(graph: &'a DeviceGraph, offset: u32, strip: Strip) -> Option<Self>
         ensures there { is_some result ≡ is_on_device graph.now.strip strip offset }
         ensures arch { IfSome result (λ window. window.arch ≡ graph.now.arch) }

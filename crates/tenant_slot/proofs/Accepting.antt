@@ -1,4 +1,4 @@
--- What a slot carries along after an accepted command.
+-- What a slot keeps between commands is right after an accepted command.
 use Rattle.std.proofs.Common.{◌≡◌, ℕ, ◌+◌, ◌<◌, true, Option, Some, None, [], refl, sym, ap, subst, ◌∙◌, arith}
 use Rattle.std.specs.Prelude.{is_some, IfSome}
 use Rattle.arch_file.specs.declared.arch.Arch.{Arch}
@@ -24,7 +24,7 @@ use Rattle.tenant_slot.specs.Standing.{IsChange, IsSlot, accepted_in, name_of, s
 use Rattle.tenant_slot.proofs.Kept.{at_packing}
 use Rattle.tenant_slot.proofs.Putting.{IsSlot-more, standing_of}
 
--- the state of a running job is none that a job goes on from
+-- no job starts in a state in which a job runs
 never_before : (running kind : JobKind) → during running ≡ before kind → ⊥
 never_before PackingJob PackingJob is = cc
 never_before PackingJob PlacingJob is = cc
@@ -40,11 +40,11 @@ rest_name : (content : Content) (job : Option Running) (kind : JobKind) → name
 rest_name content None kind is = is
 rest_name content (Some job) kind is = absurd (never_before job.sources.kind kind is)
 
--- where nothing is kept
+-- the empty list of kept places is right for every strip
 none_kept : (strip : Strip) → AreKeptOn strip []
 none_kept strip = record { by_kind = λ key place is. absurd cc; one_to_one = λ key other place is also. absurd cc }
 
--- what is left without places and routes
+-- what is left after places and routes are given up
 module _ (arch : Arch) (strip : Strip) (kept : KeptPlaces) (seed effort seed' effort' : ℕ) where
   cut_has : (content : Content) → HasContent arch strip kept seed effort content → HasContent arch strip kept seed' effort' (cut_back content)
   cut_has Empty has = has
@@ -70,7 +70,7 @@ cut_name (Placed netlist packing placing) some = refl
 cut_name (Routed netlist packing placing routing) some = refl
 cut_name (Unrouted netlist packing placing failure) some = refl
 
--- the step that a begun job has ready
+-- the next step that a job has at its start
 ready_first : (ready : Option JobState) (id generation : ℕ) (sources : Sources) → ready ≡ Some (first_step id generation sources) →
     IfSome ready (λ job. job.step ≡ record { id = id; generation = generation; number = 1; sources = sources })
 ready_first ready id generation sources is = rw is refl
@@ -149,7 +149,7 @@ module _ (id : ℕ) (arch : Arch) (strip : Strip) (content : Content) (job : Opt
     entries_small = omega arith;
   }
 
--- an answer that is accepted leaves a lawful slot
+-- an accepted answer leaves the slot lawful
 pub accept_slot : (id : ℕ) (arch : Arch) (strip : Strip) (standing : Standing) (entries : ℕ) (answer : Outcome) → IsSlot id arch strip standing entries → IsAnswerTo (seen id arch strip standing entries) answer →
     IsChange answer.lut_size answer.change → IsSlot id arch strip (accepted_in standing answer.change) (entries + 1)
 accept_slot id arch strip standing entries answer slot fits is =

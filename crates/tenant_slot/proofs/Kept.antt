@@ -1,4 +1,4 @@
--- What is carried along where a command is lawful.
+-- What a slot has when a command is lawful.
 use Rattle.std.proofs.Common.{◌≡◌, ℕ, true, false, Option, Some, None, refl}
 use Rattle.std.specs.Prelude.{is_some}
 use Rattle.arch_file.specs.declared.arch.Arch.{Arch}
@@ -18,14 +18,14 @@ use Rattle.tenant_slot.specs.JobNames.{during}
 use Rattle.tenant_slot.specs.SingleUser.{is_lawful}
 use Rattle.tenant_slot.specs.Standing.{name_of}
 
--- a command that is lawful in no state in which a job runs
+-- a command that isn't lawful while a job runs
 resting : (command : Command) → is_lawful PackingName command ≡ false → is_lawful PlacingName command ≡ false → is_lawful RoutingName command ≡ false →
     (kind : JobKind) → is_lawful (during kind) command ≡ true → ⊥
 resting command packing placing routing PackingJob lawful = cc
 resting command packing placing routing PlacingJob lawful = cc
 resting command packing placing routing RoutingJob lawful = cc
 
--- what is there where `pack` is lawful
+-- what the slot has when `pack` is lawful
 pub at_loaded : (content : Content) (job : Option Running) → is_lawful (name_of content job) Pack ≡ true → (netlist : Netlist) × (content ≡ Loaded netlist) × (job ≡ None)
 at_loaded (Loaded netlist) None lawful = (netlist, refl, refl)
 at_loaded Empty None lawful = absurd (cc)
@@ -35,7 +35,7 @@ at_loaded (Routed netlist packing placing routing) None lawful = absurd (cc)
 at_loaded (Unrouted netlist packing placing failure) None lawful = absurd (cc)
 at_loaded content (Some job) lawful = absurd (resting Pack refl refl refl job.sources.kind lawful)
 
--- what is there where `place` is lawful
+-- what the slot has when `place` is lawful
 pub at_packing : (content : Content) (job : Option Running) (seed effort : ℕ) → is_lawful (name_of content job) (Place seed effort) ≡ true → (is_some (packing_in content) ≡ true) × (job ≡ None)
 at_packing (Packed netlist packing) None seed effort lawful = (refl, refl)
 at_packing (Placed netlist packing placing) None seed effort lawful = (refl, refl)
@@ -45,7 +45,7 @@ at_packing Empty None seed effort lawful = absurd (cc)
 at_packing (Loaded netlist) None seed effort lawful = absurd (cc)
 at_packing content (Some job) seed effort lawful = absurd (resting (Place seed effort) refl refl refl job.sources.kind lawful)
 
--- what is carried along is what the text leads to
+-- what the slot keeps is what its text results in
 module _ (arch : Arch) (strip : Strip) (keeps : KeptPlaces) (seed effort : ℕ) where
   pub netlist_kept : (content : Content) (netlist : Netlist) → netlist_in content ≡ Some netlist → HasContent arch strip keeps seed effort content → (netlist.text ≡ text_of content) × IsNetlist arch.lut_size netlist
   netlist_kept Empty netlist is has = absurd (cc)

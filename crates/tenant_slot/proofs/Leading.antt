@@ -1,4 +1,4 @@
--- What a command or a step leads to, by parts that lemmas speak of.
+-- The results of commands and steps, in parts for use in lemmas.
 use Rattle.std.specs.Prelude.{ℕ, ◌+◌, List, [], Result, Option, Some, None}
 use Rattle.blif.specs.declared.circuit.Circuit.{Circuit}
 use Rattle.blif.specs.declared.fault.BlifFault.{BlifFault}
@@ -18,14 +18,14 @@ begun state name = record (risen state) { name = name }
 abbrev pub begun_placing : State → ℕ → ℕ → State
 begun_placing state seed effort = record (risen state) { name = Placing; seed = seed; effort = effort; ending = None }
 
--- the running job is given up, and all is
+-- the running job is given up, and everything is withdrawn
 abbrev pub stopped : State → State
 stopped state = record (risen state) { name = at_rest state.name }
 
 abbrev pub emptied : State → State
 emptied state = record (risen state) { name = Empty; text = []; kept = []; ending = None }
 
--- the running job goes on by a step
+-- the running job advances by one step
 abbrev pub advanced : State → State
 advanced state = record state { steps = state.steps + 1 }
 

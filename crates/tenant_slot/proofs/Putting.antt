@@ -1,4 +1,4 @@
--- What a slot carries along after a put.
+-- What a slot keeps is right after a put.
 use Rattle.std.proofs.Common.{◌≡◌, ℕ, ◌+◌, ◌-◌, ◌<◌, ◌≤◌, Bool, true, false, not, Option, Some, None, refl, sym, ap, subst, ◌∙◌, arith}
 use Rattle.std.specs.Prelude.{◌==◌, ◌&&◌, option_map, if◌then◌else◌}
 use Rattle.std.specs.Option.{option_map_or}
@@ -39,14 +39,14 @@ use Rattle.tenant_slot.proofs.Leading.{advanced}
 abbrev pub standing_of : Content → Option Running → KeptPlaces → ℕ → ℕ → ℕ → ℕ → Standing
 standing_of content job kept seed effort generation steps = record { content = content; running = job; kept = kept; seed = seed; effort = effort; generation = generation; steps = steps }
 
--- a put of a slot of these parts leaves them lawful, and is the single user's step
+-- a put into a slot with these parts leaves them lawful, and does what the single user's step does
 pub record IsPut (id : ℕ) (arch : Arch) (strip : Strip) (standing : Standing) (entries : ℕ) (done : JobStep) (made : Advance) (counts last : Bool) : Type 0 where
   pub lawful : IsSlot id arch strip (put_in standing (next_step done) counts last) (entries + 1)
   pub told : (step (seen_state arch strip standing entries) (Stepped made)).1 ≡ Some (Step (put_reply counts last))
   pub after_it : seen id arch strip (put_in standing (next_step done) counts last) (entries + 1) ≡ after_event (seen id arch strip standing entries) (Stepped made)
   pub begun : counts ≡ true → last ≡ true → CanFinish standing.content (next_step done)
 
--- an event that has that answer
+-- the slot after an event with that answer
 abbrev answered_with : SlotState → Option State → SlotState
 answered_with slot change = record slot { state = after slot.state change; here = option_map_or (λ new. Some false) change slot.here }
 
@@ -69,7 +69,7 @@ IsSlot-more id arch strip standing entries slot room = record {
   entries_small = omega arith;
 }
 
--- a step that doesn't count is one entry more
+-- a step that doesn't count is one more entry
 stale : (id : ℕ) (arch : Arch) (strip : Strip) (standing : Standing) (entries : ℕ) (done : JobStep) (made : Advance) (last : Bool) →
     IsSlot id arch strip standing entries → entries < 65536 → answer_to (seen_state arch strip standing entries) (Stepped made) ≡ (None, Step Stale) → IsPut id arch strip standing entries done made false last
 stale id arch strip standing entries done made last slot room is =
@@ -84,7 +84,7 @@ not_true : (a : Bool) → not a ≡ true → a ≡ false
 not_true true is = absurd (cc)
 not_true false is = refl
 
--- what a step that counts is
+-- the conditions under which a step counts
 pub record IsNextStep (state : State) (made : Advance) : Type 0 where
   pub generation : made.generation ≡ state.generation
   pub number : made.number ≡ state.steps + 1
@@ -102,7 +102,7 @@ step_of id generation number sources = record { id = id; generation = generation
 pub step_of-same : (a a' : ℕ) (b b' : ℕ) (c c' : ℕ) (d d' : Sources) → a ≡ a' → b ≡ b' → c ≡ c' → d ≡ d' → step_of a b c d ≡ step_of a' b' c' d'
 step_of-same a a' b b' c c' d d' pa pb pc pd = rw (pa, pb, pc, pd) refl
 
--- where no job runs, nothing counts
+-- if no job runs, no step counts
 pub at_rest_none : (content : Content) → running (name_at_rest content) ≡ None
 at_rest_none Empty = refl
 at_rest_none (Loaded netlist) = refl
@@ -151,7 +151,7 @@ advanced_put id arch strip content job kept seed effort generation steps entries
       begun = λ counts last. absurd (cc);
     }
 
--- which job goes on from what is there
+-- the job that can start from each content
 from_empty : (kind : JobKind) → EmptyName ≡ before kind → ⊥
 from_empty PackingJob is = absurd (cc)
 from_empty PlacingJob is = absurd (cc)
@@ -224,7 +224,7 @@ routed_seen : (id : ℕ) (arch : Arch) (strip : Strip) (netlist : Netlist) (pack
 routed_seen id arch strip netlist packing placing routing job kept seed effort generation steps entries None = refl
 routed_seen id arch strip netlist packing placing routing job kept seed effort generation steps entries (Some failure) = refl
 
--- it is over
+-- the running job is over
 finished_put : (id : ℕ) (arch : Arch) (strip : Strip) (content : Content) (job : Running) (kept : KeptPlaces) (seed effort generation steps entries : ℕ) (done : JobStep) (made : Advance) →
     IsSlot id arch strip (standing_of content (Some job) kept seed effort generation steps) entries → entries < 65536 → done ≡ step_of id generation (steps + 1) job.sources → is_last job.sources (steps + 1) ≡ true →
     answer_to (seen_state arch strip (standing_of content (Some job) kept seed effort generation steps) entries) (Stepped made) ≡ (Some (finished (seen_state arch strip (standing_of content (Some job) kept seed effort generation steps) entries) job.sources.kind), Step Finished) →
@@ -355,7 +355,7 @@ is_put : (id : ℕ) (arch : Arch) (strip : Strip) (standing : Standing) (entries
 is_put id arch strip standing entries done made counts last slot room own said is ends =
     either_put id arch strip standing.content standing.running standing.kept standing.seed standing.effort standing.generation standing.steps entries done made counts last slot room own said is ends
 
--- the same, where the slot is seen so
+-- a put into any slot whose value is as given
 pub put_of : (id : ℕ) (arch : Arch) (strip : Strip) (standing : Standing) (entries : ℕ) (old : SlotState) (done : JobStep) (made : Advance) (counts last : Bool) → seen id arch strip standing entries ≡ old →
     IsSlot id arch strip standing entries → old.state.entries < 65536 → done.id ≡ old.id → IsAdvanceOf old.state done made → counts ≡ is_next old.state made → last ≡ is_last done.sources done.number →
     IsPut id arch strip standing entries done made counts last

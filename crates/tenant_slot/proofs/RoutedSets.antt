@@ -1,4 +1,4 @@
--- What a slot holds of its strip.
+-- What a slot occupies of its strip.
 use Rattle.std.proofs.Common.{ℕ, ◌≡◌, [], Option, Some, None, refl, sym, ap, subst, ◌∙◌}
 use Rattle.std.specs.Prelude.{IfSome}
 use Rattle.arch_file.specs.declared.arch.Arch.{Arch}
@@ -26,7 +26,7 @@ routed_name : (id : ℕ) (arch : Arch) (strip : Strip) (standing : Standing) (co
 routed_name id arch strip standing content is rest None lawful = rest
 routed_name id arch strip standing content is rest (Some job) lawful = absurd (from_routed job.sources.kind (sym rest ∙ (ap name_at_rest (sym is) ∙ lawful.name)))
 
--- with routes
+-- if it has routes
 pub routed_is : (id : ℕ) (arch : Arch) (strip : Strip) (standing : Standing) (entries : ℕ) (netlist : Netlist) (packing placing routing : JobState) → standing.content ≡ Routed netlist packing placing routing →
     IsSlot id arch strip standing entries → routed_set (seen_state arch strip standing entries) ≡ resources_of routing.step.sources
 unfolding routed_set
@@ -55,7 +55,7 @@ none_in : (content : Content) (running : Option Running) (state : State) → ((n
 none_in content None state other = none_at_rest content state other
 none_in content (Some job) state other = none_during job.sources.kind state
 
--- without
+-- if it has no routes
 pub none_held : (arch : Arch) (strip : Strip) (standing : Standing) (entries : ℕ) → ((netlist : Netlist) (packing placing routing : JobState) → standing.content ≡ Routed netlist packing placing routing → ⊥) →
     routed_set (seen_state arch strip standing entries) ≡ []
 unfolding routed_set

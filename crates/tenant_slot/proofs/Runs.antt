@@ -1,4 +1,4 @@
--- A run goes on by one event.
+-- A run extended by one event.
 use Rattle.std.proofs.Common.{◌≡◌, List, [], ◌∷◌, ◌++◌, ◌+◌, ◌<◌, ◌≢◌, Some, None, eqb, false, refl, ap, ◌∙◌, arith}
 use Rattle.std.specs.Prelude.{Option, option_map}
 use Rattle.std.proofs.lemmas.Bool.Decides.{nat_tests}
@@ -23,7 +23,7 @@ step-full state event full = grind (arith, nat_tests)
 pub step-room : (state : State) (event : Event) → state.entries ≢ 65536 → step state event ≡ (after state (answer_to state event).0, Some (answer_to state event).1)
 step-room state event room = let e : eqb state.entries 65536 ≡ false = grind (arith, nat_tests) in rw e refl
 
--- an event that has a reply is an entry
+-- an event that has a reply adds an entry
 pub after-entries : (state : State) (change : Option State) → (after state change).entries ≡ state.entries + 1
 after-entries state None = refl
 after-entries state (Some new) = refl
@@ -33,7 +33,7 @@ step-served state event reply told =
     let room : state.entries ≢ 65536 = λ full. let none : (step state event).1 ≡ None = ap (λ (p : State × Option Reply). p.1) (step-full state event full) in cc in
     (ap (λ (p : State × Option Reply). p.0.entries) (step-room state event room) ∙ after-entries state (answer_to state event).0, room)
 
--- an answer that is accepted is a step
+-- an accepted answer is a step
 pub step-accepted : (slot : SlotState) (answer : Outcome) (event : Event) → slot.state.entries < 65536 →
     answer_to slot.state event ≡ (option_map (changed slot.state) answer.change, answer.reply) → step slot.state event ≡ ((accepted slot answer).state, Some answer.reply)
 step-accepted slot answer event room is = step-room slot.state event (omega arith) ∙ ap (λ (p : Option State × Reply). (after slot.state p.0, Some p.1)) is

@@ -1,4 +1,4 @@
--- What `pack` and `place` are answered.
+-- The answers of `pack` and `place`.
 use Rattle.std.proofs.Common.{◌≡◌, ℕ, ◌+◌, ◌<◌, Bool, true, false, List, Option, Some, None, Result, Ok, Err, refl, sym, ap, subst, ◌∙◌}
 use Rattle.std.specs.Prelude.{nat_lt, IfOk, IfErr, if◌then◌else◌}
 use Rattle.blif.specs.CircuitOf.{circuit_of}
@@ -27,13 +27,13 @@ use Rattle.tenant_slot.specs.SingleUser.{State, is_lawful, keeping, loaded, misf
 use Rattle.tenant_slot.specs.Slot.{SlotState}
 use Rattle.tenant_slot.proofs.Leading.{load, pack, placing}
 
--- a call that answers so, or finds no memory
+-- a call that returns that answer, or runs out of memory
 answers_so : (slot : SlotState) (command : Command) (result : Result Outcome NotServed) (outcome : Outcome) → slot.state.entries < 65536 → IfOk result (λ a. a ≡ outcome) → IfErr result (λ e. e ≡ NoMemory) →
     Answers slot command (Ok outcome) → Answers slot command result
 answers_so slot command (Ok answer) outcome room ok err answers = subst (λ (a : Outcome). Answers slot command (Ok a)) (sym ok) answers
 answers_so slot command (Err e) outcome room ok err answers = subst (λ (e : NotServed). Answers slot command (Err e)) (sym err) room
 
--- `pack` is lawful where a netlist is loaded
+-- `pack` is lawful when a netlist is loaded
 pack_loaded : (name : StateName) → is_lawful name Pack ≡ true → name ≡ LoadedName
 pack_loaded EmptyName lawful = absurd (cc)
 pack_loaded LoadedName lawful = refl
@@ -49,7 +49,7 @@ module _ (slot : SlotState) (netlist : Netlist) (text : netlist.text ≡ slot.st
   its_circuit : circuit_of slot.state.text slot.state.arch.lut_size ≡ Ok netlist.circuit
   its_circuit = ap (λ t. circuit_of t slot.state.arch.lut_size) (sym text) ∙ lawful_text
 
-  -- what `pack` is answered, by the least BLE that fits into no cluster
+  -- the answer of `pack`, by the least BLE that fits into no cluster
   pack_answers : slot.state.name ≡ LoadedName → (unfit : Option ℕ) → unfit_of netlist.circuit slot.state.arch ≡ unfit →
       Answers slot Pack (Ok (pack_outcome slot.state.arch.lut_size (job_begun slot.id (slot.state.generation + 1) (packing_sources slot.state.arch slot.state.strip netlist.text)) unfit))
   pack_answers loaded None is =
@@ -65,7 +65,7 @@ module _ (slot : SlotState) (netlist : Netlist) (text : netlist.text ≡ slot.st
       let asked = ap (λ name. if is_lawful name Pack then serve slot.state Pack else (None, Refused (WrongState name))) loaded in
       (record { lut_size = refl; room = room; begins = tt }, asked ∙ ap (pack slot.state) its_circuit ∙ ap (pack_unless slot.state) is)
 
-  -- what `place` is answered, by whether the effort is too great and what there is too little of
+  -- the answer of `place`, by whether the effort is too great and which places are too few
   place_answers : (seed effort : ℕ) → is_lawful slot.state.name (Place seed effort) ≡ true → (great : Bool) → nat_lt 100 effort ≡ great → (misfit : Option Misfit) →
       misfit_of (fit_of slot.state.strip (packed_of netlist.circuit slot.state.arch)) ≡ misfit →
       Answers slot (Place seed effort) (Ok (place_outcome slot.state.arch.lut_size (job_begun slot.id (slot.state.generation + 1) (placing_sources slot.state.arch slot.state.strip netlist.text slot.state.kept seed effort)) great misfit))
@@ -112,7 +112,7 @@ module _ (slot : SlotState) (netlist : Netlist) (text : netlist.text ≡ slot.st
       (misfit_of (fit_of slot.state.strip (packed_of netlist.circuit slot.state.arch))))
       room ok err (place_answers seed effort lawful (nat_lt 100 effort) refl (misfit_of (fit_of slot.state.strip (packed_of netlist.circuit slot.state.arch))) refl)
 
--- a change keeps the places at that moment
+-- a change keeps the current places
 change_by : (slot : SlotState) (text : List ℕ) (kept : KeptPlaces) → is_lawful slot.state.name (Change text) ≡ true → slot.state.entries < 65536 → kept ≡ (keeping slot.state).kept → AreKeptOn slot.state.strip kept →
     (said : Result Circuit BlifFault) → circuit_of text slot.state.arch.lut_size ≡ said → Answers slot (Change text) (Ok (load_outcome slot.state.arch.lut_size text (Some kept) said))
 change_by slot text kept lawful room same keeps (Ok circuit) is =

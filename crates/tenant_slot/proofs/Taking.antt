@@ -1,4 +1,4 @@
--- What a slot carries along after a take, and once a job is given back.
+-- What a slot keeps is right after a take, and after a job is given back.
 use Rattle.std.proofs.Common.{◌≡◌, ℕ, ◌+◌, ◌-◌, Bool, true, false, not, Option, Some, None, refl, sym, ap, subst, ◌∙◌, arith}
 use Rattle.std.specs.Prelude.{◌↔◌, ◌==◌, ◌&&◌, is_some, nat_lt, option_map, IfSome}
 use Rattle.std.proofs.lemmas.Bool.Decides.{Decides-eqb}
@@ -19,7 +19,7 @@ use Rattle.tenant_slot.specs.Slot.{GivesBack, IsAdvanceOf, SlotState, is_takeabl
 use Rattle.tenant_slot.specs.Standing.{IsSlot, here_of, ready_of, ready_with, seen, seen_state, without_ready}
 use Rattle.tenant_slot.proofs.Putting.{at_rest_none, next_of, running_during, some_same, standing_of, step_of, step_of-same}
 
--- how a step is written down depends on its generation, its number and its sources
+-- the journal's record of a step depends on its generation, its number and its sources
 pub written_of : (state : State) (step : JobStep) (id generation number : ℕ) (sources : Sources) (made : Advance) → generation ≡ step.generation → number ≡ step.number → sources ≡ step.sources →
     IsAdvanceOf state (step_of id generation number sources) made → IsAdvanceOf state step made
 written_of state step id generation number sources made pg pn ps said = record {
@@ -31,12 +31,12 @@ written_of state step id generation number sources made pg pn ps said = record {
 same_step : (a b : JobStep) → Some a ≡ Some b → a ≡ b
 same_step a b is = cc
 
--- the running job's next step is of its sources
+-- the running job's next step has the running job's sources
 next_sources : (id generation number : ℕ) (running : Option Sources) (step : JobStep) → option_map (step_of id generation number) running ≡ Some step → running ≡ Some step.sources
 next_sources id generation number None step is = absurd (cc)
 next_sources id generation number (Some sources) step is = ap (λ (s : JobStep). Some s.sources) (same_step (step_of id generation number sources) step is)
 
--- and is written down as such
+-- and it is recorded as such
 pub written_next : (slot : SlotState) (step : JobStep) (generation number : ℕ) → next_job slot ≡ Some step → generation ≡ step.generation → number ≡ step.number →
     IsAdvanceOf slot.state step (record { generation = generation; number = number; foreign = false })
 written_next slot step generation number is pg pn = record {
@@ -45,7 +45,7 @@ written_next slot step generation number is pg pn = record {
   foreign = (λ own. next_sources slot.id slot.state.generation (slot.state.steps + 1) (running_sources slot.state) step is, λ own. refl);
 }
 
--- a step is taken of a slot of these parts
+-- a step is taken from a slot with these parts
 pub record IsTaken (id : ℕ) (arch : Arch) (strip : Strip) (standing : Standing) (entries : ℕ) (ready : JobState) : Type 0 where
   pub going : is_over ready ≡ false
   pub lawful : IsSlot id arch strip (record standing { running = option_map without_ready standing.running }) entries
@@ -92,7 +92,7 @@ module _ (id : ℕ) (arch : Arch) (strip : Strip) (content : Content) (job : Run
         out = refl;
       }
 
-  -- the running job's next step stands here again
+  -- the running job's next step is here again
   some_stood : (back : JobState) → next_job its_slot ≡ Some back.step → IsSlot id arch strip (standing_of content (Some (ready_with back job)) kept seed effort generation steps) entries
   some_stood back is =
       let step : back.step ≡ step_of id generation (steps + 1) job.sources = same_step back.step (step_of id generation (steps + 1) job.sources) (sym is ∙ next_is) in
@@ -133,7 +133,7 @@ none_next id arch strip content kept seed effort generation steps entries =
     let state : State = seen_state arch strip (standing_of content None kept seed effort generation steps) entries in
     ap (λ (k : Option JobKind). option_map (λ (sources : Sources). step_of id generation (steps + 1) sources) (option_map (sources_of state) k)) (at_rest_none content)
 
--- the same of any slot
+-- a take from any slot
 either_taken : (id : ℕ) (arch : Arch) (strip : Strip) (content : Content) (job : Option Running) (kept : KeptPlaces) (seed effort generation steps entries : ℕ) (ready : JobState) →
     IsSlot id arch strip (standing_of content job kept seed effort generation steps) entries → ready_of job ≡ Some ready → IsTaken id arch strip (standing_of content job kept seed effort generation steps) entries ready
 either_taken id arch strip content None kept seed effort generation steps entries ready slot is = absurd (cc)
@@ -180,7 +180,7 @@ pub is_not_back : (id : ℕ) (arch : Arch) (strip : Strip) (standing : Standing)
 is_not_back id arch strip standing entries step made slot said not_next is =
     either_other id arch strip standing.content standing.running standing.kept standing.seed standing.effort standing.generation standing.steps entries step made slot said not_next is
 
--- what is seen of a slot whose running job's next step stands there again
+-- the value of a slot whose running job's next step is here again
 stood_seen : (id : ℕ) (arch : Arch) (strip : Strip) (content : Content) (job : Option Running) (kept : KeptPlaces) (seed effort generation steps entries : ℕ) (back : JobState) →
     next_job (seen id arch strip (standing_of content job kept seed effort generation steps) entries) ≡ Some back.step →
     seen id arch strip (standing_of content (option_map (ready_with back) job) kept seed effort generation steps) entries ≡ record (seen id arch strip (standing_of content job kept seed effort generation steps) entries) { here = Some back.made }

@@ -18,13 +18,14 @@ use Rattle.strip_place.specs.Keeping.{AreKeptOn}
 use Rattle.tenant_slot.specs.Slot.{SlotState}
 use Rattle.tenant_slot.specs.JobNames.{before, during}
 
--- an answer that isn't given yet: for tables of how many inputs it is computed, what it changes, and the reply
+-- an answer that isn't given yet: the number of inputs of the tables for which it was computed,
+-- what it changes, and the reply
 pub record Outcome : Type 0 where
   pub lut_size : ℕ
   pub change : Option Change
   pub reply : Reply
 
--- what a change makes of a state
+-- the state after a change
 abbrev pub changed : State → Change → State
 changed state (Load netlist) = loaded state netlist.text
 changed state (Replace netlist kept) = loaded (record (risen state) { kept = kept }) netlist.text
@@ -33,12 +34,12 @@ changed state (Place job) = record (risen state) { name = Placing; seed = job.so
 changed state Stop = record (risen state) { name = at_rest state.name }
 changed state Empty = record (risen state) { name = EmptyName; text = []; kept = []; ending = None }
 
--- a job that begins in that state is computed from it, and stands before its first step
+-- the job starts in that state: its sources are the state's, and it is before its first step
 pub record IsBegun (id : ℕ) (state : State) (job : Running) : Type 0 where
   pub sources : job.sources ≡ sources_of state job.sources.kind
   pub ready : job.ready ≡ Some (first_step id state.generation job.sources)
 
--- it begins where it can go on from what is there
+-- a job starts only from a content that it can start from, and a change keeps the right places
 abbrev pub Begins : SlotState → Option Change → Type 0
 Begins slot (Some (Begin job)) = (slot.state.name ≡ before job.sources.kind) × IsBegun slot.id (changed slot.state (Begin job)) job
 Begins slot (Some (Place job)) =
@@ -52,17 +53,17 @@ pub record IsAnswerTo (slot : SlotState) (answer : Outcome) : Type 0 where
   pub room : slot.state.entries < 65536
   pub begins : Begins slot answer.change
 
--- a lawful command, with room for its entry
+-- a lawful command, with space for its entry in the journal
 pub record IsAsked (slot : SlotState) (command : Command) : Type 0 where
   pub lawful : is_lawful slot.state.name command ≡ true
   pub room : slot.state.entries < 65536
 
--- what a command may be answered, before anything changes
+-- the possible answers of a command, before anything changes
 abbrev pub Answers : SlotState → Command → Result Outcome NotServed → Type 0
 Answers slot command (Ok answer) = IsAnswerTo slot answer × (answer_to slot.state (Asked command) ≡ (option_map (changed slot.state) answer.change, answer.reply))
 Answers slot command (Err JournalFull) = slot.state.entries ≡ 65536
 Answers slot command (Err NoMemory) = slot.state.entries < 65536
 
--- the slot once the answer is accepted
+-- the slot after the answer is accepted
 abbrev pub accepted : SlotState → Outcome → SlotState
 accepted slot answer = record slot { state = after slot.state (option_map (changed slot.state) answer.change); here = option_map_or (λ new. Some false) (option_map (changed slot.state) answer.change) slot.here }

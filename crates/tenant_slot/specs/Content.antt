@@ -1,4 +1,4 @@
--- Private: what is there where no job runs, and what a finished job makes of it.
+-- Private: what a slot has when no job runs, and how a finished job changes it.
 use Rattle.std.specs.Prelude.{ℕ, ◌≡◌, List, [], Ok, ⊤, true, false, Option, Some, None}
 use Rattle.arch_file.specs.declared.arch.Arch.{Arch}
 use Rattle.blif.specs.CircuitOf.{circuit_of}
@@ -18,7 +18,7 @@ use Rattle.kept_places.specs.Kept.{KeptPlaces}
 use Rattle.strip_place.specs.Keeping.{AreKeptOn}
 use Rattle.tenant_slot.specs.Results.{failure_of}
 
--- the name of the state where no job runs
+-- the name of the state when no job runs
 abbrev pub name_at_rest : Content → StateName
 name_at_rest Empty = EmptyName
 name_at_rest (Loaded netlist) = LoadedName
@@ -27,7 +27,7 @@ name_at_rest (Placed netlist packing placing) = PlacedName
 name_at_rest (Routed netlist packing placing routing) = RoutedName
 name_at_rest (Unrouted netlist packing placing failure) = UnroutedName
 
--- how the routing ended, where it has no routes
+-- how the routing ended, if it has no routes
 abbrev pub failure_in : Content → Option RoutingFailure
 failure_in (Unrouted netlist packing placing failure) = Some failure
 failure_in content = None
@@ -56,7 +56,7 @@ placing_in (Placed netlist packing placing) = Some placing
 placing_in (Routed netlist packing placing routing) = Some placing
 placing_in (Unrouted netlist packing placing failure) = Some placing
 
--- the netlist's text; none has no byte
+-- the netlist's text; empty if there is no netlist
 abbrev pub text_of : Content → List ℕ
 text_of Empty = []
 text_of (Loaded netlist) = netlist.text
@@ -79,21 +79,21 @@ abbrev pub routed_with : Netlist → JobState → JobState → JobState → Opti
 routed_with netlist packing placing routing None = Routed netlist packing placing routing
 routed_with netlist packing placing routing (Some failure) = Unrouted netlist packing placing failure
 
--- what is there, with what the job has made that began there
+-- the content, with what the job has made that started from it
 abbrev pub finished_with : Content → JobState → Content
 finished_with (Loaded netlist) job = Packed netlist job
 finished_with (Packed netlist packing) job = Placed netlist packing job
 finished_with (Placed netlist packing placing) job = routed_with netlist packing placing job (failure_of (end_value job.step.sources))
 finished_with content job = content
 
--- the job may have begun there
+-- the job can have started from that content
 abbrev pub CanFinish : Content → JobState → Type 0
 CanFinish (Loaded netlist) job = ⊤
 CanFinish (Packed netlist packing) job = ⊤
 CanFinish (Placed netlist packing placing) job = IsFinished RoutingJob job
 CanFinish content job = ⊥
 
--- the circuit is the netlist's
+-- the circuit is that of the netlist's text
 abbrev pub IsNetlist : ℕ → Netlist → Type 0
 IsNetlist lut_size netlist = circuit_of netlist.text lut_size ≡ Ok netlist.circuit
 
@@ -103,14 +103,14 @@ pub record IsMadeOf (from : Sources) (job : JobState) : Type 0 where
   pub over : is_over job ≡ true
   pub put : job.made ≡ false
 
--- the packing of that netlist is finished, and there are places to be kept
+-- the packing of that netlist is finished, and the kept places are possible on the strip
 pub record IsPacked (arch : Arch) (strip : Strip) (of : Netlist) (stays : KeptPlaces) (job : JobState) : Type 0 where
   pub netlist : IsNetlist arch.lut_size of
   pub packing : IsMadeOf (packing_sources arch strip of.text) job
   pub size : IsStripSize strip
   pub kept : AreKeptOn strip stays
 
--- what is carried along is what the text, the kept places, the seed and the effort lead to
+-- the content is what the text, the kept places, the seed and the effort result in
 abbrev pub HasContent : Arch → Strip → KeptPlaces → ℕ → ℕ → Content → Type 0
 HasContent arch strip kept seed effort Empty = ⊤
 HasContent arch strip kept seed effort (Loaded netlist) = IsNetlist arch.lut_size netlist

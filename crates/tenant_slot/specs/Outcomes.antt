@@ -1,4 +1,5 @@
--- Private: the answers of commands that may be refused for what the netlist says, begin a job, or give a file.
+-- Private: the answers of the commands that may be refused because of the netlist, begin a job, or
+-- give a file.
 use Rattle.std.specs.Prelude.{ℕ, Bool, true, false, List, Result, Ok, Err, Option, Some, None}
 use Rattle.blif.specs.declared.circuit.Circuit.{Circuit}
 use Rattle.blif.specs.declared.fault.BlifFault.{BlifFault}
@@ -17,14 +18,14 @@ use Rattle.tenant_slot.specs.declared.standing.Change.TheVariants.{Load, Replace
 use Rattle.kept_places.specs.Kept.{KeptPlaces}
 use Rattle.tenant_slot.specs.Answer.{Outcome}
 
--- what changes nothing, and what does
+-- the answer that changes nothing, and the one that changes something
 abbrev pub told : ℕ → Reply → Outcome
 told lut_size reply = record { lut_size = lut_size; change = None; reply = reply }
 
 abbrev pub changing : ℕ → Change → Reply → Outcome
 changing lut_size change reply = record { lut_size = lut_size; change = Some change; reply = reply }
 
--- a netlist is loaded, or loaded in place of another, of which these places are kept
+-- a netlist is loaded: as the first, or in place of another, of which these places are kept
 abbrev pub loading : Netlist → Option KeptPlaces → Change
 loading netlist None = Load netlist
 loading netlist (Some kept) = Replace netlist kept
@@ -37,12 +38,13 @@ load_outcome lut_size text kept (Err fault) = told lut_size (Refused (BadBlif fa
 abbrev pub job_begun : ℕ → ℕ → Sources → Running
 job_begun id generation sources = record { sources = sources; ready = Some (first_step id generation sources) }
 
--- a packing begins, unless that is the least BLE that fits into no cluster alone
+-- a packing begins; but with a BLE given, the least that fits into no cluster alone, it is refused
 abbrev pub pack_outcome : ℕ → Running → Option ℕ → Outcome
 pack_outcome lut_size job None = changing lut_size (Begin job) (Accepted Packing)
 pack_outcome lut_size job (Some ble) = told lut_size (Refused (CannotPack ble))
 
--- a placing begins, unless its effort is too great or the strip has that too little of
+-- a placing begins; but it is refused if its effort is too great, or if the strip has too few of
+-- the given places
 abbrev pub place_unless : ℕ → Running → Option Misfit → Outcome
 place_unless lut_size job None = changing lut_size (Place job) (Accepted Placing)
 place_unless lut_size job (Some misfit) = told lut_size (Refused (DoesNotFit misfit))
@@ -55,6 +57,6 @@ place_outcome lut_size job false misfit = place_unless lut_size job misfit
 abbrev pub route_outcome : ℕ → Running → Outcome
 route_outcome lut_size job = changing lut_size (Begin job) (Accepted Routing)
 
--- a file is told
+-- the reply has a file
 abbrev pub file_outcome : ℕ → FileKind → List ℕ → Outcome
 file_outcome lut_size kind text = told lut_size (File kind text)

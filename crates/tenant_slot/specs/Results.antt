@@ -1,4 +1,5 @@
--- What the end of a placing and of a routing means to a user: the files, and how a routing ended without routes.
+-- What a user gets at the end of a placing and of a routing: the files, and how a routing without
+-- routes ended.
 use Rattle.std.specs.Prelude.{ℕ, List, [], Result, Ok, Err, Option, Some, None, slice_get}
 use Rattle.std.specs.List.{zip}
 use Rattle.std.specs.Option.{option_map_or}
@@ -19,23 +20,23 @@ use Rattle.tenant_slot.specs.declared.reply.Ending.TheVariants.{GaveUp, NoPath}
 use Rattle.vpr_files.specs.PlaceFile.{place_text_of}
 use Rattle.vpr_files.specs.RouteFile.{route_text_of}
 
--- how a routing ended, where it has no routes
+-- how a routing ended, if it has no routes
 abbrev pub failure_of : Result Work BlifFault → Option RoutingFailure
 failure_of (Ok GivenUp) = Some FailedAll
 failure_of (Ok (WithoutPath net)) = Some (FailedNet net)
 failure_of value = None
 
--- it is told with the name of the net between blocks
+-- that failure as replies have it, with the name of the net between blocks
 abbrev pub ending_of : PackedCircuit → RoutingFailure → Ending
 ending_of packed FailedAll = GaveUp
 ending_of packed (FailedNet net) = NoPath (option_map_or (λ found. net_name packed.circuit found.net) (slice_get (block_nets packed) net) [])
 
--- what the text says that is packed has nets; a text with a fault is never routed
+-- the net's name comes from the packing of the text's circuit; a text with a fault is never routed
 abbrev pub ending_told : Result Circuit BlifFault → Arch → RoutingFailure → Option Ending
 ending_told (Ok circuit) arch failure = Some (ending_of (packed_of circuit arch) failure)
 ending_told (Err fault) arch failure = None
 
--- the places of a whole placing, to be kept: by what the blocks are told by
+-- the places of a whole placing, to be kept: by the blocks' kinds and names
 abbrev pub kept_at_end : Result Work BlifFault → KeptPlaces
 kept_at_end (Ok (Placed placing)) = in_order (zip (keys_of placing.packed) (places_by_block placing))
 kept_at_end value = []

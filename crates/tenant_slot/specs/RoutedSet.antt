@@ -1,4 +1,4 @@
--- What a tenancy's circuit holds of its strip.
+-- What a tenancy's circuit occupies of its strip.
 use Rattle.std.specs.Prelude.{List, []}
 use Rattle.job_state.specs.RoutedSet.{resources_of}
 use Rattle.job_state.specs.declared.sources.JobKind.TheVariants.{Routing as RoutingJob}
@@ -11,7 +11,7 @@ abbrev pub held_in : StateName → State → List Resource
 held_in Routed state = resources_of (sources_of state RoutingJob)
 held_in name state = []
 
--- in the state Routed the pins and wires of its routes and the pads of its blocks, and nothing in the others. They stand in
--- no order, and some of them more than once
+-- in the state Routed: the pins and wires of its routes and the pads of its blocks; nothing in the
+-- other states. They are in no particular order, and some occur more than once
 unfoldable pub routed_set : State → List Resource
 routed_set state = held_in state.name state

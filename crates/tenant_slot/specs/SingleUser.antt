@@ -1,4 +1,5 @@
--- The service for a single user: what each event of one tenancy does, and is answered, on a device of the strip's size.
+-- The service for a single user: what each event of one tenancy does, and its reply, on a device of
+-- the strip's size.
 use Rattle.std.specs.Prelude.{ℕ, ◌+◌, List, [], ◌∷◌, Result, Ok, Err, Bool, true, false, not, ◌&&◌, Option, Some, None, is_some, option_and_then, nat_lt, ◌==◌, if◌then◌else◌}
 use Rattle.arch_file.specs.declared.arch.Arch.{Arch}
 use Rattle.blif.specs.CircuitOf.{circuit_of}
@@ -32,18 +33,19 @@ use Rattle.kept_places.specs.Kept.{KeptPlaces}
 use Rattle.tenant_slot.specs.Results.{ending_told, kept_at_end, failure_of, place_file_of, route_file_of}
 use Rattle.vpr_files.specs.NetFile.{net_text_of}
 
--- what the tenancy is in, and no more: the circuit, its packing, its places and its routes are those of the text, the kept places,
--- the seed and the effort, and don't stand here. Seed and effort are those of the last accepted `place`, 0 before the first. The
--- steps are those that the running job has made, 0 where none runs
+-- the state of the tenancy, and no more: the circuit, its packing, its places and its routes follow
+-- from the text, the kept places, the seed and the effort, and aren't fields. Seed and effort are
+-- those of the last accepted `place`, 0 before the first. The steps are those that the running job
+-- has made, 0 if none runs
 pub record State : Type 0 where
   pub arch : Arch
   pub strip : Strip
   pub name : StateName
   pub text : List ℕ
-  pub kept : KeptPlaces  -- where the next placing starts its blocks, by kind and name
+  pub kept : KeptPlaces  -- the places at which the next placing starts, by kind and name
   pub seed : ℕ
   pub effort : ℕ
-  pub ending : Option RoutingFailure  -- how a routing ended without routes, in the state Unrouted
+  pub ending : Option RoutingFailure  -- how a routing without routes ended, in the state Unrouted
   pub generation : ℕ
   pub steps : ℕ
   pub entries : ℕ
@@ -59,15 +61,16 @@ running Placing = Some PlacingJob
 running Routing = Some RoutingJob
 running name = None
 
--- the name of the state that a job began in, and goes back to where it is given up; a placing goes back to the packing
+-- the name of the state that a job began in, and returns to if it is given up; a placing returns to
+-- the packing
 abbrev pub at_rest : StateName → StateName
 at_rest Packing = Loaded
 at_rest Placing = Packed
 at_rest Routing = Placed
 at_rest name = name
 
--- the commands that are lawful in a state of that name, and no other is. A state has places where `placefile` is: those of a placing that has ended and wasn't
--- given up
+-- exactly these commands are lawful in a state of that name. A state has places if `placefile` is
+-- lawful: those of a placing that has ended and wasn't given up
 abbrev pub is_lawful : StateName → Command → Bool
 is_lawful name Status = true
 is_lawful name Cancel = is_some (running name)
@@ -91,7 +94,8 @@ is_lawful Unrouted PlaceFile = true
 is_lawful Routed RouteFile = true
 is_lawful name command = false
 
--- what an event changes; the rest is kept. What gives up what was asked before begins a generation of its own
+-- an event that gives up something requested before begins a new generation. Here and below, what
+-- isn't mentioned stays
 abbrev pub risen : State → State
 risen state = record state { generation = state.generation + 1; steps = 0 }
 
@@ -99,12 +103,13 @@ risen state = record state { generation = state.generation + 1; steps = 0 }
 abbrev pub loaded : State → List ℕ → State
 loaded state text = record state { name = Loaded; text = text; ending = None }
 
--- a routing ends with its routes, or so
+-- a routing ends with routes, or with that failure
 abbrev pub routed_unless : State → Option RoutingFailure → State
 routed_unless state None = record state { name = Routed; steps = 0 }
 routed_unless state (Some failure) = record state { name = Unrouted; ending = Some failure; steps = 0 }
 
--- what a job of that kind is computed from: a packing has no kept places, no seed and no effort, a routing has those of its placing
+-- what a job of that kind is computed from: a packing has no kept places, no seed and no effort; a
+-- routing has those of its placing
 abbrev pub sources_from : Arch → Strip → List ℕ → KeptPlaces → ℕ → ℕ → JobKind → Sources
 sources_from arch strip text kept seed effort PackingJob = record { kind = PackingJob; arch = arch; strip = strip; text = text; kept = []; seed = 0; effort = 0 }
 sources_from arch strip text kept seed effort kind = record { kind = kind; arch = arch; strip = strip; text = text; kept = kept; seed = seed; effort = effort }
@@ -112,7 +117,7 @@ sources_from arch strip text kept seed effort kind = record { kind = kind; arch 
 abbrev pub sources_of : State → JobKind → Sources
 sources_of state kind = sources_from state.arch state.strip state.text state.kept state.seed state.effort kind
 
--- a change keeps the places at that moment; in a state without places what was kept before stays
+-- a change keeps the current places; in a state without places, the places kept before stay
 abbrev pub keeping : State → State
 keeping state = record state { kept = if is_lawful state.name PlaceFile then kept_at_end (end_value (sources_of state PlacingJob)) else state.kept }
 
@@ -122,37 +127,39 @@ finished state PackingJob = record state { name = Packed; steps = 0 }
 finished state PlacingJob = record state { name = Placed; steps = 0 }
 finished state RoutingJob = routed_unless state (failure_of (end_value (sources_of state RoutingJob)))
 
--- what the text of a state says
+-- the circuit of the state's text
 abbrev pub circuit_in : State → Result Circuit BlifFault
 circuit_in state = circuit_of state.text state.arch.lut_size
 
--- what a text's circuit leads to; a text with a fault is refused
+-- what follows from a text's circuit; a text with a fault is refused
 abbrev pub with_circuit : Result Circuit BlifFault → (Circuit → Option State × Reply) → Option State × Reply
 with_circuit (Ok circuit) leads = leads circuit
 with_circuit (Err fault) leads = (None, Refused (BadBlif fault))
 
--- a packing begins, unless that is the least BLE that fits into no cluster alone
+-- a packing begins; but with a BLE given, the least that fits into no cluster alone, it is refused
 abbrev pub pack_unless : State → Option ℕ → Option State × Reply
 pack_unless state None = (Some (record (risen state) { name = Packing }), Accepted Packing)
 pack_unless state (Some ble) = (None, Refused (CannotPack ble))
 
--- what a strip has too little of
+-- the places of which a strip has too few
 abbrev pub misfit_of : Fit → Option Misfit
 misfit_of Fits = None
 misfit_of (TooManyBlocks have need) = Some (Blocks have need)
 misfit_of (TooManyPads have need) = Some (Pads have need)
 
--- a placing begins, unless the strip has that too little of; old places and routes are given up, as they are those of the seed and the effort
+-- a placing begins; but it is refused if the strip has too few of the given places. Old places and
+-- routes are given up, as they belong to the old seed and effort
 abbrev pub place_unless : State → ℕ → ℕ → Option Misfit → Option State × Reply
 place_unless state seed effort None = (Some (record (risen state) { name = Placing; seed = seed; effort = effort; ending = None }), Accepted Placing)
 place_unless state seed effort (Some misfit) = (None, Refused (DoesNotFit misfit))
 
--- the placing of the packing of a circuit; an effort above 100 is refused first
+-- the placing of a circuit's packing; an effort above 100 is refused first
 abbrev pub place : State → ℕ → ℕ → Circuit → Option State × Reply
 place state seed effort circuit = if nat_lt 100 effort then (None, Refused BadEffort) else place_unless state seed effort (misfit_of (fit_of state.strip (packed_of circuit state.arch)))
 
--- a lawful command: the new state, if it changes, and the reply. `cancel` gives up the running job, and `withdraw` all, so that no place is kept. The files are
--- what the last placing has made, and what its routing has
+-- a lawful command: the new state, if it changes, and the reply. `cancel` gives up the running job;
+-- `withdraw` gives up everything, so that no place is kept. The files are those of the last placing
+-- and of its routing
 abbrev pub serve : State → Command → Option State × Reply
 serve state (Upload text) = with_circuit (circuit_of text state.arch.lut_size) (λ circuit. (Some (loaded state text), Accepted Loaded))
 serve state (Change text) = with_circuit (circuit_of text state.arch.lut_size) (λ circuit. (Some (loaded (keeping (risen state)) text), Accepted Loaded))
@@ -166,7 +173,8 @@ serve state Net = with_circuit (circuit_in state) (λ circuit. (None, File NetFi
 serve state PlaceFile = (None, File PlacesFile (place_file_of (end_value (sources_of state PlacingJob))))
 serve state RouteFile = (None, File RoutesFile (route_file_of (end_value (sources_of state PlacingJob)) (end_value (sources_of state RoutingJob))))
 
--- a step that was made is the next one of the running job: of its generation, with its number and its sources
+-- the step that was made is the next one of the running job: it has the job's generation, the next
+-- number, and the job's sources
 abbrev pub is_next : State → Advance → Bool
 is_next state advance = advance.generation == state.generation && (advance.number == state.steps + 1 && not advance.foreign)
 
@@ -184,12 +192,13 @@ abbrev pub answer_to : State → Event → Option State × Reply
 answer_to state (Asked command) = if is_lawful state.name command then serve state command else (None, Refused (WrongState state.name))
 answer_to state (Stepped made) = advance state made (running state.name)
 
--- the state once the reply is given: one entry more
+-- the state after the reply is given: one more entry
 abbrev pub after : State → Option State → State
 after state None = record state { entries = state.entries + 1 }
 after state (Some new) = record new { entries = state.entries + 1 }
 
--- one event: the state after it and its reply; with 65,536 entries the journal is full, nothing changes and there is none
+-- one event: the state after it and its reply. With 65,536 entries the journal is full: nothing
+-- changes and there is no reply
 abbrev pub step : State → Event → State × Option Reply
 step state event = if state.entries == 65536 then (state, None) else (after state (answer_to state event).0, Some (answer_to state event).1)
 
@@ -203,6 +212,6 @@ abbrev pub replies_to : State → List Event → List (Option Reply)
 replies_to state [] = []
 replies_to state (event ∷ events) = (step state event).1 ∷ replies_to (step state event).0 events
 
--- the whole run of one tenancy's events, from its admission on: the state at the end, and the replies
+-- the whole run of one tenancy's events, from its admission: the state at the end, and the replies
 abbrev pub run : Arch → Strip → List Event → State × List (Option Reply)
 run arch strip events = (state_after (start arch strip) events, replies_to (start arch strip) events)

@@ -1,4 +1,4 @@
--- Private: what a slot carries along, what it is seen as, and what ties the two.
+-- Private: what a slot keeps between commands, its value, and the invariant between the two.
 use Rattle.strip_place.specs.Keeping.{AreKeptOn}
 use Rattle.std.specs.Prelude.{ℕ, ◌≡◌, ◌+◌, ◌≤◌, [], ⊤, Bool, true, false, is_some, Option, Some, None, option_map, IfSome}
 use Rattle.arch_file.specs.declared.arch.Arch.{Arch}
@@ -25,12 +25,13 @@ abbrev pub name_of : Content → Option Running → StateName
 name_of content None = name_at_rest content
 name_of content (Some job) = during job.sources.kind
 
--- what is here of the running job's next step: nothing where it is out, else whether it was made already
+-- what is here of the running job's next step: `None` if it is out, otherwise whether it was made
+-- already
 abbrev pub here_of : Option Running → Option Bool
 here_of None = Some false
 here_of (Some job) = option_map (λ ready. ready.made) job.ready
 
--- a slot of these parts as it is seen
+-- the value of a slot with these parts
 abbrev pub seen_state : Arch → Strip → Standing → ℕ → State
 seen_state arch strip standing entries = record {
   arch = arch;
@@ -49,7 +50,8 @@ seen_state arch strip standing entries = record {
 abbrev pub seen : ℕ → Arch → Strip → Standing → ℕ → SlotState
 seen id arch strip standing entries = record { id = id; state = seen_state arch strip standing entries; here = here_of standing.running }
 
--- the running job is computed from what is carried along, and has a step to make, which is the next
+-- the running job is computed from what the slot keeps; if its next step is here, it is the right
+-- one
 pub record IsRunning (id : ℕ) (arch : Arch) (strip : Strip) (standing : Standing) (job : Running) : Type 0 where
   pub name : name_at_rest standing.content ≡ before job.sources.kind
   pub sources : job.sources ≡ sources_from arch strip (text_of standing.content) standing.kept standing.seed standing.effort job.sources.kind
@@ -65,7 +67,7 @@ pub record IsSlot (id : ℕ) (arch : Arch) (strip : Strip) (standing : Standing)
   pub steps_small : standing.steps ≤ entries
   pub entries_small : entries ≤ 65536
 
--- what an accepted command makes of it
+-- what is kept after an accepted command
 abbrev pub accepted_in : Standing → Option Change → Standing
 accepted_in standing None = standing
 accepted_in standing (Some (Load netlist)) = record standing { content = Loaded netlist; running = None }
@@ -76,7 +78,7 @@ accepted_in standing (Some (Place job)) =
 accepted_in standing (Some Stop) = record standing { running = None; generation = standing.generation + 1; steps = 0 }
 accepted_in standing (Some EmptyAll) = record standing { content = Empty; kept = []; running = None; generation = standing.generation + 1; steps = 0 }
 
--- an answer's change carries what it says, and a job that begins has a step to make
+-- a change carries the right circuit, and a job that begins has a step to make
 abbrev pub IsChange : ℕ → Option Change → Type 0
 IsChange lut_size (Some (Load netlist)) = IsNetlist lut_size netlist
 IsChange lut_size (Some (Replace netlist kept)) = IsNetlist lut_size netlist
@@ -89,7 +91,7 @@ abbrev pub RunsOn : Option Running → Sources → Type 0
 RunsOn None sources = ⊥
 RunsOn (Some job) sources = job.sources ≡ sources
 
--- the running job's next step, here and away
+-- the running job's next step; the job with it, and without it
 abbrev pub ready_of : Option Running → Option JobState
 ready_of None = None
 ready_of (Some job) = job.ready
@@ -104,7 +106,7 @@ ready_with ready job = record job { ready = Some ready }
 abbrev pub without_ready : Running → Running
 without_ready job = record job { ready = None }
 
--- what a put makes of it, where the step counts or not, and is the last or not
+-- what is kept after a put, if the step counts or not, and is the last or not
 abbrev pub put_in : Standing → JobState → Bool → Bool → Standing
 put_in standing job false last = standing
 put_in standing job true false = record standing { running = option_map (ready_with job) standing.running; steps = standing.steps + 1 }

@@ -34,7 +34,7 @@ use vpr_files::{net_text, place_text, route_text};
 /// The greatest effort of a placing.
 pub const MAX_EFFORT: u32 = 100;
 
-/// A reply that isn't given yet, with what it changes. Dropped, it is as if it had not been asked for.
+/// A reply that isn't given yet, with what it changes. If it is dropped, nothing happens.
 #[derive(Drop)]
 pub struct Answer {
     pub(crate) lut_size: u32,
@@ -82,8 +82,8 @@ impl Answer {
         }
     }
 
-    /// The answer to a netlist that may be loaded: as the first, or, where there are kept places, in place of another, of which
-    /// these are kept. Shares the text.
+    /// The answer to a netlist that may be loaded: as the first if `kept` is `None`, otherwise in
+    /// place of another, of which these places are kept. Shares the text.
     pub(crate) fn load(
         alloc: Global,
         lut_size: u32,
@@ -247,7 +247,7 @@ impl Answer {
         Answer::file(alloc, lut_size, FileKind::Route, sink)
     }
 
-    /// The answer with a file that was written.
+    /// The answer with a file that is written already.
     fn file(
         alloc: Global,
         lut_size: u32,
@@ -265,7 +265,7 @@ impl Answer {
     }
 }
 
-/// The netlist of a text, with the text shared.
+/// Reads the netlist of a text, and shares the text.
 fn netlist_of(alloc: Global, lut_size: u32, text: &SharedText) -> Result<Netlist, BlifError>
     ensures lawful { IfOk result (IsNetlist lut_size) }
     ensures text { IfOk result (λ netlist. netlist.text ≡ text.now) }
@@ -277,8 +277,8 @@ fn netlist_of(alloc: Global, lut_size: u32, text: &SharedText) -> Result<Netlist
     Ok(Netlist { text, circuit })
 }
 
-/// What a netlist that is loaded changes: it is the first, or, where there are kept places, stands in place of another, of which
-/// these are kept.
+/// What a netlist changes that is loaded: as the first if `kept` is `None`, otherwise in place of
+/// another, of which these places are kept.
 fn loading(netlist: Netlist, kept: Option<Kept>) -> Change
     ensures { result ≡ loading netlist kept }
 {
@@ -288,7 +288,7 @@ fn loading(netlist: Netlist, kept: Option<Kept>) -> Change
     }
 }
 
-/// What a strip has too little of.
+/// The places of which a strip has too few.
 fn misfit(fit: Fit) -> Option<Misfit>
     ensures { result ≡ misfit_of fit }
 {

@@ -13,7 +13,7 @@ use job_state::{Parked, Sources};
 use std::alloc::{AllocError, Global};
 use strip_place::Kept;
 
-/// A job before it begins: the tenancy's id, the generation that begins with it, and what it is computed from.
+/// A job before it begins: the tenancy's id, the generation that begins with it, and its sources.
 #[derive(Clone, Copy)]
 pub(crate) struct Beginning<'a> {
     pub(crate) alloc: Global,
@@ -26,7 +26,7 @@ pub(crate) struct Beginning<'a> {
 }
 
 impl Beginning<'_> {
-    /// The packing of the netlist, each BLE of which fits into a cluster alone.
+    /// Starts the packing of the netlist. Each BLE must fit into a cluster alone.
     pub(crate) fn packing(&self) -> Result<Running, AllocError>
         requires { CanPack (packing_sources self.now.arch.now self.now.strip
             self.now.netlist.now.text) self.now.netlist.now.circuit }
@@ -53,7 +53,7 @@ impl Beginning<'_> {
         }
     }
 
-    /// The placing of what the finished packing has made, on a strip that has places enough.
+    /// Starts the placing of what the finished packing has made, on a strip that has enough places.
     pub(crate) fn placing(
         &self,
         packing: &Parked,
@@ -86,7 +86,7 @@ impl Beginning<'_> {
         }
     }
 
-    /// The routing of what the finished placing of that seed and that effort has made.
+    /// Starts the routing of what the finished placing of that seed and effort has made.
     pub(crate) fn routing(
         &self,
         placing: &Parked,

@@ -1,34 +1,35 @@
-//! What a tenant asks.
+//! A tenant's commands.
 ghost use Rattle.std.specs.Prelude.{◌≡◌, ◌↔◌, IsTrue};
 
 use job_state::SharedText;
 use std::alloc::AllocError;
 
-/// What a tenant asks.
+/// A tenant's command.
 #[derive(Drop)]
 pub enum Command {
-    /// A first netlist, in the state Empty.
+    /// Loads a first netlist, in the state Empty.
     Upload(SharedText),
-    /// Another netlist, in any other state. A running job is given up.
+    /// Loads another netlist, in any other state. A running job is given up.
     Change(SharedText),
-    /// The packing of the netlist, in the state Loaded.
+    /// Packs the netlist, in the state Loaded.
     Pack,
-    /// The placing of the packed netlist, in the states Packed, Placed, Routed and Unrouted. Old places and routes are given
-    /// up. The effort is at most 100.
+    /// Places the packed netlist, in the states Packed, Placed, Routed and Unrouted. Old places and
+    /// routes are given up. The effort is at most 100.
     Place { seed: u64, effort: u32 },
-    /// The routing of the placed netlist, in the state Placed.
+    /// Routes the placed netlist, in the state Placed.
     Route,
-    /// The running job is given up, in the states in which one runs.
+    /// Gives up the running job, in the states in which one runs.
     Cancel,
-    /// Back to the state Empty, from any other.
+    /// Gives up everything and returns to the state Empty, from any other state.
     Withdraw,
-    /// The state, which stays.
+    /// Asks for the state, which stays.
     Status,
-    /// The packed netlist's `.net` file, in the state Packed and all that follow it.
+    /// Asks for the packed netlist's `.net` file, in the state Packed and all that follow it.
     Net,
-    /// The placed netlist's `.place` file, in the states Placed, Routing, Routed and Unrouted.
+    /// Asks for the placed netlist's `.place` file, in the states Placed, Routing, Routed and
+    /// Unrouted.
     PlaceFile,
-    /// The routed netlist's `.route` file, in the state Routed.
+    /// Asks for the routed netlist's `.route` file, in the state Routed.
     RouteFile,
 }
 
@@ -56,7 +57,7 @@ impl Clone for Command {
 }
 
 impl Command {
-    /// Whether both are the same command, with the same text or numbers.
+    /// Returns whether both are one command, with equal text or numbers.
     pub fn same(&self, other: &Command) -> bool
         ensures { IsTrue result ↔ (self.now ≡ other.now) }
     {

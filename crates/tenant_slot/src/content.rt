@@ -1,4 +1,4 @@
-//! What is there where no job runs.
+//! What a slot has when no job runs.
 ghost use Rattle.std.specs.Prelude.{◌≡◌, is_some, Some, true};
 ghost use Rattle.tenant_slot.specs.Content.{CanFinish, cut_back, failure_in, finished_with, name_at_rest, netlist_in, packing_in, placing_in, routed_with};
 ghost use Rattle.tenant_slot.specs.Results.{failure_of};
@@ -10,30 +10,31 @@ use crate::reply::StateName;
 use blif::SharedCircuit;
 use job_state::{JobKind, Parked, RoutingEnd, SharedText};
 
-/// A netlist with the circuit that it says.
+/// A netlist with its circuit.
 #[derive(Drop)]
 pub(crate) struct Netlist {
     pub(crate) text: SharedText,
     pub(crate) circuit: SharedCircuit,
 }
 
-/// What is there where no job runs, and stays while one does.
+/// What a slot has when no job runs. It stays while a job does.
 #[derive(Drop)]
 pub(crate) enum Content {
     Empty,
     Loaded(Netlist),
-    /// With the finished packing of the netlist.
+    /// A netlist with its finished packing.
     Packed(Netlist, Parked),
-    /// With the finished placing of the packing, too.
+    /// A netlist with its finished packing and the packing's finished placing.
     Placed(Netlist, Parked, Parked),
-    /// With the finished routing of the placing, too, which has routes.
+    /// A netlist with its finished packing, the finished placing, and the placing's finished
+    /// routing, which has routes.
     Routed(Netlist, Parked, Parked, Parked),
-    /// The routing of the placing ended without routes.
+    /// A netlist with its finished packing and the finished placing, whose routing ended without
+    /// routes.
     Unrouted(Netlist, Parked, Parked, RoutingFailure),
 }
 
 impl Content {
-    /// The name of the state.
     pub(crate) fn name(&self) -> StateName
         ensures { result ≡ name_at_rest self.now }
     {
@@ -47,7 +48,7 @@ impl Content {
         }
     }
 
-    /// How the routing ended, where it has no routes.
+    /// How the routing ended, if it has no routes.
     pub(crate) fn failure(&self) -> Option<RoutingFailure>
         ensures { result ≡ failure_in self.now }
     {
@@ -57,7 +58,7 @@ impl Content {
         }
     }
 
-    /// The netlist, where there is one.
+    /// The netlist; there must be one.
     pub(crate) fn netlist(&self) -> &Netlist
         requires { is_some (netlist_in self.now) ≡ true }
         ensures { netlist_in self.now ≡ Some result.now }
@@ -72,7 +73,7 @@ impl Content {
         }
     }
 
-    /// The finished packing, where there is one.
+    /// The finished packing; there must be one.
     pub(crate) fn packing(&self) -> &Parked
         requires { is_some (packing_in self.now) ≡ true }
         ensures { packing_in self.now ≡ Some result.now }
@@ -86,7 +87,7 @@ impl Content {
         }
     }
 
-    /// The finished placing, where there is one.
+    /// The finished placing; there must be one.
     pub(crate) fn placing(&self) -> &Parked
         requires { is_some (placing_in self.now) ≡ true }
         ensures { placing_in self.now ≡ Some result.now }
@@ -99,7 +100,7 @@ impl Content {
         }
     }
 
-    /// Without places and routes, which are given up.
+    /// Gives up places and routes.
     pub(crate) fn cut_back(self) -> Self
         ensures { result ≡ cut_back self }
     {
@@ -121,7 +122,7 @@ impl Content {
         }
     }
 
-    /// With what the job has made that began here, and is finished.
+    /// Adds what a finished job has made that started from this content.
     pub(crate) fn finished_with(self, job: Parked) -> Self
         requires { CanFinish self job }
         ensures { result ≡ finished_with self job }
@@ -152,7 +153,7 @@ fn routed_with(netlist: Netlist, packing: Parked, placing: Parked, routing: Park
     }
 }
 
-/// How a finished routing ended, where it has no routes.
+/// How a finished routing ended, if it has no routes.
 fn failure_of(routing: &Parked) -> Option<RoutingFailure>
     requires { IsFinished JobKind.Routing routing.now }
     ensures { result ≡ failure_of (end_value routing.now.step.sources) }

@@ -1,4 +1,4 @@
-//! How the failure of a routing is told.
+//! How the failure of a routing is reported.
 ghost use Rattle.std.specs.Prelude.{◌≡◌, [], IfOk, slice_get};
 ghost use Rattle.std.specs.Option.{option_map_or};
 ghost use Rattle.cluster.specs.Blocks.{block_nets, net_name};
@@ -12,7 +12,7 @@ use job_state::SharedText;
 use line_text::Text;
 use std::alloc::{AllocError, Global};
 
-/// How a routing of a packed netlist ended, with the name of the net.
+/// How a routing of a packed netlist ended, with the name of the net if one has no path.
 pub(crate) fn told_ending(
     alloc: Global,
     packed: &Packed,
@@ -29,7 +29,7 @@ pub(crate) fn told_ending(
     }
 }
 
-/// The name of a net between blocks, and no byte where there is no such net.
+/// The name of a net between blocks; empty if there is no such net.
 fn block_net_name(packed: &Packed, net: u32) -> &[u8]
     ensures { result.now ≡ option_map_or (λ found. net_name packed.now.circuit found.net)
         (slice_get (block_nets packed.now) net) [] }
@@ -41,7 +41,7 @@ fn block_net_name(packed: &Packed, net: u32) -> &[u8]
     }
 }
 
-/// The name of a net of the circuit, and no byte where there is no such net.
+/// The name of a net of the circuit; empty if there is no such net.
 fn net_name(circuit: &Circuit, net: u32) -> &[u8]
     ensures { result.now ≡ net_name circuit.now net }
 {

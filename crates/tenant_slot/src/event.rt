@@ -1,8 +1,9 @@
-//! What happens to a tenancy.
+//! The events of a tenancy.
 use crate::command::Command;
 
-/// A step that was made: the tenancy's generation when its job began, the how many-th of the job's steps it is, from 1, and
-/// whether its sources weren't those of the running job. A foreign step is never the running job's.
+/// A step that was made: the tenancy's generation when its job began, the step's number within the
+/// job, from 1, and whether its sources weren't those of the running job. A foreign step is never
+/// the running job's.
 #[derive(Clone, Copy, PartialEq, Eq)]
 pub struct Advance {
     pub generation: u32,
@@ -10,10 +11,10 @@ pub struct Advance {
     pub foreign: bool,
 }
 
-/// What happens to one tenancy, and is an entry of its journal.
+/// An event of one tenancy, which is an entry of its journal.
 #[derive(Drop)]
 pub enum Event {
     Command(Command),
-    /// A step of a job that was put.
+    /// A job's step that was put.
     Advance(Advance),
 }

@@ -1,16 +1,16 @@
-//! Whether two netlists have the same fault.
+//! Comparison of netlist faults.
 ghost use Rattle.std.specs.Prelude.{◌≡◌, ◌↔◌, IsTrue};
 
 use blif::{BlifFault, BlifFaultKind};
 
-/// Whether both are the same fault, on the same line, of the same net.
+/// Returns whether both are one fault, on one line, of one net.
 pub(crate) fn same_faults(fault: &BlifFault, other: &BlifFault) -> bool
     ensures { IsTrue result ↔ (fault.now ≡ other.now) }
 {
     fault.line == other.line && same_kind(&fault.kind, &other.kind)
 }
 
-/// Whether both are the same, of the same net.
+/// Returns whether both are one kind of fault, of one net.
 fn same_kind(kind: &BlifFaultKind, other: &BlifFaultKind) -> bool
     ensures { IsTrue result ↔ (kind.now ≡ other.now) }
 {

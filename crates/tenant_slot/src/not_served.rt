@@ -4,11 +4,11 @@ ghost use Rattle.tenant_slot.specs.declared.not_served.NotServed.TheVariants.{No
 
 use std::alloc::AllocError;
 
-/// Why a command has no reply, and no entry of the journal. Nothing changed.
+/// Why a command has no reply and is no entry of the journal. Nothing changed.
 #[derive(Clone, Copy, PartialEq, Eq)]
 pub enum NotServed {
     NoMemory,
-    /// The journal has all the entries that it may have.
+    /// The journal has [`crate::MAX_ENTRIES`] entries.
     JournalFull,
 }
 

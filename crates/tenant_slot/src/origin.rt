@@ -1,10 +1,11 @@
-//! What is known of a step that is put.
+//! What the caller knows of a step that it puts.
 
-/// What is known of a step that is put.
+/// What the caller knows of a step that it puts.
 #[derive(Clone, Copy, PartialEq, Eq)]
 pub enum Origin {
-    /// It is the running job's next step: it was taken from there, and nothing changed since.
+    /// The step is the running job's next one: it was taken from there, and nothing has changed
+    /// since.
     Running,
-    /// Nothing. It may be a step of any job, made at any time.
+    /// Nothing: it may be a step of any job, made at any time.
     Unknown,
 }

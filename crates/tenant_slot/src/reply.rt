@@ -1,4 +1,4 @@
-//! What a command or a step is answered.
+//! The replies to commands and steps.
 ghost use Rattle.std.specs.Prelude.{◌≡◌, ◌↔◌, IsTrue};
 ghost use Rattle.tenant_slot.specs.SingleUser.{is_lawful};
 ghost use Rattle.tenant_slot.specs.Names.{file_text, refusal_number, refusal_text, state_text};
@@ -41,7 +41,7 @@ impl StateName {
         }
     }
 
-    /// Whether a command is lawful in this state.
+    /// Returns whether a command is lawful in this state.
     pub fn admits(self, command: &Command) -> bool
         ensures { result ≡ is_lawful self command.now }
     {
@@ -75,17 +75,17 @@ impl StateName {
     }
 }
 
-/// How a routing ended that left a net without its way.
+/// How a routing ended without routes.
 #[derive(Drop)]
 pub enum Ending {
-    /// After the last iteration more nets want a node than it carries.
+    /// After the last iteration, some node is used by more nets than its capacity.
     GaveUp,
-    /// The net of this name has no way to one of its readers.
+    /// The net of this name has no path to one of its readers.
     NoPath(SharedText),
 }
 
 impl Ending {
-    /// Whether both are the same ending, of the same net.
+    /// Returns whether both are one ending, of one net.
     pub fn same(&self, other: &Ending) -> bool
         ensures { IsTrue result ↔ (self.now ≡ other.now) }
     {
@@ -108,18 +108,18 @@ impl Clone for Ending {
     }
 }
 
-/// What `status` answers.
+/// The reply to `status`.
 #[derive(Drop)]
 pub struct Status {
     pub state: StateName,
-    /// How many steps of the running job are finished, 0 where none runs.
+    /// The number of steps that the running job has made, 0 if none runs.
     pub steps: u32,
-    /// How the routing ended, in the state Unrouted alone.
+    /// How the routing ended, only in the state Unrouted.
     pub ending: Option<Ending>,
 }
 
 impl Status {
-    /// Whether both are the same status.
+    /// Returns whether both are equal.
     pub fn same(&self, other: &Status) -> bool
         ensures { IsTrue result ↔ (self.now ≡ other.now) }
     {
@@ -149,7 +149,7 @@ impl Clone for Status {
     }
 }
 
-/// Of what a strip has too little for a packed netlist.
+/// The places of which a strip has too few for a packed netlist.
 #[derive(Clone, Copy, PartialEq, Eq)]
 pub enum Misfit {
     /// Places for logic blocks.
@@ -165,16 +165,17 @@ pub enum Refusal {
     WrongState(StateName),
     /// The netlist has this fault.
     BadBlif(BlifFault),
-    /// The logic element of this number is the least that fits into no cluster.
+    /// The logic element of this number, the least such, fits into no cluster.
     CannotPack(u32),
-    /// The strip has too few places for the packed netlist. Those for logic blocks are looked at first.
+    /// The strip has too few places for the packed netlist. Places for logic blocks are checked
+    /// first.
     DoesNotFit(Misfit),
     /// The effort of a placing is above 100.
     BadEffort,
 }
 
 impl Refusal {
-    /// The refusal's number in replies. They are looked at in the order 3, 4, 5, 7, 6.
+    /// The refusal's number in replies. The refusals are checked in the order 3, 4, 5, 7, 6.
     pub fn number(&self) -> u32
         ensures { result ≡ refusal_number self.now }
     {
@@ -202,7 +203,7 @@ impl Refusal {
 }
 
 impl Refusal {
-    /// Whether both are the same refusal, for the same reason.
+    /// Returns whether both are one refusal, for one reason.
     pub fn same(&self, other: &Refusal) -> bool
         ensures { IsTrue result ↔ (self.now ≡ other.now) }
     {
@@ -231,14 +232,14 @@ impl Clone for Refusal {
     }
 }
 
-/// What a result file is.
+/// The kind of a result file.
 #[derive(Clone, Copy, PartialEq, Eq)]
 pub enum FileKind {
     /// The packed netlist.
     Net,
-    /// Where its blocks stand.
+    /// The places of its blocks.
     Place,
-    /// Which ways its nets take.
+    /// The routes of its nets.
     Route,
 }
 
@@ -255,7 +256,7 @@ impl FileKind {
     }
 }
 
-/// What a step that was made is answered.
+/// The reply to a step that was made.
 #[derive(Clone, Copy, PartialEq, Eq)]
 pub enum StepReply {
     /// The job goes on.
@@ -266,10 +267,10 @@ pub enum StepReply {
     Stale,
 }
 
-/// What a command or a step is answered.
+/// The reply to a command or a step.
 #[derive(Drop)]
 pub enum Reply {
-    /// The command was accepted, and led to this state.
+    /// The command was accepted, and resulted in this state.
     Accepted(StateName),
     Status(Status),
     /// A result file, whole.
@@ -279,7 +280,7 @@ pub enum Reply {
 }
 
 impl Reply {
-    /// Whether both are the same reply, with the same text.
+    /// Returns whether both are one reply, with equal text.
     pub fn same(&self, other: &Reply) -> bool
         ensures { IsTrue result ↔ (self.now ≡ other.now) }
     {

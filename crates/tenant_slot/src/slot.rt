@@ -1,4 +1,4 @@
-//! One tenancy: its commands, and its job that leaves and comes back.
+//! One tenancy: its commands, and its job, which leaves and comes back.
 ghost use Rattle.std.specs.Prelude.{◌≡◌, All, AllPairs, Some, false, true};
 ghost use Rattle.grid.specs.Sizes.{IsStripSize};
 ghost use Rattle.rr_graph.specs.declared.resource.Resource.{Resource};
@@ -26,11 +26,11 @@ use std::alloc::Global;
 use std::marker::Model;
 use strip_place::Kept;
 
-/// The most entries of one tenancy's journal.
+/// The largest number of entries of one tenancy's journal.
 pub const MAX_ENTRIES: u32 = 65_536;
 
-/// One tenancy. Its value is its id, the state of the service for a single user, and whether the running job's next step is
-/// here, and was made already.
+/// One tenancy. Its value is its id, the state of the service for a single user, and whether the
+/// running job's next step is here and was made already.
 #[derive(Drop)]
 pub struct Slot {
     alloc: Global,
@@ -76,26 +76,31 @@ impl Slot {
         }
     }
 
+    /// The id of the tenancy.
     pub fn id(&self) -> u32
         ensures { result ≡ self.now.id }
     {
         self.id
     }
 
+    /// The name of the tenancy's state.
     pub fn state(&self) -> StateName
         ensures { result ≡ self.now.state.name }
     {
         self.standing.name()
     }
 
-    /// Whether there is a step to take: a job runs, its next step isn't out, and the journal has room for an entry.
+    /// Returns whether there is a step to take: a job runs, its next step isn't out, and the
+    /// journal has space for an entry.
     pub fn has_step(&self) -> bool
         ensures { result ≡ is_takeable self.now }
     {
         self.entries < MAX_ENTRIES && self.standing.is_ready()
     }
 
-    /// The answer to a command. Nothing changes until it is accepted, so all that takes memory comes first.
+    /// Computes the answer to a command. Nothing changes until the answer is accepted, so
+    /// everything that takes memory comes first. Fails with [`NotServed`] if memory runs out or the
+    /// journal is full.
     pub fn answer(&self, command: &Command) -> Result<Answer, NotServed>
         ensures { Answers self.now command.now result }
     {
@@ -111,8 +116,8 @@ impl Slot {
         self.serve(command)
     }
 
-    /// What the circuit holds of its strip, in node order: in the state Routed the pins and wires of its routes and the pads of its
-    /// blocks, each once, and nothing in the others.
+    /// What the circuit occupies of its strip, in node order: in the state Routed the pins and
+    /// wires of its routes and the pads of its blocks, each once; in the other states nothing.
     pub fn routed(&self) -> &[Resource]
         ensures order { AllPairs IsEarlier result.now }
         ensures exact { (r : Resource) → has result.now r ≡ has (routed_set self.now.state) r }
@@ -125,7 +130,7 @@ impl Slot {
         }
     }
 
-    /// Makes an answer come true, and counts its entry. Takes no memory.
+    /// Makes the answer's change, counts its entry and returns its reply. Takes no memory.
     pub fn accept(&mut self, answer: Answer) -> Reply
         requires { IsAnswerTo self.old answer }
         ensures reply { result ≡ answer.reply }
@@ -137,7 +142,8 @@ impl Slot {
         reply
     }
 
-    /// Serves one command, exactly as the service for a single user does.
+    /// Serves one command, exactly as the service for a single user does. Fails with [`NotServed`]
+    /// if memory runs out or the journal is full; then nothing changes.
     pub fn command(&mut self, command: &Command) -> Result<Reply, NotServed>
         ensures { Serves self.old command.now result self.new }
     {
@@ -145,8 +151,9 @@ impl Slot {
         Ok(self.accept(answer))
     }
 
-    /// The running job's next step, where it isn't out and the journal has room for its entry. The step is not made here: it was
-    /// made just where it came back made. Takes no memory.
+    /// Takes the running job's next step out; `None` if it is out already, no job runs, or the
+    /// journal has no space for its entry. This call doesn't make the step: it is made exactly if
+    /// it came back made. Takes no memory.
     pub fn take(&mut self) -> Option<AnyJob>
         ensures { Takes self.old result self.new }
     {
@@ -157,7 +164,8 @@ impl Slot {
         Some(job.leave())
     }
 
-    /// Puts a step that was made: the running job goes on where it is its next one. It is an entry. Takes no memory.
+    /// Puts a step that was made: if it is the running job's next one, the job advances. It is an
+    /// entry in either case. Takes no memory.
     pub fn put(&mut self, done: Done) -> (Advance, StepReply)
         requires { CanPut self.old done }
         ensures { Puts self.old done result.0 result.1 self.new }
@@ -165,8 +173,9 @@ impl Slot {
         self.put_from(done, Origin::Unknown)
     }
 
-    /// Puts a step of which that is known, as `put` does. Where it is known to be the running job's next one, its sources are
-    /// compared with nothing, so its cost doesn't grow with the netlist. Takes no memory.
+    /// Puts a step as `put` does, with what the caller knows of it. If it is known to be the
+    /// running job's next one, its sources aren't compared, so the cost doesn't grow with the
+    /// netlist. Takes no memory.
     pub fn put_from(&mut self, done: Done, origin: Origin) -> (Advance, StepReply)
         requires can { CanPut self.old done }
         requires origin { IsOrigin self.old done origin }
@@ -180,7 +189,7 @@ impl Slot {
         (made, reply)
     }
 
-    /// How a step that was made is written down.
+    /// How a step that was made is recorded in the journal.
     fn written(&self, done: &Done, origin: Origin) -> Advance
         requires { IsOrigin self.now done.now origin }
         ensures { IsAdvanceOf self.now.state done.now result }
@@ -195,8 +204,8 @@ impl Slot {
         }
     }
 
-    /// Takes a job back whose step wasn't made or couldn't be put: it can be taken again where its step is the running job's
-    /// next one, and is dropped elsewhere. Takes no memory.
+    /// Takes back a job whose step wasn't made or couldn't be put. If the step is the running job's
+    /// next one, it can be taken again; otherwise the job is dropped. Takes no memory.
     pub fn give_back(&mut self, back: Back)
         requires { back.step.id ≡ self.old.id }
         ensures { GivesBack self.old back self.new }
@@ -211,7 +220,8 @@ impl Slot {
         }
     }
 
-    /// How a step of this tenancy, of that generation and number and of these sources, is written down.
+    /// How a step of this tenancy, with that generation, number and sources, is recorded in the
+    /// journal.
     fn advance_of(&self, generation: u32, number: u32, sources: &Sources) -> Advance
         ensures { IsAdvanceOf self.now.state
             (record {
@@ -228,7 +238,7 @@ impl Slot {
         }
     }
 
-    /// Whether a step that was made is the running job's next one.
+    /// Returns whether a step that was made is the running job's next one.
     fn is_next(&self, made: Advance) -> bool
         ensures { result ≡ is_next self.now.state made }
     {

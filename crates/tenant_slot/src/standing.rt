@@ -1,4 +1,4 @@
-//! What a slot carries along, so that it is not computed again, and how it changes.
+//! What a slot keeps between commands, so that it isn't computed again, and how it changes.
 ghost use Rattle.std.specs.Prelude.{◌≡◌, ◌+◌, ◌<◌, ◌↔◌, IsTrue, None, Some, option_map, true};
 ghost use Rattle.tenant_slot.specs.Content.{CanFinish, cut_back, finished_with};
 ghost use Rattle.tenant_slot.specs.JobNames.{during};
@@ -10,39 +10,39 @@ use job_state::{JobKind, Parked, Sources};
 use std::mem;
 use strip_place::Kept;
 
-/// The running job: what it is computed from, and its next step where that isn't out.
+/// The running job: its sources, and its next step unless that is out.
 #[derive(Drop)]
 pub(crate) struct Running {
     pub(crate) sources: Sources,
     pub(crate) ready: Option<Parked>,
 }
 
-/// Where a tenancy stands.
+/// What a slot keeps between commands.
 #[derive(Drop)]
 pub(crate) struct Standing {
     pub(crate) content: Content,
     pub(crate) running: Option<Running>,
-    /// Where the next placing starts its blocks, by kind and name.
+    /// The places at which the next placing starts its blocks, by kind and name.
     pub(crate) kept: Kept,
     /// The seed of the last accepted placing, 0 before the first.
     pub(crate) seed: u64,
     /// The effort of the last accepted placing, 0 before the first.
     pub(crate) effort: u32,
     pub(crate) generation: u32,
-    /// How many steps of the running job are made, 0 where none runs.
+    /// The number of steps that the running job has made, 0 if none runs.
     pub(crate) steps: u32,
 }
 
-/// What an accepted command changes.
+/// The change that an accepted command makes.
 #[derive(Drop)]
 pub(crate) enum Change {
     /// A first netlist.
     Load(Netlist),
-    /// Another netlist, and the places that are kept of the old one.
+    /// Another netlist, and the places kept from the old one.
     Replace(Netlist, Kept),
-    /// A packing or a routing goes on from what is there.
+    /// A packing or a routing starts from the content.
     Begin(Running),
-    /// A placing goes on from the packing, and what came behind that is given up.
+    /// A placing starts from the packing, and older places and routes are given up.
     Place(Running),
     /// The running job is given up.
     Stop,
@@ -61,7 +61,6 @@ fn name_during(kind: JobKind) -> StateName
 }
 
 impl Standing {
-    /// The name of the state.
     pub(crate) fn name(&self) -> StateName
         ensures { result ≡ name_of self.now.content self.now.running }
     {
@@ -71,7 +70,7 @@ impl Standing {
         }
     }
 
-    /// Changes what an accepted command changes.
+    /// Makes the change of an accepted command.
     pub(crate) fn accept(&mut self, change: Option<Change>)
         requires { self.old.generation < 65536 }
         ensures { self.new ≡ accepted_in self.old change }
@@ -104,14 +103,14 @@ impl Standing {
         }
     }
 
-    /// These places are kept, and none of the old ones.
+    /// Replaces the kept places.
     fn keep(&mut self, kept: Kept)
         ensures { self.new ≡ record self.old { kept = kept } }
     {
         drop(mem::replace(&mut self.kept, kept));
     }
 
-    /// A generation begins.
+    /// Begins a new generation.
     fn rise(&mut self)
         requires { self.old.generation < 65536 }
         ensures { self.new ≡ record self.old { generation = self.old.generation + 1; steps = 0 } }
@@ -120,14 +119,15 @@ impl Standing {
         self.steps = 0;
     }
 
-    /// Another job runs, or none. The old one is dropped by a call, since a drop in place is proved anew wherever it stands.
+    /// Replaces the running job by another, or by none. The old one is dropped by a call, since a
+    /// drop in place would be proved again at each place.
     fn run(&mut self, job: Option<Running>)
         ensures { self.new ≡ record self.old { running = job } }
     {
         drop(mem::replace(&mut self.running, job));
     }
 
-    /// No job runs, and this is there.
+    /// Ends the running job, and sets the content.
     fn rest_with(&mut self, content: Content)
         ensures { self.new ≡ record self.old { content = content; running = None } }
     {
@@ -135,14 +135,14 @@ impl Standing {
         self.run(None);
     }
 
-    /// That stands in the place of what there is.
+    /// Replaces the content.
     fn stand(&mut self, content: Content)
         ensures { self.new ≡ record self.old { content = content } }
     {
         drop(mem::replace(&mut self.content, content));
     }
 
-    /// A placing runs, and places and routes are given up.
+    /// Starts a placing, and gives up places and routes.
     fn place(&mut self, job: Running)
         ensures { self.new ≡ record self.old {
           content = cut_back self.old.content;
@@ -158,7 +158,7 @@ impl Standing {
         self.run(Some(job));
     }
 
-    /// Whether the running job's next step is here.
+    /// Returns whether the running job's next step is here.
     pub(crate) fn is_ready(&self) -> bool
         ensures { result ≡ is_ready self.now.running }
     {
@@ -168,7 +168,7 @@ impl Standing {
         }
     }
 
-    /// Whether a job runs that is computed from these sources.
+    /// Returns whether a job runs that has these sources.
     pub(crate) fn runs_on(&self, sources: &Sources) -> bool
         ensures { IsTrue result ↔ RunsOn self.now.running sources.now }
     {
@@ -178,7 +178,7 @@ impl Standing {
         }
     }
 
-    /// The running job's next step, which is out then.
+    /// Takes the running job's next step out.
     pub(crate) fn take(&mut self) -> Option<Parked>
         ensures job { result ≡ ready_of self.old.running }
         ensures out { self.new ≡ record self.old {
@@ -191,7 +191,7 @@ impl Standing {
         }
     }
 
-    /// The running job's next step stands here again.
+    /// Puts the running job's next step back here.
     pub(crate) fn stand_ready(&mut self, job: Parked)
         ensures { self.new ≡ record self.old {
           running = option_map (ready_with job) self.old.running;
@@ -203,8 +203,8 @@ impl Standing {
         }
     }
 
-    /// Takes a job whose step was made, and stands before the next one or finished: where the step counts, the running job
-    /// goes on, or is over with its last step.
+    /// Takes a job whose step was made, and which is before its next step or finished. If the step
+    /// counts, the running job advances, or is over if the step was its last.
     pub(crate) fn put(&mut self, job: Parked, counts: bool, last: bool) -> StepReply
         requires begun { counts ≡ true → last ≡ true → CanFinish self.old.content job }
         requires few { self.old.steps < 65536 }
@@ -224,7 +224,7 @@ impl Standing {
         StepReply::Finished
     }
 
-    /// The running job is finished.
+    /// Ends the running job, which is finished.
     fn finish(&mut self, job: Parked)
         requires { CanFinish self.old.content job }
         ensures { self.new ≡ record self.old {

@@ -1,6 +1,8 @@
-//! Texts in parts that stand in no memory of their own. [`write_parts`] writes texts, bytes and numbers one behind the other to a
-//! [`line_text::Sink`] with no whole text between, so the sink should have a buffer; by a [`Pen`] much is written so, and a failed sink is
-//! told once, at the end. A [`Scanner`] takes them off from the front of a line again. The tools beside the service write and read by them.
+//! Texts written in parts, without memory of their own. [`write_parts`] writes texts, bytes and
+//! numbers one after another to a [`line_text::Sink`]. No whole text is built in between, so the
+//! sink should be buffered. A [`Pen`] makes many writes and reports a failure of the sink once, at
+//! the end. A [`Scanner`] reads such parts from the front of a line. The tools beside the service
+//! write and read with them.
 #![tactic(auto)]
 
 mod parts;

@@ -15,7 +15,7 @@ pub enum Part<'a> {
     Long(u64),
 }
 
-/// Writes the parts, one behind the other. At a failure the sink has taken a beginning of them.
+/// Writes the parts one after another. If the sink fails, it has taken a beginning of them.
 pub fn write_parts<K: Sink>(sink: &mut K, parts: &[Part<'_>]) -> Result<(), Failed>
     ensures { Writes K.contents K.has_failed sink.old sink.new (flat_map bytes_of_part parts.now)
         result }
@@ -26,7 +26,6 @@ pub fn write_parts<K: Sink>(sink: &mut K, parts: &[Part<'_>]) -> Result<(), Fail
     Ok(())
 }
 
-/// Writes a part.
 fn write_part<K: Sink>(sink: &mut K, part: &Part<'_>) -> Result<(), Failed>
     ensures { Writes K.contents K.has_failed sink.old sink.new (bytes_of_part part.now) result }
 {

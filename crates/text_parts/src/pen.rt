@@ -1,4 +1,4 @@
-//! A pen, with which much is written to a sink.
+//! A pen, which makes many writes to one sink.
 ghost use Rattle.std.specs.Prelude.{◌≡◌, true, false, not, is_ok, is_err};
 ghost use Rattle.std.specs.List.{flat_map};
 ghost use Rattle.std.specs.Fn.{FnOnceReturnsAtMut};
@@ -8,8 +8,8 @@ ghost use Rattle.text_parts.specs.Pens.{Draws};
 use crate::parts::{Part, write_parts};
 use line_text::{Failed, Sink, write_all};
 
-/// Writes to a sink, one thing behind the other. Once the sink has failed nothing more is written, and [`Pen::end`] tells of it, so that
-/// what writes by a pen need not look after each part.
+/// Makes writes to a sink, one after another. After the sink's first failure it writes nothing
+/// more, and [`Pen::end`] returns the failure, so its user need not check each write.
 #[derive(Drop)]
 pub struct Pen<'k, K: Sink> {
     sink: &'k mut K,
@@ -29,7 +29,7 @@ impl<'k, K: Sink> Pen<'k, K> {
         }
     }
 
-    /// Writes the parts, one behind the other.
+    /// Writes the parts one after another, unless the sink has failed.
     pub fn write(&mut self, parts: &[Part<'_>])
         ensures same_reference { self.new.sink.ghost_name ≡ self.old.sink.ghost_name }
         ensures drawn { Draws K.contents K.has_failed self.old.sink.now self.old.has_failed
@@ -40,7 +40,7 @@ impl<'k, K: Sink> Pen<'k, K> {
         }
     }
 
-    /// Writes a text.
+    /// Writes a text, unless the sink has failed.
     pub fn text(&mut self, text: &str)
         ensures same_reference { self.new.sink.ghost_name ≡ self.old.sink.ghost_name }
         ensures drawn { Draws K.contents K.has_failed self.old.sink.now self.old.has_failed
@@ -51,7 +51,7 @@ impl<'k, K: Sink> Pen<'k, K> {
         }
     }
 
-    /// Lends the sink to a function that writes to it.
+    /// Lends the sink to a function that writes to it, unless the sink has failed.
     pub fn lend<F: FnOnce(&mut K) -> Result<(), Failed>>(&mut self, write: F)
         requires { F.IsAlwaysCallable write }
         ensures same_reference { self.new.sink.ghost_name ≡ self.old.sink.ghost_name }
@@ -66,7 +66,7 @@ impl<'k, K: Sink> Pen<'k, K> {
         }
     }
 
-    /// Whether all was written, or the sink failed.
+    /// Ends the writing. `Ok` if everything was written, an error if the sink failed.
     pub fn end(self) -> Result<(), Failed>
         ensures sink { self.exit.0.now ≡ self.entry.sink.now }
         ensures ended { is_ok result ≡ not self.entry.has_failed }

@@ -1,4 +1,4 @@
-//! What a line is made of, taken off from its front.
+//! The parts of a line, taken from its front one by one.
 ghost use Rattle.std.specs.Prelude.{◌≡◌, ◌++◌, ◌∷◌, [], ℕ, List, IfSome, Some, if◌then◌else◌, drop, length, eqb, IsTrue, ◌↔◌};
 ghost use Rattle.std.specs.List.{starts_with};
 ghost use Rattle.line_text.specs.Decimal.{decimal_of};
@@ -35,7 +35,8 @@ impl<'t> Scanner<'t> {
         self.rest.is_empty()
     }
 
-    /// Takes a text off, if the line goes on with it, and says whether it does.
+    /// Takes this text off the front if the rest begins with it, and returns whether it does.
+    /// Otherwise nothing changes.
     pub fn takes(&mut self, text: &str) -> bool
         ensures whether { result ≡ starts_with eqb self.old text.now }
         ensures taken { IsTrue result → self.old ≡ text.now ++ self.new }
@@ -48,14 +49,14 @@ impl<'t> Scanner<'t> {
         goes_on
     }
 
-    /// Takes a text off. None where the line does not go on with it.
+    /// Takes this text off the front. `None` if the rest doesn't begin with it.
     pub fn text(&mut self, text: &str) -> Option<()>
         ensures { IfSome result (λ _. self.old ≡ text.now ++ self.new) }
     {
         self.takes(text).then_some(())
     }
 
-    /// Takes a decimal of 32 bits off. None where there is none.
+    /// Takes a decimal number of 32 bits off the front. `None` if the rest doesn't begin with one.
     pub fn number(&mut self) -> Option<u32>
         ensures { IfSome result (λ number. (digits : List ℕ) × (decimal_of 32 digits ≡ Some number)
             × (self.old ≡ digits ++ self.new)) }
@@ -64,7 +65,7 @@ impl<'t> Scanner<'t> {
         decimal_u32(self.split(end))
     }
 
-    /// Takes all up to the next space off.
+    /// Takes everything before the next space off the front.
     pub fn word(&mut self) -> &'t [u8]
         ensures { self.old ≡ result.now ++ self.new }
     {
@@ -72,14 +73,14 @@ impl<'t> Scanner<'t> {
         self.split(end)
     }
 
-    /// Takes all that is left off, but so many of the last bytes.
+    /// Takes everything off the front except the last `count` bytes; everything if fewer are left.
     pub fn all_but(&mut self, count: usize) -> &'t [u8]
         ensures { self.old ≡ result.now ++ self.new }
     {
         self.split(self.rest.len().checked_sub(count))
     }
 
-    /// Takes so many bytes off, or all.
+    /// Takes the bytes before this index off the front, or all of them.
     fn split(&mut self, end: Option<usize>) -> &'t [u8]
         ensures { self.old ≡ result.now ++ self.new }
     {

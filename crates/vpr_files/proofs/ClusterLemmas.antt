@@ -1,4 +1,4 @@
--- The BLEs and pins of a cluster, by place.
+-- The BLEs and pins of a cluster, by index.
 use Rattle.std.proofs.Common.{◌≡◌, ◌==◌, ℕ, Bool, false, ◌<◌, ◌++◌, List, [], ◌∷◌, map, length, Option, Some, None, refl, sym, ap, ◌∙◌, slice_get, get_or, subst, All, arith}
 use Rattle.std.proofs.lemmas.List.Elements.{All-append, All-from_get_or, All-get_or, All-map}
 use Rattle.blif.specs.declared.circuit.Circuit.{Circuit}
@@ -24,11 +24,11 @@ use Rattle.cluster.specs.declared.block.Block.{Block}
 use Rattle.cluster.specs.declared.block.Block.TheVariants.{InputPad, OutputPad, Cluster}
 use Rattle.vpr_files.specs.BlockClusters.{HasCluster}
 
--- a BLE by its parts
+-- a BLE, from its parts
 abbrev pub element : List ℕ → ℕ → Option ℕ → LogicElement
 element inputs output clock = record { inputs = inputs; output = output; clock = clock }
 
--- the BLE of that number
+-- the BLE with this number
 pub element_is : (bles : List LogicElement) (number : ℕ) (element : LogicElement) → slice_get bles number ≡ Some element → element_at bles number ≡ element
 element_is bles number element e = get_or_from_slice_get bles number element _ e
 
@@ -36,7 +36,7 @@ element_is bles number element e = get_or_from_slice_get bles number element _ e
 pub elements_are : (packed : PackedCircuit) (cluster : ℕ) (members : List ℕ) → slice_get packed.clusters cluster ≡ Some members → elements_in packed cluster ≡ map (element_at (bles_of packed.circuit)) members
 elements_are packed cluster members e = ap (map (element_at (bles_of packed.circuit))) (get_or_from_slice_get packed.clusters cluster members [] e)
 
--- the BLE at a place
+-- the BLE at an index
 pub element_in_at : (packed : PackedCircuit) (cluster : ℕ) (members : List ℕ) (place number : ℕ) → slice_get packed.clusters cluster ≡ Some members → slice_get members place ≡ Some number
     → slice_get (elements_in packed cluster) place ≡ Some (element_at (bles_of packed.circuit) number)
 element_in_at packed cluster members place number e at =
@@ -44,7 +44,7 @@ element_in_at packed cluster members place number e at =
     ∙ slice_get-map (element_at (bles_of packed.circuit)) members place
     ∙ ap (option_map (element_at (bles_of packed.circuit))) at
 
--- what the BLE at a place drives
+-- the output of the BLE at an index
 pub output_at : (packed : PackedCircuit) (cluster : ℕ) (members : List ℕ) (place number : ℕ) (element : LogicElement) → slice_get packed.clusters cluster ≡ Some members → slice_get members place ≡ Some number → slice_get (bles_of packed.circuit) number ≡ Some element
     → slice_get (outputs_of (elements_in packed cluster)) place ≡ Some element.output
 output_at packed cluster members place number element e at is =
@@ -59,11 +59,11 @@ element_count packed cluster members e = ap length (elements_are packed cluster 
 pub output_count : (packed : PackedCircuit) (cluster : ℕ) (members : List ℕ) → slice_get packed.clusters cluster ≡ Some members → length (outputs_of (elements_in packed cluster)) ≡ length members
 output_count packed cluster members e = length-map (elements_in packed cluster) _ ∙ element_count packed cluster members e
 
--- each pin carries something or nothing
+-- there is an entry for each pin
 pub pin_count : (packed : PackedCircuit) (cluster : ℕ) → length (pins_of packed cluster) ≡ length packed.arch.pins
 pin_count packed cluster = length-map (enumerate_from 0 packed.arch.pins) _ ∙ length-enumerate_from 0 packed.arch.pins
 
--- two lists side by side, at a place
+-- the pair at an index of two zipped lists
 both_at : {A B : Type 0} (ks : List A) (vs : List B) (i : ℕ) (k : A) (v : B) → slice_get ks i ≡ Some k → slice_get vs i ≡ Some v → slice_get (zip ks vs) i ≡ Some (k, v)
 both_at ks vs i k v e f =
     let within_ks = slice_get_within ks i k e in
@@ -74,7 +74,7 @@ both_at ks vs i k v e f =
     ∙ ap (λ one. Some (one, get_or vs i v)) (get_or_from_slice_get ks i k k e)
     ∙ ap (λ one. Some (k, one)) (get_or_from_slice_get vs i v v f)
 
--- a pin and what it carries
+-- a pin and the net on it
 pub pin_at : (packed : PackedCircuit) (cluster number : ℕ) (pin : Pin) (carried : Option ℕ) → slice_get packed.arch.pins number ≡ Some pin → slice_get (pins_of packed cluster) number ≡ Some carried
     → slice_get (zip packed.arch.pins (pins_of packed cluster)) number ≡ Some (pin, carried)
 pin_at packed cluster number pin carried e f = both_at packed.arch.pins (pins_of packed cluster) number pin carried e f
@@ -82,7 +82,7 @@ pin_at packed cluster number pin carried e f = both_at packed.arch.pins (pins_of
 pub zip_count : (packed : PackedCircuit) (cluster : ℕ) → length (zip packed.arch.pins (pins_of packed cluster)) ≡ length packed.arch.pins
 zip_count packed cluster = let count = pin_count packed cluster in omega (arith, length-zip packed.arch.pins (pins_of packed cluster))
 
--- the comparison of two classes, and of what a pin carries with a net
+-- the comparison of two classes, and of the net on a pin with another net
 pub class_is : (a b : PinClass) → sameb the_type a b ≡ is_same_class b a
 class_is Input Input = refl
 class_is Input Output = refl
@@ -102,7 +102,7 @@ pub carried_is : (carried : Option ℕ) (net : ℕ) → option_eq eqb carried (S
 carried_is None net = refl
 carried_is (Some other) net = refl
 
--- what holds of all holds at a place
+-- an element at an index has a property that all have
 pub all_at : {X : Type 0} (P : X → Type 0) (xs : List X) (i : ℕ) (x : X) → slice_get xs i ≡ Some x → All P xs → P x
 all_at P xs i x e all = subst P (get_or_from_slice_get xs i x x e) (All-get_or P xs i x (slice_get_within xs i x e) all)
 
@@ -146,6 +146,6 @@ pub no_seed : (packed : PackedCircuit) (cluster : ℕ) (members : List ℕ) → 
 no_seed packed cluster members e none =
     sym (ap (seed_name packed.circuit) (elements_are packed cluster members e ∙ ap (map (element_at (bles_of packed.circuit))) none))
 
--- a text by the circuit that is found
+-- a text for a circuit that is known by an equation
 pub by_circuit : (f : Circuit → List ℕ) (text : List ℕ) (found circuit : Circuit) → text ≡ f found → found ≡ circuit → text ≡ f circuit
 by_circuit f text found circuit e is = e ∙ ap f is

@@ -15,7 +15,7 @@ use Rattle.vpr_files.specs.NetFile.{net_text_of}
 abbrev pin_of : PinClass → Pin
 pin_of class = record { class = class; sides = record { top = true; bottom = false; left = false; right = false } }
 
--- tables of two inputs, in clusters of one
+-- tables of two inputs, in clusters with one BLE
 abbrev pub single : Arch
 single = record {
   io_rat = 2;
@@ -28,7 +28,7 @@ single = record {
   fc_pad = 2;
 }
 
--- the same in clusters of two
+-- tables of two inputs, in clusters with two BLEs
 abbrev paired : Arch
 paired = record single {
   pins = pin_of Input ∷ pin_of Input ∷ pin_of Output ∷ pin_of Output ∷ pin_of Clock ∷ [];
@@ -38,7 +38,6 @@ paired = record single {
 abbrev pub circuit : List (List ℕ) → List ℕ → List ℕ → List LookupTable → List Latch → Circuit
 circuit nets inputs outputs tables latches = record { model = codes "m"; nets = nets; inputs = inputs; outputs = outputs; tables = tables; latches = latches }
 
--- nothing
 empty_circuit : net_text_of (packed_of (circuit [] [] [] [] []) single) ≡ []
 unfolding net_text_of packed_of clusters_after cluster_of bles_of
 empty_circuit = refl
@@ -68,13 +67,12 @@ table_read_by_latch_and_output : net_text_of (packed_of (circuit (codes "a" ∷ 
 unfolding net_text_of packed_of clusters_after cluster_of bles_of
 table_read_by_latch_and_output = rw (digit_0, digit_2, digit_3) refl
 
--- a table that a latch alone reads: one BLE
+-- a table that only a latch reads: one BLE
 table_read_by_latch_alone : net_text_of (packed_of (circuit (codes "a" ∷ codes "c" ∷ codes "q" ∷ codes "f" ∷ []) (0 ∷ 1 ∷ []) (2 ∷ []) (record { line = 4; inputs = 0 ∷ []; output = 3 } ∷ []) (record { line = 6; input = 3; output = 2; control = Some 1 } ∷ [])) single)
     ≡ codes ".global c\n\n.input a\npinlist: a\n\n.input c\npinlist: c\n\n.output out:q\npinlist: q\n\n.clb q\npinlist: a open q c\nsubblock: q 0 open 2 3\n\n"
 unfolding net_text_of packed_of clusters_after cluster_of bles_of
 table_read_by_latch_alone = rw (digit_0, digit_2, digit_3) refl
 
--- a latch without a clock
 latch_without_clock : net_text_of (packed_of (circuit (codes "d" ∷ codes "q" ∷ []) (0 ∷ []) (1 ∷ []) [] (record { line = 4; input = 0; output = 1; control = None } ∷ [])) single)
     ≡ codes ".input d\npinlist: d\n\n.output out:q\npinlist: q\n\n.clb q\npinlist: d open q open\nsubblock: q 0 open 2 open\n\n"
 unfolding net_text_of packed_of clusters_after cluster_of bles_of
@@ -86,13 +84,13 @@ two_bles_in_a_cluster : net_text_of (packed_of (circuit (codes "a" ∷ codes "b"
 unfolding net_text_of packed_of clusters_after cluster_of bles_of
 two_bles_in_a_cluster = rw (digit_0, digit_1, digit_3) refl
 
--- a table that reads what it drives
+-- a table that reads its own output
 table_that_reads_itself : net_text_of (packed_of (circuit (codes "f" ∷ []) [] (0 ∷ []) (record { line = 3; inputs = 0 ∷ []; output = 0 } ∷ []) []) single)
     ≡ codes ".output out:f\npinlist: f\n\n.clb f\npinlist: open open f open\nsubblock: f ble_0 open 2 open\n\n"
 unfolding net_text_of packed_of clusters_after cluster_of bles_of
 table_that_reads_itself = rw (digit_0, digit_2) refl
 
--- a global net that is read as data, too, stands on two pins
+-- a global net that is also read as data is on two pins
 clock_as_data : net_text_of (packed_of (circuit (codes "c" ∷ codes "q" ∷ []) (0 ∷ []) (1 ∷ []) [] (record { line = 4; input = 0; output = 1; control = Some 0 } ∷ [])) single)
     ≡ codes ".global c\n\n.input c\npinlist: c\n\n.output out:q\npinlist: q\n\n.clb q\npinlist: c open q c\nsubblock: q 0 open 2 3\n\n"
 unfolding net_text_of packed_of clusters_after cluster_of bles_of

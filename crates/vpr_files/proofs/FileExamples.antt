@@ -20,7 +20,7 @@ one_block = record { width = 1; rows = 1; io_rat = 2 }
 abbrev node : ℕ → NodeKind → ℕ → ℕ → Node
 node x kind y n = record { x = x; kind = kind; y = y; n = n }
 
--- a pad of the top row, and a wire above the same row
+-- a pad above the last row, a wire below the first row, and a pin of a block
 pad_above : node_text_of 1 (node 1 Ipin 2 0) ≡ codes "IPIN (1,2) Pad: 0"
 unfolding node_text_of
 pad_above = rw (digit_0, digit_1, digit_2) refl
@@ -37,7 +37,7 @@ class_of_block : node_text_of 1 (node 1 Sink 1 0) ≡ codes "SINK (1,1) Class: 0
 unfolding node_text_of
 class_of_block = rw (digit_0, digit_1) refl
 
--- nothing
+-- an empty circuit
 empty_places : place_text_of one_block (packed_of (circuit [] [] [] [] []) single) []
     ≡ codes "Netlist file: m.net Architecture file: device.arch\nArray size: 1 x 1 logic blocks\n\n#block name x y subblk block number\n#---------- - - ------ ------------\n"
 unfolding place_text_of packed_of clusters_after cluster_of bles_of

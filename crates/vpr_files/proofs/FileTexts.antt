@@ -1,4 +1,4 @@
--- Lines of the `.place` and `.route` files as they are written, part by part.
+-- Lines of the `.place` and `.route` files, as they are written part by part.
 use Rattle.std.proofs.Common.{◌≡◌, ℕ, ◌==◌, ◌||◌, nat_lt, Bool, true, false, List, [], ◌∷◌, ◌++◌, All, Some, cond, sym, ap, ◌∙◌, codes, decimal, map, slice_get, append_assoc, append-nil}
 use Rattle.std.specs.List.{flat_map}
 use Rattle.std.proofs.lemmas.Grind.{flat_map-append}
@@ -19,7 +19,7 @@ use Rattle.vpr_files.specs.RouteFile.{connected_line}
 use Rattle.vpr_files.specs.FileParts.{connected_lines, connections, net_heading, node_line, numbered_net, place_headings, route_headings}
 use Rattle.vpr_files.proofs.ClusterLemmas.{all_at}
 
--- lists in a row
+-- lists that are joined
 three : (a b c d : List ℕ) → ((a ++ b) ++ c) ++ d ≡ a ++ (b ++ (c ++ d))
 three a b c d = append_assoc (a ++ b) c d ∙ append_assoc a b (c ++ d)
 
@@ -40,11 +40,11 @@ size_text width rows end rest =
     ∙ append_assoc width (codes " x " ++ (rows ++ end)) (10 ∷ rest)
     ∙ ap (λ t. width ++ (codes " x " ++ t)) (append_assoc rows end (10 ∷ rest))
 
--- what the columns are
+-- the headings of the columns
 abbrev columns_text : List ℕ
 columns_text = codes "\n#block name x y subblk block number\n#---------- - - ------ ------------\n"
 
--- the headings of a `.place` file, by the parts that are found
+-- the headings of a `.place` file, from the parts that are written
 pub place_headings_text : (strip : Strip) (packed : PackedCircuit) (model width rows : List ℕ) → model ≡ packed.circuit.model → width ≡ decimal strip.width → rows ≡ decimal strip.rows
     → codes "Netlist file: " ++ (model ++ (codes ".net Architecture file: device.arch\nArray size: " ++ (width ++ (codes " x " ++ (rows ++ codes " logic blocks\n\n#block name x y subblk block number\n#---------- - - ------ ------------\n")))))
     ≡ text_of (place_headings strip packed)
@@ -90,7 +90,7 @@ connected_text before net name number x y e =
     ∙ ap (λ t. name ++ (codes " (#" ++ t)) (three number (codes ")") rest (10 ∷ [])
     ∙ ap (λ t. number ++ (codes ") at " ++ t)) (last place (codes ".") (10 ∷ []) ∙ position_tail x y (codes ".\n")))))
 
--- a node part by part
+-- a node, part by part
 node_parts : (start kind x y between label number : List ℕ) → start ≡ kind ++ codes " (" → between ≡ codes ") " ++ label ++ codes " "
     → start ++ (x ++ (codes "," ++ (y ++ (between ++ (number ++ [])))))
     ≡ kind ++ spaced (codes "(" ++ x ++ codes "," ++ y ++ codes ")") ++ spaced label ++ spaced number
@@ -102,7 +102,7 @@ node_parts start kind x y between label number e f =
     ∙ sym (three kind (spaced (codes "(" ++ x ++ codes "," ++ y ++ codes ")")) (spaced label) (spaced number)
     ∙ ap (λ t. kind ++ 32 ∷ t) (position_tail x y (spaced label ++ spaced number)))
 
--- the first line of a net, with what ends it, and an empty one
+-- the first line of a net, with its end, and an empty line
 first_text : (number name end : List ℕ) → codes "Net " ++ (number ++ (codes " (" ++ (name ++ (end ++ codes "\n\n")))) ≡ text_of ((codes "Net" ∷ number ∷ (codes "(" ++ name ++ end) ∷ []) ∷ [] ∷ [])
 first_text number name end =
     sym (ap (λ t. codes "Net " ++ t) (
@@ -115,11 +115,11 @@ net_text heading lines =
     append_assoc (line_of heading) (10 ∷ []) (text_of lines ++ 10 ∷ [])
     ∙ ap (λ t. line_of heading ++ 10 ∷ t) (sym (flat_map-append line_of lines ([] ∷ [])))
 
--- a block by its number
+-- a block, from its number
 name_is : (packed : PackedCircuit) (block : ℕ) (found : Block) (name : List ℕ) → slice_get (blocks_of packed) block ≡ Some found → name ≡ block_name packed found → name ≡ block_name packed (block_at packed block)
 name_is packed block found name at e = e ∙ ap (block_name packed) (sym (get_or_from_slice_get (blocks_of packed) block found _ at))
 
--- the line of a placed block, by the parts that are found
+-- the line of a placed block, from the parts that are written
 pub placed_line_text : (packed : PackedCircuit) (block : ℕ) (found : Block) (place : Place) (before net x y subblock number : List ℕ)
     → slice_get (blocks_of packed) block ≡ Some found → before ++ net ≡ block_name packed found
     → x ≡ decimal place.x → y ≡ decimal place.y → subblock ≡ decimal place.subblock → number ≡ decimal block
@@ -137,7 +137,7 @@ pub connected_line_text : (packed : PackedCircuit) (block : ℕ) (found : Block)
 connected_line_text packed block found place before net number x y at e f g h =
     rw (f, g, h) (connected_text before net (block_name packed (block_at packed block)) (decimal block) (decimal place.x) (decimal place.y) (name_is packed block found (before ++ net) at e))
 
--- a node, by the parts that are found
+-- a node, from the parts that are written
 pub node_text : (rows : ℕ) (node : Node) (start x y between number : List ℕ)
     → start ≡ kind_word node.kind ++ codes " (" → x ≡ decimal node.x → y ≡ decimal node.y
     → between ≡ codes ") " ++ number_word node.kind ((node.y == 0) || nat_lt rows node.y) ++ codes " " → number ≡ decimal node.n
@@ -146,15 +146,15 @@ unfolding node_text_of
 node_text rows node start x y between number e f g h k =
     rw (f, g, k) (node_parts start (kind_word node.kind) (decimal node.x) (decimal node.y) between (number_word node.kind ((node.y == 0) || nat_lt rows node.y)) (decimal node.n) e h)
 
--- a net by its parts
+-- a net, from its parts
 abbrev pub net_value : ℕ → ℕ → List ℕ → Bool → BlockNet
 net_value net driver readers global = record { net = net; driver = driver; readers = readers; global = global }
 
--- what is said of the net of a number, by the net that is found
+-- a function of the net with a number, from the net that was looked up
 pub by_number : {X : Type 0} (f : BlockNet → X) (packed : PackedCircuit) (number : ℕ) (found : BlockNet) → slice_get (block_nets packed) number ≡ Some found → f found ≡ f (numbered_net packed number)
 by_number f packed number found at = ap f (sym (get_or_from_slice_get (block_nets packed) number found _ at))
 
--- the first line of a net, and an empty one
+-- the first line of a net, and an empty line
 abbrev heading_text : PackedCircuit → ℕ → BlockNet → List ℕ
 heading_text packed number net = text_of (net_heading number (net_name packed.circuit net.net) net.global ∷ [] ∷ [])
 
@@ -168,7 +168,7 @@ pub local_heading_text : (number : ℕ) (global : Bool) (digits name : List ℕ)
 local_heading_text number global digits name is e =
     rw e (first_text (decimal number) name (codes ")") ∙ ap (λ global. text_of (net_heading number name global ∷ [] ∷ [])) (sym is))
 
--- what a net connects, by whether it is global
+-- what a net connects, depending on whether it is global
 choice_true : {X : Type 0} (global : Bool) (a b : X) → global ≡ true → a ≡ cond global a b
 choice_true global a b e = ap (λ g. cond g a b) (sym e)
 
@@ -189,20 +189,20 @@ local_connections strip packed places paths number found at is =
     choice_false found.global _ (flat_map (map (node_line strip)) paths) is
     ∙ by_number (λ net. connections strip packed places net paths) packed number found at
 
--- a net between blocks keeps the laws
+-- a net between blocks satisfies the laws
 pub net_is_lawful : (packed : PackedCircuit) (number : ℕ) (found : BlockNet) → All (IsBlockNet packed) (block_nets packed) → slice_get (block_nets packed) number ≡ Some found → IsBlockNet packed found
 net_is_lawful packed number found all at = all_at (IsBlockNet packed) (block_nets packed) number found at all
 
--- a line of a block at its place
+-- the line of a block at its place
 pub at_its_place : (line : PackedCircuit → ℕ → Place → List ℕ) (packed found : PackedCircuit) (places : List Place) (block : ℕ) (place : Place) → found ≡ packed → slice_get places block ≡ Some place → line found block place ≡ line packed block (place_of places block)
 at_its_place line packed found places block place e at =
     ap (λ circuit. line circuit block place) e ∙ ap (line packed block) (sym (get_or_from_slice_get places block place _ at))
 
--- the headings, by the strip and packing that are found
+-- the headings, from the strip and packing that were looked up
 pub headings_found : {strip found_strip : Strip} {packed found : PackedCircuit} → found_strip ≡ strip → found ≡ packed → text_of (place_headings found_strip found) ≡ text_of (place_headings strip packed)
 headings_found {strip = strip} {found = found} e f = ap (λ s. text_of (place_headings s found)) e ∙ ap (λ p. text_of (place_headings strip p)) f
 
--- the first line of a net, by the packing, the net and the name that are found
+-- the first line of a net, from the packing, the net and the name that were looked up
 pub heading_found : (packed found : PackedCircuit) (circuit : Circuit) (number : ℕ) (net : BlockNet) (name : List ℕ)
     → found ≡ packed → slice_get (block_nets found) number ≡ Some net → circuit ≡ found.circuit → name ≡ net_name circuit net.net
     → text_of (net_heading number name net.global ∷ [] ∷ []) ≡ heading_text packed number (numbered_net packed number)

@@ -10,7 +10,7 @@ use Rattle.cluster.specs.Blocks.{BlockNet, block_nets, net_name}
 use Rattle.vpr_files.specs.TextLines.{line_of, text_of}
 use Rattle.vpr_files.specs.FileParts.{global_lines}
 
--- the text, if it is told
+-- the text, or nothing
 abbrev pub told : Bool → List ℕ → List ℕ
 told true text = text
 told false text = []
@@ -31,12 +31,12 @@ flat_filter p f (x ∷ xs) =
       | false ↦ flat_filter p f xs
     ]
 
--- an empty line, if it is told
+-- an empty line, or nothing
 gap_text : (b : Bool) → told b (10 ∷ []) ≡ text_of (cond b ([] ∷ []) [])
 gap_text true = refl
 gap_text false = refl
 
--- the lines net by net, and an empty one if there was a global net
+-- the lines net by net, followed by an empty one if there was a global net
 pub globals_text : (packed : PackedCircuit) → flat_map (global_text packed.circuit) (block_nets packed) ++ told (list_any (λ net. net.global) (block_nets packed)) (10 ∷ []) ≡ text_of (global_lines packed)
 globals_text packed =
     let is_global : BlockNet → Bool = λ net. net.global in
@@ -46,12 +46,12 @@ globals_text packed =
     ∙ ap (λ gap. text_of (map line (filter is_global nets)) ++ gap) (gap_text (list_any is_global nets))
     ∙ sym (flat_map-append line_of (map line (filter is_global nets)) (cond (list_any is_global nets) ([] ∷ []) []))
 
--- the line of one, by the name that is found
+-- the line of one net, from the name that was looked up
 pub global_line_text : (circuit : Circuit) (name : List ℕ) (net : BlockNet) → name ≡ net_name circuit net.net → codes ".global " ++ (name ++ 10 ∷ []) ≡ line_of (global_line circuit net)
 global_line_text circuit name net named =
     ap (λ n. codes ".global " ++ (n ++ 10 ∷ [])) (named ∙ sym (append-nil (net_name circuit net.net)))
 
--- whether there is a global net, with one more net
+-- whether there is a global net, after one more net
 pub some_more : (nets : List BlockNet) (number : ℕ) (net : BlockNet) → slice_get nets number ≡ Some net
     → (list_any (λ one. one.global) (take number nets) || net.global) ≡ list_any (λ one. one.global) (take (number + 1) nets)
 some_more nets number net e =

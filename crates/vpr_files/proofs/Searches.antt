@@ -1,15 +1,15 @@
--- The first place at which a test passes, looked for from the front.
+-- The first index at which a test passes, searched from the front.
 use Rattle.std.proofs.Common.{◌≡◌, ℕ, ◌+◌, ◌≤◌, Bool, true, false, cond, List, length, drop, Option, Some, None, sym, ap, ◌∙◌, position}
 use Rattle.std.specs.List.{position_from, slice_get}
 use Rattle.std.proofs.lemmas.List.{at_drop_more, at_drop_all}
 use Rattle.std.proofs.lemmas.Option.{slice_get_within, get_or_from_slice_get}
 use Rattle.std.proofs.lemmas.Iterator.Adapters.{position_from-zero}
 
--- all is left to look at
+-- the search before the first element
 pub search_none : {X : Type 0} (p : X → Bool) (xs : List X) → position_from p 0 xs ≡ position p xs
 search_none p xs = sym (position_from-zero p xs)
 
--- what is left begins with this one
+-- the remaining elements begin with this one
 left_at : {X : Type 0} (p : X → Bool) (xs : List X) (i : ℕ) (x : X) → slice_get xs i ≡ Some x → position_from p i (drop i xs) ≡ cond (p x) (Some i) (position_from p (i + 1) (drop (i + 1) xs))
 left_at p xs i x e =
     at_drop_more (position_from p i) xs i x (slice_get_within xs i x e)
@@ -23,6 +23,6 @@ search_miss p xs i x r e is h = sym (ap (λ b. cond b (Some i) (position_from p 
 pub search_hit : {X : Type 0} (p : X → Bool) (xs : List X) (i : ℕ) (x : X) (r : Option ℕ) → slice_get xs i ≡ Some x → p x ≡ true → position_from p i (drop i xs) ≡ r → Some i ≡ r
 search_hit p xs i x r e is h = sym (ap (λ b. cond b (Some i) (position_from p (i + 1) (drop (i + 1) xs))) is) ∙ sym (left_at p xs i x e) ∙ h
 
--- nothing is left to look at
+-- no element is left
 pub search_end : {X : Type 0} (p : X → Bool) (xs : List X) (i : ℕ) (r : Option ℕ) → length xs ≤ i → position_from p i (drop i xs) ≡ r → None ≡ r
 search_end p xs i r long h = sym (at_drop_all (position_from p i) xs i long) ∙ h

@@ -1,4 +1,4 @@
--- Lines and blocks as they are written, part by part.
+-- Lines and blocks, as they are written part by part.
 use Rattle.std.proofs.Common.{◌≡◌, ℕ, List, [], ◌∷◌, ◌++◌, map, Option, refl, sym, ap, ◌∙◌, codes, decimal, slice_get, option_and_then, append_assoc, append-nil}
 use Rattle.std.specs.List.{flat_map, range_with_len}
 use Rattle.std.proofs.lemmas.Grind.{flat_map-append}
@@ -11,7 +11,7 @@ use Rattle.cluster.specs.Blocks.{block_name, elements_in, net_name, pins_of}
 use Rattle.vpr_files.specs.TextLines.{line_of, spaced, text_of}
 use Rattle.vpr_files.specs.NetFile.{block_lines, element_line, input_word, or_open, pin_with}
 
--- the words of the inputs of a BLE, each behind a space
+-- the words of the inputs of a BLE, each with a space before it
 abbrev pub inputs_text : PackedCircuit → ℕ → List ℕ → List ℕ
 inputs_text packed cluster inputs = flat_map (λ place. spaced (or_open (input_word packed cluster) (slice_get inputs place))) (range_with_len 0 packed.arch.lut_size)
 
@@ -22,7 +22,7 @@ element_head name = codes "subblock: " ++ (name ++ [])
 two_words : (output clock : List ℕ) → (spaced output ++ (spaced clock ++ [])) ++ 10 ∷ [] ≡ spaced output ++ (spaced clock ++ 10 ∷ [])
 two_words output clock = ap (λ t. 32 ∷ t) (append_assoc output (32 ∷ (clock ++ [])) (10 ∷ []) ∙ ap (λ t. output ++ 32 ∷ t) (append_assoc clock [] (10 ∷ [])))
 
--- words and two more end a line
+-- the end of a line with words and two more
 words_tail : (name : List ℕ) (words : List (List ℕ)) (output clock : List ℕ)
     → (name ++ []) ++ (flat_map spaced words ++ (spaced output ++ (spaced clock ++ 10 ∷ []))) ≡ (name ++ flat_map spaced (words ++ output ∷ clock ∷ [])) ++ 10 ∷ []
 words_tail name words output clock =
@@ -47,7 +47,7 @@ element_parts packed cluster element =
     ap (λ inputs. element_head name ++ (inputs ++ (spaced output ++ (spaced clock ++ 10 ∷ [])))) (sym (flat_map-map spaced word (range_with_len 0 packed.arch.lut_size)))
     ∙ ap (λ rest. codes "subblock: " ++ rest) (words_tail name (map word (range_with_len 0 packed.arch.lut_size)) output clock)
 
--- the line of a BLE, by the parts that are found
+-- the line of a BLE, from the parts that are written
 pub element_text : (packed : PackedCircuit) (cluster : ℕ) (element : LogicElement) (name : List ℕ) (output clock : Option ℕ)
     → name ≡ net_name packed.circuit element.output
     → output ≡ pin_with packed cluster Output element.output
@@ -60,11 +60,11 @@ element_text packed cluster element name output clock named at clocked =
     ∙ ap (λ k. element_head (net_name packed.circuit element.output) ++ (inputs_text packed cluster element.inputs ++ (spaced (or_open decimal (pin_with packed cluster Output element.output)) ++ (spaced (or_open decimal k) ++ 10 ∷ [])))) clocked
     ∙ element_parts packed cluster element
 
--- the words of the pins of a cluster, each behind a space
+-- the words of the pins of a cluster, each with a space before it
 abbrev pub pins_text : PackedCircuit → ℕ → List ℕ
 pins_text packed cluster = flat_map spaced (map (or_open (net_name packed.circuit)) (pins_of packed cluster))
 
--- the lines of its BLEs
+-- the lines of a cluster's BLEs
 abbrev pub elements_text : PackedCircuit → ℕ → List ℕ
 elements_text packed cluster = text_of (map (element_line packed cluster) (elements_in packed cluster))
 
@@ -72,7 +72,7 @@ elements_text packed cluster = text_of (map (element_line packed cluster) (eleme
 abbrev pub cluster_head : List ℕ → List ℕ
 cluster_head name = codes ".clb " ++ (name ++ (codes "\npinlist:" ++ []))
 
--- a first line, a line of pins, the other lines and an empty one
+-- a first line, a line of pins, the other lines and an empty line
 cluster_tail : (name word pins : List ℕ) (lines : List (List (List ℕ)))
     → (name ++ (10 ∷ (word ++ []))) ++ (pins ++ (10 ∷ (text_of lines ++ 10 ∷ [])))
     ≡ ((name ++ []) ++ 10 ∷ []) ++ ((word ++ (pins ++ 10 ∷ [])) ++ text_of (lines ++ [] ∷ []))
@@ -84,14 +84,14 @@ cluster_parts : (packed : PackedCircuit) (cluster : ℕ)
 cluster_parts packed cluster =
     ap (λ rest. codes ".clb " ++ rest) (cluster_tail (block_name packed (Cluster cluster)) (codes "pinlist:") (pins_text packed cluster) (map (element_line packed cluster) (elements_in packed cluster)))
 
--- a cluster, by the name that is found
+-- a cluster, from the name that was looked up
 pub cluster_text : (packed : PackedCircuit) (cluster : ℕ) (name : List ℕ) → name ≡ block_name packed (Cluster cluster)
     → cluster_head name ++ (pins_text packed cluster ++ (10 ∷ [] ++ (elements_text packed cluster ++ 10 ∷ [])))
     ≡ text_of (block_lines packed (Cluster cluster))
 cluster_text packed cluster name named =
     ap (λ n. cluster_head n ++ (pins_text packed cluster ++ (10 ∷ [] ++ (elements_text packed cluster ++ 10 ∷ [])))) named ∙ cluster_parts packed cluster
 
--- lists of lists in a row, each made into a text
+-- joined lists of lists, each turned into a text
 pub flat_map-flat_map : {X Y Z : Type 0} (h : Y → List Z) (g : X → List Y) (xs : List X) → flat_map h (flat_map g xs) ≡ flat_map (λ x. flat_map h (g x)) xs
 flat_map-flat_map h g [] = refl
 flat_map-flat_map h g (x ∷ xs) = flat_map-append h (g x) (flat_map g xs) ∙ ap (λ rest. flat_map h (g x) ++ rest) (flat_map-flat_map h g xs)
@@ -99,7 +99,7 @@ flat_map-flat_map h g (x ∷ xs) = flat_map-append h (g x) (flat_map g xs) ∙ a
 pad_tail : (name word : List ℕ) → name ++ (10 ∷ (word ++ (name ++ 10 ∷ 10 ∷ []))) ≡ ((name ++ []) ++ 10 ∷ []) ++ ((word ++ ((name ++ []) ++ 10 ∷ [])) ++ 10 ∷ [])
 pad_tail name word = simp (append_assoc, append-nil)
 
--- a pad of an input, by the name that is found
+-- a pad of an input, from the name that was looked up
 pub input_text : (packed : PackedCircuit) (net : ℕ) (name : List ℕ) → name ≡ net_name packed.circuit net
     → codes ".input " ++ (name ++ (codes "\npinlist: " ++ (name ++ (10 ∷ 10 ∷ [])))) ≡ text_of (block_lines packed (InputPad net))
 input_text packed net name named =

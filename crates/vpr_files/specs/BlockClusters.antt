@@ -4,7 +4,7 @@ use Rattle.cluster.specs.declared.block.Block.{Block}
 use Rattle.cluster.specs.declared.block.Block.TheVariants.{Cluster}
 use Rattle.cluster.specs.Clusters.{PackedCircuit}
 
--- a block that is a cluster is one of the packing's
+-- if the block is a cluster, it is one of the packing's
 abbrev pub HasCluster : PackedCircuit → Block → Type 0
 HasCluster packed (Cluster cluster) = cluster < length packed.clusters
 HasCluster packed block = ⊤

@@ -1,11 +1,10 @@
--- Nodes of the routing graph in words.
+-- Nodes of the routing graph as text.
 use Rattle.std.specs.Prelude.{ℕ, Bool, true, false, ◌||◌, ◌==◌, nat_lt, List, ◌++◌, codes, decimal}
 use Rattle.rr_graph.specs.declared.node.Node.{Node}
 use Rattle.rr_graph.specs.declared.node.NodeKind.{NodeKind}
 use Rattle.rr_graph.specs.declared.node.NodeKind.TheVariants.{Source, Sink, Opin, Ipin, ChanX, ChanY}
 use Rattle.vpr_files.specs.TextLines.{spaced}
 
--- the word for a kind
 abbrev pub kind_word : NodeKind → List ℕ
 kind_word Source = codes "SOURCE"
 kind_word Sink = codes "SINK"
@@ -14,7 +13,8 @@ kind_word Ipin = codes "IPIN"
 kind_word ChanX = codes "CHANX"
 kind_word ChanY = codes "CHANY"
 
--- what a node's number counts: tracks, pads where it is in a row of pads, else classes or pins
+-- the word before a node's number: tracks in channels, pads in a row of pads, otherwise classes or
+-- pins
 abbrev pub number_word : NodeKind → Bool → List ℕ
 number_word ChanX pad = codes "Track:"
 number_word ChanY pad = codes "Track:"
@@ -27,7 +27,8 @@ number_word kind false = codes "Pin:"
 abbrev pub position_text : ℕ → ℕ → List ℕ
 position_text x y = codes "(" ++ decimal x ++ codes "," ++ decimal y ++ codes ")"
 
--- a node of a strip or device with so many rows: its kind, where it is, and its number. Pads stand in row 0 and above the last row
+-- a node of a strip or device with this number of rows: its kind, its position, and its number.
+-- Pads are in row 0 and above the last row
 unfoldable pub node_text_of : ℕ → Node → List ℕ
 node_text_of rows node =
     kind_word node.kind ++ spaced (position_text node.x node.y) ++ spaced (number_word node.kind ((node.y == 0) || nat_lt rows node.y)) ++ spaced (decimal node.n)

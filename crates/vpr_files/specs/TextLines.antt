@@ -2,11 +2,11 @@
 use Rattle.std.specs.Prelude.{ℕ, List, [], ◌∷◌, ◌++◌}
 use Rattle.std.specs.List.{flat_map}
 
--- a word behind a space
+-- a word with a space before it
 abbrev pub spaced : List ℕ → List ℕ
 spaced word = 32 ∷ word
 
--- a line: its words with a space between them, ended by LF
+-- a line: its words, separated by single spaces and ended by LF
 abbrev pub line_of : List (List ℕ) → List ℕ
 line_of [] = 10 ∷ []
 line_of (word ∷ words) = word ++ (flat_map spaced words ++ 10 ∷ [])

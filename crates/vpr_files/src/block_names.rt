@@ -6,14 +6,13 @@ ghost use Rattle.vpr_files.specs.BlockClusters.{HasCluster};
 use crate::net_file::{cluster_name, net_name};
 use cluster::{Block, Packed};
 
-/// The name of a block, in two parts: what stands before the name of a net, and that name.
+/// The name of a block, in two parts: the part before the name of a net, and that name.
 #[derive(Clone, Copy)]
 pub(crate) struct BlockName<'a> {
     pub(crate) before: &'a [u8],
     pub(crate) net: &'a [u8],
 }
 
-/// The name of a block.
 pub(crate) fn block_name(packed: &Packed, block: Block) -> BlockName<'_>
     requires { HasCluster packed.now block }
     ensures { result.before.now ++ result.net.now ≡ block_name packed.now block }

@@ -1,12 +1,15 @@
-//! The result files of a circuit, byte by byte: the `.net` file as T-VPack writes it, the others as VPR does.
+//! The result files of a circuit, byte by byte: the `.net` file as T-VPack writes it, the others as
+//! VPR does.
 //!
-//! Lines are words with one space between them, each line ended by LF. A file goes straight to a [`line_text::Sink`], in
-//! small pieces and without memory, so the sink should have a buffer. A sink that fails has taken a beginning of the file.
+//! Lines are words separated by single spaces, each line ended by LF. A file is written directly to
+//! a [`line_text::Sink`], in small pieces and without memory, so the sink should be buffered. A
+//! sink that fails has taken a beginning of the file.
 //!
-//! - [`net_text`] writes the `.net` file of a packed circuit: its global nets, and its blocks with what their pins carry.
-//! - [`place_text`] writes the `.place` file of a placed circuit: where each block stands.
-//! - [`route_text`] writes the `.route` file of a routed circuit: the nodes of each net, or the blocks that a global net
-//!   connects. [`write_node`] writes a node as it stands there.
+//! - [`net_text`] writes the `.net` file of a packed circuit: its global nets, and its blocks with
+//!   the nets on their pins.
+//! - [`place_text`] writes the `.place` file of a placed circuit: the place of each block.
+//! - [`route_text`] writes the `.route` file of a routed circuit: the nodes of each net, or the
+//!   blocks that a global net connects. [`write_node`] writes a node as in this file.
 #![tactic(auto)]
 
 mod block_names;

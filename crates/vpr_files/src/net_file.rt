@@ -1,4 +1,5 @@
-//! The `.net` file: the global nets of a packed circuit, and its blocks with what their pins carry.
+//! The `.net` file: the global nets of a packed circuit, and its blocks with the nets on their
+//! pins.
 ghost use Rattle.std.specs.Prelude.{◌≡◌, ◌<◌, length, map};
 ghost use Rattle.std.specs.List.{flat_map};
 ghost use Rattle.cluster.specs.declared.block.Block.TheVariants.{Cluster};
@@ -15,13 +16,16 @@ use blif::Circuit;
 use cluster::{Block, Packed};
 use line_text::{Failed, Sink, write_parts};
 
-/// Writes the `.net` file of a packed circuit. Where the sink fails, it has taken a beginning of the file.
+/// Writes the `.net` file of a packed circuit. If the sink fails, it has taken a beginning of the
+/// file.
 ///
-/// - A line `.global NET` for each global net, in order, and an empty line behind them, if there are any.
-/// - Each block and an empty line behind it: `.input NET` and `.output out:NET` with `pinlist: NET`, or `.clb NAME`
-///   with `pinlist:` and a word for each pin, the net that it carries or `open`, and for each BLE `subblock: NAME`, a word
-///   for each input of a table, and the numbers of its output pin and its clock pin, or `open`. An input is `ble_I`
-///   where the cluster's BLE I, from 0, drives it, else the number of its pin, and `open` where there is none.
+/// - A line `.global NET` for each global net, in order, followed by an empty line if there are
+///   any.
+/// - Each block, followed by an empty line: `.input NET` or `.output out:NET` with `pinlist: NET`,
+///   or `.clb NAME` with `pinlist:` and a word for each pin, the net that it carries or `open`, and
+///   for each BLE `subblock: NAME`, a word for each input of a table, and the numbers of its output
+///   pin and its clock pin, or `open`. An input is `ble_I` if the cluster's BLE I, from 0, drives
+///   it, otherwise the number of its pin, and `open` if there is no input.
 pub fn net_text<W: Sink>(packed: &Packed, sink: &mut W) -> Result<(), Failed>
     ensures { Writes W.contents W.has_failed sink.old sink.new (net_text_of packed.now) result }
 {
@@ -48,7 +52,6 @@ fn write_globals<W: Sink>(packed: &Packed, sink: &mut W) -> Result<(), Failed>
     if some { end_line(sink) } else { Ok(()) }
 }
 
-/// Writes the blocks.
 fn write_blocks<W: Sink>(packed: &Packed, sink: &mut W) -> Result<(), Failed>
     ensures { Writes W.contents W.has_failed sink.old sink.new
         (text_of (flat_map (block_lines packed.now) (blocks_of packed.now))) result }
@@ -59,7 +62,6 @@ fn write_blocks<W: Sink>(packed: &Packed, sink: &mut W) -> Result<(), Failed>
     Ok(())
 }
 
-/// Writes a block.
 fn write_block<W: Sink>(packed: &Packed, block: Block, sink: &mut W) -> Result<(), Failed>
     requires { HasCluster packed.now block }
     ensures { Writes W.contents W.has_failed sink.old sink.new
@@ -82,7 +84,6 @@ fn write_block<W: Sink>(packed: &Packed, block: Block, sink: &mut W) -> Result<(
     }
 }
 
-/// Writes a cluster.
 fn write_cluster<W: Sink>(packed: &Packed, cluster: usize, sink: &mut W) -> Result<(), Failed>
     requires { cluster < length packed.now.clusters }
     ensures { Writes W.contents W.has_failed sink.old sink.new
@@ -98,7 +99,7 @@ fn write_cluster<W: Sink>(packed: &Packed, cluster: usize, sink: &mut W) -> Resu
     end_line(sink)
 }
 
-/// Writes what each pin of the cluster carries.
+/// Writes the net on each pin of the cluster, or `open`.
 fn write_pins<W: Sink>(packed: &Packed, cluster: usize, sink: &mut W) -> Result<(), Failed>
     requires { cluster < length packed.now.clusters }
     ensures { Writes W.contents W.has_failed sink.old sink.new
@@ -125,7 +126,7 @@ fn write_elements<W: Sink>(packed: &Packed, cluster: usize, sink: &mut W) -> Res
     Ok(())
 }
 
-/// The name of a net of the circuit, and no byte where there is no such net.
+/// The name of a net of the circuit, or no bytes if there is no such net.
 pub(crate) fn net_name(circuit: &Circuit, net: u32) -> &[u8]
     ensures { result.now ≡ net_name circuit.now net }
 {
@@ -147,7 +148,7 @@ fn pin_name(circuit: &Circuit, carried: Option<u32>) -> &[u8]
     }
 }
 
-/// The name of a cluster: that of its first BLE.
+/// The name of a cluster: that of its first BLE's output.
 pub(crate) fn cluster_name(packed: &Packed, cluster: usize) -> &[u8]
     requires { cluster < length packed.now.clusters }
     ensures { result.now ≡ block_name packed.now (Cluster cluster) }

@@ -1,4 +1,4 @@
-//! Nodes of the routing graph in words.
+//! Nodes of the routing graph as text.
 ghost use Rattle.std.specs.Prelude.{◌≡◌, ◌++◌, ◌==◌, ◌||◌, codes, nat_lt};
 ghost use Rattle.vpr_files.specs.NodeText.{kind_word, node_text_of, number_word};
 ghost use Rattle.line_text.specs.Writing.{Writes};
@@ -7,9 +7,10 @@ use itoa::Buffer;
 use line_text::{Failed, Sink, write_parts};
 use rr_graph::{Node, NodeKind};
 
-/// Writes a node of a strip or device with so many rows: its kind, its column and row, and what its number counts, with the
-/// number, as in `OPIN (1,1) Pin: 2`. That is a track of a channel, a pad in row 0 and above the last row, else a class of a
-/// source or sink, and a pin of the others. Where the sink fails, it has taken a beginning of this.
+/// Writes a node of a strip or device with this number of rows: its kind, its column and row, and
+/// its number after a word for what is numbered, as in `OPIN (1,1) Pin: 2`. The number is that of a
+/// track in a channel, of a pad in row 0 and above the last row, otherwise of a class for a source
+/// or sink, and of a pin for the others. If the sink fails, it has taken a beginning of this text.
 pub fn write_node<W: Sink>(node: Node, rows: u32, sink: &mut W) -> Result<(), Failed>
     ensures { Writes W.contents W.has_failed sink.old sink.new (node_text_of rows node) result }
 {
@@ -29,14 +30,13 @@ pub fn write_node<W: Sink>(node: Node, rows: u32, sink: &mut W) -> Result<(), Fa
     )
 }
 
-/// Whether pads stand in the row.
 fn is_pad_row(rows: u32, y: u32) -> bool
     ensures { result ≡ (y == 0 || nat_lt rows y) }
 {
     y == 0 || rows < y
 }
 
-/// The word for a kind, up to the column.
+/// The word for a kind, and the text up to the column.
 fn kind_start(kind: NodeKind) -> &'static [u8]
     ensures { result.now ≡ kind_word kind ++ codes " (" }
 {
@@ -50,7 +50,7 @@ fn kind_start(kind: NodeKind) -> &'static [u8]
     }
 }
 
-/// What stands between the row and the number.
+/// The text between the row and the number.
 fn number_start(kind: NodeKind, pad: bool) -> &'static [u8]
     ensures { result.now ≡ codes ") " ++ number_word kind pad ++ codes " " }
 {

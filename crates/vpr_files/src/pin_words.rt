@@ -1,4 +1,4 @@
-//! The words that say by which pins the BLEs of a cluster are connected.
+//! The words for the pins that connect the BLEs of a cluster.
 ghost use Rattle.std.specs.Prelude.{◌≡◌, ◌<◌, decimal, length, option_and_then, slice_get, Some};
 ghost use Rattle.arch_file.specs.declared.arch.PinClass.TheVariants.{Clock};
 ghost use Rattle.std.specs.List.{flat_map, range_with_len};
@@ -12,7 +12,7 @@ use arch_file::PinClass;
 use cluster::{Ble, Packed};
 use line_text::{Failed, Sink, write_parts};
 
-/// The number of the pin of that class that carries the net.
+/// The number of the pin of this class that carries the net, if there is one.
 fn pin_with(packed: &Packed, cluster: usize, class: PinClass, net: u32) -> Option<usize>
     requires { cluster < length packed.now.clusters }
     ensures { result ≡ pin_with packed.now cluster class net }
@@ -25,7 +25,7 @@ fn pin_with(packed: &Packed, cluster: usize, class: PinClass, net: u32) -> Optio
     None
 }
 
-/// The place in the cluster of the BLE that drives the net.
+/// The index in the cluster of the BLE that drives the net, if there is one.
 fn driver_place(packed: &Packed, cluster: usize, net: u32) -> Option<usize>
     requires { cluster < length packed.now.clusters }
     ensures { result ≡ driver_place packed.now cluster net }
@@ -50,7 +50,7 @@ fn write_pin<W: Sink>(sink: &mut W, pin: Option<usize>) -> Result<(), Failed>
     }
 }
 
-/// Writes where an input of a BLE comes from.
+/// Writes the source of a BLE's input, or `open`.
 fn write_input<W: Sink>(
     packed: &Packed,
     cluster: usize,
@@ -70,14 +70,14 @@ fn write_input<W: Sink>(
     }
 }
 
-/// The input at that place, if there is one.
+/// The input at this index, if there is one.
 fn input_at(inputs: &[u32], place: usize) -> Option<u32>
     ensures { result ≡ slice_get inputs.now place }
 {
     inputs.get(place).copied()
 }
 
-/// Writes where the inputs of a BLE come from, one for each input of a table.
+/// Writes the sources of a BLE's inputs, one word for each input of a table.
 fn write_inputs<W: Sink>(
     packed: &Packed,
     cluster: usize,
@@ -125,7 +125,7 @@ pub(crate) fn write_element<W: Sink>(
     end_line(sink)
 }
 
-/// The number of the pin that carries the clock.
+/// The number of the pin that carries the clock, if there is one.
 fn clock_pin(packed: &Packed, cluster: usize, clock: Option<u32>) -> Option<usize>
     requires { cluster < length packed.now.clusters }
     ensures { result ≡ option_and_then (pin_with packed.now cluster Clock) clock }

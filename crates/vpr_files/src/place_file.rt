@@ -1,4 +1,4 @@
-//! The `.place` file: where the blocks of a placed circuit stand.
+//! The `.place` file: the places of a placed circuit's blocks.
 ghost use Rattle.std.specs.Prelude.{◌<◌, length};
 ghost use Rattle.cluster.specs.Blocks.{blocks_of};
 ghost use Rattle.strip_place.specs.Anneal.{places_by_block};
@@ -14,12 +14,13 @@ use itoa::Buffer;
 use line_text::{Failed, Sink, write_parts};
 use strip_place::Placing;
 
-/// Writes the `.place` file of a placed circuit. Where the sink fails, it has taken a beginning of the file.
+/// Writes the `.place` file of a placed circuit. If the sink fails, it has taken a beginning of the
+/// file.
 ///
-/// - `Netlist file: MODEL.net Architecture file: device.arch` and `Array size: WIDTH x ROWS logic blocks`, an empty line, and
-///   two lines that say what the columns of those behind them are.
-/// - For each block, in order: its name, the column and row where it stands, the number of the pad among those of its end of
-///   the column (0 for a logic block), and `#` with its own number.
+/// - `Netlist file: MODEL.net Architecture file: device.arch` and `Array size: WIDTH x ROWS logic
+///   blocks`, an empty line, and two lines with the headings of the columns below.
+/// - For each block, in order: its name, its column and row, the number of the pad among those at
+///   its end of the column (0 for a logic block), and `#` with its own number.
 pub fn place_text<W: Sink>(placing: &Placing, sink: &mut W) -> Result<(), Failed>
     ensures { Writes W.contents W.has_failed sink.old sink.new
         (place_text_of placing.now.strip placing.now.packed (places_by_block placing.now)) result }
@@ -28,7 +29,6 @@ pub fn place_text<W: Sink>(placing: &Placing, sink: &mut W) -> Result<(), Failed
     write_places(placing, sink)
 }
 
-/// Writes the headings.
 fn write_headings<W: Sink>(strip: Strip, packed: &Packed, sink: &mut W) -> Result<(), Failed>
     ensures { Writes W.contents W.has_failed sink.old sink.new
         (text_of (place_headings strip packed.now)) result }
@@ -60,7 +60,7 @@ fn write_places<W: Sink>(placing: &Placing, sink: &mut W) -> Result<(), Failed>
     Ok(())
 }
 
-/// Writes the line of a block that stands at a place.
+/// Writes the line of a block at a place.
 fn write_place<W: Sink>(
     packed: &Packed,
     block: usize,

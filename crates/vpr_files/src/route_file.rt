@@ -20,15 +20,16 @@ use pathfinder::Routes;
 use rr_graph::Node;
 use strip_place::Placing;
 
-/// Writes the `.route` file of a placed circuit with these routes of its nets. Where the sink fails, it has taken a
-/// beginning of the file.
+/// Writes the `.route` file of a placed circuit with these routes of its nets. If the sink fails,
+/// it has taken a beginning of the file.
 ///
-/// - `Array size: WIDTH x ROWS logic blocks.`, `Routing:`, and an empty line behind each.
-/// - For each net, in order: `Net NUMBER (NAME)` and an empty line; the nodes of each of its paths, a line each, where a
-///   later path begins with the node at which it leaves the earlier ones; and an empty line. A net that no block reads
-///   has no nodes.
-/// - A global net is `Net NUMBER (NAME): global net connecting:`, and in place of nodes it has a line
-///   `Block NAME (#NUMBER) at (X,Y).` for its driver, and one for each block that reads it, in order.
+/// - `Array size: WIDTH x ROWS logic blocks.` and `Routing:`, each followed by an empty line.
+/// - For each net, in order: `Net NUMBER (NAME)` and an empty line; the nodes of each of its paths,
+///   one on each line; and an empty line. A later path begins with the node at which it leaves the
+///   earlier ones. A net that no block reads has no nodes.
+/// - A global net is `Net NUMBER (NAME): global net connecting:`, and instead of nodes it has a
+///   line `Block NAME (#NUMBER) at (X,Y).` for its driver, and one for each block that reads it, in
+///   order.
 pub fn route_text<W: Sink>(placing: &Placing, routes: &Routes, sink: &mut W) -> Result<(), Failed>
     requires nets { length routes.now ≡ length (block_nets placing.now.packed) }
     ensures { Writes W.contents W.has_failed sink.old sink.new
@@ -39,7 +40,6 @@ pub fn route_text<W: Sink>(placing: &Placing, routes: &Routes, sink: &mut W) -> 
     write_nets(placing, routes, sink)
 }
 
-/// Writes the headings.
 fn write_headings<W: Sink>(strip: Strip, sink: &mut W) -> Result<(), Failed>
     ensures { Writes W.contents W.has_failed sink.old sink.new (text_of (route_headings strip))
         result }
@@ -58,7 +58,6 @@ fn write_headings<W: Sink>(strip: Strip, sink: &mut W) -> Result<(), Failed>
     )
 }
 
-/// Writes the nets.
 fn write_nets<W: Sink>(placing: &Placing, routes: &Routes, sink: &mut W) -> Result<(), Failed>
     requires { length routes.now ≡ length (block_nets placing.now.packed) }
     ensures { Writes W.contents W.has_failed sink.old sink.new
@@ -71,7 +70,7 @@ fn write_nets<W: Sink>(placing: &Placing, routes: &Routes, sink: &mut W) -> Resu
     Ok(())
 }
 
-/// Writes the net of that number.
+/// Writes the net with this number.
 fn write_net<W: Sink>(
     placing: &Placing,
     routes: &Routes,
@@ -120,7 +119,7 @@ fn write_net_heading<W: Sink>(
     }
 }
 
-/// Writes what a net connects.
+/// Writes the blocks or the nodes that a net connects.
 fn write_connections<W: Sink>(
     placing: &Placing,
     routes: &Routes,
@@ -233,7 +232,6 @@ fn write_path<W: Sink>(path: &[Node], strip: Strip, sink: &mut W) -> Result<(), 
     Ok(())
 }
 
-/// Writes the line of a node.
 fn write_node_line<W: Sink>(node: Node, strip: Strip, sink: &mut W) -> Result<(), Failed>
     ensures { Writes W.contents W.has_failed sink.old sink.new (line_of (node_line strip node))
         result }

@@ -6,14 +6,14 @@ ghost use Rattle.line_text.specs.Writing.{Writes};
 use itoa::Buffer;
 use line_text::{Failed, Sink, write_parts};
 
-/// Writes a word behind a space.
+/// Writes a space and a word.
 pub(crate) fn write_word<W: Sink>(sink: &mut W, word: &[u8]) -> Result<(), Failed>
     ensures { Writes W.contents W.has_failed sink.old sink.new (spaced word.now) result }
 {
     write_parts(sink, &[b" ", word])
 }
 
-/// Writes a number behind other bytes.
+/// Writes these bytes and a number.
 pub(crate) fn write_number<W: Sink>(
     sink: &mut W,
     before: &[u8],
@@ -26,7 +26,6 @@ pub(crate) fn write_number<W: Sink>(
     write_parts(sink, &[before, buffer.format(number).as_bytes()])
 }
 
-/// Ends a line.
 pub(crate) fn end_line<W: Sink>(sink: &mut W) -> Result<(), Failed>
     ensures { Writes W.contents W.has_failed sink.old sink.new (10 ∷ []) result }
 {

@@ -1,11 +1,11 @@
-//! What a search knows of the ways to its goal.
+//! Lower bounds of the ways to a search's goal.
 ghost use Rattle.std.specs.Prelude.{◌≡◌, ◌<◌, ◌≤◌, Some};
 ghost use Rattle.least_path.specs.LowerBound.{IsLowerBound};
 
 use crate::roads::Roads;
 use crate::search::Label;
 
-/// The bound, or the greatest that a label can keep.
+/// The bound, or the greatest that a label can hold if that is less.
 fn capped(bound: u64) -> u16
     ensures { result ≤ bound }
 {
@@ -16,8 +16,9 @@ fn capped(bound: u64) -> u16
     }
 }
 
-/// At least what any way from the node to the goal costs, and `None` only where there is no way. It is not asked again
-/// where the pass with that number left the label.
+/// A lower bound of the cost of any way from the node to the goal; `None` only if there is no way.
+/// If the label was written in the pass with this number, its bound is used and the graph isn't
+/// asked again.
 #[inline(always)]
 pub(super) fn ahead_of<R: Roads>(
     roads: &R,

@@ -1,4 +1,4 @@
-//! What waits near by, in a bucket for each distance.
+//! Entries with small keys, in a bucket for each key.
 ghost use Rattle.std.specs.Prelude.{◌≡◌, ◌≢◌, ◌≤◌, ◌<◌, ◌∷◌, ◌++◌, [], ℕ, OnOk, OnErr, IfSome, IfNone, length, slice_index};
 ghost use Rattle.std.proofs.Common.{set};
 ghost use Rattle.least_path.specs.Queue.{AreAllBut, bucket_at};
@@ -8,21 +8,23 @@ use std::alloc::{AllocError, Global};
 use std::cmp::Reverse;
 use std::marker::Model;
 
-/// How many distances have a bucket of their own.
+/// The number of keys that have a bucket of their own.
 pub(super) const NEAR: usize = 1024;
 
-/// One that was put into a bucket, and the number of the one below it. Numbers count from 1; below the lowest is 0.
+/// An entry of a bucket, and the number of the entry below it. Numbers count from 1; the lowest
+/// entry has 0 below it.
 #[derive(Clone, Copy)]
 struct Linked {
     entry: Reverse<Waiting>,
     below: usize,
 }
 
-/// A bucket for each distance. All that was put into them stands in one list, and what was taken out stays there until
-/// they are emptied. Its value is the list of the buckets, each from its lowest to its top.
+/// A bucket for each key. All entries are stored in one list, and removed ones stay there until the
+/// buckets are emptied. Its value is the list of the buckets, each from its lowest entry to its
+/// top.
 #[derive(Drop)]
 pub(super) struct Buckets {
-    /// The number of each bucket's top, and 0 where it is empty.
+    /// The number of each bucket's top entry, 0 if the bucket is empty.
     tops: Vec<usize>,
     entries: Vec<Linked>,
 }
@@ -40,7 +42,7 @@ impl Model for Buckets {
     ghost invariant = { λ b. AreLinked b.tops.items b.entries.items };
 }
 
-/// The first of some buckets that has a top, and their end where none has.
+/// The first bucket from `from` up to `end` that has a top; `end` if there is no such bucket.
 #[inline(always)]
 fn first_top(tops: &[usize], from: usize, end: usize) -> usize
     requires { end ≤ length tops.now }
@@ -54,7 +56,8 @@ fn first_top(tops: &[usize], from: usize, end: usize) -> usize
     place
 }
 
-/// Takes the tops away, of which those before and after some are 0 already, and makes all where there are none yet.
+/// Sets all tops to 0 and creates them if there are none yet. Those before `first` and from `end`
+/// on are already 0.
 fn forget(tops: &mut Vec<usize>, first: usize, end: usize) -> Result<(), AllocError>
     requires { AreAllBut (λ place. slice_index tops.old.items place ≡ 0) first end
         (length tops.old.items) }
@@ -70,7 +73,7 @@ fn forget(tops: &mut Vec<usize>, first: usize, end: usize) -> Result<(), AllocEr
 }
 
 impl Buckets {
-    /// No bucket.
+    /// No buckets.
     pub(super) fn new(alloc: Global) -> Self
         ensures { result ≡ [] }
     {
@@ -80,7 +83,7 @@ impl Buckets {
         }
     }
 
-    /// How many there are.
+    /// The number of buckets.
     #[inline(always)]
     pub(super) fn len(&self) -> usize
         ensures { result ≡ length self.now }
@@ -88,7 +91,7 @@ impl Buckets {
         self.tops.len()
     }
 
-    /// Puts something on top of a bucket.
+    /// Puts an entry on top of a bucket. If memory runs out nothing changes.
     #[inline(always)]
     pub(super) fn put(&mut self, place: usize, entry: Reverse<Waiting>) -> Result<(), AllocError>
         requires { place < length self.old }
@@ -102,7 +105,7 @@ impl Buckets {
         Ok(())
     }
 
-    /// Takes the top off a bucket.
+    /// Takes the top entry off a bucket; `None` if it is empty.
     #[inline(always)]
     pub(super) fn take(&mut self, place: usize) -> Option<Reverse<Waiting>>
         requires { place < length self.old }
@@ -120,7 +123,7 @@ impl Buckets {
         Some(entry)
     }
 
-    /// The first bucket of some that is not empty, and their end where all are.
+    /// The first bucket from `from` up to `end` that is not empty; `end` if all are.
     #[inline(always)]
     pub(super) fn first_from(&self, from: usize, end: usize) -> usize
         requires { end ≤ length self.now }
@@ -131,7 +134,8 @@ impl Buckets {
         first_top(&self.tops, from, end)
     }
 
-    /// Empties all, of which those before and after some are empty already, and makes them where there are none yet.
+    /// Empties all buckets, and creates them if there are none yet. Those before `first` and from
+    /// `end` on are already empty.
     pub(super) fn empty(&mut self, first: usize, end: usize) -> Result<(), AllocError>
         requires { AreAllBut (λ place. bucket_at self.old place ≡ []) first end (length self.old) }
         ensures { (place : ℕ) → bucket_at self.new place ≡ [] }

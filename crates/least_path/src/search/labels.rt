@@ -1,4 +1,4 @@
-//! The labels of all nodes, in half the room that they take one by one.
+//! The labels of all nodes, in half the memory of separate labels.
 ghost use Rattle.std.specs.Prelude.{◌≡◌, ◌+◌, ◌*◌, ◌/◌, ◌^◌, ◌<◌, ◌≤◌, [], ℕ, All, OnOk, length, false, slice_index, slice_index_or};
 ghost use Rattle.std.proofs.Common.{set};
 ghost use Rattle.least_path.specs.Labels.{HasHalf};
@@ -7,10 +7,10 @@ use crate::search::Label;
 use std::alloc::{AllocError, Global};
 use std::marker::Model;
 
-/// Of a cost the lower half counts up to here.
+/// The lower half of a cost is below this.
 const HALF: u64 = 1 << 32;
 
-/// What is read of a label where its cost is low.
+/// The part of a label that is enough if its cost is low.
 #[derive(Clone, Copy)]
 struct Cell {
     /// The lower half of the cost.
@@ -19,14 +19,15 @@ struct Cell {
     ahead: u16,
 }
 
-/// The labels of all nodes. Costs are nearly always so low that their upper half is 0, so it stands apart and is seldom
-/// read: the nearer labels stand to one another, the sooner one is at hand. Its value is the list of the labels by node.
+/// The labels of all nodes. The upper half of nearly every cost is 0, so upper halves are stored
+/// separately and seldom read: the more compact the labels are, the faster they are read. Its value
+/// is the list of the labels by node.
 #[derive(Drop)]
 pub(super) struct Labels {
     cells: Vec<Cell>,
     /// The upper half of each cost.
     highs: Vec<u32>,
-    /// Whether any may be more than 0.
+    /// Whether any of them may be greater than 0.
     are_high: bool,
 }
 
@@ -51,7 +52,7 @@ fn high_at(highs: &[u32], are_high: bool, node: usize) -> u32
     if are_high { highs[node] } else { 0 }
 }
 
-/// Writes the upper half of a cost, and tells whether any may be more than 0 then.
+/// Writes the upper half of a cost, and returns whether any upper half may be greater than 0 now.
 #[inline(always)]
 fn write_high(highs: &mut Vec<u32>, are_high: bool, node: usize, high: u32) -> bool
     requires { HasHalf highs.old.items are_high node }
@@ -67,7 +68,7 @@ fn write_high(highs: &mut Vec<u32>, are_high: bool, node: usize, high: u32) -> b
     true
 }
 
-/// Makes room for the upper halves of so many costs.
+/// Provides upper halves for `count` costs.
 fn lengthen(highs: &mut Vec<u32>, count: usize) -> Result<(), AllocError>
     ensures long { OnOk result (count ≤ length highs.new.items) }
     ensures longer { length highs.old.items ≤ length highs.new.items }
@@ -81,7 +82,7 @@ fn lengthen(highs: &mut Vec<u32>, count: usize) -> Result<(), AllocError>
 }
 
 impl Labels {
-    /// No label, and no room yet.
+    /// No labels, without memory yet.
     pub(super) fn new(alloc: Global) -> Self
         ensures { result ≡ [] }
     {
@@ -92,14 +93,14 @@ impl Labels {
         }
     }
 
-    /// Forgets all.
+    /// Removes all labels.
     pub(super) fn clear(&mut self)
         ensures { self.new ≡ [] }
     {
         self.cells.clear();
     }
 
-    /// Makes room for so many, where there is none yet: with labels of no search.
+    /// Provides labels for `count` nodes; the new ones belong to no search.
     pub(super) fn provide(&mut self, count: usize) -> Result<(), AllocError>
         ensures long { OnOk result (count ≤ length self.new) }
         ensures few { (most : ℕ) → count ≤ most → length self.old ≤ most → length self.new ≤ most }
@@ -134,7 +135,7 @@ impl Labels {
         }
     }
 
-    /// Gives a node a label.
+    /// Replaces the label of a node.
     #[inline(always)]
     pub(super) fn set(&mut self, node: usize, label: Label)
         requires { node < length self.old }

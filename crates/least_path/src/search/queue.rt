@@ -1,4 +1,4 @@
-//! What waits to be looked at, the nearest first.
+//! The open list, nearest entry first.
 ghost use Rattle.std.specs.Prelude.{◌≡◌, ◌∷◌, [], OnOk, IfSome, IfNone};
 ghost use Rattle.std.specs.List.Sorted.{IsPermutation};
 ghost use Rattle.least_path.specs.Queue.{TakesNearest};
@@ -10,14 +10,14 @@ use std::cmp::Reverse;
 use std::collections::BinaryHeap;
 use std::marker::Model;
 
-/// What waits to be looked at, the nearest first: what is near in a bucket for each distance, from which the last comes
-/// first, and the rest in a heap. Its value is a list of all, in some order.
+/// The open list, nearest entry first: a bucket for each key below [`NEAR`], last in, first out,
+/// and a heap for the other keys. Its value is a list of all entries, in some order.
 #[derive(Drop)]
 pub(super) struct Queue {
     near: Buckets,
-    /// The buckets before it are empty,
+    /// All buckets before this one are empty.
     first: usize,
-    /// and so are those from here on.
+    /// All buckets from this one on are empty.
     end: usize,
     far: BinaryHeap<Reverse<Waiting>>,
 }
@@ -37,7 +37,7 @@ impl Model for Queue {
 }
 
 impl Queue {
-    /// Nothing waits, and there is no room yet.
+    /// An empty list, without memory yet.
     pub(super) fn new(alloc: Global) -> Self
         ensures { result ≡ [] }
     {
@@ -49,7 +49,7 @@ impl Queue {
         }
     }
 
-    /// Forgets all, and makes room where there is none yet.
+    /// Removes all entries, and creates the buckets if there are none yet.
     pub(super) fn clear(&mut self) -> Result<(), AllocError>
         ensures { OnOk result (self.new ≡ []) }
     {
@@ -60,7 +60,7 @@ impl Queue {
         self.near.empty(first, end)
     }
 
-    /// One more waits.
+    /// Adds an entry.
     #[inline(always)]
     pub(super) fn push(&mut self, entry: Reverse<Waiting>) -> Result<(), AllocError>
         ensures { OnOk result (IsPermutation (entry ∷ self.old) self.new) }
@@ -78,7 +78,7 @@ impl Queue {
         }
     }
 
-    /// The nearest waits no longer.
+    /// Takes an entry with the least key; `None` if there is no entry.
     #[inline(always)]
     pub(super) fn pop(&mut self) -> Option<Reverse<Waiting>>
         ensures some { IfSome result (λ entry. TakesNearest self.old entry self.new) }

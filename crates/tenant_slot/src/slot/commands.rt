@@ -1,4 +1,4 @@
-//! What each command is answered.
+//! The answer to each command.
 ghost use Rattle.std.specs.Prelude.{◌≡◌, option_and_then, IfOk};
 ghost use Rattle.strip_place.specs.Keeping.{AreKeptOn};
 ghost use Rattle.tenant_slot.specs.Answer.{Answers, IsAsked};
@@ -46,7 +46,6 @@ impl Slot {
         }
     }
 
-    /// The answer to `change`.
     fn change(&self, text: &SharedText) -> Result<Answer, NotServed>
         requires { IsAsked self.now (Command.Change text.now) }
         ensures { Answers self.now (Command.Change text.now) result }
@@ -56,7 +55,8 @@ impl Slot {
         Answer::load(self.alloc, lut_size, text, Some(kept))
     }
 
-    /// The places that a change keeps: those at this moment, and where there are none those that were kept before.
+    /// The places that a change keeps: the current ones, or, if there are none, those that were
+    /// kept before.
     fn kept_next(&self) -> Result<Kept, AllocError>
         ensures exact { IfOk result (λ kept. kept ≡ (keeping self.now.state).kept) }
         ensures lawful { IfOk result (λ kept. AreKeptOn self.now.state.strip kept) }
@@ -69,7 +69,6 @@ impl Slot {
         }
     }
 
-    /// The answer to `pack`.
     fn pack(&self) -> Result<Answer, NotServed>
         requires { IsAsked self.now Command.Pack }
         ensures { Answers self.now Command.Pack result }
@@ -86,7 +85,6 @@ impl Slot {
         Answer::pack(&job)
     }
 
-    /// The answer to `place`.
     fn place(&self, seed: u64, effort: u32) -> Result<Answer, NotServed>
         requires { IsAsked self.now (Command.Place seed effort) }
         ensures { Answers self.now (Command.Place seed effort) result }
@@ -104,7 +102,6 @@ impl Slot {
         Answer::place(&job, packing, seed, effort)
     }
 
-    /// The answer to `route`.
     fn route(&self) -> Result<Answer, NotServed>
         requires { IsAsked self.now Command.Route }
         ensures { Answers self.now Command.Route result }
@@ -123,7 +120,6 @@ impl Slot {
         Answer::route(&job, placing, seed, effort)
     }
 
-    /// The answer to `status`.
     fn status(&self) -> Result<Answer, NotServed>
         requires { IsAsked self.now Command.Status }
         ensures { Answers self.now Command.Status result }
@@ -140,7 +136,7 @@ impl Slot {
         Ok(Answer::unchanged(lut_size, reply))
     }
 
-    /// How a routing ended without routes.
+    /// How a routing without routes ended.
     fn ending(&self) -> Result<Option<Ending>, AllocError>
         ensures { IfOk result (λ ending.
             ending ≡ option_and_then (ending_told (circuit_in self.now.state) self.now.state.arch)
@@ -156,7 +152,6 @@ impl Slot {
         }
     }
 
-    /// The answer to `net`.
     fn net(&self) -> Result<Answer, NotServed>
         requires { IsAsked self.now Command.Net }
         ensures { Answers self.now Command.Net result }
@@ -166,7 +161,6 @@ impl Slot {
         Answer::net(self.alloc, lut_size, packing.packed())
     }
 
-    /// The answer to `placefile`.
     fn place_file(&self) -> Result<Answer, NotServed>
         requires { IsAsked self.now Command.PlaceFile }
         ensures { Answers self.now Command.PlaceFile result }
@@ -176,7 +170,6 @@ impl Slot {
         Answer::place_file(self.alloc, lut_size, placing.placing())
     }
 
-    /// The answer to `routefile`.
     fn route_file(&self) -> Result<Answer, NotServed>
         requires { IsAsked self.now Command.RouteFile }
         ensures { Answers self.now Command.RouteFile result }

@@ -2,6 +2,6 @@ use Rattle.std.proofs.Common.{◌≡◌, ◌++◌, take}
 use Rattle.ble_cluster.specs.Nets.{distinct}
 use Rattle.ble_cluster.proofs.bles.push_distinct.Given as goal
 
--- each of the nets so far stands behind the old inputs
+-- the distinct nets so far are appended to the old inputs
 abbrev pub invariant-loop-net : goal.invariant-loop-net
 invariant-loop-net l = l.inputs.items ≡ l.fn.inputs.items ++ distinct (take l.net-index l.nets)

@@ -2,7 +2,7 @@ use Rattle.std.proofs.Common.{◌≡◌, take, length}
 use Rattle.ble_cluster.specs.Reads.{AreDriven}
 use Rattle.ble_cluster.proofs.readers.mark_driven.Given as goal
 
--- what the tables so far drive is marked
+-- the outputs of the tables so far are marked
 abbrev pub invariant-loop-place : goal.invariant-loop-place
 invariant-loop-place l = record {
   nets : length l.is_driven.items ≡ l.nets;

@@ -3,7 +3,8 @@ use Rattle.blif.specs.Numbering.{numbered}
 use Rattle.blif.specs.Names.{texts, with_names}
 use Rattle.blif.proofs.names.number_all.Given as goal
 
--- what is left, added to the names so far, gives what all of them give
+-- adding the remaining names to the names so far has the result of adding all names to the first
+-- ones
 abbrev pub invariant-loop-name : goal.invariant-loop-name
 invariant-loop-name l = record {
   nets : with_names l.nets (texts (drop l.name-index l.names)) ≡ with_names l.fn.nets (texts l.names);

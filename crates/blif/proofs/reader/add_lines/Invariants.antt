@@ -7,7 +7,7 @@ use Rattle.blif.specs.LineByLine.{parts_of}
 use Rattle.blif.specs.CircuitOf.{undriven_faults}
 use Rattle.blif.proofs.reader.add_lines.Given as goal
 
--- each net that is read so far is driven, and the numbers of the lines below are left
+-- each net that was read so far is driven, and the numbers of the later lines are left
 abbrev pub invariant-loop-place : goal.invariant-loop-place
 invariant-loop-place l = record {
   parts : l.parts ≡ parts_of l.driven.nets (take l.place l.lines);

@@ -5,6 +5,6 @@ use Rattle.blif.specs.Sights.{inputs_of}
 use Rattle.blif.specs.LineByLine.{lines_to_end}
 use Rattle.blif.proofs.reader.declare_inputs.Given as goal
 
--- what is left adds what all lines add
+-- adding the inputs of the remaining lines has the result of adding those of all lines
 abbrev pub invariant-loop-place : goal.invariant-loop-place
 invariant-loop-place l = with_names l.declared (flat_map inputs_of (lines_to_end (drop l.place l.lines))) ≡ with_names [] (flat_map inputs_of (lines_to_end l.lines))

@@ -1,6 +1,6 @@
 use Rattle.std.proofs.Common.{◌≡◌, take}
 use Rattle.blif.proofs.reader.net_names.Given as goal
 
--- the names so far
+-- the names so far are copied
 abbrev pub invariant-loop-net : goal.invariant-loop-net
 invariant-loop-net l = l.nets ≡ take l.net l.names

@@ -3,7 +3,7 @@ use Rattle.grid.specs.declared.place.Place.{Place}
 use Rattle.block_places.proofs.Counts.{fit_found, pad_count}
 use Rattle.block_places.proofs.fit.fit_of.Goals as goal
 
--- how many places are listed
+-- the number of listed places
 counted : (n : ℕ) (listed places : List Place) → n ≡ length listed → listed ≡ places → n ≡ length places
 counted n listed places e is = e ∙ ap length is
 

@@ -13,7 +13,7 @@ use Rattle.job_state.proofs.NextStep.{as_value}
 use Rattle.job_state.proofs.There.{on_same_strip}
 use Rattle.job_state.proofs.parked.routing_of.Goals as goal
 
--- what the placing that is gone on from has made
+-- what the placing that the routing starts from has made
 abbrev HasEnded : Sources → PlacingUnderWay → Type 0
 HasEnded sources placed = end_value sources ≡ as_value (Placed placed)
 

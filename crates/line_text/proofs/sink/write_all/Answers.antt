@@ -5,11 +5,11 @@ use Rattle.std.specs.Io.KnownBytes.{Appends}
 use Rattle.std.proofs.KnownBytes.{Appends-trans}
 use Rattle.line_text.proofs.sink.write_all.Goals as goal
 
--- what is left after a further write
+-- what is left after one more write
 left_after : (bytes rest : List ℕ) (n count : ℕ) → rest ≡ drop n bytes → take (length rest - count) (drop count rest) ≡ drop (n + count) bytes
 left_after bytes rest n count e = take_rest rest count ∙ (ap (drop count) e ∙ drop-drop count n bytes)
 
--- what was taken by then
+-- what was taken after one more write
 taken_after : (a b c : Option (List ℕ)) (bytes rest : List ℕ) (n count : ℕ) → rest ≡ drop n bytes → Appends a b (take n bytes) → Appends b c (take count rest) → Appends a c (take (n + count) bytes)
 taken_after a b c bytes rest n count e first second =
     subst (λ all. Appends a c all) (ap (λ part. take n bytes ++ take count part) e ∙ sym (take-add n count bytes)) (Appends-trans a b c _ _ first second)

@@ -4,7 +4,7 @@ use Rattle.std.proofs.lemmas.Bool.Decides.{nat_tests}
 use Rattle.line_text.proofs.WordLemmas.{takes_word, words_of-skipped, word_start-skipped}
 use Rattle.line_text.proofs.words.append_words.Goals as goal
 
--- the words with one more
+-- the words with one more appended
 with_word : {X : Type 0} (f : X → List ℕ) (items new : List X) (word : X) (bytes : List ℕ) (tail rest all : List (List ℕ)) → new ≡ items ++ word ∷ [] → f word ≡ bytes → rest ≡ bytes ∷ tail → map f items ++ rest ≡ all → map f new ++ tail ≡ all
 with_word f items new word bytes tail rest all e w r h =
     ap (λ xs. map f xs ++ tail) e
@@ -12,7 +12,7 @@ with_word f items new word bytes tail rest all e w r h =
     ∙ (append_assoc (map f items) (f word ∷ []) tail
     ∙ (ap (λ b. map f items ++ (b ∷ tail)) w ∙ (ap (λ xs. map f items ++ xs) (sym r) ∙ h))))
 
--- the first ones stay
+-- appending a word leaves the first items unchanged
 same_first : {X : Type 0} (n : ℕ) (items new first : List X) (word : X) → n ≡ length first → take n items ≡ first → new ≡ items ++ word ∷ [] → take n new ≡ first
 same_first n items new first word l h e =
     ap (take n) e ∙ (take-append-le n items (word ∷ []) (omega (arith, ap length h, length-take n items)) ∙ h)

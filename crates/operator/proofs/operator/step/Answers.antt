@@ -16,7 +16,7 @@ loop-number-preserved c =
     steps_more c.args.graph.now c.args.core.now c.loop-number.core c.make_step-outcome.new.core c.args.id c.loop-number.number (held c.args.reply.now) (held c.loop-number.reply) (held c.push_outcome.new.reply)
     step.0 c.make_step-outcome.result c.loop-number.invariant step.1 step.2 told c.make_step-outcome.ensures.own
 
--- the step that isn't told is made
+-- the step without a reply is made
 pub returns-in_err-push_outcome-clause-stands : goal.returns-in_err-push_outcome-clause-stands
 returns-in_err-push_outcome-clause-stands c =
     let step = c.make_step-outcome.ensures.made in

@@ -3,7 +3,7 @@ use Rattle.script_text.specs.Reading.{comes_to}
 use Rattle.script_text.specs.Script.{script_of}
 use Rattle.script_text.proofs.script.read_script.Given as goal
 
--- the acts so far and those of the lines that are left are those of the script
+-- the acts so far, and those of the remaining lines, are those of the script
 abbrev pub invariant-loop-reader : goal.invariant-loop-reader
 invariant-loop-reader l = record {
   counted : l.reader.number + length l.reader.rest.now ≤ l.fn.number + length l.text;

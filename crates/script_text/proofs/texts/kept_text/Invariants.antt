@@ -3,7 +3,7 @@ use Rattle.sessions.specs.Items.{kept}
 use Rattle.script_text.specs.Cuts.{without_crs}
 use Rattle.script_text.proofs.texts.kept_text.Given as goal
 
--- the text so far, and the lines that are left, are all of it
+-- the text so far, and the remaining lines, are all of it
 abbrev pub invariant-loop-rest : goal.invariant-loop-rest
 invariant-loop-rest l = record {
   within : vec_len l.text ≤ 1048577;

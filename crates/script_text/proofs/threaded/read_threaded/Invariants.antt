@@ -5,7 +5,7 @@ use Rattle.script_text.specs.Threaded.{threaded_from, threaded_of}
 use Rattle.script_text.specs.Threads.{heard_by}
 use Rattle.script_text.proofs.threaded.read_threaded.Given as goal
 
--- what is heard so far and the lines that are left come to what the script does
+-- what is read so far, with the remaining lines, results in the script's parts
 abbrev pub invariant-loop-rest : goal.invariant-loop-rest
 invariant-loop-rest l = record {
   counted : l.number + length l.rest ≤ l.fn.number + length l.text;

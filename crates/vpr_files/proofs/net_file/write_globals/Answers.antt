@@ -9,7 +9,7 @@ use Rattle.line_text.proofs.WritingLemmas.{all_found, all_loop, all_loop_end, al
 use Rattle.vpr_files.proofs.net_file.write_globals.Goals as goal
 use Rattle.vpr_files.proofs.net_file.write_globals.Goals.{then-net+in_ok-write_parts, else-net}
 
--- a net by its parts
+-- a net, from its parts
 abbrev net_value : ℕ → ℕ → List ℕ → Bool → BlockNet
 net_value net driver readers global = record { net = net; driver = driver; readers = readers; global = global }
 
@@ -55,7 +55,7 @@ loop-number-preserved g c =
       )
     ]
 
--- all nets are looked at
+-- all nets were examined
 all_taken : (nets : List BlockNet) (number : ℕ) (some : Bool) → length nets ≤ number → some ≡ list_any (λ one. one.global) (take number nets) → some ≡ list_any (λ one. one.global) nets
 all_taken nets number some long e = e ∙ ap (list_any (λ (one : BlockNet). one.global)) (take_all number nets long)
 

@@ -17,7 +17,7 @@ use Rattle.vpr_files.proofs.route_file.write_nets.Goals as goal
 abbrev lines : PlacingUnderWay → List (List (List Node)) → ℕ × BlockNet → List (List (List ℕ))
 lines placing routes net = net_lines placing.strip placing.packed (places_by_block placing) net.0 net.1 (slice_index_or routes net.0 [])
 
--- the net of a number among those with their numbers
+-- the net with a number, in the list of numbered nets
 net_at : (packed : PackedCircuit) (number : ℕ) → number < length (block_nets packed) → slice_get (enumerate_from 0 (block_nets packed)) number ≡ Some (number, numbered_net packed number)
 net_at packed number within =
     slice_get-get_or (enumerate_from 0 (block_nets packed)) number (number, record { net = 0; driver = 0; readers = []; global = false }) (let long = length-enumerate_from 0 (block_nets packed) in omega arith)

@@ -2,6 +2,7 @@ use Rattle.std.proofs.Common.{◌≡◌, ◌++◌, drop}
 use Rattle.ble_cluster.specs.Bles.{in_line_order}
 use Rattle.ble_cluster.proofs.bles.Bles.push_in_order.Given as goal
 
--- with what is left the BLEs are the old ones and those of all tables and latches
+-- adding the remaining tables and latches results in the old BLEs and those of all tables and
+-- latches
 abbrev pub invariant-loop-place : goal.invariant-loop-place
 invariant-loop-place l = l.self ++ in_line_order l.circuit (drop l.place l.circuit.tables) l.rest ≡ l.fn.self ++ in_line_order l.circuit l.circuit.tables l.fn.latches

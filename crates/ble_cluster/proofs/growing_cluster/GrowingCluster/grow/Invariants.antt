@@ -5,7 +5,7 @@ use Rattle.ble_cluster.specs.FreeBles.{free_in}
 use Rattle.ble_cluster.specs.GrowingCluster.{IsGrowingCluster, IsRoomFor}
 use Rattle.ble_cluster.proofs.growing_cluster.GrowingCluster.grow.Given as goal
 
--- the members after so many additions
+-- the members after this number of additions
 abbrev pub invariant-loop-added : goal.invariant-loop-added
 invariant-loop-added l = record {
   growth : IsGrowingCluster l.elements.elements l.elements.nets l.self;

@@ -6,7 +6,7 @@ use Rattle.cluster.specs.ClusterPins.{IsElementWithin}
 use Rattle.cluster.proofs.NetLists.{inputs_gathered}
 use Rattle.cluster.proofs.cluster_sets.ClusterSets.gather.Goals as goal
 
--- of as many nets as before
+-- the nets are below an equal count
 among_as_many : (a b : ℕ) (elements : List LogicElement) → a ≡ b → All (IsElementWithin b) elements → All (IsElementWithin a) elements
 among_as_many a b elements same within = subst (λ count. All (IsElementWithin count) elements) (sym same) within
 

@@ -8,7 +8,7 @@ use Rattle.kept_places.proofs.Entries.{apart_too, as_they_stand}
 use Rattle.kept_places.proofs.Sorting.{in_key_order}
 use Rattle.kept_places.proofs.table.Table.of.Goals as goal
 
--- what was made of sorted entries
+-- the result for sorted entries
 made : {E : Type 0} (all sorted : List KeptPlace) (lent : List KeptPlace) (result : Result KeptPlaces E) → entries_of sorted ≡ in_order (entries_of all) → lent ≡ sorted → IfOk result (λ table. table ≡ entries_of lent) → IfOk result (λ table. table ≡ in_order (entries_of all))
 made all sorted lent (Ok table) is value told = told ∙ (ap entries_of value ∙ is)
 made all sorted lent (Err error) is value told = tt

@@ -7,7 +7,7 @@ use Rattle.kept_places.specs.Kept.{KeptPlaces}
 use Rattle.kept_places.specs.Table.{entry_of}
 use Rattle.kept_places.proofs.table.Table.same.Goals as goal
 
--- one entry more is the same
+-- one more entry is equal
 same_more : (es fs : KeptPlaces) (n : _) (e f : BlockKey × Place) → take n es ≡ take n fs → slice_get es n ≡ Some e → slice_get fs n ≡ Some f → e ≡ f → take (n + 1) es ≡ take (n + 1) fs
 same_more es fs n e f so_far one other is =
     take_more es n e (slice_get_within es n e one) ∙ (ap (λ (front : KeptPlaces). front ++ get_or es n e ∷ []) so_far

@@ -5,7 +5,7 @@ use Rattle.least_path.specs.LeastPath.{HasNoPath, least_path}
 use Rattle.least_path.proofs.Exact.{least_path-none}
 use Rattle.least_path.proofs.search.Search.least_into.Goals as goal
 
--- what both outcomes say
+-- the consequence of both outcomes
 told : {E : Type 0} (g : Graph) (starts : List ℕ) (to : ℕ) (path : List ℕ) (r : Result Bool E) → (r ≡ Ok true → least_path g starts to ≡ Some path) → (r ≡ Ok false → HasNoPath g starts to)
     → IfOk r (λ found. least_path g starts to ≡ (if found then Some path else None))
 told g starts to path (Ok true) found none = found refl

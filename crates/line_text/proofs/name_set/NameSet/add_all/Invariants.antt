@@ -3,6 +3,6 @@ use Rattle.line_text.specs.Names.{with_names}
 use Rattle.line_text.specs.Words.{texts}
 use Rattle.line_text.proofs.name_set.NameSet.add_all.Given as goal
 
--- what is left, added to the names so far, gives what all of them give
+-- adding the remaining names to the set so far has the result of adding all names to the first set
 abbrev pub invariant-loop-name : goal.invariant-loop-name
 invariant-loop-name l = with_names l.self (texts (drop l.name-index l.names)) ≡ with_names l.fn.self (texts l.names)

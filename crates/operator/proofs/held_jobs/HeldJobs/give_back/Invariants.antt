@@ -5,7 +5,7 @@ use Rattle.service_core.specs.Run.Call.{GiveBack}
 use Rattle.operator.specs.HeldJobs.{HeldList}
 use Rattle.operator.proofs.held_jobs.HeldJobs.give_back.Given as goal
 
--- the jobs behind those that are left were given back
+-- the jobs after the remaining ones were given back
 abbrev pub invariant-loop-held : goal.invariant-loop-held
 invariant-loop-held l = (done : HeldList) × (l.initial.jobs.items ≡ l.jobs.items ++ reverse done) × Run l.fn.core (filter_map (option_map GiveBack) done) l.core
 

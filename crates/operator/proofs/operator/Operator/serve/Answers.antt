@@ -109,7 +109,7 @@ returns-in_ok-number-in-Take-clause-told c =
     ))
     c.push_taken.ensures)
 
--- where memory lacked
+-- if memory runs out
 pub returns-in-Evict-clause-stands : goal.returns-in-Evict-clause-stands
 returns-in-Evict-clause-stands c =
     rw c.in-Evict.is

@@ -8,7 +8,7 @@ use Rattle.strips.proofs.Laid.{found_id, found_is, others_by, laid_moved, moved_
 use Rattle.strips.proofs.layout.Layout.move_to.Goals as goal
 use Rattle.strips.proofs.layout.Layout.move_to.Goals.{then-self-strip-via-then-self-strip, then-self-strip-via-else-self-strip+then-self-strip-2}
 
--- as many strips as before
+-- the number of strips is unchanged
 filled : (old new : List PlacedStrip) → length new ≡ length old → refill (length old) old new ≡ new
 filled old new same =
     ap (λ (rest : List PlacedStrip). take (length old) (new ++ rest)) (drop_all (length new) old (omega (arith, same)))

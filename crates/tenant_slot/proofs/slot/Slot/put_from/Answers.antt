@@ -8,13 +8,13 @@ use Rattle.tenant_slot.specs.Standing.{put_in, put_reply, seen}
 use Rattle.tenant_slot.proofs.Putting.{IsPut, put_of}
 use Rattle.tenant_slot.proofs.slot.Slot.put_from.Goals as goal
 
--- what the put leaves
+-- the slot after the put
 left : (c : goal.After-put-reply) → IsPut c.self.inside.id c.self.inside.arch c.self.inside.strip c.self.inside.standing c.self.inside.entries c.args.done c.written-made.result c.is_next-counts.result c.is_last-last.result
 left c =
     put_of c.self.inside.id c.self.inside.arch c.self.inside.strip c.self.inside.standing c.self.inside.entries c.args.self.now c.args.done c.written-made.result c.is_next-counts.result c.is_last-last.result
     c.self.view_is c.self.invariant c.requires.can.room c.requires.can.id c.written-made.ensures c.is_next-counts.ensures c.is_last-last.ensures
 
--- a last step is of the job that began there
+-- a last step is of the job that started from the slot's content
 pub put-reply-requires-clause-begun : goal.put-reply-requires-clause-begun
 put-reply-requires-clause-begun c =
     rw c.park.ensures (put_of c.self.inside.id c.self.inside.arch c.self.inside.strip c.self.inside.standing c.self.inside.entries c.args.self.now c.args.done c.written-made.result c.is_next-counts.result c.is_last-last.result
