@@ -1,4 +1,4 @@
--- Sessions on threads that are waited for.
+-- Sessions on threads that are joined.
 use Rattle.std.proofs.Common.{◌≡◌, List, [], ◌∷◌, ◌++◌, Option, Some, None, sym, ap, ◌∙◌}
 use Rattle.std.specs.Prelude.{map, IfSome, IsSomeAnd}
 use Rattle.std.specs.declared.alloc.Global.{Global}
@@ -8,7 +8,7 @@ use Rattle.script_threads.specs.declared.crowd.Started.{Started}
 use Rattle.script_threads.specs.Parts.{started_by}
 use Rattle.script_threads.specs.Sessions.{PartState, asked_in}
 
--- one more is waited for
+-- one more is joined
 pub joined : {C : Type 0} (r old : Option (Vec PartState Global)) (p : Option PartState) (told : List (Started C)) (s : Started C) →
     IfSome r (λ all. IsSomeAnd old (λ o. IsSomeAnd p (λ x. all.items ≡ o.items ++ x ∷ []))) → IfSome p (λ x. asked_in x ≡ started_by s) → IfSome old (λ o. map asked_in o.items ≡ map started_by told) →
     IfSome r (λ all. map asked_in all.items ≡ map started_by (told ++ s ∷ []))

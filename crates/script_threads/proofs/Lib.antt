@@ -5,4 +5,4 @@ mod OneOfList
 mod PartLemmas
 mod SeatLemmas
 mod ServeLemmas
-mod SettledLemmas
+pub mod OneRunLemmas

@@ -1,4 +1,4 @@
--- What the sessions of names are told that aren't live.
+-- The answers to the sessions of names that aren't live.
 use Rattle.std.proofs.Common.{◌≡◌, List, [], ◌∷◌, ◌++◌, ap, ◌∙◌, append-nil}
 use Rattle.std.specs.List.{flat_map}
 use Rattle.std.proofs.lemmas.Grind.{flat_map-append}

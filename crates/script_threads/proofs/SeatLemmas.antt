@@ -1,4 +1,4 @@
--- Sessions of different names are seated each with a lease of its own.
+-- Sessions of different names are seated, each with a lease of its own.
 use Rattle.std.proofs.Common.{◌≡◌, ◌≢◌, ◌⊎◌, inl, inr, ℕ, ◌+◌, ◌-◌, ◌<◌, ◌≤◌, List, [], ◌∷◌, ◌++◌, Bool, true, false, zero, suc, length, map, get_or, eqb, Option, Some, None, refl, sym, ap, ◌∙◌, subst, take, arith, replicate}
 use Rattle.std.specs.Prelude.{option_map, if◌then◌else◌}
 use Rattle.std.specs.Str.{bytes_eq}
@@ -21,7 +21,7 @@ last_id-most (newest ∷ older) a = by_test (bytes_eq newest a) (last_id-most ol
     by_test true most = omega arith
     by_test false most = omega arith
 
--- two names with one last id are one
+-- two names with the same last id are one
 last_id-same : (names : List (List ℕ)) (a b : List ℕ) → 1 ≤ last_id names a → last_id names a ≡ last_id names b → a ≡ b
 last_id-same [] a b least same = absurd (omega arith)
 last_id-same (newest ∷ older) a b least same = by_tests (bytes_eq newest a) (bytes_eq newest b) refl refl least same (last_id-same older a b)
@@ -72,7 +72,7 @@ has_seat-last : (names : List (List ℕ)) (before : List Said) (s : Said) → Ha
 has_seat-last names [] s = inl refl
 has_seat-last names (t ∷ before) s = inr (has_seat-last names before s)
 
--- once it is seated, just those that are seated have leases
+-- after it is seated, exactly the sessions that are seated have leases
 pub seated_more : (names : List (List ℕ)) (old new : List Marked) (before : List Said) (s : Said) → ((id : ℕ) → is_leased old id ≡ true → HasSeat names before id)
     → GivesOneLease old (last_id names s.name) new → (id : ℕ) → is_leased new id ≡ true → HasSeat names (before ++ s ∷ []) id
 seated_more names old new before s seated gives id leased = by_case (gives id leased)
@@ -108,7 +108,8 @@ split [] k x within is = absurd (omega arith)
 split (y ∷ all) zero x within is = (all, ap (λ z. z ∷ all) (sym is))
 split (y ∷ all) (suc k) x within is = let more = split all k x (omega arith) is in (more.0, ap (λ zs. y ∷ zs) more.1)
 
--- of sessions of different names, some of which are seated, the next one's lease wasn't given
+-- among sessions of different names, some of which are seated, the lease of the next one wasn't
+-- given
 pub free_at : (names : List (List ℕ)) (marks : List Marked) (all before : List SessionInput) (s : SessionInput) → AreApart (map said_by all)
     → map (λ t. t) before ≡ take (length before) all → length before < length all → s ≡ get_or all (length before) s
     → ((id : ℕ) → is_leased marks id ≡ true → HasSeat names (map said_by before) id) → is_leased marks (last_id names s.name.now) ≡ false

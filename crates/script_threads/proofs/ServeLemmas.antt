@@ -1,5 +1,5 @@
 -- The parts of a script that is served.
-use Rattle.std.proofs.Common.{◌≡◌, ℕ, List, [], ◌++◌, length, Result, Ok, Err, ap, ◌∙◌, subst}
+use Rattle.std.proofs.Common.{◌≡◌, ℕ, List, [], ◌++◌, Result, Ok, Err, ap, ◌∙◌, subst}
 use Rattle.std.specs.Prelude.{map, IfOk}
 use Rattle.rr_graph.specs.Graph.{Basis}
 use Rattle.service_core.specs.Service.{ServiceState}
@@ -13,14 +13,13 @@ pub on_value : {E A : Type 0} {P Q : A → Type 0} (r : Result A E) → ((a : A)
 on_value (Ok a) f p = f a p
 on_value (Err e) f p = tt
 
--- the operator's other lines behind the sessions
+-- the operator's other lines after the sessions
 pub runs_on : (graph : Basis) (names : List (List ℕ)) (begun : ServiceState) (sessions : List Said) (rest : List (OperatorLine (List ℕ))) (sections told : List Section) (before after : List ℕ) (settled : ServiceState) →
-    Ran names begun sessions (map section_told sections) settled → told ≡ sections → length names ≡ length settled.histories → Ends graph names settled rest before after →
+    Ran names begun sessions (map section_told sections) settled → told ≡ sections → Ends graph names settled rest before after →
     RunsOn graph names begun sessions rest (map section_told told) before after
-runs_on graph names begun sessions rest sections told before after settled ran same even ends =
-    rw same (record { settled = settled; ran = ran; even = even; ends = ends })
+runs_on graph names begun sessions rest sections told before after settled ran same ends = rw same (record { settled = settled; ran = ran; ends = ends })
 
--- and the lines ahead of them
+-- and the lines before them
 pub served_from : (graph : Basis) (start mid : ServiceState) (operator names : List (List ℕ)) (script : Script) (sections : List Told) (before middle after : List ℕ) → operator ≡ [] → before ≡ [] →
     Replies graph operator start script.ahead before middle names mid → RunsOn graph names mid script.sessions script.rest sections middle after → IsServedFrom graph start script sections after
 served_from graph start mid operator names script sections before middle after unnamed empty ahead runs = record {
@@ -30,7 +29,6 @@ served_from graph start mid operator names script sections before middle after u
   ahead = subst (λ given. Serves graph given start script.ahead ahead.text names mid) unnamed ahead.serves;
   settled = runs.settled;
   ran = runs.ran;
-  even = runs.even;
   last_names = runs.ends.last_names;
   last = runs.ends.last;
   rest_text = runs.ends.replies.text;

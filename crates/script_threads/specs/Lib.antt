@@ -1,4 +1,5 @@
 pub mod Lines
+pub mod OneRun
 pub mod Parts
 pub mod Seats
 pub mod Served

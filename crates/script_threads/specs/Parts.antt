@@ -1,38 +1,36 @@
 -- Private: sessions that are seated, started and have ended.
 use Rattle.std.specs.Prelude.{◌≡◌, ◌≢◌, List, [], ◌∷◌, ◌++◌, map, All, AllPairs}
-use Rattle.service_core.specs.Headline.{AreParted}
-use Rattle.service_core.specs.Service.{AreAlone, ServiceState}
-use Rattle.shared_core.specs.Following.{Follows, Stays}
-use Rattle.transcripts.specs.Transcripts.{TranscriptState}
+use Rattle.service_core.specs.Service.{ServiceState}
+use Rattle.settling.specs.Settling.{AreAllCalls}
+use Rattle.transcripts.specs.Transcripts.{AreOfLive, TranscriptState}
 use Rattle.script_threads.specs.declared.crowd.Started.{Started}
 use Rattle.script_threads.specs.declared.crowd.Started.TheVariants.{Answered, Runs}
-use Rattle.script_threads.specs.Served.{AreBorneOut, Told, told_in}
-use Rattle.script_threads.specs.Sessions.{Asked, PartState, IsTold, asked_in, transcripts_of}
+use Rattle.script_threads.specs.Served.{AreFullNotes, Told, told_in}
+use Rattle.script_threads.specs.Sessions.{Asked, IsPart, IsTold, PartState, asked_in, transcripts_of}
 
--- what a session asked that was answered, or that runs
+-- what a session asked that has its answers, or that runs
 abbrev pub started_by : {C : Type 0} → Started C → Asked
 started_by (Answered part) = asked_in part
 started_by (Runs thread) = thread.promise.0.value
 
 -- the parts' texts, and the transcripts of those that ran
-pub record AreParts (parts : List PartState) (sections : List Told) (transcripts : List TranscriptState) : Type 0 where
+pub record AreParts (live : Type 0) (parts : List PartState) (sections : List Told) (transcripts : List TranscriptState) : Type 0 where
   pub each : All IsTold parts
+  pub of_live : live → All (λ t. AreOfLive t.items) transcripts
   pub sections_are : sections ≡ map told_in parts
   pub transcripts_are : transcripts ≡ transcripts_of parts
 
--- a part more
-pub record Adds (part : PartState) (sections : List Told) (transcripts : List TranscriptState) (new_sections : List Told) (new_transcripts : List TranscriptState) : Type 0 where
-  pub told : IsTold part
+-- one more part
+pub record Adds (live : Type 0) (part : PartState) (sections : List Told) (transcripts : List TranscriptState) (new_sections : List Told) (new_transcripts : List TranscriptState) : Type 0 where
+  pub is_part : IsPart live part
   pub sections_are : new_sections ≡ sections ++ told_in part ∷ []
   pub transcripts_are : new_transcripts ≡ transcripts ++ transcripts_of (part ∷ [])
 
--- the parts are told, and borne out by the service that they left, which goes on from that one
+-- the parts have their answers, and calls of threads led from that service to the one that they
+-- left
 pub record Finishes (begun : ServiceState) (parts : List PartState) (sections : List Told) (service : ServiceState) : Type 0 where
   pub each : All IsTold parts
   pub sections_are : sections ≡ map told_in parts
   pub apart : AllPairs (λ t u. t.id ≢ u.id) (transcripts_of parts)
-  pub borne_out : All (AreBorneOut begun service) (transcripts_of parts)
-  pub follows : Follows begun service
-  pub stays : Stays begun service
-  pub alone : AreAlone service
-  pub parted : AreParted service.device service
+  pub notes : All (AreFullNotes service) (transcripts_of parts)
+  pub calls : AreAllCalls begun service (transcripts_of parts)

@@ -18,7 +18,7 @@ asked_by said id = record { name = said.name; input = said.input; id = id; live 
 abbrev pub AreFree : List Marked → Type 0
 AreFree marks = (id : ℕ) → is_leased marks id ≡ false
 
--- no lease more is given than that tenancy's
+-- no lease is given except that tenancy's
 abbrev pub GivesOneLease : List Marked → ℕ → List Marked → Type 0
 GivesOneLease old id new = (other : ℕ) → is_leased new other ≡ true → (is_leased old other ≡ true) ⊎ (other ≡ id)
 

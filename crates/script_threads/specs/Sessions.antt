@@ -1,5 +1,5 @@
--- What each name's session is told.
-use Rattle.std.specs.Prelude.{ℕ, ◌≡◌, List, Bool, Option, Some, None, is_some}
+-- The answers to each name's session.
+use Rattle.std.specs.Prelude.{ℕ, ◌≡◌, List, Bool, Option, Some, None, IfSome, is_some}
 use Rattle.std.specs.List.{filter_map, flat_map}
 use Rattle.service_core.specs.History.{History}
 use Rattle.service_core.specs.Service.{live_of}
@@ -13,7 +13,7 @@ use Rattle.session_threads.specs.Told.{AreTold, noted_all, told_texts}
 use Rattle.session_threads.specs.WholeSession.{fresh}
 use Rattle.transcripts.specs.declared.item.End.TheVariants.{Ended}
 use Rattle.transcripts.specs.declared.item.Place.{Place}
-use Rattle.transcripts.specs.Transcripts.{TranscriptState}
+use Rattle.transcripts.specs.Transcripts.{AreOfLive, TranscriptState}
 use Rattle.script_text.specs.Threaded.{Said}
 use Rattle.operator.specs.OperatorText.{last_id}
 
@@ -32,7 +32,7 @@ asked_of names histories said = record {
   live = is_some (live_of histories (last_id names said.name));
 }
 
--- what a name's session is told, and the transcript of one that ran
+-- the answers to a name's session, and the transcript of a session that ran
 pub record PartState : Type 0 where
   pub name : List ℕ
   pub input : List ℕ
@@ -40,11 +40,11 @@ pub record PartState : Type 0 where
   pub text : List ℕ
   pub transcript : Option TranscriptState
 
--- just the sessions of live tenancies ran
+-- exactly the sessions of live tenancies ran
 abbrev pub asked_in : PartState → Asked
 asked_in part = record { name = part.name; input = part.input; id = part.id; live = is_some part.transcript }
 
--- the core isn't asked what a name asks that isn't live
+-- the core isn't asked what the session of a name asks that isn't live
 abbrev pub evicted_refusal : SessionLine → SessionRefusal
 evicted_refusal Blank = Evicted
 evicted_refusal (Command command) = Evicted
@@ -54,12 +54,12 @@ evicted_refusal (Refused refusal) = refusal
 abbrev pub evicted_line : SessionLine → List ℕ
 evicted_line item = session_refusal_text (evicted_refusal item)
 
--- each item of such a session is told its own refusal, or that the tenancy is evicted
+-- each item of such a session is answered its own refusal, or that the tenancy is evicted
 abbrev pub evicted_text : List ℕ → List ℕ
 evicted_text input = flat_map evicted_line (items_of input)
 
--- the session came to its input's end: each item of the input is told, in order, what stands in the transcript, or is counted there as one
--- that found no memory; and nothing else is written
+-- the session ended with its input: each item of the input is answered, in order, what the
+-- transcript has, or is counted there as one that ran out of memory; and nothing else is written
 pub record IsWhole (id : ℕ) (input text : List ℕ) (t : TranscriptState) : Type 0 where
   pub told : List (Option Place)
   pub noted : t ≡ record (noted_all (fresh id) told) { end = Some Ended }
@@ -73,6 +73,11 @@ IsToldBy (Some t) part = IsWhole part.id part.input part.text t
 abbrev pub IsTold : PartState → Type 0
 IsTold part = IsToldBy part.transcript part
 
--- the transcripts of those that ran
+-- private: a part as a session leaves it
+pub record IsPart (live : Type 0) (part : PartState) : Type 0 where
+  pub told : IsTold part
+  pub of_live : live → IfSome part.transcript (λ t. AreOfLive t.items)
+
+-- the transcripts of the sessions that ran
 abbrev pub transcripts_of : List PartState → List TranscriptState
 transcripts_of parts = filter_map (λ p. p.transcript) parts

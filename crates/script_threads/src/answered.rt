@@ -1,28 +1,28 @@
 use settling::Cause;
 use std::alloc::AllocError;
 
-/// What a name's session was told.
+/// The answers to a name's session.
 #[derive(Drop)]
 pub struct Section<'t> {
     pub name: &'t [u8],
     pub text: Vec<u8>,
 }
 
-/// What a script was answered.
+/// The answers to a script.
 #[derive(Drop)]
 pub struct Answered<'t> {
-    /// What the operator was told.
+    /// The answers to the operator.
     pub operator: Vec<u8>,
-    /// What each name's session was told, in the order of their first lines.
+    /// The answers to each name's session, in the order of their first lines.
     pub sections: Vec<Section<'t>>,
 }
 
 /// Why a script isn't answered.
 #[derive(Clone, Copy, PartialEq, Eq)]
 pub enum Unserved {
-    /// There was no memory for tables, texts or a thread.
+    /// Memory ran out for tables, texts or a thread.
     NoMemory,
-    /// What the sessions were told isn't settled.
+    /// The answers to the sessions aren't settled.
     NotSettled(Cause),
 }
 

@@ -21,14 +21,14 @@ use std::thread::{Promise, PromisedHandle, Scope, Threads};
 use std::time::Clock;
 use strips::DeviceGraph;
 
-/// A session that was answered at once, or runs on a thread of its own.
+/// A session that was answered at once, or that runs on a thread of its own.
 #[derive(Drop)]
 enum Started<'t, C: Begun> {
     Answered(Part<'t, C>),
     Runs(PromisedHandle<Option<Part<'t, C>>, Kept<'t, C>>),
 }
 
-/// A thread's promise: the part that it gives is that session's.
+/// A thread's promise: the part that it returns is that session's.
 #[derive(Drop)]
 struct Kept<'t, C: Begun>(Snapshot<Seated<'t, C>>);
 
@@ -39,9 +39,10 @@ impl<'t, C: Begun> Promise<Option<Part<'t, C>>> for Kept<'t, C> {
     ghost kept_by = { λ p r. IfSome r (λ part. asked_in part ≡ p.0.value) };
 }
 
-/// Runs the sessions of live tenancies, each on a thread of its own, beside the workers, and answers the others at once. When all
-/// sessions have ended the queue is closed, and the workers end. None where memory lacked, or a thread couldn't be started: the
-/// sessions that were started have run to their end then too.
+/// Runs the sessions of live tenancies, each on a thread of its own, beside the workers, and
+/// answers the others at once. When all sessions have ended the queue is closed, and the workers
+/// end. None if memory ran out, or a thread couldn't be started: then too the sessions that were
+/// started have run to their end.
 pub(crate) fn run_crowd<
     't,
     C: Begun + Send + Sync,
@@ -70,7 +71,7 @@ pub(crate) fn run_crowd<
     )
 }
 
-/// The same within a scope.
+/// Runs the sessions and workers within a scope for their threads.
 fn run_in<
     's,
     't: 's,
@@ -110,7 +111,7 @@ fn run_in<
     all_ended(are_started, parts, shares)
 }
 
-/// Starts the workers, and then the sessions. Tells whether all were started or answered.
+/// Starts the workers, and then the sessions. Returns whether all were started or answered.
 fn start_all<
     's,
     't: 's,
@@ -144,7 +145,7 @@ fn start_all<
     start_sessions(rt, scope, shared, ready, passes, seated, started)
 }
 
-/// The parts and the shares, where all have started and memory lacked for none.
+/// The parts and the shares. None if one didn't start or memory ran out.
 fn all_ended<'t, C: Begun, P: Ledger>(
     are_started: bool,
     parts: Option<Vec<Part<'t, C>>>,
@@ -166,7 +167,7 @@ fn all_ended<'t, C: Begun, P: Ledger>(
     }
 }
 
-/// The parts and the shares, if there are any.
+/// The parts and the shares. None if there are no shares.
 fn with_shares<'t, C: Begun, P: Ledger>(
     parts: Vec<Part<'t, C>>,
     shares: Option<Vec<Share<P>>>,
@@ -182,7 +183,8 @@ fn with_shares<'t, C: Begun, P: Ledger>(
     }
 }
 
-/// Starts the sessions, and answers those of names that aren't live. Tells whether all were started or answered.
+/// Starts the sessions, and answers those of names that aren't live. Returns whether all were
+/// started or answered.
 fn start_sessions<
     's,
     't: 's,
@@ -221,7 +223,7 @@ fn start_sessions<
     are_started
 }
 
-/// Starts a session, or answers it, where those before were. Tells whether it was.
+/// Starts a session, or answers it, if those before were. Returns whether it was.
 fn start_next<
     's,
     't: 's,
@@ -245,7 +247,8 @@ fn start_next<
     ensures started { IsTrue result → map started_by started.new.items
         ≡ map started_by started.old.items ++ seat.entry ∷ [] }
 {
-    // (one that runs and that nobody waits for would find the queue closed, and its job never stepped)
+    // A session that runs but isn't joined would find the queue closed, and its job would never be
+    // stepped.
     if !goes_on || started.reserve(1).is_err() {
         drop(seat);
         return false;
@@ -265,7 +268,7 @@ fn start_next<
     }
 }
 
-/// Starts a session, or answers it where its name isn't live.
+/// Starts a session, or answers it if its name isn't live.
 fn start_session<
     's,
     't: 's,
@@ -309,7 +312,7 @@ fn start_session<
     }
 }
 
-/// Waits for the sessions, and gives their parts. None where one gave none, or memory lacks.
+/// Joins the sessions, and returns their parts. None if a session has no part, or memory runs out.
 fn join_sessions<'t, C: Begun, R: Threads + AllocGlobal>(
     rt: &R,
     started: Vec<Started<'t, C>>,
@@ -325,7 +328,8 @@ fn join_sessions<'t, C: Begun, R: Threads + AllocGlobal>(
     parts
 }
 
-/// Waits for a session.
+/// The part of a session; if it runs on a thread, after the thread has ended. None if it has no
+/// part.
 fn join_session<'t, C: Begun, R: Threads>(rt: &R, session: Started<'t, C>) -> Option<Part<'t, C>>
     ensures { IfSome result (λ part. asked_in part ≡ started_by session.entry) }
 {
@@ -353,7 +357,7 @@ fn with_part<'t, C: Begun>(
     }
 }
 
-/// The parts with that one behind them, if there is one.
+/// The parts, and after them that one, if there is one.
 fn with_last<'t, C: Begun>(
     parts: Vec<Part<'t, C>>,
     part: Option<Part<'t, C>>,

@@ -1,5 +1,5 @@
-//! What the sessions were told, once they and the workers have ended.
-ghost use Rattle.std.specs.Prelude.{◌≡◌, List, [], true, map, IfOk, OnOk};
+//! The answers to the sessions, after they and the workers have ended.
+ghost use Rattle.std.specs.Prelude.{◌≡◌, List, [], true, length, map, IfOk, OnOk};
 ghost use Rattle.script_threads.specs.Parts.{Adds, AreParts, Finishes};
 ghost use Rattle.script_threads.specs.Served.{section_told};
 ghost use Rattle.script_threads.specs.Sessions.{PartState};
@@ -14,14 +14,15 @@ use std::alloc::{AllocError, Global};
 use std::sync::ledger::Ledger;
 use transcripts::Transcript;
 
-/// What each name's session was told, and the transcripts of those that ran.
+/// The answers to each name's session, and the transcripts of the sessions that ran.
 #[derive(Drop)]
 struct Parted<'t, C: Begun> {
     sections: Vec<Section<'t>>,
     transcripts: Vec<Transcript<C>>,
 }
 
-/// Settles what the sessions that ran were told. Gives the service, and what each name's session was told.
+/// Settles the answers to the sessions that ran. Returns the service, and the answers to each
+/// name's session.
 pub(crate) fn finish<'t, C: Begun, P: Ledger>(
     alloc: Global,
     core: Core<C, P>,
@@ -31,6 +32,7 @@ pub(crate) fn finish<'t, C: Begun, P: Ledger>(
     requires { C.stay ≡ true }
     ensures ok { IfOk result (λ r. Finishes C.begun parts.entry.items (map section_told r.1.items)
         r.0) }
+    ensures even { IfOk result (λ r. length (r.0).histories ≡ length C.begun.histories) }
 {
     match part_all(alloc, parts) {
         Ok(parted) => settled(core, parted, shares),
@@ -41,7 +43,8 @@ pub(crate) fn finish<'t, C: Begun, P: Ledger>(
     }
 }
 
-/// The same, with the transcripts parted from what was told.
+/// Settles the answers by the transcripts. Returns the service, and the answers to each name's
+/// session.
 fn settled<'t, C: Begun, P: Ledger>(
     core: Core<C, P>,
     parted: Parted<'t, C>,
@@ -49,19 +52,17 @@ fn settled<'t, C: Begun, P: Ledger>(
 ) -> Result<(Service, Vec<Section<'t>>), Unserved>
     requires { C.stay ≡ true }
     ensures ok { (parts : List PartState) →
-        AreParts parts (map section_told parted.entry.sections.items) parted.entry.transcripts.items
+        AreParts (C.stay ≡ true) parts (map section_told parted.entry.sections.items)
+        parted.entry.transcripts.items
         → IfOk result (λ r. Finishes C.begun parts (map section_told r.1.items) r.0) }
+    ensures even { IfOk result (λ r. length (r.0).histories ≡ length C.begun.histories) }
 {
     let Parted {
         sections,
         transcripts,
     } = parted;
     match settle(core, transcripts, shares) {
-        Ok(settled) => {
-            let service = settled.into_service();
-            let _parted = service.offset(0);
-            Ok((service, sections))
-        }
+        Ok(settled) => Ok((settled.into_service(), sections)),
         Err(not_settled) => {
             let cause = not_settled.cause;
             drop((not_settled, sections));
@@ -70,13 +71,13 @@ fn settled<'t, C: Begun, P: Ledger>(
     }
 }
 
-/// Parts what was told from the transcripts.
+/// Separates the answers from the transcripts.
 fn part_all<'t, C: Begun>(
     alloc: Global,
     parts: Vec<Part<'t, C>>,
 ) -> Result<Parted<'t, C>, AllocError>
     ensures { IfOk result (λ parted.
-        AreParts parts.entry.items (map section_told parted.sections.items)
+        AreParts (C.stay ≡ true) parts.entry.items (map section_told parted.sections.items)
         parted.transcripts.items) }
 {
     let mut parted = Parted {
@@ -93,11 +94,11 @@ fn part_all<'t, C: Begun>(
 }
 
 impl<'t, C: Begun> Parted<'t, C> {
-    /// Adds what the sessions were told, where nothing was added before.
+    /// Adds the answers to the sessions, if nothing was added before.
     fn add_all(&mut self, parts: Vec<Part<'t, C>>) -> Result<(), AllocError>
         requires { (self.old.sections.items ≡ []) × (self.old.transcripts.items ≡ []) }
-        ensures { OnOk result (AreParts parts.entry.items (map section_told self.new.sections.items)
-            self.new.transcripts.items) }
+        ensures { OnOk result (AreParts (C.stay ≡ true) parts.entry.items
+            (map section_told self.new.sections.items) self.new.transcripts.items) }
     {
         for part in parts {
             self.add(part)?;
@@ -105,11 +106,11 @@ impl<'t, C: Begun> Parted<'t, C> {
         Ok(())
     }
 
-    /// Adds what a session was told, and its transcript, if it ran.
+    /// Adds the answers to a session, and its transcript, if it ran.
     fn add(&mut self, part: Part<'t, C>) -> Result<(), AllocError>
-        ensures { OnOk result (Adds part.entry (map section_told self.old.sections.items)
-            self.old.transcripts.items (map section_told self.new.sections.items)
-            self.new.transcripts.items) }
+        ensures { OnOk result (Adds (C.stay ≡ true) part.entry
+            (map section_told self.old.sections.items) self.old.transcripts.items
+            (map section_told self.new.sections.items) self.new.transcripts.items) }
     {
         let Part {
             said,

@@ -1,13 +1,15 @@
 //! A script with workers: its sessions on threads of their own, beside threads that step the jobs.
 //!
-//! [`serve_on_threads`] serves the operator's lines ahead of all sessions; then each name's session, those of names that aren't live at
-//! once and the others on a thread each, beside the workers; and, once all of them have ended and what they were told is settled, the
-//! operator's other lines. In `specs/`, `Served` says what is told.
+//! [`serve_on_threads`] serves the operator's lines before all sessions; then each name's session,
+//! the sessions of names that aren't live at once and the others on a thread each, beside the
+//! workers. After all of them have ended and their answers are settled, the operator's other lines
+//! are served. In `specs/`, `Served` says what is answered.
 #![tactic(auto)]
 
 mod answered;
 mod crowd;
 mod finish;
+mod law;
 mod operator_lines;
 mod part;
 mod running;
@@ -17,4 +19,5 @@ mod serving;
 mod workers;
 
 pub use answered::{Answered, Section, Unserved};
+pub use law::{one_run, receipts_stand, threads_go_on};
 pub use serving::serve_on_threads;

@@ -11,7 +11,8 @@ use service_core::Service;
 use std::alloc::{AllocError, Global};
 use strips::DeviceGraph;
 
-/// Serves lines of the operator over a graph, one after another, and appends what they are told. Jobs that are held at their end are given back.
+/// Serves lines of the operator over a graph, one after another, and appends the answers. Jobs that
+/// are held at their end are given back.
 pub(crate) fn serve_lines<'t>(
     alloc: Global,
     graph: &DeviceGraph,

@@ -1,4 +1,4 @@
-//! What one name's session is told.
+//! The answers to one name's session.
 ghost use Rattle.std.specs.Prelude.{◌≡◌, ◌++◌, [], false, IfOk, IfSome, OnOk};
 ghost use Rattle.std.specs.List.{flat_map};
 ghost use Rattle.script_text.specs.Threaded.{said_by};
@@ -19,7 +19,7 @@ use std::sync::Wait;
 use std::sync::ledger::Ledger;
 use transcripts::{End, Transcript};
 
-/// What a name's session was told, and the transcript of one that ran.
+/// The answers to a name's session, and the transcript of a session that ran.
 #[derive(Drop)]
 pub(crate) struct Part<'t, C: Begun> {
     pub(crate) said: SessionInput<'t>,
@@ -29,13 +29,14 @@ pub(crate) struct Part<'t, C: Begun> {
 }
 
 impl<'t, C: Begun> Model for Part<'t, C> {
-    ghost use Rattle.script_threads.specs.Sessions.{IsTold, PartState};
+    ghost use Rattle.std.specs.Prelude.{◌≡◌, true};
+    ghost use Rattle.script_threads.specs.Sessions.{IsPart, PartState};
 
     ghost Value = { PartState };
 
     ghost view = { λ p. record { name = p.said.name.now; input = p.said.input.items; id = p.id; text = p.text.items; transcript = p.transcript } };
 
-    ghost invariant = { λ p. IsTold (record {
+    ghost invariant = { λ p. IsPart (C.stay ≡ true) (record {
       name = p.said.name.now;
       input = p.said.input.items;
       id = p.id;
@@ -44,7 +45,8 @@ impl<'t, C: Begun> Model for Part<'t, C> {
     }) };
 }
 
-/// The session of a live tenancy, from its begin to its end. None where memory lacked for its text.
+/// Runs the session of a live tenancy, from its beginning to its end. None if memory ran out for
+/// its text.
 pub(crate) fn run_part<'t, C: Begun, P: Ledger, R: Wait + AllocGlobal>(
     rt: &R,
     shared: &Shared<C, P>,
@@ -75,7 +77,8 @@ pub(crate) fn run_part<'t, C: Begun, P: Ledger, R: Wait + AllocGlobal>(
     }
 }
 
-/// The session of a name that isn't live: each item is told its own refusal, or that the tenancy is evicted.
+/// The part of a name that isn't live: each item is answered its own refusal, or that the tenancy
+/// is evicted.
 pub(crate) fn evicted_part<'t, C: Begun>(
     alloc: Global,
     said: SessionInput<'t>,
@@ -98,7 +101,7 @@ pub(crate) fn evicted_part<'t, C: Begun>(
     }
 }
 
-/// What the items of an input are told where the tenancy isn't live.
+/// The answers to the items of an input if the tenancy isn't live.
 fn evicted_text(alloc: Global, input: &[u8]) -> Result<Vec<u8>, AllocError>
     ensures { IfOk result (λ text. text.items ≡ evicted_text input.now) }
 {
@@ -113,7 +116,7 @@ fn evicted_text(alloc: Global, input: &[u8]) -> Result<Vec<u8>, AllocError>
     }
 }
 
-/// Appends what these items are told, where nothing was told before.
+/// Appends the answers to these items, if nothing was answered before.
 fn tell_all(text: &mut MemorySink, items: Vec<SessionLine>) -> Result<(), AllocError>
     requires { held text.old ≡ [] }
     ensures { OnOk result (held text.new ≡ flat_map evicted_line items.items) }
@@ -134,7 +137,7 @@ fn tell(text: &mut MemorySink, refusal: SessionRefusal) -> Result<(), AllocError
     }
 }
 
-/// Why an item isn't served where the tenancy isn't live.
+/// Why an item isn't served if the tenancy isn't live.
 fn refusal_of(item: SessionLine) -> SessionRefusal
     ensures { result ≡ evicted_refusal item }
 {

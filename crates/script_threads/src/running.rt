@@ -1,5 +1,5 @@
 //! The sessions of a script, run on threads beside the workers.
-ghost use Rattle.std.specs.Prelude.{◌≡◌, ◌≤◌, List, ℕ, true, map, All, IfOk};
+ghost use Rattle.std.specs.Prelude.{◌≡◌, ◌≤◌, List, ℕ, true, length, map, All, IfOk};
 ghost use Rattle.script_text.specs.Threaded.{AreApart, Said, said_by};
 ghost use Rattle.script_threads.specs.Seats.{AreFree};
 ghost use Rattle.script_threads.specs.Served.{Ran, section_told};
@@ -21,7 +21,7 @@ use std::thread::Threads;
 use std::time::Clock;
 use strips::DeviceGraph;
 
-/// Runs each name's session, and settles what they were told.
+/// Runs each name's session, and settles the answers.
 pub(crate) fn run_sessions<
     't,
     C: Begun + Send + Sync,
@@ -41,8 +41,9 @@ pub(crate) fn run_sessions<
     requires apart { AreApart (map said_by sessions.items) }
     requires begun { C.begun ≡ core.service }
     requires stay { C.stay ≡ true }
-    ensures ok { IfOk result (λ r. Ran operator.now core.service (map said_by sessions.entry.items)
+    ensures ran { IfOk result (λ r. Ran operator.now core.service (map said_by sessions.entry.items)
         (map section_told r.1.items) r.0) }
+    ensures even { IfOk result (λ r. length (r.0).histories ≡ length core.service.histories) }
 {
     let mut core = core;
     match prepare(rt.alloc(), workers, &mut core, operator, sessions) {
@@ -54,7 +55,8 @@ pub(crate) fn run_sessions<
     }
 }
 
-/// What the threads begin with: the queue, a seat and a share for each worker, and a pass for each session that is seated.
+/// What the threads begin with: the queue, a seat and a share for each worker, and a pass for each
+/// session that is seated.
 #[derive(Drop)]
 struct Prepared<'t, C: Begun, P: Ledger> {
     ready: Ready,
@@ -95,7 +97,7 @@ fn prepare<'t, C: Begun, P: Ledger>(
     }
 }
 
-/// The same, of the workers' shares and the sessions that are seated.
+/// Makes the queue for these shares and for the sessions that are seated.
 fn prepared_of<'t, C: Begun, P: Ledger>(
     alloc: Global,
     shares: Vec<Share<P>>,
@@ -118,7 +120,7 @@ fn prepared_of<'t, C: Begun, P: Ledger>(
     }
 }
 
-/// Runs the sessions that are seated, and settles what they were told.
+/// Runs the sessions that are seated, and settles the answers.
 fn run_prepared<
     't,
     C: Begun + Send + Sync,
@@ -136,6 +138,7 @@ fn run_prepared<
     ensures ok { (names : List (List ℕ)) (sessions : List Said) →
         prepared.entry.sessions.1.items ≡ map (asked_of names C.begun.histories) sessions →
         IfOk result (λ r. Ran names C.begun sessions (map section_told r.1.items) r.0) }
+    ensures even { IfOk result (λ r. length (r.0).histories ≡ length C.begun.histories) }
 {
     let Prepared {
         ready,

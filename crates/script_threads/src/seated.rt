@@ -1,4 +1,4 @@
-//! Sessions, each with its tenancy's lease where that is live.
+//! Sessions, each with its tenancy's lease if that is live.
 ghost use Rattle.std.specs.Prelude.{◌≡◌, ◌≤◌, false, map, IfOk};
 ghost use Rattle.operator.specs.OperatorText.{last_id};
 ghost use Rattle.script_text.specs.Threaded.{AreApart, said_by};
@@ -33,7 +33,7 @@ impl<'t, C: Begun> Model for Seated<'t, C> {
     ghost invariant = { λ s. HasLease s.id s.lease };
 }
 
-/// Seats each name's session, where no lease was given before.
+/// Seats each name's session, if no lease was given before.
 pub(crate) fn seat_all<'t, C: Begun, P: Ledger>(
     alloc: Global,
     operator: &Operator<'t>,
@@ -72,7 +72,7 @@ fn seat<'t, C: Begun, P: Ledger>(
     Seated { said, id, lease }
 }
 
-/// A share for each worker, of the 16 that there are.
+/// A share for each worker, of the 16 shares that there are.
 pub(crate) fn shares<C: Begun, P: Ledger>(
     alloc: Global,
     core: &mut Core<C, P>,

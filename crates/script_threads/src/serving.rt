@@ -24,7 +24,8 @@ use std::thread::Threads;
 use std::time::Clock;
 use strips::DeviceGraph;
 
-/// Serves a script of sessions of different names with so many workers, at most 16, from an empty device.
+/// Serves a script of sessions of different names with this number of workers, at most 16, from an
+/// empty device.
 pub fn serve_on_threads<'t, R: Threads + Wait + Clock + AllocGlobal + Sync>(
     rt: &R,
     workers: u32,
@@ -51,7 +52,7 @@ pub fn serve_on_threads<'t, R: Threads + Wait + Clock + AllocGlobal + Sync>(
     }
 }
 
-/// The same over the device's graph.
+/// Serves the script over the device's graph.
 fn serve_over<'t, R: Threads + Wait + Clock + AllocGlobal + Sync>(
     rt: &R,
     workers: u32,
@@ -75,7 +76,7 @@ fn serve_over<'t, R: Threads + Wait + Clock + AllocGlobal + Sync>(
     }
 }
 
-/// Serves a script by a service that no one uses.
+/// Serves a script by a service without tenancies.
 fn serve_script<'t, R: Threads + Wait + Clock + AllocGlobal + Sync>(
     rt: &R,
     workers: u32,
@@ -115,7 +116,8 @@ fn serve_script<'t, R: Threads + Wait + Clock + AllocGlobal + Sync>(
     }
 }
 
-/// Serves the parts of a script, and appends what the operator is told. Gives what each name's session was told.
+/// Serves the parts of a script, and appends the answers to the operator. Returns the answers to
+/// each name's session.
 fn serve_parts<'t, R: Threads + Wait + Clock + AllocGlobal + Sync>(
     rt: &R,
     workers: u32,
@@ -207,7 +209,7 @@ fn serve_sessions<
     }
 }
 
-/// Serves the operator's other lines by the settled service. Gives what the sessions were told.
+/// Serves the operator's other lines by the settled service. Returns the answers to the sessions.
 fn serve_rest<'t>(
     alloc: Global,
     graph: &DeviceGraph,

@@ -15,7 +15,7 @@ use worker_pool::{Open, run_worker};
 /// A worker's thread.
 pub(crate) type Worker<P> = JoinHandle<Share<P>>;
 
-/// Starts the workers. Tells whether all were started.
+/// Starts the workers. Returns whether all were started.
 pub(crate) fn start_workers<
     's,
     E,
@@ -53,7 +53,7 @@ pub(crate) fn start_workers<
     are_started
 }
 
-/// Starts a worker, where those before were started. Tells whether it was.
+/// Starts a worker, if those before were started. Returns whether it was.
 fn start_worker<
     's,
     E,
@@ -98,7 +98,7 @@ fn start_worker<
     }
 }
 
-/// Waits for the workers, and gives their shares. None where memory lacks.
+/// Joins the workers, and returns their shares. None if memory runs out.
 pub(crate) fn join_workers<P: Ledger, R: Threads + AllocGlobal>(
     rt: &R,
     workers: Vec<Worker<P>>,

@@ -1,4 +1,4 @@
--- What a line is, known by its head.
+-- What a line asks, known from its head.
 use Rattle.std.proofs.Common.{◌≡◌, inl, inr, ℕ, ◌+◌, ◌-◌, ◌<◌, ◌≤◌, List, [], ◌∷◌, ◌++◌, length, take, get_or, Bool, true, false, not, ◌||◌, cond, ◌==◌, filter, refl, ap, sym, ◌∙◌, arith, length-take}
 use Rattle.std.specs.Prelude.{nat_lt}
 use Rattle.std.specs.List.{onto_first, slice_split}
@@ -15,7 +15,7 @@ use Rattle.sessions.specs.Items.{without_cr}
 use Rattle.sessions.specs.SessionLines.{line_form, words_form}
 use Rattle.session_threads.specs.Lines.{IsHead, has_word}
 
--- a line has words where a byte of it is no blank
+-- a line has words if a byte of it isn't blank
 filled_first : (x : ℕ) (parts : List (List ℕ)) → is_filled (filter is_filled (onto_first x parts)) ≡ true
 filled_first x [] = refl
 filled_first x (part ∷ parts) = refl
@@ -30,7 +30,7 @@ or_false : (b : Bool) → (b || false) ≡ b
 or_false true = refl
 or_false false = refl
 
--- the CR at a line's end is no word
+-- the CR at a line's end makes no word
 last_off : (line : List ℕ) → 0 < length line → line ≡ take (length line - 1) line ++ get_or line (length line - 1) 0 ∷ []
 last_off line some =
     let all : length line ≡ length line - 1 + 1 = omega arith in

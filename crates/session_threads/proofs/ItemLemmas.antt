@@ -1,4 +1,4 @@
--- Lines of an input, and what they come to.
+-- Lines of an input, and their outcomes.
 use Rattle.std.proofs.Common.{◌≡◌, ℕ, ◌<◌, List, [], ◌∷◌, ◌++◌, length, Bool, true, false, not, ◌&&◌, ◌==◌, Option, Some, None, refl, ap, subst, arith}
 use Rattle.std.specs.Prelude.{if◌then◌else◌}
 use Rattle.std.specs.List.{onto_first}
@@ -26,7 +26,6 @@ pub line_then : (line more : List ℕ) → is_one_line line ≡ true → physica
 line_then [] more one = refl
 line_then (b ∷ bs) more one = more_line (b == 10) b bs (physical_lines ((bs ++ 10 ∷ []) ++ more)) (physical_lines more) one (λ e. line_then bs more e) _
 
--- a last line
 more_last : (lf : Bool) (b : ℕ) (bs : List ℕ) (all : List (List ℕ)) → (not lf && is_one_line bs) ≡ true → onto_first b all ≡ (b ∷ bs) ∷ [] → (then_all : List (List ℕ)) → (if lf then then_all else onto_first b all) ≡ (b ∷ bs) ∷ []
 more_last true b bs all one next then_all = cc
 more_last false b bs all one next then_all = next
@@ -41,7 +40,7 @@ last_line (b ∷ []) one some = more_last (b == 10) b [] [] one refl _
 last_line (b ∷ c ∷ bs) one some =
     more_last (b == 10) b (c ∷ bs) (physical_lines (c ∷ bs)) one (ap (onto_first b) (last_line (c ∷ bs) (and_right (not (b == 10)) (is_one_line (c ∷ bs)) one) (omega arith))) _
 
--- what a line comes to is told
+-- the outcome of a line is answered
 outcome_told : (id : ℕ) (item : Option SessionLine) (outcome : Outcome) (told : List (Option Place)) → IsOutcome item outcome → TellsOutcome id outcome told → AreTold id (item_and item []) told
 outcome_told id None Nothing told comes tells = rw tells tt
 outcome_told id None (Item it) told comes tells = cc
@@ -50,7 +49,7 @@ outcome_told id (Some item) Nothing told comes tells = absurd comes
 outcome_told id (Some item) (Item it) told comes tells = rw tells.2 ((let P : SessionLine → Type 0 = λ i. IsTold id i tells.0 in subst P comes tells.1), tt)
 outcome_told id (Some item) NoMemory told comes tells = rw tells (tt, tt)
 
--- a line, of which so much was kept
+-- a line, with the part of it that is kept
 pub serves_line : (id : ℕ) (old_within new_within : Within) (kept : LineSoFar) (outcome : Outcome) (wrote : List ℕ → Type 0) (old new : TranscriptState) →
     ((line : List ℕ) → IsLine kept line → ComesTo old_within line outcome new_within) → Serves id outcome wrote old new → ServesLine id old_within new_within kept wrote old new
 serves_line id old_within new_within kept outcome wrote old new comes serves = record {

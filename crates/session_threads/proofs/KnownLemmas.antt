@@ -23,12 +23,12 @@ consumes_kept (Some os) None new xs a b = absurd a
 consumes_kept (Some os) (Some ms) None xs a b = absurd b
 consumes_kept (Some os) (Some ms) (Some ns) xs a b = a ∙ ap (λ t. xs ++ t) b
 
--- what is left, where nothing was read ahead
+-- what is left, if nothing was read ahead
 pub prepend_none : (known : Option (List ℕ)) → prepend_known [] known ≡ known
 prepend_none None = refl
 prepend_none (Some xs) = refl
 
--- at the end of what was read ahead and of what is left, nothing is left
+-- at the end of what was read ahead and of the rest, nothing is left
 pub end_of_ahead : (bs : List ℕ) (known : Option (List ℕ)) → IsAtEnd (prepend_known bs known) → IsAtEnd known
 end_of_ahead bs None e = tt
 end_of_ahead [] (Some xs) e = e

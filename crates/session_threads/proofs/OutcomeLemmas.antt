@@ -1,4 +1,4 @@
--- What a line of an input comes to.
+-- The outcome of a line of an input.
 use Rattle.std.proofs.Common.{◌≡◌, ℕ, List, [], ◌∷◌, ◌++◌, true, false, Some, None, refl, ap, ◌∙◌, append-nil}
 use Rattle.std.specs.Prelude.{option_map}
 use Rattle.sessions.specs.declared.line.LineForm.{LineForm}
@@ -32,7 +32,6 @@ item_line line item form asks text within = record {
   comes = refl;
 }
 
--- a line of a text
 ends : (old : TextSoFar) (line : List ℕ) → ends_text line ≡ true → GivesItem (Some old) line (Some (text_item old.kind (Some old.bytes))) None
 ends old line end lines =
     let rest : items_from true (line ∷ lines) ≡ items_from false lines = rw end refl in
@@ -65,7 +64,6 @@ text_goes_on old new line on is text within = rw within (record { next = Some ne
 pub text_lost : (old : TextSoFar) (line : List ℕ) → ends_text line ≡ false → ComesTo (Text old) line Nothing LostText
 text_lost old line on text within = rw within (lost old line on)
 
--- and of one that is lost
 pub lost_ends : (line : List ℕ) → ends_text line ≡ true → ComesTo LostText line NoMemory Session
 lost_ends line end None within = cc
 lost_ends line end (Some old) within = unserved old line end

@@ -81,7 +81,7 @@ goes_on contents has_failed w x y id now_id old now new input a b p q own same g
       are = told-append id going.items (item_and its.item []) going.told turn.told going.are (let P : ℕ → Type 0 = λ i. AreTold i (item_and its.item []) turn.told in subst P ids its.are);
     }
 
--- what the whole input is told
+-- the answers to the whole input
 whole : (id : ℕ) (end : End) (input ahead : Option (List ℕ)) (final : Option (List ℕ)) (read last : List ℕ) (items : List SessionLine) (text : Option TextSoFar) (told more : List (Option Place)) (bs : List ℕ) (left : Option (List ℕ)) → Consumes input ahead read → Consumes ahead final last → HaveEnded read items text → AreTold id items told → LastToldOf id text last final end more →
     final ≡ prepend_known bs left → KeepsNoneAhead end bs → IfSome input (λ bytes. ToldOf id bytes left end (told ++ more))
 whole id end None ahead final read last items text told more bs left a b ended are its is_left none = tt

@@ -1,4 +1,4 @@
--- What is told, one thing after another.
+-- Answers, one after another.
 use Rattle.std.proofs.Common.{◌≡◌, ◌≢◌, ℕ, ◌-◌, List, [], ◌∷◌, ◌++◌, length, Bool, true, false, Option, Some, None, Err, refl, ap, sym, subst, ◌∙◌, arith, length-append, append-nil}
 use Rattle.std.specs.Prelude.{MatchBool, option_map, slice_get}
 use Rattle.std.proofs.lemmas.Grind.{flat_map-append}
@@ -49,7 +49,7 @@ told-append id [] js (x ∷ xs) ys a b = absurd a
 told-append id (i ∷ is) js [] ys a b = absurd a
 told-append id (i ∷ is) js (x ∷ xs) ys a b = (a.0, told-append id is js xs ys a.1 b)
 
--- the last place
+-- the last item
 length-snoc : (xs : List Item) (x : Item) → length (xs ++ x ∷ []) - 1 ≡ length xs
 length-snoc xs x = omega (arith, length-append xs (x ∷ []))
 
@@ -60,7 +60,7 @@ get-snoc (y ∷ xs) x = get-snoc xs x
 pub last_place-snoc : (xs : List Item) (x : Item) → last_place (xs ++ x ∷ []) ≡ Some x.place
 last_place-snoc xs x = ap (λ n. option_map (λ (i : Item). i.place) (slice_get (xs ++ x ∷ []) n)) (length-snoc xs x) ∙ ap (option_map (λ (i : Item). i.place)) (get-snoc xs x)
 
--- what the core answers a command
+-- the core's answer to a command
 receipt_answers : (o : Option History) (id : ℕ) (command : TenantCommand) (r : Receipted) → IsReceipt o id command r → AnswersCommand id command (Receipt r)
 receipt_answers None id command r is = absurd is
 receipt_answers (Some h) id command r is = (is.0, is.2)
@@ -71,7 +71,7 @@ note_answers before after id command n JournalFull e is =
 note_answers before after id command n NoSuchTenancy e is =
     let its = rw e at is in ap (λ (m : Noted). m.id) its.0
 
-place_answers : (before after : CoreState) (id : ℕ) (command : TenantCommand) (place : Place) → IsPlaceOf before id command place after → AnswersCommand id command place
+pub place_answers : (before after : CoreState) (id : ℕ) (command : TenantCommand) (place : Place) → IsPlaceOf before id command place after → AnswersCommand id command place
 place_answers before after id command (Receipt r) is = receipt_answers (live_of before.service.histories id) id command r is.0.0
 place_answers before after id command (Note n) is = note_answers before.service after.service id command n n.cause refl is.0
 place_answers before after id command (Refused refusal) is = absurd is
@@ -84,7 +84,7 @@ pub refuses_notes : (old new : TranscriptState) (refusal : SessionRefusal) (kept
 refuses_notes old new refusal true is = (Refused refusal, refl, is)
 refuses_notes old new refusal false is = is
 
--- an item that has a place
+-- an item that has an answer
 pub tells_placed : (id : ℕ) (item : SessionLine) (wrote : List ℕ → Type 0) (old mid new : TranscriptState) (has : Bool) (last : Option Place) → old.id ≡ id → mid ≡ old → has ≡ true → NotesBy (AnswersItem mid.id item) mid has new → last ≡ last_place new.items → wrote (told_text last) →
     TellsItem id item wrote old new
 tells_placed id item wrote old mid new true last own same has notes last_is written =
@@ -108,7 +108,7 @@ finishes id within item wrote old new end not ends tells = record {
   answers = λ text is. (let P : List SessionLine → Type 0 = λ items. AreTold id items (tells.told ∷ []) in subst P (sym (ends text is)) (tells.answers, tt));
 }
 
--- what a line came to
+-- the outcome of a line
 pub serves_item : (id : ℕ) (item : SessionLine) (wrote : List ℕ → Type 0) (old new : TranscriptState) → TellsItem id item wrote old new → Serves id (ItemOutcome item) wrote old new
 serves_item id item wrote old new tells = record {
   told = tells.told ∷ [];

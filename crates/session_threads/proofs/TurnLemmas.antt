@@ -1,4 +1,4 @@
--- What a turn of a session comes to.
+-- A turn of a session.
 use Rattle.std.proofs.Common.{◌≡◌, ◌≢◌, ℕ, ◌<◌, List, [], ◌∷◌, ◌++◌, length, Bool, Option, Some, None, Ok, Err, refl, ap, sym, subst, ◌∙◌, append-nil}
 use Rattle.std.specs.Prelude.{IfSome}
 use Rattle.std.specs.Io.KnownBytes.{IsAtEnd}
@@ -22,7 +22,7 @@ use Rattle.session_threads.specs.WholeSession.{EndsInput, EndsReading, Finishes,
 use Rattle.session_threads.proofs.ItemLemmas.{last_line, line_then}
 use Rattle.session_threads.proofs.ToldLemmas.{noted_all-append, noted_all-id, texts-append, told-append}
 
--- a text, and then the last of it
+-- a text, and then its last part
 pub wrote_then : {W : Type 0} (contents : W → Option (List ℕ)) (has_failed : W → Bool) (a b c : W) (s t : List ℕ) (end : End) → TakesAll contents has_failed a b s → Wrote contents has_failed b c t end → Wrote contents has_failed a c (s ++ t) end
 wrote_then contents has_failed a b c s t Ended all last = all_then all last
 wrote_then contents has_failed a b c s t ReaderFailed all last = all_then all last
@@ -32,7 +32,7 @@ pub wrote_texts : {W : Type 0} (contents : W → Option (List ℕ)) (has_failed 
 wrote_texts contents has_failed a b c xs ys end all last =
     let P : List ℕ → Type 0 = λ text. Wrote contents has_failed a c text end in subst P (sym (texts-append xs ys)) (wrote_then contents has_failed a b c (told_texts xs) (told_texts ys) end all last)
 
--- a line's items stand before those that are to come then
+-- a line's items are before those that follow
 item_and-append : (item : Option SessionLine) (items : List SessionLine) → item_and item items ≡ item_and item [] ++ items
 item_and-append None items = refl
 item_and-append (Some item) items = refl
@@ -40,7 +40,6 @@ item_and-append (Some item) items = refl
 pub line_items : (id : ℕ) (text : Option TextSoFar) (line : List ℕ) (after : Within) (told : List (Option Place)) (t : LineIsTold id text line after told) (lines : List (List ℕ)) → items_to_come text (line ∷ lines) ≡ item_and t.item [] ++ items_to_come t.next lines
 line_items id text line after told t lines = t.gives lines ∙ item_and-append t.item (items_to_come t.next lines)
 
--- the reader fails
 pub reader_fails : {W : Type 0} (contents : W → Option (List ℕ)) (has_failed : W → Bool) (w : W) (id : ℕ) (input ahead : Option (List ℕ)) (within : Within) (kept : LineSoFar) (failed : Failed) (t : TranscriptState) →
     ReadsLine input ahead kept (Err failed) → Stops id input ahead within (Wrote contents has_failed w w) t ReaderFailed t
 reader_fails contents has_failed w id input ahead within kept failed t reads = record {
@@ -52,7 +51,6 @@ reader_fails contents has_failed w id input ahead within kept failed t reads = r
   asked = λ text is. (reads.1, refl);
 }
 
--- a line is served
 pub line_served : {W : Type 0} (contents : W → Option (List ℕ)) (has_failed : W → Bool) (a b : W) (id : ℕ) (input ahead : Option (List ℕ)) (within after : Within) (kept : LineSoFar) (old new : TranscriptState) (u : Unit {0}) →
     ReadsLine input ahead kept (Ok LineFeed) → ServesLine id within after kept (λ text. Writes contents has_failed a b text (Ok u)) old new → GoesOn id input ahead within after (λ text. Wrote contents has_failed a b text Ended) old new
 line_served contents has_failed a b id input ahead within after kept old new u reads serves = record {
@@ -65,7 +63,7 @@ line_served contents has_failed a b id input ahead within after kept old new u r
   asked = serves.asked reads.0 reads.2;
 }
 
--- the writer fails at it
+-- the writer fails at the line
 pub line_unwritten : {W : Type 0} (contents : W → Option (List ℕ)) (has_failed : W → Bool) (a b : W) (id : ℕ) (input ahead : Option (List ℕ)) (within after : Within) (kept : LineSoFar) (old new : TranscriptState) (failed : Failed) →
     ReadsLine input ahead kept (Ok LineFeed) → ServesLine id within after kept (λ text. Writes contents has_failed a b text (Err failed)) old new → Stops id input ahead within (Wrote contents has_failed a b) old WriterFailed new
 line_unwritten contents has_failed a b id input ahead within after kept old new failed reads serves = record {
@@ -81,7 +79,6 @@ line_unwritten contents has_failed a b id input ahead within after kept old new 
     first None text told = tt
     first (Some rest) text told = (item_and told.item [], items_to_come told.next (physical_lines rest), ap (items_to_come text) (line_then reads.0 rest reads.1) ∙ line_items id text reads.0 after serves.told told (physical_lines rest), told.are)
 
--- the input ends
 pub input_ended : {W : Type 0} (contents : W → Option (List ℕ)) (has_failed : W → Bool) (a b : W) (id : ℕ) (input ahead : Option (List ℕ)) (within : Within) (kept : LineSoFar) (old new : TranscriptState) (end : End) →
     ReadsLine input ahead kept (Ok Input) → EndsInput id within kept (Wrote contents has_failed a b) old end new → Stops id input ahead within (Wrote contents has_failed a b) old end new
 input_ended contents has_failed a b id input ahead within kept old new end reads ends = record {
@@ -136,7 +133,7 @@ last_line_served contents has_failed a b c id within after kept old mid new end 
       subst P (sym line_is) (at_once id (item_and its.item [] ++ items_to_come its.next []) (serves.told ++ f.told) end f.at_end (told-append id (item_and its.item []) (items_to_come its.next []) serves.told f.told its.are more));
 }
 
--- and where the writer fails at the line
+-- a last line, at which the writer fails
 pub last_line_unwritten : {W : Type 0} (contents : W → Option (List ℕ)) (has_failed : W → Bool) (a b : W) (id : ℕ) (within after : Within) (kept : LineSoFar) (old new : TranscriptState) (failed : Failed) → ((line : List ℕ) → IsLine kept line → 0 < length line) →
     ServesLine id within after kept (λ text. Writes contents has_failed a b text (Err failed)) old new → EndsInput id within kept (Wrote contents has_failed a b) old WriterFailed new
 last_line_unwritten contents has_failed a b id within after kept old new failed some serves = record {
@@ -155,7 +152,6 @@ none_ahead Ended ahead not = tt
 none_ahead ReaderFailed ahead not = absurd (not refl)
 none_ahead WriterFailed ahead not = tt
 
--- the reader is at its end
 pub ends_reading : (known : Option (List ℕ)) (failed : Bool) (end : End) → IsAtEnd known → end ≢ ReaderFailed → EndsReading known failed end
 ends_reading known failed Ended none not = none
 ends_reading known failed ReaderFailed none not = absurd (not refl)

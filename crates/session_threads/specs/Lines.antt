@@ -1,9 +1,9 @@
--- Private: a line for whose bytes memory may lack. What it is, is known by its head.
+-- Private: a line whose bytes may not fit in memory. Its head shows what it asks.
 use Rattle.std.specs.Prelude.{ℕ, ◌≡◌, ◌⊎◌, ◌≤◌, List, length, Bool, false, not}
 use Rattle.std.specs.List.{list_any}
 use Rattle.line_text.specs.Words.{is_blank}
 
--- what is kept of a line: its head; and its bytes, unless memory lacked for them
+-- what is kept of a line: its head; and its bytes, unless memory ran out for them
 pub record LineSoFar : Type 0 where
   pub head : List ℕ
   pub bytes : List ℕ
@@ -13,11 +13,12 @@ pub record LineSoFar : Type 0 where
 abbrev pub has_word : List ℕ → Bool
 has_word line = list_any (λ byte. not (is_blank byte)) line
 
--- the head is the line; or both are too long for a command, also where a CR ends them, and have words or none
+-- the head is the line; or both are too long for a command, even if a CR ends them, and both have
+-- words or neither has
 abbrev pub IsHead : List ℕ → List ℕ → Type 0
 IsHead head line = (head ≡ line) ⊎ ((4098 ≤ length head) × (4098 ≤ length line) × (has_word head ≡ has_word line))
 
--- so much is kept of that line
+-- this is kept of that line
 pub record IsLine (kept : LineSoFar) (line : List ℕ) : Type 0 where
   pub head : IsHead kept.head line
   pub bytes : kept.is_lost ≡ false → kept.bytes ≡ line

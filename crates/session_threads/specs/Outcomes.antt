@@ -1,4 +1,4 @@
--- Private: what the lines of an input come to, one by one.
+-- Private: the outcomes of the lines of an input, one by one.
 use Rattle.std.specs.Prelude.{ℕ, ◌≡◌, ⊤, List, [], ◌∷◌, Bool, true, false, Option, Some, None, is_some}
 use Rattle.sessions.specs.declared.line.SessionLine.{SessionLine}
 use Rattle.sessions.specs.declared.line.SessionLine.TheVariants.{Blank, Command, Wait, Refused}
@@ -16,26 +16,27 @@ is_item (Command command) = true
 is_item Wait = true
 is_item (Refused refusal) = true
 
--- an item that a line comes to asks something
+-- an item that is the outcome of a line asks something
 abbrev pub IsItem : Outcome → Type 0
 IsItem Nothing = ⊤
 IsItem (Item item) = is_item item ≡ true
 IsItem NoMemory = ⊤
 
--- the text that is being read, if one is; of one that memory lacked for it isn't known what was read
+-- the text that is being read, if there is one; if memory ran out for a text it isn't known what
+-- was read of it
 abbrev pub IsWithin : Within → Option TextSoFar → Type 0
 IsWithin Session text = text ≡ None
 IsWithin (Text so_far) text = text ≡ Some so_far
 IsWithin LostText text = is_some text ≡ true
 
--- the item that ended with a line, if one did, or that memory lacked for it
+-- the item that ended with a line, if one did, or that memory ran out for it
 abbrev pub IsOutcome : Option SessionLine → Outcome → Type 0
 IsOutcome None outcome = outcome ≡ Nothing
 IsOutcome (Some item) Nothing = ⊥
 IsOutcome (Some item) (Item it) = it ≡ item
 IsOutcome (Some item) NoMemory = ⊤
 
--- a line of an input comes to that, with that text being read before
+-- a line of an input has that outcome, after lines that leave that text being read
 pub record LineComesTo (text : Option TextSoFar) (line : List ℕ) (outcome : Outcome) (new : Within) : Type 0 where
   pub next : Option TextSoFar
   pub item : Option SessionLine
@@ -46,7 +47,7 @@ pub record LineComesTo (text : Option TextSoFar) (line : List ℕ) (outcome : Ou
 abbrev pub ComesTo : Within → List ℕ → Outcome → Within → Type 0
 ComesTo old line outcome new = (text : Option TextSoFar) → IsWithin old text → LineComesTo text line outcome new
 
--- what a line that came to that is told
+-- the answers to a line with that outcome
 abbrev pub TellsOutcome : ℕ → Outcome → List (Option Place) → Type 0
 TellsOutcome id Nothing told = told ≡ []
 TellsOutcome id (Item item) told = (t : Option Place) × IsTold id item t × (told ≡ t ∷ [])
@@ -56,7 +57,7 @@ TellsOutcome id NoMemory told = told ≡ None ∷ []
 abbrev pub EndsItems : Within → Option SessionLine → Type 0
 EndsItems within item = (text : Option TextSoFar) → IsWithin within text → items_to_come text [] ≡ item_and item []
 
--- a line's items are told, and leave the text that is being read then
+-- a line's items have these answers, and leave the text that is being read then
 pub record LineIsTold (id : ℕ) (text : Option TextSoFar) (line : List ℕ) (after : Within) (told : List (Option Place)) : Type 0 where
   pub next : Option TextSoFar
   pub item : Option SessionLine
@@ -64,6 +65,6 @@ pub record LineIsTold (id : ℕ) (text : Option TextSoFar) (line : List ℕ) (af
   pub gives : GivesItem text line item next
   pub are : AreTold id (item_and item []) told
 
--- whatever text was being read
+-- so it is whatever text was being read
 abbrev pub TellsLine : ℕ → Within → List ℕ → Within → List (Option Place) → Type 0
 TellsLine id within line after told = (text : Option TextSoFar) → IsWithin within text → LineIsTold id text line after told

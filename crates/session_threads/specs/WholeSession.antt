@@ -1,4 +1,4 @@
--- What a session comes to.
+-- A whole session, from its input to its transcript.
 use Rattle.std.specs.Prelude.{ℕ, ◌≡◌, ◌≢◌, List, [], ◌∷◌, ◌++◌, Bool, true, Option, Some, None, IfSome, ⊤}
 use Rattle.std.specs.Io.KnownBytes.{Consumes, IsAtEnd}
 use Rattle.line_text.specs.Lines.{physical_lines}
@@ -17,22 +17,23 @@ use Rattle.session_threads.specs.Lines.{IsLine, LineSoFar}
 use Rattle.session_threads.specs.Told.{AreTold, IsTold, noted_all, told_text, told_texts}
 use Rattle.session_threads.specs.Outcomes.{IsWithin, TellsLine, TellsOutcome}
 
--- the text is written; or a beginning of it, where the writer failed
+-- the text is written; or a beginning of it, if the writer failed
 abbrev pub Wrote : {W : Type 0} → (W → Option (List ℕ)) → (W → Bool) → W → W → List ℕ → End → Type 0
 Wrote contents has_failed old new text Ended = TakesAll contents has_failed old new text
 Wrote contents has_failed old new text ReaderFailed = TakesAll contents has_failed old new text
 Wrote contents has_failed old new text WriterFailed = TakesPart contents has_failed old new text
 
--- the first of the items are told so
+-- the first items have these answers
 abbrev pub FirstAreTold : ℕ → List SessionLine → List (Option Place) → Type 0
 FirstAreTold id all told = (items : List SessionLine) × (others : List SessionLine) × (all ≡ items ++ others) × AreTold id items told
 
--- after these bytes those items have ended, and that text is being read, if one is
+-- after these bytes those items have ended, and that text is being read, if there is one
 abbrev pub HaveEnded : List ℕ → List SessionLine → Option TextSoFar → Type 0
 HaveEnded read items text = (more : List ℕ) → items_of (read ++ more) ≡ items ++ items_to_come text (physical_lines more)
 
--- each item of the input is told, in order, if the session came to its end; where the reader failed, each item that ended before
--- the line that it failed in, and no more was read than up to there and of that line; and where the writer failed, the first of them
+-- if the session ended with its input, each item of the input is answered, in order; if the reader
+-- failed, each item is answered that ended before the line in which it failed, and nothing was read
+-- after the part of this line that was read; if the writer failed, the first items are answered
 abbrev pub ToldOf : ℕ → List ℕ → Option (List ℕ) → End → List (Option Place) → Type 0
 ToldOf id input left Ended told = AreTold id (items_of input) told
 ToldOf id input left ReaderFailed told =
@@ -40,21 +41,22 @@ ToldOf id input left ReaderFailed told =
     × Consumes (Some input) left (read ++ line) × (is_one_line line ≡ true) × HaveEnded read items text × AreTold id items told
 ToldOf id input left WriterFailed told = FirstAreTold id (items_of input) told
 
--- how the devices stand then: the reader is at its end, or has failed
+-- the state of the devices at the end: the reader is at its end, or has failed
 abbrev pub EndsReading : Option (List ℕ) → Bool → End → Type 0
 EndsReading input failed Ended = IsAtEnd input
 EndsReading input failed ReaderFailed = failed ≡ true
 EndsReading input failed WriterFailed = ⊤
 
--- the items were told those things: the transcript has them, they were written, and they are what the input asked, of which the reader
--- has so much left. An item that found no memory is told so, and counted
+-- the items have those answers: the transcript has them, they were written, and they answer what
+-- the input asked, of which the reader has this left. An item that ran out of memory is answered
+-- so, and counted
 pub record WholeSession (id : ℕ) (input left : Option (List ℕ)) (wrote : List ℕ → End → Type 0) (old : TranscriptState) (end : End) (new : TranscriptState) : Type 0 where
   pub told : List (Option Place)
   pub noted : new ≡ noted_all old told
   pub written : wrote (told_texts told) end
   pub asked : IfSome input (λ bytes. ToldOf id bytes left end told)
 
--- a session's transcript, from its begin on
+-- a session's transcript at its beginning
 abbrev pub fresh : ℕ → TranscriptState
 fresh id = record { id = id; items = []; no_memory = 0; end = None }
 
@@ -74,13 +76,13 @@ pub record GoesOn (id : ℕ) (input ahead : Option (List ℕ)) (within after : W
   pub read : Consumes input ahead (line ++ 10 ∷ [])
   pub asked : TellsLine id within line after told
 
--- private: where the reader failed, nothing was read ahead that no line has
+-- private: if the reader failed, nothing was read ahead that isn't in a line
 abbrev pub KeepsNoneAhead : End → List ℕ → Type 0
 KeepsNoneAhead Ended ahead = ⊤
 KeepsNoneAhead ReaderFailed ahead = ahead ≡ []
 KeepsNoneAhead WriterFailed ahead = ⊤
 
--- private: what the items of the last bytes that were read are told
+-- private: the answers to the items of the last bytes that were read
 abbrev pub LastToldOf : ℕ → Option TextSoFar → List ℕ → Option (List ℕ) → End → List (Option Place) → Type 0
 LastToldOf id text bytes ahead Ended told = IsAtEnd ahead × AreTold id (items_to_come text (physical_lines bytes)) told
 LastToldOf id text bytes ahead ReaderFailed told = (is_one_line bytes ≡ true) × (told ≡ [])
@@ -95,26 +97,26 @@ pub record Stops (id : ℕ) (input ahead : Option (List ℕ)) (within : Within) 
   pub read : Consumes input ahead bytes
   pub asked : (text : Option TextSoFar) → IsWithin within text → LastToldOf id text bytes ahead end told
 
--- private: one or the other
+-- private: the session goes on, or it ends
 abbrev pub Turns : ℕ → Option (List ℕ) → Option (List ℕ) → Within → Within → (List ℕ → End → Type 0) → TranscriptState → Option End → TranscriptState → Type 0
 Turns id input ahead within after wrote old None new = GoesOn id input ahead within after (λ text. wrote text Ended) old new
 Turns id input ahead within after wrote old (Some end) new = Stops id input ahead within wrote old end new
 
--- private: an item is told something, which is written and noted
+-- private: an item has an answer, which is written and noted
 pub record TellsItem (id : ℕ) (item : SessionLine) (wrote : List ℕ → Type 0) (old new : TranscriptState) : Type 0 where
   pub told : Option Place
   pub answers : IsTold id item told
   pub noted_is : new ≡ noted old told
   pub written : wrote (told_text told)
 
--- private: and what a line came to
+-- private: a line's outcome has its answers, which are written and noted
 pub record Serves (id : ℕ) (outcome : Outcome) (wrote : List ℕ → Type 0) (old new : TranscriptState) : Type 0 where
   pub told : List (Option Place)
   pub answers : TellsOutcome id outcome told
   pub noted_is : new ≡ noted_all old told
   pub written : wrote (told_texts told)
 
--- private: and the item at the input's end, if there is one
+-- private: the item at the input's end, if there is one, has an answer, which is written and noted
 pub record Finishes (id : ℕ) (within : Within) (wrote : List ℕ → End → Type 0) (old : TranscriptState) (end : End) (new : TranscriptState) : Type 0 where
   pub told : List (Option Place)
   pub noted_is : new ≡ noted_all old told
@@ -122,14 +124,14 @@ pub record Finishes (id : ℕ) (within : Within) (wrote : List ℕ → End → T
   pub at_end : end ≢ ReaderFailed
   pub answers : (text : Option TextSoFar) → IsWithin within text → AreTold id (items_to_come text []) told
 
--- private: a line was served, of which so much is kept
+-- private: a line was served, of which this is kept
 pub record ServesLine (id : ℕ) (within after : Within) (kept : LineSoFar) (wrote : List ℕ → Type 0) (old new : TranscriptState) : Type 0 where
   pub told : List (Option Place)
   pub noted_is : new ≡ noted_all old told
   pub written : wrote (told_texts told)
   pub asked : (line : List ℕ) → IsLine kept line → TellsLine id within line after told
 
--- private: all of the items, or the first of them
+-- private: all items are answered, or the first ones
 abbrev pub ToldAtEnd : End → ℕ → List SessionLine → List (Option Place) → Type 0
 ToldAtEnd Ended id items told = AreTold id items told
 ToldAtEnd ReaderFailed id items told = ⊥

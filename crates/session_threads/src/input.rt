@@ -6,7 +6,7 @@ ghost use Rattle.session_threads.specs.Inputs.{GivesByte};
 use line_text::{Failed, Source};
 use std::marker::Model;
 
-/// So many bytes are read at a time.
+/// The number of bytes that are read at a time.
 const CHUNK: usize = 4096;
 
 /// Bytes of a source that were read ahead.
@@ -28,7 +28,7 @@ impl Model for Input {
 }
 
 impl Input {
-    /// Nothing read ahead.
+    /// An input of which nothing was read ahead.
     pub(crate) fn new() -> Self
         ensures { result ≡ [] }
     {

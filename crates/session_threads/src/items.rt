@@ -9,28 +9,28 @@ use sessions::{LineForm, PendingText, SessionLine, SessionRefusal};
 use std::alloc::Global;
 use std::mem;
 
-/// What a line comes to.
+/// The outcome of a line.
 #[derive(Drop)]
 pub(crate) enum Outcome {
     /// No item ends with it.
     Nothing,
     Item(SessionLine),
-    /// Memory lacked for the item that ends with it.
+    /// Memory ran out for the item that ends with it.
     NoMemory,
 }
 
-/// What text a line is of.
+/// Which text a line belongs to.
 #[derive(Drop)]
 enum Within {
-    /// None.
+    /// To no text.
     Session,
     /// The text of a command, so far.
     Text(PendingText),
-    /// A text that memory lacked for.
+    /// A text for which memory ran out.
     LostText,
 }
 
-/// Reads a session's lines, each to what it comes to.
+/// Reads a session's lines, and returns the outcome of each.
 #[derive(Drop)]
 pub(crate) struct ItemReader {
     alloc: Global,
@@ -38,7 +38,7 @@ pub(crate) struct ItemReader {
 }
 
 impl ItemReader {
-    /// At the begin of an input.
+    /// A reader at the beginning of an input.
     pub(crate) fn new(alloc: Global) -> Self
         ensures { result.within ≡ Session }
     {
@@ -117,7 +117,7 @@ fn go_on(alloc: Global, text: PendingText, line: &Line) -> (Within, Outcome)
     }
 }
 
-/// Takes a line of a text that is lost. The item that ends with the text found no memory.
+/// Takes a line of a text that is lost. The item that ends with the text ran out of memory.
 fn drop_line(line: &Line) -> (Within, Outcome)
     ensures line { (bytes : List ℕ) → IsLine line.now bytes →
         ComesTo LostText bytes result.1 result.0 }

@@ -1,7 +1,7 @@
 //! Sessions on threads of their own, beside the workers.
 //!
-//! [`run_session`] reads a session's input, asks the shared core what each item asks, and writes what it is told. Its
-//! transcript keeps it.
+//! [`run_session`] reads a session's input, asks the shared core what each item asks, and writes
+//! the answers. Its transcript keeps them.
 #![tactic(auto)]
 
 mod input;

@@ -10,11 +10,12 @@ use sessions::{LineForm, is_point, line_form, without_cr};
 use std::alloc::Global;
 use std::marker::Model;
 
-/// A line of so many bytes is too long for a command, also where a CR ends it.
+/// A line of this number of bytes is too long for a command, even if a CR ends it.
 const HEAD: usize = 4098;
 
-/// A line that is being read. Its bytes are kept as far as memory is found for them; what it is, is known without memory, by its
-/// head: the line itself, or so much of it that it is too long for a command, with a word where the line has one.
+/// A line that is being read. Its bytes are kept if there is memory for them. What it asks is known
+/// without memory, by its head: the line itself, or a part of it that is too long for a command and
+/// that has a word if the line has one.
 #[derive(Drop)]
 pub(crate) struct Line {
     head: ArrayVec<u8, HEAD>,
@@ -61,7 +62,7 @@ impl Line {
         }
     }
 
-    /// Whether it has no byte.
+    /// Whether the line has no byte.
     pub(crate) fn is_empty(&self) -> bool
         ensures { (line : List ℕ) → IsLine self.now line →
             MatchBool result (line ≡ []) (0 < length line) }
@@ -69,21 +70,21 @@ impl Line {
         self.head.is_empty()
     }
 
-    /// What it asks outside of texts.
+    /// What the line asks outside of texts.
     pub(crate) fn form(&self) -> LineForm
         ensures { (line : List ℕ) → IsLine self.now line → result ≡ line_form (without_cr line) }
     {
         line_form(without_cr(self.head.as_slice()))
     }
 
-    /// Whether it ends a text.
+    /// Whether the line ends a text.
     pub(crate) fn ends_text(&self) -> bool
         ensures { (line : List ℕ) → IsLine self.now line → result ≡ ends_text line }
     {
         is_point(without_cr(self.head.as_slice()))
     }
 
-    /// Its bytes without a CR at their end. None if memory lacked for them.
+    /// The line's bytes without a CR at their end. None if memory ran out for them.
     pub(crate) fn content(&self) -> Option<&[u8]>
         ensures { (line : List ℕ) → IsLine self.now line →
             IfSome result (λ bytes. bytes.now ≡ without_cr line) }
@@ -95,7 +96,8 @@ impl Line {
     }
 }
 
-/// Takes one more byte of a line into its head. A head that is full takes a byte of a word in place of its last.
+/// Takes one more byte of a line into its head. If the head is full, a byte of a word replaces its
+/// last byte.
 fn push_head(head: &mut ArrayVec<u8, HEAD>, byte: u8)
     ensures { (line : List ℕ) → IsHead head.old.items line →
         IsHead head.new.items (line ++ byte ∷ []) }

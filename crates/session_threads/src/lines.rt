@@ -12,9 +12,9 @@ use std::sync::Wait;
 /// How the reading of a line ended.
 #[derive(Clone, Copy, PartialEq, Eq)]
 pub(crate) enum LineEnd {
-    /// At LF.
+    /// It ended with LF.
     LineFeed,
-    /// At the input's end. There is a line if it has bytes.
+    /// The input ended. There is a line if it has bytes.
     Input,
 }
 
@@ -27,7 +27,7 @@ pub(crate) struct LineReader {
 }
 
 impl LineReader {
-    /// At the begin of a source.
+    /// A reader at the beginning of a source.
     pub(crate) fn new(alloc: Global) -> Self
         ensures { result.input ≡ [] }
     {

@@ -1,7 +1,8 @@
-//! A session.
+//! A session on a thread of its own.
 ghost use Rattle.std.specs.Prelude.{◌≡◌, IfSome, true};
 ghost use Rattle.std.specs.Io.KnownBytes.{prepend_known};
 ghost use Rattle.line_text.specs.Writing.{Writes};
+ghost use Rattle.sessions.specs.declared.line.SessionLine.TheVariants.{Wait};
 ghost use Rattle.session_threads.specs.Outcomes.{IsItem, is_item};
 ghost use Rattle.session_threads.specs.Told.{AnswersCommand, AnswersItem, NotesBy};
 ghost use Rattle.session_threads.specs.WholeSession.{EndsInput, EndsReading, Finishes, IsSession, KeepsNoneAhead, Serves, ServesLine, TellsItem, Turns, WholeSession, Wrote};
@@ -10,7 +11,7 @@ use crate::items::{ItemReader, Outcome};
 use crate::line::Line;
 use crate::lines::{LineEnd, LineReader};
 use crate::told::{last_place, write_told};
-use crate::waiting::{Found, find};
+use crate::waiting::wait_turn;
 use job_queue::{Pass, Ready};
 use line_text::{Failed, Sink, Source};
 use sessions::SessionLine;
@@ -21,9 +22,10 @@ use std::sync::ledger::Ledger;
 use tenant_slot::{Command, Reply, StateName};
 use transcripts::{End, Place, Transcript};
 
-/// Runs a session: reads its input, asks the core what each item asks, and writes what it is told. What each item was told is
-/// in the transcript, in order, or counted there where it found no memory; it was written, or a beginning of it where the
-/// writer failed; and it answers what the input asks. A command whose reply couldn't be written keeps its receipt.
+/// Runs a session: reads its input, asks the core what each item asks, and writes the answers. The
+/// transcript has the answer to each item, in order, or counts it if it ran out of memory. The
+/// answers were written, or a beginning of them if the writer failed, and they answer what the
+/// input asks. A command whose reply couldn't be written keeps its receipt.
 pub fn run_session<C: Begun, P: Ledger, S: Source, W: Sink, R: Wait + AllocGlobal>(
     rt: &R,
     shared: &Shared<C, P>,
@@ -90,7 +92,7 @@ impl<C: Begun> Session<C> {
         unreachable!()
     }
 
-    /// Reads a line and serves it. Tells how the session ended, if it did.
+    /// Reads a line and serves it. Returns how the session ended, if it did.
     fn turn<P: Ledger, S: Source, W: Sink, R: Wait>(
         &mut self,
         rt: &R,
@@ -126,7 +128,7 @@ impl<C: Begun> Session<C> {
         }
     }
 
-    /// Serves a line.
+    /// Serves a line: takes it into the items, and answers the item that ends with it, if any.
     fn serve_line<P: Ledger, W: Sink, R: Wait>(
         &mut self,
         rt: &R,
@@ -196,7 +198,7 @@ impl<C: Begun> Session<C> {
         }
     }
 
-    /// Serves what a line came to.
+    /// Serves the outcome of a line.
     fn serve<P: Ledger, W: Sink, R: Wait>(
         &mut self,
         rt: &R,
@@ -223,7 +225,7 @@ impl<C: Begun> Session<C> {
         }
     }
 
-    /// Answers an item, and writes what it is told. A number that was given up is pushed first.
+    /// Answers an item, and writes the answer. A number that was given up is pushed first.
     fn answer<P: Ledger, W: Sink, R: Wait>(
         &mut self,
         rt: &R,
@@ -247,7 +249,8 @@ impl<C: Begun> Session<C> {
         }
     }
 
-    /// Answers an item, and notes it. Tells whether it has a place; without one it found no memory.
+    /// Answers an item, and notes the answer. Returns whether it has one; if not it ran out of
+    /// memory.
     fn note<P: Ledger, R: Wait>(
         &mut self,
         rt: &R,
@@ -265,17 +268,11 @@ impl<C: Begun> Session<C> {
             SessionLine::Blank => unreachable!(),
             SessionLine::Refused(refusal) => self.transcript.refuse(refusal),
             SessionLine::Command(command) => self.ask(rt, shared, ready, command),
-            SessionLine::Wait => {
-                if self.wait(rt, shared) {
-                    return self.ask(rt, shared, ready, Command::Status);
-                }
-                self.transcript.count_no_memory();
-                false
-            }
+            SessionLine::Wait => self.wait(rt, shared),
         }
     }
 
-    /// Asks the core a command. Where it began a job, the slot's number is marked and pushed.
+    /// Asks the core a command. If it began a job, the slot's number is marked and pushed.
     fn ask<P: Ledger, R: Wait>(
         &mut self,
         rt: &R,
@@ -303,8 +300,8 @@ impl<C: Begun> Session<C> {
         }
     }
 
-    /// Marks and pushes the slot's number, where a step is to be taken and its number is nobody's. One that the queue refuses is
-    /// nobody's again, until the session's next item.
+    /// Marks and pushes the slot's number, if there is a step to take whose number is nobody's. If
+    /// the queue refuses the number it is nobody's again, until the session's next item.
     fn push_ready<P: Ledger, R: Wait>(&mut self, rt: &R, shared: &Shared<C, P>, ready: &Ready)
         requires { self.old.pass.of ≡ ready.now }
         ensures of { self.new.pass.of ≡ self.old.pass.of }
@@ -320,23 +317,27 @@ impl<C: Begun> Session<C> {
         }
     }
 
-    /// Waits until no step of the tenancy's is to come, and tells whether it came to that. It doesn't where memory lacks, so that
-    /// nobody has the number of the step that is to be taken.
-    fn wait<P: Ledger, R: Wait>(&self, rt: &R, shared: &Shared<C, P>) -> bool {
-        let id = self.transcript.id();
+    /// Waits until no step of the tenancy will follow, and asks the core its status in that turn
+    /// under the lock. Returns whether the wait has an answer in the transcript. It has none if
+    /// memory ran out for the answer, or if nobody has the number of a step that is left because
+    /// memory ran out.
+    fn wait<P: Ledger, R: Wait>(&mut self, rt: &R, shared: &Shared<C, P>) -> bool
+        ensures of { self.new.pass.of ≡ self.old.pass.of }
+        ensures noted { NotesBy (AnswersItem self.old.transcript.id Wait) self.old.transcript result
+            self.new.transcript }
+    {
         for _ in rt.forever() {
             let mut core = shared.core.lock(rt);
-            match find(&mut *core, id) {
-                Found::Ended => return true,
-                Found::GivenUp => return false,
-                Found::Goes => drop(shared.changed.wait(rt, core)),
+            match wait_turn(&mut *core, &mut self.transcript) {
+                Some(has_place) => return has_place,
+                None => drop(shared.changed.wait(rt, core)),
             }
         }
         unreachable!()
     }
 }
 
-/// Whether a reply tells that a job began.
+/// Whether a reply reports that a job began.
 fn begins_job(reply: &Reply) -> bool {
     matches!(
         reply,

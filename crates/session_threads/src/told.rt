@@ -1,4 +1,4 @@
-//! How what a session is told is spelled.
+//! Writes a session's answers.
 ghost use Rattle.std.specs.Prelude.{◌≡◌, option_copied};
 ghost use Rattle.line_text.specs.Writing.{Writes};
 ghost use Rattle.session_threads.specs.Told.{last_place as last_place_of, note_text, place_text, told_text};
@@ -8,7 +8,7 @@ use service_core::NoteCause;
 use sessions::{SessionRefusal, write_refused, write_reply, write_session_refusal};
 use transcripts::{Item, Place};
 
-/// Writes what an item is told. Without a place it found no memory.
+/// Writes the answer to an item. Without an answer it ran out of memory.
 pub fn write_told<W: Sink>(writer: &mut W, told: Option<&Place>) -> Result<(), Failed>
     ensures { Writes W.contents W.has_failed writer.old writer.new
         (told_text (option_copied told.entry)) result }
@@ -19,7 +19,7 @@ pub fn write_told<W: Sink>(writer: &mut W, told: Option<&Place>) -> Result<(), F
     }
 }
 
-/// Writes what an item is told that has a place.
+/// Writes the answer to an item that has one.
 fn write_place<W: Sink>(writer: &mut W, place: &Place) -> Result<(), Failed>
     ensures { Writes W.contents W.has_failed writer.old writer.new (place_text place.now) result }
 {
@@ -40,7 +40,7 @@ fn write_note<W: Sink>(writer: &mut W, cause: NoteCause) -> Result<(), Failed>
     }
 }
 
-/// What the last of the items is told that have a place.
+/// The answer to the last item that has one.
 pub(crate) fn last_place(items: &[Item]) -> Option<&Place>
     ensures { option_copied result ≡ last_place_of items.now }
 {

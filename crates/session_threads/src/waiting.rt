@@ -1,25 +1,32 @@
 //! What a session that waits finds under the lock.
-ghost use Rattle.std.specs.Prelude.{◌≡◌};
-ghost use Rattle.session_threads.specs.Waiting.{found_in};
+ghost use Rattle.std.specs.Prelude.{◌≡◌, MatchOption};
+ghost use Rattle.service_core.specs.Service.{AreAlone};
+ghost use Rattle.sessions.specs.declared.line.SessionLine.TheVariants.{Wait};
+ghost use Rattle.session_threads.specs.Told.{AnswersItem, NotesBy};
+ghost use Rattle.session_threads.specs.Waiting.{Waits, found_in};
 
 use shared_core::{Begun, Core};
 use std::sync::ledger::Ledger;
+use tenant_slot::Command;
+use transcripts::Transcript;
 
-/// How the job of a tenancy stands.
+/// The state of a tenancy's job.
 #[derive(Clone, Copy, PartialEq, Eq)]
-pub(crate) enum Found {
-    /// No step is to come: the tenancy isn't live, no job of it runs, or its journal is full.
+enum Found {
+    /// No step will follow: the tenancy isn't live, no job of it runs, or its journal is full.
     Ended,
-    /// A step is to be taken, and its number is nobody's: memory lacked for the step, or for the number in the queue.
+    /// There is a step to take, and its number is nobody's: memory ran out for the step, or for the
+    /// number in the queue.
     GivenUp,
     /// A step is out, or its number was pushed.
     Goes,
 }
 
-/// How the job of that tenancy stands.
-pub(crate) fn find<C: Begun, P: Ledger>(core: &mut Core<C, P>, id: u32) -> Found
+/// The state of that tenancy's job.
+fn find<C: Begun, P: Ledger>(core: &mut Core<C, P>, id: u32) -> Found
     ensures found { result ≡ found_in core.old id }
     ensures same { core.new ≡ core.old }
+    ensures alone { AreAlone core.old.service }
 {
     if core.idle(id) {
         return Found::Ended;
@@ -30,5 +37,27 @@ pub(crate) fn find<C: Begun, P: Ledger>(core: &mut Core<C, P>, id: u32) -> Found
             Found::GivenUp
         }
         None => Found::Goes,
+    }
+}
+
+/// One turn of a wait. If no step of the transcript's tenancy will follow, the core is asked its
+/// status, and the turn returns whether that has an answer in the transcript. If there is a step to
+/// take whose number is nobody's, the wait is counted as one that ran out of memory, and the turn
+/// returns false. None if the wait goes on.
+pub(crate) fn wait_turn<C: Begun, P: Ledger>(
+    core: &mut Core<C, P>,
+    transcript: &mut Transcript<C>,
+) -> Option<bool>
+    ensures turn { Waits transcript.old core.old result core.new transcript.new }
+    ensures told { MatchOption result (transcript.new ≡ transcript.old)
+        (λ has. NotesBy (AnswersItem transcript.old.id Wait) transcript.old has transcript.new) }
+{
+    match find(core, transcript.id()) {
+        Found::Ended => Some(transcript.enter(core, Command::Status)),
+        Found::GivenUp => {
+            transcript.count_no_memory();
+            Some(false)
+        }
+        Found::Goes => None,
     }
 }

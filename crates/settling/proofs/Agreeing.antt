@@ -1,4 +1,4 @@
--- Where all receipts are borne out, and all leases and shares are there, all is settled.
+-- If all receipts are confirmed, and all leases and shares are there, all is settled.
 use Rattle.std.proofs.Common.{◌≡◌, ◌+◌, List, [], ◌∷◌, ◌++◌, length, Bool, sym}
 use Rattle.std.specs.Prelude.{All}
 use Rattle.std.proofs.lemmas.List.Elements.{All-cons, All-head, All-nil, All-tail}
@@ -6,7 +6,7 @@ use Rattle.service_core.specs.Service.{ServiceState}
 use Rattle.shared_core.specs.CoreState.{CoreState, ShareState, places_of, puts_in}
 use Rattle.shared_core.specs.Accounts.{AreMarks, leases_in, places_sum}
 use Rattle.transcripts.specs.Transcripts.{TranscriptState, receipts_of}
-use Rattle.settling.specs.Settling.{AreAllThere, AreMarkedEntries, Claim, IsBorneOut, IsSettled, claims_from, claims_in, claims_of, has_id, puts_counted, receipts_in}
+use Rattle.settling.specs.Settling.{AreAllThere, AreMarkedEntries, Claim, IsBorneOut, IsFullIfTold, IsSettled, claims_from, claims_in, claims_of, has_id, puts_counted, receipts_in}
 use Rattle.settling.proofs.Matching.{Fits, entries_are, fits, ids_are, places_told, rises_in, since}
 use Rattle.settling.proofs.Matching as Matching
 use Rattle.settling.proofs.Totals.{AreFit, Exact, HavePlaces, apart, sums}
@@ -20,7 +20,7 @@ all-right : {A : Type 0} (P : A → Type 0) (xs ys : List A) → All P (xs ++ ys
 all-right P [] ys all = all
 all-right P (x ∷ xs) ys all = all-right P xs ys (All-tail P x (xs ++ ys) all)
 
--- the receipts of one transcript are borne out
+-- the receipts of one transcript are confirmed
 abbrev Good : CoreState → TranscriptState → Type 0
 Good core t = (repeated : Bool) × All (IsBorneOut core) (claims_in t.id repeated 0 (receipts_of t.items))
 
@@ -54,8 +54,8 @@ all_marked begun core (t ∷ ts) marks good are =
     (one_marked begun core t marks (All-head (Good core) t ts good) (All-head (λ (u : TranscriptState). places_told (receipts_of u.items) ≡ places_of core.marks u.id) t ts are))
     (all_marked begun core ts marks (All-tail (Good core) t ts good) (All-tail (λ (u : TranscriptState). places_told (receipts_of u.items) ≡ places_of core.marks u.id) t ts are))
 
-pub settled : (begun : ServiceState) (core : CoreState) (ts : List TranscriptState) (shares : List ShareState) → AreMarks begun.histories core.service.histories core.marks → AreAllThere core ts (length shares) → All (IsBorneOut core) (claims_of ts) → length ts ≡ leases_in core.marks → receipts_in ts ≡ places_sum core.marks → puts_counted shares + core.own_puts ≡ puts_in core.service.histories → IsSettled begun core ts shares
-settled begun core ts shares marks there good many told puts =
+pub settled : (begun : ServiceState) (core : CoreState) (ts : List TranscriptState) (shares : List ShareState) → AreMarks begun.histories core.service.histories core.marks → AreAllThere core ts (length shares) → All (IsBorneOut core) (claims_of ts) → length ts ≡ leases_in core.marks → receipts_in ts ≡ places_sum core.marks → All (IsFullIfTold core.service) ts → puts_counted shares + core.own_puts ≡ puts_in core.service.histories → IsSettled begun core ts shares
+settled begun core ts shares marks there good many told full puts =
     let each : All (Good core) ts = each_good core [] ts good in
     let distinct = apart ts core.marks there.leases (sym many) in
     let exact : Exact core.marks ts = (sums core.marks ts distinct (all_fit begun core ts marks each)).exact told in
@@ -64,5 +64,6 @@ settled begun core ts shares marks there good many told puts =
       apart = Totals.two_by_two ts distinct;
       each = all_marked begun core ts marks each exact.each;
       no_other = exact.no_other;
+      full = full;
       puts = sym puts;
     }

@@ -1,4 +1,4 @@
--- Receipts that are borne out, one after another.
+-- Receipts that are confirmed, one after another.
 use Rattle.std.proofs.Common.{◌≡◌, ℕ, zero, suc, ◌+◌, ◌<◌, List, [], ◌∷◌, ◌++◌, length, get_or, take, drop, Bool, Some, None, refl, sym, ap, ◌∙◌, arith}
 use Rattle.std.specs.Prelude.{All, slice_get}
 use Rattle.std.proofs.lemmas.List.Elements.{All-append, All-push, filter_map-append}
@@ -27,7 +27,7 @@ claims_in-append id repeated least (x ∷ xs) ys = ap (λ cs. record { id = id; 
 pub at_index : {A : Type 0} (xs : List A) (i : ℕ) (x : A) → i < length xs → x ≡ get_or xs i x → slice_get xs i ≡ Some x
 at_index xs i x within is = slice_get-get_or xs i x within ∙ ap Some (sym is)
 
--- a place that is no receipt's has none
+-- an item that has no receipt
 pub no_receipt_in : (p : Place) → ((r : Receipted) → p ≡ Receipt r → ⊥) → receipt_in p ≡ None
 no_receipt_in (Receipt r) not = absurd (not r refl)
 no_receipt_in (Note n) not = refl
@@ -71,7 +71,7 @@ receipts-same items j item at is = ap receipts_of (take-next items j item at) �
 receipts-around : (items : List Item) (j : ℕ) (item : Item) (r : Receipted) → slice_get items j ≡ Some item → receipt_in item.place ≡ Some r → receipts_of items ≡ receipts_of (take j items) ++ r ∷ receipts_of (drop (j + 1) items)
 receipts-around items j item r at is = ap receipts_of (around items j item at) ∙ (receipts-append (take j items) (item ∷ drop (j + 1) items) ∙ ap (λ rs. receipts_of (take j items) ++ rs) (receipts-append (item ∷ []) (drop (j + 1) items) ∙ ap (λ rs. rs ++ receipts_of (drop (j + 1) items)) (one_receipt item r is)))
 
--- one more is borne out
+-- one more is confirmed
 pub good-next : (core : CoreState) (id : ℕ) (repeated : Bool) (rs : List Receipted) (r : Receipted) → All (IsBorneOut core) (claims_in id repeated 0 rs) → IsBorneOut core (record { id = id; repeated = repeated; least = next_place 0 rs; receipt = r }) → All (IsBorneOut core) (claims_in id repeated 0 (rs ++ r ∷ []))
 good-next core id repeated rs r all good = rw (claims_in-append id repeated 0 rs (r ∷ [])) (All-push (IsBorneOut core) (claims_in id repeated 0 rs) (record { id = id; repeated = repeated; least = next_place 0 rs; receipt = r }) all good)
 

@@ -1,4 +1,5 @@
--- Receipts at rising places among the marked ones are at most as many, and all of them where they are as many.
+-- Receipts at rising places among the marked ones are at most as many; if they are as many, they
+-- are all of them.
 use Rattle.std.proofs.Common.{◌≡◌, ℕ, ◌+◌, ◌<◌, ◌≤◌, List, [], ◌∷◌, length, Bool, true, false, eqb, Some, refl, sym, arith}
 use Rattle.std.specs.Prelude.{All, AllPairs, map, slice_get, ◌||◌}
 use Rattle.std.proofs.lemmas.Bool.Decides.{nat_tests, Decides-eqb}
@@ -66,7 +67,7 @@ fits k least n (r ∷ rs) (p ∷ ps) rising is = by_test (eqb p r.place) refl (�
           all = λ many. let f = rest.few in absurd (omega arith);
         }
 
--- what is borne out
+-- the receipts that are confirmed
 pub rises_in : (core : CoreState) (id least : ℕ) (repeated : Bool) (rs : List Receipted) → All (IsBorneOut core) (claims_in id repeated least rs) → RisesIn least rs (places_of core.marks id)
 rises_in core id least repeated [] all = tt
 rises_in core id least repeated (r ∷ rs) all =
@@ -93,7 +94,7 @@ entries_are core id least repeated (r ∷ rs) all =
     let at : slice_get (journal_of core.service r.id) r.place ≡ Some (entry_of r) = good.entry in
     All-cons (λ (x : Receipted). slice_get (journal_of core.service id) x.place ≡ Some (entry_of x)) r rs (rw good.own at at) (entries_are core id (r.place + 1) repeated rs (All-tail (IsBorneOut core) claim rest all))
 
--- and behind the first place that a mark may have
+-- and after the first place that a mark may have
 pub since : (core : CoreState) (id least first n : ℕ) (repeated : Bool) (rs : List Receipted) → IsRising first (places_of core.marks id) n → All (IsBorneOut core) (claims_in id repeated least rs) → All (λ r. first ≤ r.place) rs
 since core id least first n repeated [] rising all = All-nil (λ (r : Receipted). first ≤ r.place)
 since core id least first n repeated (r ∷ rs) rising all =
@@ -103,7 +104,7 @@ since core id least first n repeated (r ∷ rs) rising all =
     let marked : has_place (places_of core.marks r.id) r.place ≡ true = good.marked in
     All-cons (λ (x : Receipted). first ≤ x.place) r rs (has_least first n r.place (places_of core.marks id) rising (rw good.own at marked)) (since core id (r.place + 1) first n repeated rs rising (All-tail (IsBorneOut core) claim rest all))
 
--- places that rise, two by two
+-- rising places, two at a time
 from_least : (k n : ℕ) (ps : List ℕ) (q : ℕ) → q < k → IsRising k ps n → All (λ p. q < p) ps
 from_least k n [] q lt is = All-nil (λ p. q < p)
 from_least k n (p ∷ ps) q lt is = All-cons (λ x. q < x) p ps (let f = is.0 in omega arith) (from_least (p + 1) n ps q (let f = is.0 in omega arith) is.1)

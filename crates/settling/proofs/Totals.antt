@@ -1,4 +1,5 @@
--- As many receipts as marked entries, as many transcripts as leases: each transcript has all of its journal's.
+-- As many receipts as marked entries, and as many transcripts as leases: each transcript has all of
+-- its journal's.
 use Rattle.std.proofs.Common.{◌≡◌, ◌≢◌, ℕ, zero, suc, ◌+◌, ◌-◌, ◌≤◌, List, [], ◌∷◌, ◌++◌, length, Bool, true, false, eqb, Option, Some, None, refl, sym, ap, ◌∙◌, arith}
 use Rattle.std.specs.Prelude.{All, AllPairs, slice_get, if◌then◌else◌, ◌||◌, ◌&&◌, not, option_map}
 use Rattle.std.proofs.lemmas.Bool.Decides.{nat_tests, Decides-eqb}
@@ -90,7 +91,7 @@ rest_has t ts ms there id is = by_test (eqb id t.id) refl
         let turned : eqb t.id id ≡ false = grind (arith, nat_tests) in
         or_left (eqb t.id id) (has_id ts id) turned (there id mine)
 
--- as many transcripts at least as leases
+-- at least as many transcripts as leases
 pub enough : (ts : List TranscriptState) (ms : List Marked) → ((id : ℕ) → is_leased ms id ≡ true → has_id ts id ≡ true) → leases_in ms ≤ length ts
 enough [] ms there = let none = no_leases ms (λ id is. let never = there id is in cc) in omega arith
 enough (t ∷ ts) ms there =
@@ -98,7 +99,7 @@ enough (t ∷ ts) ms there =
     let one = leases-cleared ms t.id in
     omega arith
 
--- and where they are as many no two are of one tenancy
+-- and if they are as many, no two are of one tenancy
 pub apart : (ts : List TranscriptState) (ms : List Marked) → ((id : ℕ) → is_leased ms id ≡ true → has_id ts id ≡ true) → leases_in ms ≡ length ts → are_apart ts ≡ true
 apart [] ms there many = refl
 apart (t ∷ ts) ms there many = by_test (λ same. apart ts (remarked ms t.id cleared) (rest_has t ts ms there) same) (has_id ts t.id) refl

@@ -1,15 +1,20 @@
--- When what sessions were told is what the journals say, entry by entry.
+-- When the answers to sessions are what the journals say, entry by entry.
 use Rattle.std.specs.Prelude.{ℕ, ◌≡◌, ◌+◌, ◌<◌, ◌≤◌, List, [], ◌∷◌, ◌++◌, length, map, All, AllPairs, ◌≢◌, Bool, true, false, Some, slice_get, ◌==◌, ◌||◌, ◌⊎◌}
 use Rattle.tenant_slot.specs.declared.event.Event.TheVariants.{Command as Asked}
 use Rattle.service_core.specs.declared.entry.Entry.{Entry}
-use Rattle.service_core.specs.Receipt.{Receipted}
+use Rattle.service_core.specs.declared.not_served.NoteCause.TheVariants.{JournalFull}
+use Rattle.service_core.specs.Receipt.{Noted, Receipted}
+use Rattle.service_core.specs.Run.{Call, Run}
 use Rattle.service_core.specs.Service.{ServiceState, journal_of}
 use Rattle.shared_core.specs.CoreState.{CoreState, Marked, ShareState, is_leased, is_marked, places_of, puts_in}
+use Rattle.shared_core.specs.Reaching.{is_of_threads, own_receipts}
+use Rattle.transcripts.specs.declared.item.Item.{Item}
+use Rattle.transcripts.specs.declared.item.Place.TheVariants.{Note}
 use Rattle.transcripts.specs.Transcripts.{TranscriptState, receipts_of}
 use Rattle.settling.specs.declared.not_settled.Cause.{Cause}
-use Rattle.settling.specs.declared.not_settled.Cause.TheVariants.{Missing, Mismatch}
+use Rattle.settling.specs.declared.not_settled.Cause.TheVariants.{Missing, Mismatch, NotFull}
 
--- the entry that a receipt tells of
+-- the entry that a receipt reports
 abbrev pub entry_of : Receipted → Entry
 entry_of r = record { event = Asked r.command; reply = r.reply }
 
@@ -18,8 +23,8 @@ abbrev pub has_id : List TranscriptState → ℕ → Bool
 has_id [] id = false
 has_id (t ∷ ts) id = t.id == id || has_id ts id
 
--- a receipt as it is to be borne out: its transcript's tenancy, whether that stands in an earlier transcript, and the least place that it
--- may have, as places rise
+-- a receipt that is to be confirmed: its transcript's tenancy, whether that tenancy has an earlier
+-- transcript, and the least place that the receipt may have, as places rise
 pub record Claim : Type 0 where
   pub id : ℕ
   pub repeated : Bool
@@ -31,7 +36,7 @@ abbrev pub claims_in : ℕ → Bool → ℕ → List Receipted → List Claim
 claims_in id repeated least [] = []
 claims_in id repeated least (r ∷ rs) = record { id = id; repeated = repeated; least = least; receipt = r } ∷ claims_in id repeated (r.place + 1) rs
 
--- and of all, one transcript after another, behind earlier ones
+-- the receipts of all transcripts, one after another, after earlier ones
 abbrev pub claims_from : List TranscriptState → List TranscriptState → List Claim
 claims_from earlier [] = []
 claims_from earlier (t ∷ ts) = claims_in t.id (has_id earlier t.id) 0 (receipts_of t.items) ++ claims_from (earlier ++ t ∷ []) ts
@@ -39,7 +44,8 @@ claims_from earlier (t ∷ ts) = claims_in t.id (has_id earlier t.id) 0 (receipt
 abbrev pub claims_of : List TranscriptState → List Claim
 claims_of ts = claims_from [] ts
 
--- the receipt is the entry that its transcript's lease made at that id and place, its place rises, and its id stands in no earlier transcript
+-- the receipt is the entry that its transcript's lease made at that id and place, its place rises,
+-- and its id has no earlier transcript
 pub record IsBorneOut (core : CoreState) (c : Claim) : Type 0 where
   pub own : c.receipt.id ≡ c.id
   pub first : c.repeated ≡ false
@@ -47,7 +53,7 @@ pub record IsBorneOut (core : CoreState) (c : Claim) : Type 0 where
   pub marked : is_marked core.marks c.receipt.id c.receipt.place ≡ true
   pub entry : slice_get (journal_of core.service c.receipt.id) c.receipt.place ≡ Some (entry_of c.receipt)
 
--- that is the first that isn't
+-- this is the first receipt that isn't confirmed
 pub record IsFirstBad (core : CoreState) (claims : List Claim) (id place : ℕ) : Type 0 where
   pub before : List Claim
   pub bad : Claim
@@ -70,13 +76,26 @@ LacksLease core transcripts = (id : ℕ) × (is_leased core.marks id ≡ true) �
 abbrev pub IsMissing : CoreState → List TranscriptState → ℕ → Type 0
 IsMissing core transcripts shares = LacksLease core transcripts ⊎ (shares < core.shares)
 
+-- the answer to an item says that the journal is full
+abbrev pub TellsFull : Item → Type 0
+TellsFull item = (n : Noted) × (item.place ≡ Note n) × (n.cause ≡ JournalFull)
+
+-- the journal is full, if the answer to an item says so
+abbrev pub IsFullIfTold : ServiceState → TranscriptState → Type 0
+IsFullIfTold service t = All (λ i. TellsFull i → length (journal_of service t.id) ≡ 65536) t.items
+
+-- a transcript of that tenancy says that its journal is full, and it is not
+abbrev pub IsToldInVain : ServiceState → List TranscriptState → ℕ → Type 0
+IsToldInVain service transcripts id = (i : ℕ) × (t : TranscriptState) × (slice_get transcripts i ≡ Some t) × (t.id ≡ id) × (IsFullIfTold service t → ⊥)
+
 -- why it isn't settled
 abbrev pub IsCause : CoreState → List TranscriptState → ℕ → Cause → Type 0
 IsCause core transcripts shares Missing = IsMissing core transcripts shares
 IsCause core transcripts shares (Mismatch id place) = AreAllThere core transcripts shares × IsFirstBad core (claims_of transcripts) id place
+IsCause core transcripts shares (NotFull id) = AreAllThere core transcripts shares × All (IsBorneOut core) (claims_of transcripts) × IsToldInVain core.service transcripts id
 
--- the receipts of a transcript are the marked entries of its tenancy's journal: they have their places, in order, behind the entries with
--- which the core began, and each tells of the entry at its place
+-- the receipts of a transcript are the marked entries of its tenancy's journal: they have their
+-- places, in order, after the entries with which the core began, and each is the entry at its place
 pub record AreMarkedEntries (begun : ServiceState) (core : CoreState) (t : TranscriptState) : Type 0 where
   pub places : map (λ r. r.place) (receipts_of t.items) ≡ places_of core.marks t.id
   pub rising : AllPairs (λ p q. p < q) (places_of core.marks t.id)
@@ -89,20 +108,31 @@ pub record SettledState : Type 0 where
   pub service : ServiceState
   pub marks : List Marked
 
--- how many receipts there are in all
+-- the number of receipts of all transcripts
 abbrev pub receipts_in : List TranscriptState → ℕ
 receipts_in [] = 0
 receipts_in (t ∷ ts) = length (receipts_of t.items) + receipts_in ts
 
--- how many puts the shares counted
+-- the number of puts that the shares counted
 abbrev pub puts_counted : List ShareState → ℕ
 puts_counted [] = 0
 puts_counted (s ∷ ss) = s.puts + puts_counted ss
 
--- all that was told is settled, of a core that was put round that service
+-- all answers are settled, of a core that was made with that service
 pub record IsSettled (begun : ServiceState) (core : CoreState) (transcripts : List TranscriptState) (shares : List ShareState) : Type 0 where
   pub there : AreAllThere core transcripts (length shares)
   pub apart : AllPairs (λ t u. t.id ≢ u.id) transcripts
   pub each : All (AreMarkedEntries begun core) transcripts
   pub no_other : (id : ℕ) → has_id transcripts id ≡ false → places_of core.marks id ≡ []
+  pub full : All (IsFullIfTold core.service) transcripts
   pub puts : puts_in core.service.histories ≡ puts_counted shares + core.own_puts
+
+-- calls of threads lead from the service that the core was made with to that one, and the commands
+-- that are served in them are those of the transcripts: a tenancy's receipts are its transcript's,
+-- in order, and without a transcript it has none
+pub record AreAllCalls (begun service : ServiceState) (transcripts : List TranscriptState) : Type 0 where
+  pub calls : List Call
+  pub run : Run begun calls service
+  pub kinds : All (λ call. is_of_threads call ≡ true) calls
+  pub told : All (λ t. own_receipts t.id calls ≡ receipts_of t.items) transcripts
+  pub no_other : (id : ℕ) → has_id transcripts id ≡ false → own_receipts id calls ≡ []

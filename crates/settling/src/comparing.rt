@@ -14,7 +14,7 @@ use transcripts::{Place, Transcript};
 pub(crate) type At = (u32, u32);
 
 /// Whether one of the transcripts is of that tenancy.
-fn has_id<C: Ledger>(transcripts: &[Transcript<C>], id: u32) -> bool
+fn has_id<C: Begun>(transcripts: &[Transcript<C>], id: u32) -> bool
     ensures { result ≡ has_id transcripts.now id }
 {
     for i in 0..transcripts.len() {
@@ -41,7 +41,7 @@ pub(crate) fn has_each_lease<C: Begun, P: Ledger>(
     true
 }
 
-/// Whether the entry is the one that the receipt tells of.
+/// Whether the entry is the one that the receipt reports.
 fn agrees(entry: &Entry, receipt: &Receipt) -> bool
     ensures { IsTrue result ↔ (entry.now ≡ entry_of receipt.now) }
 {
@@ -53,7 +53,8 @@ fn agrees(entry: &Entry, receipt: &Receipt) -> bool
     }
 }
 
-/// Whether a receipt of that tenancy's transcript is the entry that its lease made, at a place that isn't below that one.
+/// Whether a receipt of that tenancy's transcript is the entry that its lease made, at a place that
+/// isn't below that one.
 fn is_borne_out<C: Begun, P: Ledger>(
     core: &Core<C, P>,
     id: u32,
@@ -76,7 +77,7 @@ fn is_borne_out<C: Begun, P: Ledger>(
     }
 }
 
-/// The first receipt of a transcript that isn't borne out.
+/// The first receipt of a transcript that isn't confirmed.
 fn mismatch_in<C: Begun, P: Ledger>(
     core: &Core<C, P>,
     transcript: &Transcript<C>,
@@ -103,7 +104,7 @@ fn mismatch_in<C: Begun, P: Ledger>(
     None
 }
 
-/// The first receipt of all transcripts that isn't borne out.
+/// The first receipt of all transcripts that isn't confirmed.
 pub(crate) fn first_mismatch<C: Begun, P: Ledger>(
     core: &Core<C, P>,
     transcripts: &[Transcript<C>],

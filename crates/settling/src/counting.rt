@@ -1,14 +1,14 @@
-//! The parts of the ledgers, all in one.
+//! Merges the parts of the ledgers.
 ghost use Rattle.std.specs.Prelude.{◌≡◌, length};
 ghost use Rattle.settling.specs.Settling.{puts_counted, receipts_in};
 
-use shared_core::Share;
+use shared_core::{Begun, Share};
 use std::sync::ledger;
 use std::sync::ledger::Ledger;
 use transcripts::Transcript;
 
-/// The leases' parts.
-pub(crate) fn merge_leases<C: Ledger>(
+/// Adds the leases' parts up.
+pub(crate) fn merge_leases<C: Begun>(
     transcripts: Vec<Transcript<C>>,
     nothing: ledger::Share<C>,
 ) -> ledger::Share<C>
@@ -24,7 +24,7 @@ pub(crate) fn merge_leases<C: Ledger>(
     all
 }
 
-/// The shares' parts.
+/// Adds the shares' parts up.
 pub(crate) fn merge_shares<P: Ledger>(
     shares: Vec<Share<P>>,
     nothing: ledger::Share<P>,

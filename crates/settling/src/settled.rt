@@ -1,10 +1,11 @@
-//! All that was told against all journals.
+//! Compares all answers with all journals.
 ghost use Rattle.std.specs.Prelude.{◌≡◌, All, IfErr, IfOk, MatchOption, length, true};
 ghost use Rattle.shared_core.specs.Following.{Follows, Stays};
-ghost use Rattle.settling.specs.Settling.{AreAllThere, IsBorneOut, IsCause, IsSettled, claims_of};
+ghost use Rattle.settling.specs.Settling.{AreAllCalls, AreAllThere, IsBorneOut, IsCause, IsFullIfTold, IsSettled, claims_of};
 
 use crate::comparing::{first_mismatch, has_each_lease};
 use crate::counting::{merge_leases, merge_shares};
+use crate::filling::first_not_full;
 use crate::not_settled::{Cause, NotSettled};
 use service_core::Service;
 use shared_core::{Begun, Core, LeaseMarks, Share};
@@ -12,7 +13,8 @@ use std::marker::Model;
 use std::sync::ledger::Ledger;
 use transcripts::Transcript;
 
-/// All that was told is settled: the service, and the marks of the entries that its journals were compared by. `settle` alone makes it.
+/// All answers are settled: the service, and the marks of the entries by which its journals were
+/// compared. Only `settle` makes it.
 #[derive(Drop)]
 pub struct Settled {
     service: Service,
@@ -28,14 +30,14 @@ impl Model for Settled {
 }
 
 impl Settled {
-    /// The service.
+    /// The service, whose journals agree with all answers.
     pub fn service(&self) -> &Service
         ensures { result.now ≡ self.now.service }
     {
         &self.service
     }
 
-    /// The service, for calls to come.
+    /// The service, for later calls.
     pub fn into_service(self) -> Service
         ensures { result ≡ self.service }
     {
@@ -55,6 +57,7 @@ pub fn settle<C: Begun, P: Ledger>(
     ensures settled { IfOk result (λ s. IsSettled C.begun core transcripts.items shares.items) }
     ensures follows { IfOk result (λ s. Follows C.begun s.service) }
     ensures stays { IfOk result (λ s. C.stay ≡ true → Stays C.begun s.service) }
+    ensures calls { IfOk result (λ s. C.stay ≡ true → AreAllCalls C.begun s.service transcripts.items) }
     ensures cause { IfErr result (λ e. IsCause core transcripts.items (length shares.items)
         e.cause) }
     ensures back { IfErr result (λ e. (e.core ≡ core) × (e.transcripts.items ≡ transcripts.items)
@@ -77,7 +80,7 @@ pub fn settle<C: Begun, P: Ledger>(
     Ok(Settled { service, marks })
 }
 
-/// Why it isn't settled, if it isn't.
+/// Why the answers aren't settled. None if they are.
 fn first_cause<C: Begun, P: Ledger>(
     core: &Core<C, P>,
     transcripts: &[Transcript<C>],
@@ -85,7 +88,8 @@ fn first_cause<C: Begun, P: Ledger>(
 ) -> Option<Cause>
     ensures { MatchOption result
         (AreAllThere core.now transcripts.now shares
-        × All (IsBorneOut core.now) (claims_of transcripts.now))
+        × All (IsBorneOut core.now) (claims_of transcripts.now)
+        × All (IsFullIfTold core.now.service) transcripts.now)
         (λ cause. IsCause core.now transcripts.now shares cause) }
 {
     if !has_each_lease(core, transcripts) || shares < core.shares_given() as usize {
@@ -93,6 +97,9 @@ fn first_cause<C: Begun, P: Ledger>(
     }
     match first_mismatch(core, transcripts) {
         Some((id, place)) => Some(Cause::Mismatch { id, place }),
-        None => None,
+        None => match first_not_full(core, transcripts) {
+            Some(id) => Some(Cause::NotFull { id }),
+            None => None,
+        },
     }
 }

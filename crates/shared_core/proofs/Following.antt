@@ -1,4 +1,4 @@
--- A service goes on by what its calls make of it.
+-- A service goes on after calls of it.
 use Rattle.std.proofs.Common.{◌≡◌, ℕ, ◌+◌, List, [], ◌∷◌, ◌++◌, length, take, Bool, true, false, eqb, Option, Some, None, refl, sym, ap, ◌∙◌, arith}
 use Rattle.std.specs.Prelude.{if◌then◌else◌, IsSomeAnd, is_some, option_map}
 use Rattle.std.proofs.lemmas.Bool.Decides.{nat_tests}
@@ -10,7 +10,7 @@ use Rattle.service_core.specs.Service.{ServiceState, history_of, modified, witho
 use Rattle.service_core.proofs.Lists.{history_of-modified, history_of-past, history_of-push, length-modified}
 use Rattle.shared_core.specs.Following.{Follows, GoesOn, Stays}
 
--- lists that begin one another
+-- a list that is a beginning of another
 whole : {A : Type 0} (xs : List A) → take (length xs) xs ≡ xs
 whole [] = refl
 whole (x ∷ xs) = ap (λ ys. x ∷ ys) (whole xs)
@@ -36,7 +36,7 @@ begins (x ∷ xs) (y ∷ ys) (z ∷ zs) one two =
     let rest = begins xs ys zs (ap tail_of one) (ap tail_of two) in
     ap (λ w. w ∷ take (length xs) zs) first ∙ ap (λ ws. x ∷ ws) rest
 
--- one history
+-- each history goes on as itself
 pub GoesOn-same : (h : History) → GoesOn h h
 GoesOn-same h = record { id = refl; arch = refl; strip = refl; entries = whole h.entries; closed = λ e. e }
 
@@ -58,7 +58,7 @@ GoesOn-here here h = record { id = refl; arch = refl; strip = refl; entries = wh
 pub GoesOn-closed : (h : History) → GoesOn h (closed h)
 GoesOn-closed h = record { id = refl; arch = refl; strip = refl; entries = whole h.entries; closed = λ is. refl }
 
--- a service
+-- each service goes on as itself
 pub Follows-same : (s : ServiceState) → Follows s s
 Follows-same s = record { device = refl; each = λ id h at. rw at (GoesOn-same h) }
 
@@ -89,7 +89,7 @@ Follows-changed s id change goes = record {
     by_id h true = goes h
     by_id h false = GoesOn-same h
 
--- a tenancy less
+-- one tenancy fewer
 pub Follows-without : (s : ServiceState) (id : ℕ) → Follows s (without_tenancy s id)
 Follows-without s id =
     let kept = Follows-changed s id closed GoesOn-closed in record { device = refl; each = kept.each }
@@ -98,7 +98,7 @@ Follows-without s id =
 pub Follows-moved : (s : ServiceState) (id offset : ℕ) → Follows s (record s { plan = with_moved s.plan id offset })
 Follows-moved s id offset = let same = Follows-same s in record { device = refl; each = same.each }
 
--- a tenancy more
+-- one tenancy more
 pub Follows-push : (s t : ServiceState) (h : History) → t.device ≡ s.device → t.histories ≡ s.histories ++ h ∷ [] → Follows s t
 Follows-push s t h device more = record {
   device = device;

@@ -1,4 +1,5 @@
--- Slot numbers: who has one keeps it, and a number that is nobody's is found where there are fewer than 64 strips.
+-- Slot numbers: a tenancy keeps its number, and with fewer than 64 strips there is a number that is
+-- nobody's.
 use Rattle.std.proofs.Common.{◌≡◌, ◌≢◌, ℕ, zero, suc, ◌+◌, ◌<◌, ◌≤◌, List, [], ◌∷◌, length, set, get_or, Bool, true, false, eqb, Option, Some, None, refl, sym, ap, ◌∙◌, arith}
 use Rattle.std.specs.Prelude.{if◌then◌else◌, is_some, slice_get, replicate, ◌==◌}
 use Rattle.std.specs.List.{position_or_len}
@@ -12,7 +13,7 @@ use Rattle.strips.specs.Plan.{strip_of, without}
 use Rattle.strips.proofs.Laid.{strip_of-without}
 use Rattle.shared_core.specs.CoreState.{AreSlotted, handed, holder_of, if_somebody, number_of}
 
--- the numbers are those of the same tenancies
+-- the numbers belong to the same tenancies
 pub AreSlotted-same : (live live' : ℕ → Bool) (holders : List ℕ) → ((id : ℕ) → live' id ≡ live id) → AreSlotted live holders → AreSlotted live' holders
 AreSlotted-same live live' holders same was = record {
   count = was.count;
@@ -21,7 +22,7 @@ AreSlotted-same live live' holders same was = record {
   once = was.once;
 }
 
--- a write of one place
+-- a write at one index
 slice_get-set : (xs : List ℕ) (n m v : ℕ) → n < length xs → slice_get (set xs n v) m ≡ (if eqb m n then Some v else slice_get xs m)
 slice_get-set [] n m v lt = absurd (omega arith)
 slice_get-set (x ∷ xs) zero zero v lt = refl
@@ -29,7 +30,7 @@ slice_get-set (x ∷ xs) zero (suc m) v lt = grind (arith, nat_tests)
 slice_get-set (x ∷ xs) (suc n) zero v lt = grind (arith, nat_tests)
 slice_get-set (x ∷ xs) (suc n) (suc m) v lt = grind (arith, nat_tests, slice_get-set xs n m v (omega arith))
 
--- the number of a tenancy is its place in the list
+-- the number of a tenancy is its index in the list
 number_there : (holders : List ℕ) (id n : ℕ) → number_of holders id ≡ Some n → (n < length holders) × (slice_get holders n ≡ Some id)
 number_there holders id n is =
     let p = position-Some (λ holder. holder == id) holders n 0 is in
@@ -52,7 +53,7 @@ numbered holders id n at = by_option (number_of holders id) refl
         let fails : (get_or holders n 0 == id) ≡ false = fails_before_first (λ holder. holder == id) holders n 0 (omega arith) in
         absurd (grind (arith, nat_tests))
 
--- and one who has one holds it
+-- and a tenancy that has a number holds it
 number_is : (holders : List ℕ) (id : ℕ) → is_some (number_of holders id) ≡ true → (n : ℕ) × (number_of holders id ≡ Some n)
 number_is holders id some = by_option (number_of holders id) refl some
   where
@@ -171,7 +172,7 @@ freed_number live holders new n id was some at w = record {
     gone : (m other : ℕ) → m ≡ n → holder_of new m ≡ Some other → ⊥
     gone m other same is = let got = holds new m other is in got.1 (some_is other 0 (sym got.0 ∙ (ap (slice_get new) same ∙ w.here)))
 
--- at most as many as there are strips
+-- the numbers in use are at most as many as the strips
 fewer : (strips : List PlacedStrip) (id : ℕ) → length (without strips id) ≤ length strips
 fewer [] id = omega arith
 fewer (s ∷ strips) id = grind (arith, nat_tests, fewer strips id)
@@ -200,7 +201,7 @@ as_many (x ∷ ids) strips once there =
         let e : eqb id x ≡ false = grind (arith, nat_tests) in
         rw (strip_of-without strips x id, e) (there (suc n) id at)
 
--- a number is nobody's, where there are fewer than 64 strips
+-- a number is nobody's, if there are fewer than 64 strips
 pub free_number : (live : ℕ → Bool) (holders : List ℕ) (strips : List PlacedStrip) → AreSlotted live holders → ((id : ℕ) → live id ≡ true → is_some (strip_of strips id) ≡ true) → length strips < 64 → (n : ℕ) × (number_of holders 0 ≡ Some n)
 free_number live holders strips was placed few = by_option (number_of holders 0) refl
   where
@@ -226,7 +227,7 @@ AreSlotted-freed live holders id was is some =
     let at = number_there holders id got.0 got.1 in
     rw got.1 (freed_number live holders (set holders got.0 0) got.0 id was some at.1 (written holders got.0 0 at.0))
 
--- as they begin
+-- the numbers at the beginning
 slice_get-none : (n m id : ℕ) → slice_get (replicate {A = ℕ} n 0) m ≡ Some id → id ≡ 0
 slice_get-none zero m id at = cc
 slice_get-none (suc n) zero id at = cc

@@ -1,4 +1,4 @@
--- What the calls of a service make of its journals.
+-- The journals after calls of a service.
 use Rattle.std.proofs.Common.{◌≡◌, ℕ, ◌+◌, ◌-◌, ◌≤◌, List, [], ◌∷◌, ◌++◌, length, Bool, true, false, eqb, Option, Some, None, Ok, Err, refl, ap, ◌∙◌, arith, length-append}
 use Rattle.std.specs.Prelude.{if◌then◌else◌, IsSomeAnd, Result, option_map}
 use Rattle.std.specs.declared.alloc.AllocError.{AllocError}
@@ -42,7 +42,7 @@ puts_in-entry (g ∷ hs) id e h at =
       | false ↦ λ there. omega (arith, puts_in-entry hs (id - 1) e h there)
     ] at
 
--- a change that leaves the journals
+-- a change that keeps the journals
 pub puts_in-kept : (hs : List History) (id : ℕ) (change : History → History) → ((h : History) → (change h).entries ≡ h.entries) → puts_in (modified hs id change) ≡ puts_in hs
 puts_in-kept [] id change keeps = refl
 puts_in-kept (g ∷ hs) id change keeps =
@@ -55,7 +55,7 @@ pub puts_in-push : (hs : List History) (h : History) → puts_in (hs ++ h ∷ []
 puts_in-push [] h = omega arith
 puts_in-push (g ∷ hs) h = omega (arith, puts_in-push hs h)
 
--- journals grow, by so many put entries; the service goes on, and its tenancies stay
+-- journals grow, with this number of new put entries; the service goes on, and its tenancies stay
 pub record Grows (old new : ServiceState) (puts : ℕ) : Type 0 where
   pub follows : Follows old new
   pub stays : Stays old new

@@ -22,10 +22,12 @@ use Rattle.service_core.proofs.Lists.{All-history_of, history_of-modified, histo
 use Rattle.shared_core.specs.CoreState.{AreSlotted, CoreState, LeaseState, Marked, SlotTable, can_lease, given, handed, has_room_in, is_leased, is_live, marked_of, number_of, places_of, remarked, unmarked, with_place}
 use Rattle.shared_core.specs.Accounts.{AreMarks, IsAccount, IsRising, entries_of}
 use Rattle.shared_core.specs.Following.{Follows}
+use Rattle.shared_core.specs.Reaching.{IsReached}
 use Rattle.shared_core.proofs.Following.{Follows-moved, Follows-push, Follows-same, Follows-trans, Follows-without, Stays-trans}
 use Rattle.shared_core.proofs.Holders.{AreSlotted-freed, AreSlotted-given, AreSlotted-same}
 use Rattle.shared_core.proofs.Journals.{Grows, puts_in-kept, puts_in-push, received_at, served}
 use Rattle.shared_core.proofs.Marks.{length-remarked, marked_of-at}
+use Rattle.shared_core.proofs.Reaching.{reached_leased, reached_marked}
 use Rattle.shared_core.proofs.Sums.{leases_in-few, leases_in-given, leases_in-place, leases_in-push, places_of-given, places_of-other, places_of-place, places_of-push, places_sum-given, places_sum-place, places_sum-push, rising-longer, rising-push}
 
 AreMarks-grown : (begun : List History) (old new : ServiceState) (marks : List Marked) (puts : ℕ) → Grows old new puts → AreMarks begun old.histories marks → AreMarks begun new.histories marks
@@ -35,11 +37,12 @@ AreMarks-grown begun old new marks puts grows was = record {
   rising = λ id. rising-longer (entries_of begun id) (places_of marks id) _ _ (grows.longer id) (was.rising id);
 }
 
--- a call that leaves the marks and the numbers
-pub IsAccount-grown : (begun : ServiceState) (stay : Bool) (old new : ServiceState) (marks : List Marked) (holders : List ℕ) (commands : ℕ × ℕ × ℕ × ℕ) (puts : ℕ × ℕ × ℕ) (shares more total' : ℕ) → Grows old new more → total' ≡ puts.0 + more → IsAccount begun stay old marks holders commands puts shares → IsAccount begun stay new marks holders commands (total', puts.1, puts.2) shares
-IsAccount-grown begun stay old new marks holders commands puts shares more total' grows is was = record {
+-- a call that keeps the marks and the numbers
+pub IsAccount-grown : (begun : ServiceState) (stay : Bool) (old new : ServiceState) (marks : List Marked) (holders : List ℕ) (commands : ℕ × ℕ × ℕ × ℕ) (puts : ℕ × ℕ × ℕ) (shares more total' : ℕ) → Grows old new more → total' ≡ puts.0 + more → (stay ≡ true → IsReached begun old marks → IsReached begun new marks) → IsAccount begun stay old marks holders commands puts shares → IsAccount begun stay new marks holders commands (total', puts.1, puts.2) shares
+IsAccount-grown begun stay old new marks holders commands puts shares more total' grows is reaches was = record {
   follows = Follows-trans begun old new was.follows grows.follows;
   stays = λ e. Stays-trans begun old new (was.stays e) grows.stays;
+  reached = λ e. reaches e (was.reached e);
   placed = AreMarks-grown begun.histories old new marks more grows was.placed;
   slotted = AreSlotted-same (is_live old.histories) (is_live new.histories) holders grows.stays.live was.slotted;
   commanded = was.commanded;
@@ -89,13 +92,14 @@ IsAccount-evicted begun stay old new id marks holders commands puts shares may i
     rw is.1 (record {
       follows = Follows-trans begun old (without_tenancy old id) was.follows (Follows-without old id);
       stays = λ e. absurd (cc);
+      reached = λ e. absurd (cc);
       placed = record { count = was.placed.count ∙ sym (length-modified hs id closed); few = was.placed.few; rising = λ other. rw (entries-closed hs id other) (was.placed.rising other) };
       slotted = AreSlotted-same (λ other. if eqb other id then false else is_live hs other) (is_live (modified hs id closed)) (handed holders (number_of holders id) 0) (live-closed hs id) (AreSlotted-freed (is_live hs) holders id was.slotted live some);
       commanded = was.commanded;
       put = record { all = was.put.all ∙ sym (puts_in-kept hs id closed (λ h. refl)); cut = was.put.cut; own = was.put.own; few = was.put.few };
     })
 
--- a strip that moves leaves the histories
+-- a strip that moves keeps the histories
 moved : (old new : ServiceState) (id offset : ℕ) (answer : Result (Unit {0}) OpRefusal) → IsMoved old id offset answer new → Follows old new
 moved old new id offset (Ok nothing) is = rw is.2 (Follows-moved old id offset)
 moved old new id offset (Err OpNoSuchTenancy) is = rw is.1 (Follows-same old)
@@ -112,13 +116,14 @@ IsAccount-moved begun stay old new id offset answer marks holders commands puts 
     record {
       follows = Follows-trans begun old new was.follows (moved old new id offset answer is);
       stays = λ e. absurd (cc);
+      reached = λ e. absurd (cc);
       placed = rw same was.placed;
       slotted = rw same was.slotted;
       commanded = was.commanded;
       put = rw same was.put;
     }
 
--- just live tenancies have strips
+-- exactly the live tenancies have strips
 pub is_some-map : {A B : Type 0} (f : A → B) (o : Option A) → is_some (option_map f o) ≡ is_some o
 is_some-map f None = refl
 is_some-map f (Some x) = refl
@@ -135,6 +140,7 @@ IsAccount-admitted begun stay old new width told marks holders commands puts sha
     rw (is.3, is.1) (record {
       follows = Follows-trans begun old (with_tenancy old width told.1) was.follows (Follows-push old (with_tenancy old width told.1) h refl refl);
       stays = λ e. absurd (cc);
+      reached = λ e. absurd (cc);
       placed = record {
         count = length-append marks (unmarked ∷ []) ∙ (ap (λ n. n + 1) was.placed.count ∙ sym (length-append hs (h ∷ [])));
         few = omega (arith, length-append marks (unmarked ∷ []), was.placed.count);
@@ -145,7 +151,7 @@ IsAccount-admitted begun stay old new width told marks holders commands puts sha
       put = record { all = omega (arith, was.put.all, puts_in-push hs h); cut = was.put.cut; own = was.put.own; few = was.put.few };
     })
 
--- the marks of a tenancy that there is
+-- the marks of a tenancy that exists
 within : (hs : List History) (id : ℕ) (h : History) → history_of hs id ≡ Some h → (0 < id) × (id ≤ length hs)
 within hs id h at = (by_zero, by_past)
   where
@@ -191,13 +197,14 @@ IsAccount-leased begun stay s ms holders total parts amount whole puts shares id
     record {
       follows = was.follows;
       stays = was.stays;
+      reached = λ e. reached_leased begun s ms id (was.reached e);
       placed = record { count = length-remarked ms id given ∙ was.placed.count; few = omega (arith, length-remarked ms id given, was.placed.few); rising = λ other. rw (places_of-given ms id other) (was.placed.rising other) };
       slotted = was.slotted;
       commanded = record { all = was.commanded.all ∙ sym (places_sum-given ms id); cut = was.commanded.cut; spare = omega (arith, was.commanded.spare, leases_in-given ms id got.0 got.1 none); none_spare = omega (arith, was.commanded.none_spare) };
       put = was.put;
     }
 
--- a part is left for it
+-- a part is left for the lease
 pub part_left : (begun : ServiceState) (stay : Bool) (s : ServiceState) (ms : List Marked) (holders : List ℕ) (commands : ℕ × ℕ × ℕ × ℕ) (puts : ℕ × ℕ × ℕ) (shares : ℕ) → IsAccount begun stay s ms holders commands puts shares → 1 ≤ commands.1
 part_left begun stay s ms holders commands puts shares was = omega (arith, was.commanded.spare, leases_in-few ms, was.placed.few)
 
@@ -212,6 +219,7 @@ IsAccount-marked begun stay old new id command r ms holders commands puts shares
     record {
       follows = Follows-trans begun old new was.follows grows.follows;
       stays = λ e. Stays-trans begun old new (was.stays e) grows.stays;
+      reached = λ e. reached_marked begun old new ms id command r got.0 got.1 is (was.reached e);
       placed = record {
         count = length-remarked ms id (with_place r.place) ∙ (was.placed.count ∙ sym grows.stays.count);
         few = omega (arith, length-remarked ms id (with_place r.place), was.placed.few);
@@ -233,13 +241,14 @@ pub IsAccount-shared : (begun : ServiceState) (stay : Bool) (s : ServiceState) (
 IsAccount-shared begun stay s ms holders commands puts shares parts' few is was = record {
   follows = was.follows;
   stays = was.stays;
+  reached = was.reached;
   placed = was.placed;
   slotted = was.slotted;
   commanded = was.commanded;
   put = record { all = was.put.all; cut = was.put.cut; own = omega (arith, is, was.put.own); few = omega arith };
 }
 
--- a command without room isn't served
+-- without room in its journal a command isn't served
 pub served_room : (old new : ServiceState) (id : ℕ) (command : Command) (r : Receipted) → AreAlone old → IsServed old id command (Ok r) new → has_room_in (live_of old.histories id) ≡ true
 served_room old new id command r alone is = at_option (history_of old.histories id) refl is.0
   where
@@ -276,7 +285,7 @@ and_both false b never = cc
 pub leasable : (core : CoreState) (id : ℕ) → can_lease core id ≡ true → (is_live core.service.histories id ≡ true) × (is_leased core.marks id ≡ false)
 leasable core id can = and_both (is_live core.service.histories id) (is_leased core.marks id) can
 
--- values by their parts
+-- values given by their parts
 abbrev lease_of : ℕ → ℕ → LeaseState
 lease_of id made = record { id = id; made = made }
 

@@ -4,5 +4,6 @@ pub mod Journals
 pub mod Sums
 pub mod Holders
 pub mod Searching
+pub mod Reaching
 pub mod Kept
 pub mod Wrapped

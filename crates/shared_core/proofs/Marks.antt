@@ -1,4 +1,4 @@
--- Marks by their ids.
+-- Marks by ids.
 use Rattle.std.proofs.Common.{◌≡◌, ℕ, zero, suc, ◌+◌, ◌-◌, ◌<◌, ◌≤◌, List, [], ◌∷◌, ◌++◌, length, get_or, true, false, eqb, Some, None, refl, sym, ap, ◌∙◌, subst, arith}
 use Rattle.std.specs.Prelude.{option_map, if◌then◌else◌, All}
 use Rattle.std.proofs.Math.ListN.{set}
@@ -57,7 +57,7 @@ pub marked_of-push : (ms : List Marked) (m : Marked) (id : ℕ) → marked_of (m
 marked_of-push [] m id = grind (arith, nat_tests)
 marked_of-push (g ∷ ms) m id = grind (arith, nat_tests, marked_of-push ms m (id - 1))
 
--- what holds of all marks holds of those
+-- what holds for all marks holds for the marks of an id
 pub All-marked_of : (P : Marked → Type 0) (ms : List Marked) (id : ℕ) (m : Marked) → marked_of ms id ≡ Some m → All P ms → P m
 All-marked_of P [] id m is all = cc
 All-marked_of P (g ∷ ms) id m is all =

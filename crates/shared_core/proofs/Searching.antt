@@ -1,4 +1,4 @@
--- A place that is searched among those that rise.
+-- A search for a place in a rising list of places.
 use Rattle.std.proofs.Common.{◌≡◌, ◌≢◌, ℕ, zero, suc, ◌+◌, ◌<◌, ◌≤◌, List, [], ◌∷◌, length, get_or, true, false, eqb, Ok, Err, refl, sym, arith}
 use Rattle.std.specs.Prelude.{◌||◌, Result, is_ok, nat_lt}
 use Rattle.std.specs.List.Sorted.{IsBinarySearchResult}

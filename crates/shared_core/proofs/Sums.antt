@@ -1,4 +1,4 @@
--- What a change of the marks makes of their sums.
+-- The sums over the marks after a change of the marks.
 use Rattle.std.proofs.Common.{◌≡◌, ℕ, zero, suc, ◌+◌, ◌-◌, ◌≤◌, List, [], ◌∷◌, ◌++◌, length, Bool, true, false, eqb, Option, Some, None, refl, ap, ◌∙◌, arith, length-append}
 use Rattle.std.specs.Prelude.{if◌then◌else◌, option_map, replicate}
 use Rattle.std.proofs.lemmas.Bool.Decides.{nat_tests, Decides-eqb}
@@ -54,7 +54,7 @@ pub leases_in-few : (ms : List Marked) → leases_in ms ≤ length ms
 leases_in-few [] = omega arith
 leases_in-few (m ∷ ms) = omega (arith, flag_few m.given, leases_in-few ms)
 
--- of marks as they begin
+-- the sums over the first marks
 pub places_sum-none : (n : ℕ) → places_sum (replicate n unmarked) ≡ 0
 places_sum-none zero = refl
 places_sum-none (suc n) = omega (arith, places_sum-none n)

@@ -1,4 +1,4 @@
--- What is made of a service as it is wrapped.
+-- A service that a core is made with.
 use Rattle.std.proofs.Common.{◌≡◌, ℕ, zero, suc, ◌+◌, ◌-◌, ◌<◌, ◌≤◌, List, [], ◌∷◌, ◌++◌, length, take, Bool, true, false, eqb, Option, Some, None, refl, sym, ap, ◌∙◌, arith}
 use Rattle.std.specs.Prelude.{if◌then◌else◌, is_some, nat_lt, replicate, slice_get, ◌&&◌}
 use Rattle.std.proofs.lemmas.Bool.Decides.{nat_tests, Decides-eqb}
@@ -16,6 +16,7 @@ use Rattle.shared_core.specs.CoreState.{AreSlotted, Marked, handed, is_live, num
 use Rattle.shared_core.specs.Accounts.{IsAccount}
 use Rattle.shared_core.proofs.Sums.{leases_in-none, places_of-none, places_sum-none}
 use Rattle.shared_core.proofs.Following.{Follows-same, Stays-same}
+use Rattle.shared_core.proofs.Reaching.{reached_none}
 use Rattle.shared_core.proofs.Holders.{AreSlotted-given, AreSlotted-same, shrinks}
 
 pub replicate-push : {A : Type 0} (n : ℕ) (x : A) → replicate (n + 1) x ≡ replicate n x ++ x ∷ []
@@ -25,7 +26,7 @@ replicate-push n x = let e : n + 1 ≡ suc n = omega arith in rw e (by_suc n)
     by_suc zero = refl
     by_suc (suc m) = ap (λ xs. x ∷ xs) (by_suc m)
 
--- one journal
+-- a journal has at most 65,536 entries
 pub few_entries : (s : ServiceState) (id : ℕ) → AreAlone s → length (journal_of s id) ≤ 65536
 few_entries s id alone = at_option (history_of s.histories id) refl
   where
@@ -44,7 +45,7 @@ puts_among-all [] (suc i) none = refl
 puts_among-all (x ∷ es) zero none = cc
 puts_among-all (x ∷ es) (suc i) none = let rest = puts_among-all es i none in omega arith
 
--- and all
+-- all journals
 pub puts_in-take : (hs : List History) (i : ℕ) → puts_in (take (i + 1) hs) ≡ puts_in (take i hs) + puts_among (entries_in (history_of hs (i + 1)))
 puts_in-take [] zero = refl
 puts_in-take [] (suc i) = let one : suc i + 1 ≡ suc (i + 1) = omega arith in rw one (omega arith)
@@ -88,7 +89,7 @@ upto_live hs i id live =
       | false ↦ λ e. let same : nat_lt id (i + 1 + 1) ≡ nat_lt id (i + 1) = grind (arith, nat_tests) in rw same refl
     ] refl
 
--- those of the next id
+-- the number of the next id
 pub slotted_dead : (hs : List History) (holders : List ℕ) (i : ℕ) → is_live hs (i + 1) ≡ false → AreSlotted (live_upto hs i) holders → AreSlotted (live_upto hs (i + 1)) holders
 slotted_dead hs holders i dead was = AreSlotted-same (live_upto hs i) (live_upto hs (i + 1)) holders (λ id. upto_dead hs i id dead) was
 
@@ -115,7 +116,7 @@ slotted_live hs holders strips i placed few nobody live was =
 pub none_past : (s : ServiceState) (id : ℕ) → AreAlone s → slice_get (journal_of s id) 65536 ≡ None
 none_past s id alone = slice_get_past (journal_of s id) 65536 (few_entries s id alone)
 
--- the account as it begins
+-- the account at its beginning
 pub IsAccount-wrapped : (begun : ServiceState) (stay : Bool) (s : ServiceState) (marks : List Marked) (holders : List ℕ) (total parts amount whole put_total put_parts put_whole : ℕ) → begun ≡ s → length s.histories ≤ 65535 → marks ≡ replicate (length s.histories) unmarked → AreSlotted (is_live s.histories) holders →
     total ≡ 0 → parts ≡ 65536 → amount ≡ 0 → whole ≡ 65536 → put_total ≡ puts_in s.histories → put_parts ≡ 17 → put_whole ≡ 17 → IsAccount begun stay s marks holders (total, parts, amount, whole) (put_total, put_parts, put_whole) 0
 IsAccount-wrapped begun stay s marks holders total parts amount whole put_total put_parts put_whole same few are slotted t p a w pt pp pw =
@@ -123,6 +124,7 @@ IsAccount-wrapped begun stay s marks holders total parts amount whole put_total 
     rw same (record {
       follows = Follows-same s;
       stays = λ e. Stays-same s;
+      reached = λ e. rw are (reached_none s (length hs));
       placed = record {
         count = rw are (length-replicate (length hs) unmarked);
         few = rw are (omega (arith, few, length-replicate (length hs) unmarked));

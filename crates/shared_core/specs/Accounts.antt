@@ -1,11 +1,12 @@
--- Private: what the core keeps of its account.
+-- Private: the account that the core keeps.
 use Rattle.std.specs.Prelude.{ℕ, Bool, true, ◌≡◌, ◌+◌, ◌≤◌, List, [], ◌∷◌, length, if◌then◌else◌}
 use Rattle.service_core.specs.History.{History}
 use Rattle.service_core.specs.Service.{ServiceState, history_of, entries_in}
 use Rattle.shared_core.specs.CoreState.{AreSlotted, Marked, is_live, places_of, puts_in}
 use Rattle.shared_core.specs.Following.{Follows, Stays}
+use Rattle.shared_core.specs.Reaching.{IsReached}
 
--- the places rise, the first is at least that one, and the last is below n
+-- the places rise, the first is at least `least`, and the last is below `n`
 abbrev pub IsRising : ℕ → List ℕ → ℕ → Type 0
 IsRising least [] n = least ≤ n
 IsRising least (p ∷ ps) n = (least ≤ p) × IsRising (p + 1) ps n
@@ -13,12 +14,12 @@ IsRising least (p ∷ ps) n = (least ≤ p) × IsRising (p + 1) ps n
 abbrev pub AreRising : List ℕ → Type 0
 AreRising places = (n : ℕ) × IsRising 0 places n
 
--- how many marked entries there are
+-- the number of marked entries
 abbrev pub places_sum : List Marked → ℕ
 places_sum [] = 0
 places_sum (m ∷ ms) = length m.places + places_sum ms
 
--- how many leases were given
+-- the number of leases that were given
 abbrev pub leases_in : List Marked → ℕ
 leases_in [] = 0
 leases_in (m ∷ ms) = (if m.given then 1 else 0) + leases_in ms
@@ -26,13 +27,15 @@ leases_in (m ∷ ms) = (if m.given then 1 else 0) + leases_in ms
 abbrev pub entries_of : List History → ℕ → ℕ
 entries_of histories id = length (entries_in (history_of histories id))
 
--- the marks are of the ids that there are, and each is the place of an entry, in rising order, behind those with which the core began
+-- there are marks for each id that was given, and each mark is the place of an entry, in rising
+-- order, after the entries with which the core began
 pub record AreMarks (begun histories : List History) (marks : List Marked) : Type 0 where
   pub count : length marks ≡ length histories
   pub few : length marks ≤ 65535
   pub rising : (id : ℕ) → IsRising (entries_of begun id) (places_of marks id) (entries_of histories id)
 
--- the ledger of commands counts the marked entries, and each lease that was given has one of its parts
+-- the ledger of commands counts the marked entries, and each lease that was given has one of its
+-- parts
 pub record CountsCommands (marks : List Marked) (total parts amount whole : ℕ) : Type 0 where
   pub all : total ≡ places_sum marks
   pub cut : whole ≡ 65536
@@ -46,10 +49,13 @@ pub record CountsPuts (histories : List History) (total parts whole shares : ℕ
   pub own : parts + shares ≡ 17
   pub few : shares ≤ 16
 
--- the service goes on from the one with which the core began, and where the tenancies are to stay they do; the counts are right
+-- the service goes on from the one with which the core began, and if the tenancies are to stay they
+-- do; it was reached by calls of threads, in which exactly the leases' commands are served; and the
+-- counts are right
 pub record IsAccount (begun : ServiceState) (stay : Bool) (service : ServiceState) (marks : List Marked) (holders : List ℕ) (commands : ℕ × ℕ × ℕ × ℕ) (puts : ℕ × ℕ × ℕ) (shares : ℕ) : Type 0 where
   pub follows : Follows begun service
   pub stays : stay ≡ true → Stays begun service
+  pub reached : stay ≡ true → IsReached begun service marks
   pub placed : AreMarks begun.histories service.histories marks
   pub slotted : AreSlotted (is_live service.histories) holders
   pub commanded : CountsCommands marks commands.0 commands.1 commands.2 commands.3

@@ -1,4 +1,5 @@
--- What each call makes of the core's account. What it makes of the service is said of the service inside.
+-- How each call changes the core's account. How it changes the service is said of the service
+-- inside.
 use Rattle.std.specs.Prelude.{ℕ, ◌≡◌, ◌+◌, ◌<◌, [], ◌∷◌, ◌++◌, true, false, Option, Some, None, Result, Ok, Err, length, replicate}
 use Rattle.std.specs.declared.alloc.AllocError.{AllocError}
 use Rattle.job_state.specs.declared.step.JobStep.{JobStep}
@@ -10,11 +11,12 @@ use Rattle.service_core.specs.Receipt.{Receipted}
 use Rattle.service_core.specs.Service.{ServiceState}
 use Rattle.shared_core.specs.CoreState.{AreSlotted, CoreState, LeaseState, Marked, ShareState, can_lease, given, is_live, puts_in, remarked, unmarked, with_holder, with_place}
 
--- nothing but the service
+-- only the service changes
 abbrev pub ChangesService : CoreState → CoreState → Type 0
 ChangesService old new = new ≡ record old { service = new.service }
 
--- a service as it is wrapped: nothing is marked, the put entries that there are are those of no share
+-- a core that is made with a service: nothing is marked, and the put entries that there are belong
+-- to no share
 pub record IsWrapped (service : ServiceState) (core : CoreState) : Type 0 where
   pub same : core.service ≡ service
   pub marks : core.marks ≡ replicate (length service.histories) unmarked
@@ -33,7 +35,7 @@ abbrev pub Evicts : CoreState → ℕ → Result (Unit {0}) OpRefusal → CoreSt
 Evicts old id (Ok nothing) new = new ≡ record old { service = new.service; slots = with_holder old.slots id 0 }
 Evicts old id (Err refusal) new = new ≡ old
 
--- the place of a receipt is one more
+-- a receipt's place is one more mark
 abbrev pub MarksPlace : Marked → Result Receipted NotServed → Marked → Type 0
 MarksPlace old (Ok receipt) new = new ≡ with_place receipt.place old
 MarksPlace old (Err refusal) new = new ≡ old
@@ -43,12 +45,12 @@ abbrev pub MarksEntry : CoreState → ℕ → Result Receipted NotServed → Cor
 MarksEntry old id (Ok receipt) new = new ≡ record old { service = new.service; marks = remarked old.marks id (with_place receipt.place) }
 MarksEntry old id (Err refusal) new = new ≡ old
 
--- and counted by the lease
+-- the lease counts the entry
 abbrev pub CountsCommand : LeaseState → Result Receipted NotServed → LeaseState → Type 0
 CountsCommand old (Ok receipt) new = new ≡ record old { made = old.made + 1 }
 CountsCommand old (Err refusal) new = new ≡ old
 
--- how many entries a put made
+-- the number of entries of a put
 abbrev pub puts_of : Result PutReply (JobStep × AllocError) → ℕ
 puts_of (Ok (Recorded reply)) = 1
 puts_of (Ok Full) = 0
@@ -59,16 +61,16 @@ puts_of (Err back) = 0
 abbrev pub CountsPut : ShareState → Result PutReply (JobStep × AllocError) → ShareState → Type 0
 CountsPut old answer new = new ≡ record old { puts = old.puts + puts_of answer }
 
--- or by the core
+-- or the core counts it
 abbrev pub CountsOwnPut : CoreState → Result PutReply (JobStep × AllocError) → CoreState → Type 0
 CountsOwnPut old answer new = new ≡ record old { service = new.service; own_puts = old.own_puts + puts_of answer }
 
--- a lease is given exactly where the tenancy is live, and its lease wasn't given; it has made no entry
+-- a lease is given exactly if the tenancy is live and its lease wasn't given; it has made no entry
 abbrev pub GivesLease : CoreState → ℕ → Option LeaseState → CoreState → Type 0
 GivesLease old id None new = (can_lease old id ≡ false) × (new ≡ old)
 GivesLease old id (Some lease) new = (can_lease old id ≡ true) × (lease ≡ record { id = id; made = 0 }) × (new ≡ record old { marks = remarked old.marks id given })
 
--- a share is given exactly where fewer than 16 were; it has counted no put
+-- a share is given exactly if fewer than 16 were; it has counted no put
 abbrev pub GivesShare : CoreState → Option ShareState → CoreState → Type 0
 GivesShare old None new = (old.shares ≡ 16) × (new ≡ old)
 GivesShare old (Some share) new = (old.shares < 16) × (share ≡ record { puts = 0 }) × (new ≡ record old { shares = old.shares + 1 })

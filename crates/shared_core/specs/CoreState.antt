@@ -8,18 +8,19 @@ use Rattle.service_core.specs.History.{History, state_of}
 use Rattle.service_core.specs.Service.{ServiceState, live_of}
 use Rattle.service_core.specs.Calls.{takeable_in}
 
--- what a tenancy's lease made: whether it was given, and the places of its entries in the journal
+-- the marks of a tenancy: whether its lease was given, and the places in the journal of the entries
+-- that the lease made
 pub record Marked : Type 0 where
   pub given : Bool
   pub places : List ℕ
 
--- whose each slot number is, 0 being nobody, and whether it is marked as one that stands in the queue
+-- whose each slot number is (0 for nobody), and whether it is marked as one that is in the queue
 pub record SlotTable : Type 0 where
   pub holders : List ℕ
   pub queued : List Bool
 
--- the tenancies, the marks of the ids from 1 on, the slot numbers, how many shares were given, and how many recorded puts are
--- those of no share
+-- the tenancies, the marks of the ids from 1 on, the slot numbers, how many shares were given, and
+-- how many recorded puts belong to no share
 pub record CoreState : Type 0 where
   pub service : ServiceState
   pub marks : List Marked
@@ -36,15 +37,15 @@ pub record LeaseState : Type 0 where
 pub record ShareState : Type 0 where
   pub puts : ℕ
 
--- a tenancy whose lease wasn't given
+-- the marks of a tenancy whose lease wasn't given
 abbrev pub unmarked : Marked
 unmarked = record { given = false; places = [] }
 
--- its lease is given
+-- the marks after the lease is given
 abbrev pub given : Marked → Marked
 given m = record m { given = true }
 
--- one entry more
+-- the marks with one more place
 abbrev pub with_place : ℕ → Marked → Marked
 with_place place m = record m { places = m.places ++ place ∷ [] }
 
@@ -53,7 +54,7 @@ abbrev pub marked_of : List Marked → ℕ → Option Marked
 marked_of [] id = None
 marked_of (m ∷ ms) id = if id == 1 then Some m else marked_of ms (id - 1)
 
--- those of that id changed
+-- the marks after a change of those of this id
 abbrev pub remarked : List Marked → ℕ → (Marked → Marked) → List Marked
 remarked [] id change = []
 remarked (m ∷ ms) id change = if id == 1 then change m ∷ ms else m ∷ remarked ms (id - 1) change
@@ -82,17 +83,17 @@ has_place (p ∷ ps) place = p == place || has_place ps place
 abbrev pub is_marked : List Marked → ℕ → ℕ → Bool
 is_marked marks id place = has_place (places_of marks id) place
 
--- an entry of a step that was put
+-- the event is a step that was put
 abbrev pub is_put : Event → Bool
 is_put (Asked command) = false
 is_put (Stepped made) = true
 
--- how many entries of a journal are such
+-- the number of put entries of a journal
 abbrev pub puts_among : List Entry → ℕ
 puts_among [] = 0
 puts_among (e ∷ es) = (if is_put e.event then 1 else 0) + puts_among es
 
--- and of all journals
+-- the number of put entries of all journals
 abbrev pub puts_in : List History → ℕ
 puts_in [] = 0
 puts_in (h ∷ hs) = puts_among h.entries + puts_in hs
@@ -106,7 +107,7 @@ abbrev pub has_room_in : Option History → Bool
 has_room_in None = false
 has_room_in (Some h) = nat_lt (length h.entries) 65536
 
--- no step of the tenancy's is to come: it isn't live, no job of it runs, or its journal is full
+-- no step of the tenancy will follow: it isn't live, no job of it runs, or its journal is full
 abbrev pub is_idle_in : Option History → Bool
 is_idle_in None = true
 is_idle_in (Some h) = not (is_some (running (state_of h).name) && nat_lt (length h.entries) 65536)
@@ -115,16 +116,16 @@ is_idle_in (Some h) = not (is_some (running (state_of h).name) && nat_lt (length
 abbrev pub can_lease : CoreState → ℕ → Bool
 can_lease core id = is_live core.service.histories id && not (is_leased core.marks id)
 
--- the slot number of that tenancy; of 0, the first number that is nobody's
+-- the slot number of that tenancy; for 0, the first number that is nobody's
 abbrev pub number_of : List ℕ → ℕ → Option ℕ
 number_of holders id = position (λ holder. holder == id) holders
 
--- that number is handed over
+-- the numbers after this one is handed over
 abbrev pub handed : List ℕ → Option ℕ → ℕ → List ℕ
 handed holders None to = holders
 handed holders (Some number) to = set holders number to
 
--- of two tenancies: the one's number becomes the other's
+-- the numbers after the first tenancy's number became the second's
 abbrev pub with_holder : SlotTable → ℕ → ℕ → SlotTable
 with_holder slots from to = record slots { holders = handed slots.holders (number_of slots.holders from) to }
 
@@ -141,16 +142,16 @@ abbrev pub unqueued : SlotTable → Option ℕ → Option ℕ
 unqueued slots None = None
 unqueued slots (Some number) = if slice_index_or slots.queued number false then None else Some number
 
--- that number marked, or not
+-- the numbers with this one marked, or not
 abbrev pub with_mark : SlotTable → Option ℕ → Bool → SlotTable
 with_mark slots None mark = slots
 with_mark slots (Some number) mark = record slots { queued = set slots.queued number mark }
 
--- the slot number of a tenancy that has a step to take, where it isn't marked
+-- the slot number of a tenancy that has a step to take, if the number isn't marked
 abbrev pub ready_number : CoreState → ℕ → Option ℕ
 ready_number core id = if takeable_in (live_of core.service.histories id) then unqueued core.slots (number_of core.slots.holders id) else None
 
--- just those tenancies have slot numbers, each one of 64, and no two the same
+-- exactly those tenancies have slot numbers, each one of 64, and no two tenancies have the same
 pub record AreSlotted (live : ℕ → Bool) (holders : List ℕ) : Type 0 where
   pub count : length holders ≡ 64
   pub each : (id : ℕ) → live id ≡ true → is_some (number_of holders id) ≡ true

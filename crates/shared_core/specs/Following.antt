@@ -1,12 +1,12 @@
--- How a service goes on from the one that a core was put round.
+-- How a service goes on from the one that a core was made with.
 use Rattle.std.specs.Prelude.{ℕ, ◌≡◌, false, [], Some, length, take, IsSomeAnd}
 use Rattle.arch_file.specs.declared.arch.Arch.{Arch}
 use Rattle.service_core.specs.History.{History}
 use Rattle.service_core.specs.Service.{ServiceState, empty, history_of}
 use Rattle.shared_core.specs.CoreState.{is_live}
 
--- a history goes on: it is of the same tenancy, of the same architecture, in a strip of the same size; its entries stand as they are, and
--- others only behind them; what is closed stays closed
+-- a history goes on: it is of the same tenancy and architecture, in a strip of the same size; its
+-- entries don't change, and others only follow them; what is closed stays closed
 pub record GoesOn (h g : History) : Type 0 where
   pub id : g.id ≡ h.id
   pub arch : g.arch ≡ h.arch
@@ -14,7 +14,7 @@ pub record GoesOn (h g : History) : Type 0 where
   pub entries : take (length h.entries) g.entries ≡ h.entries
   pub closed : h.live ≡ false → g.live ≡ false
 
--- a service goes on: it is of the same device, and each history that there was goes on
+-- a service goes on: it is of the same device, and each of its histories goes on
 pub record Follows (old new : ServiceState) : Type 0 where
   pub device : new.device ≡ old.device
   pub each : (id : ℕ) (h : History) → history_of old.histories id ≡ Some h → IsSomeAnd (history_of new.histories id) (GoesOn h)
@@ -25,7 +25,7 @@ pub record Stays (old new : ServiceState) : Type 0 where
   pub count : length new.histories ≡ length old.histories
   pub live : (id : ℕ) → is_live new.histories id ≡ is_live old.histories id
 
--- a service that no core is put round
+-- a service that no core is made with
 abbrev pub some_arch : Arch
 some_arch = record { io_rat = 1; pins = []; cluster_size = 1; lut_size = 1; tracks = 1; fc_output = 1; fc_input = 1; fc_pad = 1 }
 

@@ -1,4 +1,5 @@
 pub mod CoreState
 pub mod CoreCalls
 pub mod Following
+pub mod Reaching
 pub mod Accounts

@@ -1,4 +1,4 @@
-//! What one tenancy's lease made.
+//! The entries that one tenancy's lease made.
 ghost use Rattle.std.specs.Prelude.{◌≡◌, option_copied, true};
 ghost use Rattle.service_core.specs.Calls.{IsServed};
 ghost use Rattle.service_core.specs.Service.{live_of};
@@ -11,7 +11,8 @@ use std::alloc::Global;
 use std::marker::Model;
 use tenant_slot::Command;
 
-/// Whether the tenancy's lease was given, and the places of the entries that it made, in rising order.
+/// Whether the tenancy's lease was given, and the places of the entries that it made, in rising
+/// order.
 #[derive(Drop)]
 pub struct LeaseMarks {
     given: bool,
@@ -27,7 +28,7 @@ impl Model for LeaseMarks {
 }
 
 impl LeaseMarks {
-    /// Of a tenancy whose lease wasn't given.
+    /// The marks of a tenancy whose lease wasn't given.
     pub(crate) fn new(alloc: Global) -> Self
         ensures { result ≡ unmarked }
     {
@@ -44,7 +45,7 @@ impl LeaseMarks {
         self.given
     }
 
-    /// Whether the entry at that place is one that the lease made.
+    /// Whether the lease made the entry at that place.
     pub fn has(&self, place: u32) -> bool
         requires { AreRising self.now.places }
         ensures { result ≡ has_place self.now.places place }
@@ -52,14 +53,15 @@ impl LeaseMarks {
         self.places.binary_search(&place).is_ok()
     }
 
-    /// The lease is given.
+    /// Marks the lease as given.
     pub(crate) fn give(&mut self)
         ensures { self.new ≡ given self.old }
     {
         self.given = true;
     }
 
-    /// Serves a command of the lease, whose tenancy is live and has room in its journal, and keeps its entry's place.
+    /// Serves a command of the lease, whose tenancy is live and has room in its journal, and keeps
+    /// the place of the entry.
     pub(crate) fn serve(
         &mut self,
         service: &mut Service,

@@ -8,12 +8,12 @@ use std::sync::{Condvar, Mutex};
 pub struct Shared<C: Begun, P: Ledger> {
     /// The core under its lock.
     pub core: Mutex<Core<C, P>>,
-    /// Told after each step that a worker made.
+    /// Notified after each step that a worker made.
     pub changed: Condvar,
 }
 
 impl<C: Begun, P: Ledger> Shared<C, P> {
-    /// The core, to be shared.
+    /// Shares the core.
     pub fn new(core: Core<C, P>) -> Self {
         Shared {
             core: Mutex::new(core),
@@ -21,7 +21,7 @@ impl<C: Begun, P: Ledger> Shared<C, P> {
         }
     }
 
-    /// The core, which is shared no longer.
+    /// Takes the core, which is no longer shared.
     pub fn into_core(self) -> Core<C, P> {
         let Shared { core, changed: _ } = self;
         core.into_inner()

@@ -79,8 +79,9 @@ impl<C: Begun, P: Ledger> Core<C, P> {
         }
     }
 
-    /// The core round a service. Nothing is marked, no lease and no share was given, and the put entries that there are are
-    /// counted as the core's own. Without memory the service comes back.
+    /// The core of a service. Nothing is marked, no lease and no share was given, and the put
+    /// entries that there are count as the core's own. If memory runs out the service is handed
+    /// back.
     pub fn over(
         alloc: Global,
         service: Service,
@@ -116,7 +117,7 @@ impl<C: Begun, P: Ledger> Core<C, P> {
         })
     }
 
-    /// How many tenancies have been admitted so far: their ids are 1 to that number.
+    /// The number of tenancies that have been admitted so far: their ids are 1 to that number.
     pub fn admissions(&self) -> u32
         ensures value { result ≡ length self.now.service.histories }
         ensures few { result ≤ 65535 }
@@ -135,7 +136,8 @@ impl<C: Begun, P: Ledger> Core<C, P> {
         self.service.state(id)
     }
 
-    /// Where a live tenancy's strip stands: how many columns lie before it. All strips are parted.
+    /// The offset of a live tenancy's strip: the number of columns before it. All strips are
+    /// separated.
     pub fn offset(&self, id: u32) -> Option<u32>
         ensures value { result ≡ offset_of self.now.service.plan.strips id }
         ensures parted { AreParted self.now.service.device self.now.service }
@@ -144,7 +146,8 @@ impl<C: Begun, P: Ledger> Core<C, P> {
         self.service.offset(id)
     }
 
-    /// An entry of a journal, of closed tenancies too. Each journal's replies are those of its tenancy alone.
+    /// An entry of a journal, also of closed tenancies. Each journal's replies are those of its
+    /// tenancy alone.
     pub fn entry(&self, id: u32, place: u32) -> Option<&Entry>
         ensures value { option_copied result ≡ slice_get (journal_of self.now.service id) place }
         ensures alone { AreAlone self.now.service }
@@ -152,7 +155,7 @@ impl<C: Begun, P: Ledger> Core<C, P> {
         self.service.entry(id, place)
     }
 
-    /// Whether an entry of a journal is one that the tenancy's lease made, of closed tenancies too.
+    /// Whether the tenancy's lease made this entry of its journal, also of closed tenancies.
     pub fn marked(&self, id: u32, place: u32) -> bool
         ensures { result ≡ is_marked self.now.marks id place }
     {
@@ -162,7 +165,7 @@ impl<C: Begun, P: Ledger> Core<C, P> {
         }
     }
 
-    /// Whether a tenancy's lease was given, of closed tenancies too.
+    /// Whether a tenancy's lease was given, also of closed tenancies.
     pub fn leased(&self, id: u32) -> bool
         ensures { result ≡ is_leased self.now.marks id }
     {
@@ -172,16 +175,18 @@ impl<C: Begun, P: Ledger> Core<C, P> {
         }
     }
 
-    /// How many shares were given.
+    /// The number of shares that were given.
     pub fn shares_given(&self) -> u32
         ensures { result ≡ self.now.shares }
     {
         self.shares
     }
 
-    /// Whether no step of the tenancy is to come: it isn't live, no job of it runs, or its journal is full.
+    /// Whether no step of the tenancy will follow: it isn't live, no job of it runs, or its journal
+    /// is full.
     pub fn idle(&self, id: u32) -> bool
-        ensures { result ≡ is_idle_in (live_of self.now.service.histories id) }
+        ensures value { result ≡ is_idle_in (live_of self.now.service.histories id) }
+        ensures alone { AreAlone self.now.service }
     {
         match self.service.state(id) {
             Some(StateName::Packing | StateName::Placing | StateName::Routing) => {
@@ -211,8 +216,9 @@ impl<C: Begun, P: Ledger> Core<C, P> {
 }
 
 impl<C: Begun, P: Ledger> Core<C, P> {
-    /// Admits a tenancy, at the least offset that parts its strip from the others, with a slot number that is nobody's.
-    /// Answers its id and offset. Owed: `stay` is false.
+    /// Admits a tenancy, at the least offset that separates its strip from the others, with a slot
+    /// number that is nobody's. Returns its id and offset. The caller must ensure that `stay` is
+    /// false.
     pub fn admit(&mut self, width: u32) -> Result<(u32, u32), OpRefusal>
         requires { C.stay ≡ false }
         ensures admitted { IsAdmitted self.old.service width result self.new.service }
@@ -230,8 +236,8 @@ impl<C: Begun, P: Ledger> Core<C, P> {
         Ok((id, offset))
     }
 
-    /// Ends a tenancy. Its strip and its slot number are free again, and its journal stays. Takes no memory. Owed:
-    /// `stay` is false.
+    /// Ends a tenancy. Its strip and its slot number are free again, and its journal stays. Takes
+    /// no memory. The caller must ensure that `stay` is false.
     pub fn evict(&mut self, id: u32) -> Result<(), OpRefusal>
         requires { C.stay ≡ false }
         ensures evicted { IsEvicted self.old.service id result self.new.service }
@@ -242,8 +248,8 @@ impl<C: Begun, P: Ledger> Core<C, P> {
         Ok(())
     }
 
-    /// Moves a live tenancy's strip to that offset, with all that the tenancy owns. Jobs that are out go on. Takes no memory.
-    /// Owed: `stay` is false.
+    /// Moves a live tenancy's strip to that offset, with all that the tenancy owns. Jobs that are
+    /// out go on. Takes no memory. The caller must ensure that `stay` is false.
     pub fn move_strip(&mut self, id: u32, offset: u32) -> Result<(), OpRefusal>
         requires { C.stay ≡ false }
         ensures moved { IsMoved self.old.service id offset result self.new.service }
@@ -252,8 +258,10 @@ impl<C: Begun, P: Ledger> Core<C, P> {
         self.service.move_strip(id, offset)
     }
 
-    /// Serves a command of a live tenancy, as if it were alone. Its entry isn't marked.
+    /// Serves a command of a live tenancy, as if it were alone. Its entry isn't marked. The caller
+    /// must ensure that `stay` is false: otherwise each command is one of a lease.
     pub fn tenant(&mut self, id: u32, command: Command) -> Result<Receipt, NotServed>
+        requires { C.stay ≡ false }
         ensures served { IsServed self.old.service id command result self.new.service }
         ensures rest { ChangesService self.old self.new }
     {
@@ -261,6 +269,7 @@ impl<C: Begun, P: Ledger> Core<C, P> {
     }
 
     /// Serves a command of a lease, as `tenant` does. Its entry is marked, and the lease counts it.
+    /// While the tenancies stay the lease's tenancy is live.
     pub fn lease_command(
         &mut self,
         lease: &mut Lease<C>,
@@ -269,6 +278,7 @@ impl<C: Begun, P: Ledger> Core<C, P> {
         ensures served { IsServed self.old.service lease.old.id command result self.new.service }
         ensures rest { MarksEntry self.old lease.old.id result self.new }
         ensures counted { CountsCommand lease.old result lease.new }
+        ensures live { C.stay ≡ true → is_live self.old.service.histories lease.old.id ≡ true }
     {
         let id = lease.id;
         if !self.has_room(id) {
@@ -279,8 +289,8 @@ impl<C: Begun, P: Ledger> Core<C, P> {
         Ok(receipt)
     }
 
-    /// The next step of a live tenancy's running job, which is out then. None where no job of it runs, that step is out, or the
-    /// journal is full. Takes no memory.
+    /// The next step of a live tenancy's running job, which is out then. None if no job of it runs,
+    /// that step is out, or the journal is full. Takes no memory.
     pub fn take(&mut self, id: u32) -> Option<AnyJob>
         ensures taken { IsTaken self.old.service id result self.new.service }
         ensures rest { ChangesService self.old self.new }
@@ -288,9 +298,11 @@ impl<C: Begun, P: Ledger> Core<C, P> {
         self.service.take(id)
     }
 
-    /// Puts a step that was made, as if its tenancy were alone; where it is recorded the core counts it as its own. Without
-    /// memory it comes back.
+    /// Puts a step that was made, as if its tenancy were alone; if it is recorded the core counts
+    /// it as its own. If memory runs out the step is handed back. The caller must ensure that
+    /// `stay` is false: otherwise each put is one of a share.
     pub fn put(&mut self, done: Done) -> Result<PutReply, (Done, AllocError)>
+        requires { C.stay ≡ false }
         ensures put { Puts self.old.service done result self.new.service }
         ensures rest { CountsOwnPut self.old result self.new }
     {
@@ -301,7 +313,8 @@ impl<C: Begun, P: Ledger> Core<C, P> {
         Ok(reply)
     }
 
-    /// Puts a step that a worker made, as `put` does; where it is recorded the worker's share counts it.
+    /// Puts a step that a worker made, as `put` does; if it is recorded the worker's share counts
+    /// it.
     pub fn share_put(
         &mut self,
         share: &mut Share<P>,
@@ -318,8 +331,9 @@ impl<C: Begun, P: Ledger> Core<C, P> {
         Ok(reply)
     }
 
-    /// Takes back a job that wasn't stepped, or whose step couldn't be put. It is to be taken again where it is the next step of
-    /// the running one, and is dropped else. It is never recorded, and takes no memory.
+    /// Takes back a job that wasn't stepped, or whose step couldn't be put. It can be taken again
+    /// if it is the next step of the running job, and is dropped otherwise. It is never recorded.
+    /// Takes no memory.
     pub fn give_back(&mut self, back: Back)
         ensures back { IsGivenBack self.old.service back self.new.service }
         ensures rest { ChangesService self.old self.new }
@@ -351,8 +365,9 @@ impl<C: Begun, P: Ledger> Core<C, P> {
         Some(Share { part })
     }
 
-    /// The slot number of a tenancy from which `take` would give a job, where the number isn't marked; it is marked then. Just
-    /// the live tenancies have numbers, and no two the same. Takes no memory.
+    /// Marks and returns the slot number of a tenancy from which `take` would give a job. None if
+    /// it wouldn't or the number is marked. Exactly the live tenancies have numbers, and no two
+    /// have the same. Takes no memory.
     pub fn mark_ready(&mut self, id: u32) -> Option<u32>
         ensures value { result ≡ ready_number self.old id }
         ensures core { self.new ≡ record self.old { slots = with_mark self.old.slots result true } }
@@ -364,7 +379,7 @@ impl<C: Begun, P: Ledger> Core<C, P> {
         self.slots.mark(id)
     }
 
-    /// Unmarks a slot number, and tells the live tenancy whose it is. Takes no memory.
+    /// Unmarks a slot number, and returns the live tenancy whose number it is. Takes no memory.
     pub fn popped(&mut self, slot: u32) -> Option<u32>
         ensures value { result ≡ holder_of self.old.slots.holders slot }
         ensures core { self.new ≡ record self.old {

@@ -4,7 +4,7 @@ ghost use Rattle.shared_core.specs.CoreState.{holder_of, number_of, unqueued, wi
 
 use std::marker::Model;
 
-/// Whose each number is, 0 being nobody, and whether it stands in the queue.
+/// Whose each number is (0 for nobody), and whether it is in the queue.
 #[derive(Drop)]
 pub(crate) struct Slots {
     holders: [u32; 64],
@@ -23,7 +23,7 @@ impl Model for Slots {
 }
 
 impl Slots {
-    /// Nobody's, all of them.
+    /// All numbers, each nobody's.
     pub(crate) fn new() -> Self
         ensures { result ≡ record { holders = replicate 64 0; queued = replicate 64 false } }
     {
@@ -41,7 +41,7 @@ impl Slots {
         self.holders.iter().position(|holder| *holder == id)
     }
 
-    /// Hands the number of one tenancy to another, 0 being nobody.
+    /// Hands the number of one tenancy to another; 0 is nobody.
     pub(crate) fn hand(&mut self, from: u32, to: u32)
         ensures { self.new ≡ with_holder self.old from to }
     {
@@ -50,7 +50,7 @@ impl Slots {
         }
     }
 
-    /// Marks the number of a tenancy as queued, where it isn't.
+    /// Marks the number of a tenancy as queued, if it isn't.
     pub(crate) fn mark(&mut self, id: u32) -> Option<u32>
         ensures value { result ≡ unqueued self.old (number_of self.old.holders id) }
         ensures slots { self.new ≡ with_mark self.old result true }
@@ -63,7 +63,7 @@ impl Slots {
         Some(number as u32)
     }
 
-    /// Unmarks a number, and tells whose it is.
+    /// Unmarks a number, and returns whose it is.
     pub(crate) fn unmark(&mut self, number: u32) -> Option<u32>
         ensures value { result ≡ holder_of self.old.holders number }
         ensures slots { self.new ≡ with_mark self.old (Some number) false }

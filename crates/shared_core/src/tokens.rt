@@ -1,37 +1,40 @@
-//! What a session and a worker hold of the counts.
+//! What a session and a worker hold for the counts.
 ghost use Rattle.std.specs.Prelude.{◌≡◌};
 
+use crate::begun::Begun;
 use std::marker::Model;
 use std::sync::ledger;
 use std::sync::ledger::Ledger;
 
-/// The right to enter commands of one tenancy, marked, and how many were entered by it. The core alone makes it.
+/// The right to enter marked commands of one tenancy, and the number of those that it entered. Only
+/// the core makes it, and while the tenancies stay its tenancy is live.
 #[derive(Drop)]
-pub struct Lease<C: Ledger> {
+pub struct Lease<C: Begun> {
     pub(crate) id: u32,
     pub(crate) part: ledger::Share<C>,
 }
 
-impl<C: Ledger> Model for Lease<C> {
-    ghost use Rattle.std.specs.Prelude.{◌≡◌};
-    ghost use Rattle.shared_core.specs.CoreState.{LeaseState};
+impl<C: Begun> Model for Lease<C> {
+    ghost use Rattle.std.specs.Prelude.{◌≡◌, true};
+    ghost use Rattle.shared_core.specs.CoreState.{LeaseState, is_live};
 
     ghost Value = { LeaseState };
 
     ghost view = { λ l. record { id = l.id; made = l.part.amount } };
 
-    ghost invariant = { λ l. l.part.parts ≡ 1 };
+    ghost invariant = { λ l. (l.part.parts ≡ 1)
+        × (C.stay ≡ true → is_live C.begun.histories l.id ≡ true) };
 }
 
-impl<C: Ledger> Lease<C> {
-    /// The tenancy that it is of.
+impl<C: Begun> Lease<C> {
+    /// The tenancy of the lease.
     pub fn id(&self) -> u32
         ensures { result ≡ self.now.id }
     {
         self.id
     }
 
-    /// Its part of the ledger.
+    /// Hands in the lease: its part of the ledger, with its count.
     pub fn into_part(self) -> ledger::Share<C>
         ensures parts { result.parts ≡ 1 }
         ensures amount { result.amount ≡ self.made }
@@ -41,7 +44,7 @@ impl<C: Ledger> Lease<C> {
     }
 }
 
-/// How many puts of one worker were recorded. The core alone makes it.
+/// The number of recorded puts of one worker. Only the core makes it.
 #[derive(Drop)]
 pub struct Share<P: Ledger> {
     pub(crate) part: ledger::Share<P>,
@@ -59,7 +62,7 @@ impl<P: Ledger> Model for Share<P> {
 }
 
 impl<P: Ledger> Share<P> {
-    /// Its part of the ledger.
+    /// Hands in the share: its part of the ledger, with its count.
     pub fn into_part(self) -> ledger::Share<P>
         ensures parts { result.parts ≡ 1 }
         ensures amount { result.amount ≡ self.puts }

@@ -1,4 +1,4 @@
-//! What the core makes of a service that it begins with.
+//! What a core makes for a service that it begins with.
 ghost use Rattle.std.specs.Prelude.{◌≡◌, ◌+◌, ◌<◌, ◌≤◌, [], ◌∷◌, false, replicate, length, IfOk};
 ghost use Rattle.service_core.specs.Headline.{AreParted};
 ghost use Rattle.service_core.specs.Service.{AreAlone, journal_of};
@@ -12,7 +12,7 @@ use std::sync::ledger;
 use std::sync::ledger::{Book, Ledger};
 use tenant_slot::{Event, MAX_ENTRIES};
 
-/// No marks, of each tenancy that has been admitted.
+/// Marks of each tenancy that has been admitted, with no lease given.
 pub(crate) fn no_marks(alloc: Global, service: &Service) -> Result<Vec<LeaseMarks>, AllocError>
     ensures marks { IfOk result (λ marks.
         marks.items ≡ replicate (length service.now.histories) unmarked) }
@@ -58,7 +58,7 @@ pub(crate) fn count_puts<P: Ledger>(
     }
 }
 
-/// And those of one journal.
+/// Counts the put entries of one journal.
 fn count_puts_of<P: Ledger>(
     service: &Service,
     id: u32,
@@ -79,7 +79,7 @@ fn count_puts_of<P: Ledger>(
     }
 }
 
-/// And one entry.
+/// Counts one entry, if it is a put.
 fn count_entry<P: Ledger>(entry: &Entry, puts: &mut Book<P>, own: &mut ledger::Share<P>)
     requires { 0 < own.old.parts }
     ensures total { puts.new.total ≡ puts.old.total + puts_among (entry.now ∷ []) }

@@ -1,7 +1,7 @@
 use service_core::{Note, Receipt};
 use sessions::SessionRefusal;
 
-/// What an item of a session's input was told.
+/// The answer to an item of a session's input.
 #[derive(Drop)]
 pub enum Place {
     /// The command was served, and is an entry of the journal.
@@ -12,18 +12,18 @@ pub enum Place {
     Refused(SessionRefusal),
 }
 
-/// An item's place in a transcript.
+/// An item in a transcript.
 #[derive(Drop)]
 pub struct Item {
     pub place: Place,
-    /// So many items just before it found no memory.
+    /// The number of items just before it that ran out of memory.
     pub no_memory_before: u64,
 }
 
 /// How a session ended.
 #[derive(Clone, Copy, PartialEq, Eq)]
 pub enum End {
-    /// At its input's end.
+    /// The input ended.
     Ended,
     /// Its reader failed.
     ReaderFailed,

@@ -1,7 +1,7 @@
-//! Transcripts: what a session was told, item by item.
+//! Transcripts: the answers to a session's items, in order.
 //!
-//! A [`Transcript`] holds its session's lease. It alone enters commands by it, and keeps the receipt of each, so its receipts are as
-//! many as the lease's entries.
+//! A [`Transcript`] holds its session's lease. It alone enters commands by the lease, and it keeps
+//! the receipt of each, so it has as many receipts as the lease has entries.
 #![tactic(auto)]
 
 mod item;

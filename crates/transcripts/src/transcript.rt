@@ -1,7 +1,7 @@
-//! What a session was told.
-ghost use Rattle.std.specs.Prelude.{◌≡◌, ◌<◌, ◌++◌, ◌∷◌, [], None, Some, MatchBool, length, vec_len, vec_capacity};
+//! The answers to a session's items.
+ghost use Rattle.std.specs.Prelude.{◌≡◌, ◌<◌, ◌++◌, ◌∷◌, [], None, Some, MatchBool, length, true, vec_len, vec_capacity};
 ghost use Rattle.transcripts.specs.declared.item.Place.TheVariants.{Refused};
-ghost use Rattle.transcripts.specs.Transcripts.{Enters, receipts_of, with_no_memory, with_place};
+ghost use Rattle.transcripts.specs.Transcripts.{AreOfLive, Enters, receipts_of, with_no_memory, with_place};
 
 use crate::item::{End, Item, Place};
 use service_core::NotServed;
@@ -12,27 +12,29 @@ use std::marker::Model;
 use std::sync::ledger::Ledger;
 use tenant_slot::Command;
 
-/// A lease, and what the items of its session were told, in order: for each entry that the lease made there is a receipt.
+/// A lease, and the answers to the items of its session, in order: there is a receipt for each
+/// entry that the lease made. While the tenancies stay no item has the answer that the tenancy
+/// isn't live.
 #[derive(Drop)]
-pub struct Transcript<C: Ledger> {
+pub struct Transcript<C: Begun> {
     lease: Lease<C>,
     items: Vec<Item>,
     no_memory: u64,
     end: Option<End>,
 }
 
-impl<C: Ledger> Model for Transcript<C> {
-    ghost use Rattle.std.specs.Prelude.{◌≡◌, length};
-    ghost use Rattle.transcripts.specs.Transcripts.{TranscriptState, receipts_of};
+impl<C: Begun> Model for Transcript<C> {
+    ghost use Rattle.std.specs.Prelude.{◌≡◌, true};
+    ghost use Rattle.transcripts.specs.Transcripts.{IsTranscript, TranscriptState};
 
     ghost Value = { TranscriptState };
 
     ghost view = { λ t. record { id = t.lease.id; items = t.items.items; no_memory = t.no_memory; end = t.end } };
 
-    ghost invariant = { λ t. t.lease.made ≡ length (receipts_of t.items.items) };
+    ghost invariant = { λ t. IsTranscript t.lease.made t.items.items (C.stay ≡ true) };
 }
 
-impl<C: Ledger> Transcript<C> {
+impl<C: Begun> Transcript<C> {
     /// The transcript of a lease that has made no entry yet.
     pub fn new(alloc: Global, lease: Lease<C>) -> Self
         requires { lease.made ≡ 0 }
@@ -53,28 +55,30 @@ impl<C: Ledger> Transcript<C> {
         self.lease.id()
     }
 
-    /// What the items were told.
+    /// The items with their answers.
     pub fn items(&self) -> &[Item]
         ensures { result.now ≡ self.now.items }
     {
         self.items.as_slice()
     }
 
-    /// So many items after the last of these found no memory.
+    /// The number of items after the last of these that ran out of memory.
     pub fn no_memory(&self) -> u64
         ensures { result ≡ self.now.no_memory }
     {
         self.no_memory
     }
 
-    /// How the session ended.
+    /// How the session ended. While the tenancies stay none of its items has the answer that the
+    /// tenancy isn't live.
     pub fn end(&self) -> Option<End>
-        ensures { result ≡ self.now.end }
+        ensures end { result ≡ self.now.end }
+        ensures live { C.stay ≡ true → AreOfLive self.now.items }
     {
         self.end
     }
 
-    /// Notes that an item is refused by itself. Without memory it is counted.
+    /// Notes that an item is refused by itself. If memory runs out the item is counted.
     pub fn refuse(&mut self, refusal: SessionRefusal) -> bool
         ensures { MatchBool result (self.new ≡ with_place self.old (Refused refusal))
             (self.new ≡ with_no_memory self.old) }
@@ -91,7 +95,7 @@ impl<C: Ledger> Transcript<C> {
         true
     }
 
-    /// Counts an item that found no memory.
+    /// Counts an item that ran out of memory.
     pub fn count_no_memory(&mut self)
         ensures { self.new ≡ with_no_memory self.old }
     {
@@ -105,7 +109,7 @@ impl<C: Ledger> Transcript<C> {
         self.end = Some(end);
     }
 
-    /// Its lease.
+    /// Ends the transcript and hands its lease back.
     pub fn into_lease(self) -> Lease<C>
         ensures id { result.id ≡ self.id }
         ensures made { result.made ≡ length (receipts_of self.items) }
@@ -121,8 +125,8 @@ impl<C: Ledger> Transcript<C> {
 }
 
 impl<C: Begun> Transcript<C> {
-    /// Enters a command by the lease, and notes what it is told. Its entry is marked as the lease's, at the receipt's place.
-    /// Without memory it is counted, and the core is as it was.
+    /// Enters a command by the lease, and notes its answer. Its entry is marked as the lease's, at
+    /// the receipt's place. If memory runs out the item is counted, and the core doesn't change.
     pub fn enter<P: Ledger>(&mut self, core: &mut Core<C, P>, command: Command) -> bool
         ensures { Enters self.old core.old command result core.new self.new }
     {
@@ -145,7 +149,7 @@ impl<C: Begun> Transcript<C> {
     }
 }
 
-/// Appends an item told so, behind so many that found no memory.
+/// Appends an item with this answer, after those that ran out of memory.
 fn append(items: &mut Vec<Item>, no_memory: &mut u64, place: Place)
     requires { vec_len items.old < vec_capacity items.old }
     ensures items { items.new.items ≡ items.old.items

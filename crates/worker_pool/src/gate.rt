@@ -1,11 +1,11 @@
 use job_state::{AnyJob, Back, Done};
 
-/// What is told of each step that a worker makes, while the core isn't locked.
+/// Is called before and after each step that a worker makes, while the core isn't locked.
 pub trait Gate {
     /// The step is about to be made.
     fn before(&self, job: &AnyJob);
 
-    /// The step was made, or found no memory.
+    /// The step was made, or ran out of memory.
     fn after(&self, stepped: &Result<Done, Back>);
 }
 

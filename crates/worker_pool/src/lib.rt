@@ -1,8 +1,9 @@
 //! The workers beside the core under its lock.
 //!
-//! - [`run_worker`] serves the numbers of the ready queue, each by one step of a job: taken and put under the lock, made without it.
-//!   Where memory lacks it pauses and tries again; after 16 steps in a row without memory it gives the number up.
-//! - A [`Gate`] is told of each step, before and after it.
+//! - [`run_worker`] serves the numbers of the ready queue, each by one step of a job: taken and put
+//!   under the lock, made without it. If memory runs out it pauses and tries again; after 16 steps
+//!   in a row without memory it gives the number up.
+//! - A [`Gate`] is called before and after each step.
 //!
 //! Not promised: that a step is made, which worker makes it, and when.
 #![tactic(auto)]

@@ -1,24 +1,22 @@
-//! A worker's turns under the lock. None leaves a step to be taken whose number is nobody's, but where the number is given up.
-ghost use Rattle.std.specs.Prelude.{◌≡◌, ◌≤◌, None, Some, IfSome, MatchOption};
-ghost use Rattle.shared_core.specs.CoreState.{holder_of, ready_number};
-ghost use Rattle.worker_pool.specs.Turns.{Leaves};
+//! A worker's turns under the lock, each said of the core that it borrows. None of them leaves a
+//! step to take whose number is nobody's, unless the number is given up.
+ghost use Rattle.worker_pool.specs.Turns.{PutsStep, Returns, Takes};
 
 use crate::lack::{Served, is_last_try};
 use job_state::{AnyJob, Back, Done};
 use shared_core::{Begun, Core, Share};
 use std::sync::ledger::Ledger;
 
-/// A step that was taken, and where its strip stands.
+/// A step that was taken, and the offset of its strip.
 pub(crate) struct Taken {
     pub(crate) job: AnyJob,
     pub(crate) offset: Option<u32>,
 }
 
-/// Unmarks a number that was popped, and takes the next step of its tenancy's job. None where there is none to take.
+/// Unmarks a number that was popped, and takes the next step of its tenancy's job. None if there is
+/// no step to take.
 pub(crate) fn take<C: Begun, P: Ledger>(core: &mut Core<C, P>, slot: u32) -> Option<Taken>
-    ensures { MatchOption result (IfSome (holder_of core.old.slots.holders slot)
-        (λ id. ready_number core.new id ≡ None))
-        (λ taken. holder_of core.old.slots.holders slot ≡ Some taken.job.step.id) }
+    ensures { Takes core.old slot result core.new }
 {
     let id = core.popped(slot)?;
     let job = core.take(id)?;
@@ -26,15 +24,15 @@ pub(crate) fn take<C: Begun, P: Ledger>(core: &mut Core<C, P>, slot: u32) -> Opt
     Some(Taken { job, offset })
 }
 
-/// Puts a step, and has the number of the tenancy's next one. Without memory the step is given back, to be put later.
+/// Puts a step, and marks the number of the tenancy's next one. If memory runs out the step is
+/// given back, to be put later.
 pub(crate) fn put<C: Begun, P: Ledger>(
     core: &mut Core<C, P>,
     share: &mut Share<P>,
     done: Done,
     lacks: u32,
 ) -> Served
-    ensures puts { share.old.puts ≤ share.new.puts }
-    ensures leaves { Leaves lacks done.id result core.new }
+    ensures { PutsStep core.old share.old done lacks result core.new share.new }
 {
     let id = done.id();
     match core.share_put(share, done) {
@@ -43,13 +41,13 @@ pub(crate) fn put<C: Begun, P: Ledger>(
     }
 }
 
-/// Gives back a job whose step found no memory, and has its number, unless it is given up.
+/// Gives back a job whose step ran out of memory, and marks its number, unless it is given up.
 pub(crate) fn give_back<C: Begun, P: Ledger>(
     core: &mut Core<C, P>,
     back: Back,
     lacks: u32,
 ) -> Served
-    ensures { Leaves lacks back.step.id result core.new }
+    ensures { Returns core.old back lacks result core.new }
 {
     let id = back.id();
     core.give_back(back);

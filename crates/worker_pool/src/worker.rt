@@ -1,9 +1,11 @@
-//! A worker.
+//! A worker on its thread.
 ghost use Rattle.std.specs.Prelude.{◌≡◌, ◌≤◌, ⊤, IfSome, MatchOption};
+ghost use Rattle.job_state.specs.Job.{Steps};
 ghost use Rattle.job_state.specs.JobValue.{basis_in};
+ghost use Rattle.worker_pool.specs.Keeping.{IsNext, Keeps, PushesOrKeeps, kept_with as kept_of};
 
 use crate::gate::Gate;
-use crate::lack::{Served, lacks_after, pause};
+use crate::lack::{Kept, Served, one_more, pause};
 use crate::turns::{Taken, give_back, put, take};
 use job_queue::{Law, Popped, Ready, Seat};
 use job_state::{AnyJob, Back, Done};
@@ -13,8 +15,8 @@ use std::sync::ledger::Ledger;
 use std::time::Clock;
 use strips::{DeviceGraph, Window};
 
-/// Serves the numbers of the queue until it is closed and empty, and doesn't end before. Answers its share, which counts the puts that
-/// were recorded.
+/// Serves the numbers of the queue until it is closed and empty, and doesn't end before. Returns
+/// its share, which counts the puts that were recorded.
 pub fn run_worker<C: Begun, P: Ledger, G: Gate, J: Law, R: Wait + Clock>(
     rt: &R,
     shared: &Shared<C, P>,
@@ -35,8 +37,9 @@ pub fn run_worker<C: Begun, P: Ledger, G: Gate, J: Law, R: Wait + Clock>(
     share
 }
 
-/// Serves the numbers of the queue until it is closed and empty. A number that its own deque refuses is served next, and so is one
-/// whose step found no memory, after a pause, until it is given up.
+/// Serves the numbers of the queue until it is closed and empty. If its own deque refuses a number,
+/// or the step of a number ran out of memory, that number is served next: after a pause if memory
+/// ran out, and until it is given up.
 fn serve_all<C: Begun, P: Ledger, G: Gate, J: Law, R: Wait + Clock>(
     rt: &R,
     shared: &Shared<C, P>,
@@ -51,47 +54,73 @@ fn serve_all<C: Begun, P: Ledger, G: Gate, J: Law, R: Wait + Clock>(
     ensures closed { J.closed }
 {
     let mut kept = None;
-    let mut lacks = 0;
     for _ in rt.forever() {
-        let Some(slot) = next_number(rt, ready, seat, kept) else {
+        let Some(Kept { slot, lacks }) = next_number(rt, ready, seat, kept) else {
             return;
         };
         let served = serve(rt, shared, graph, share, gate, slot, lacks);
-        kept = match served {
-            Served::Nothing => None,
-            Served::Made(next) => push_next(rt, ready, seat, next),
-            Served::NoMemory(again) => {
-                pause(rt, lacks);
-                again
-            }
-        };
-        lacks = lacks_after(lacks, served);
+        kept = keep_number(rt, ready, seat, lacks, served);
     }
     unreachable!()
 }
 
-/// The number that was kept, or the next one of the queue. None where that is closed and empty.
+/// The number that was kept, or the next one of the queue. None if the queue is closed and empty.
 fn next_number<J: Law, R: Wait>(
     rt: &R,
     ready: &Ready<J>,
     seat: &mut Seat<J>,
-    kept: Option<u32>,
-) -> Option<u32>
+    kept: Option<Kept>,
+) -> Option<Kept>
     requires { seat.old.of ≡ ready.now }
     ensures of { seat.new.of ≡ seat.old.of }
-    ensures closed { MatchOption result J.closed (λ _. ⊤) }
+    ensures next { MatchOption result J.closed (λ next. IsNext kept next) }
 {
-    if let Some(slot) = kept {
-        return Some(slot);
+    if let Some(kept) = kept {
+        return Some(kept);
     }
     match ready.pop(rt, seat) {
-        Popped::Number(slot) => Some(slot),
+        Popped::Number(slot) => Some(Kept { slot, lacks: 0 }),
         Popped::Closed => None,
     }
 }
 
-/// Serves a number: takes the next step of the job of its tenancy and reads where its strip stands, makes the step without the lock
-/// through the window there, and puts it. A job that the graph doesn't fit is given back. So many steps before this one found no memory.
+/// What is kept after a number was served: a number that isn't pushed to the worker's own deque, or
+/// one whose step ran out of memory, after a pause. `lacks` steps in a row ran out of memory
+/// before.
+fn keep_number<J: Law, R: Wait + Clock>(
+    rt: &R,
+    ready: &Ready<J>,
+    seat: &mut Seat<J>,
+    lacks: u32,
+    served: Served,
+) -> Option<Kept>
+    requires { seat.old.of ≡ ready.now }
+    ensures of { seat.new.of ≡ seat.old.of }
+    ensures keeps { Keeps seat.old lacks served result seat.new }
+{
+    match served {
+        Served::Nothing => None,
+        Served::Made(next) => kept_with(0, push_next(rt, ready, seat, next)),
+        Served::NoMemory(again) => {
+            pause(rt, lacks);
+            kept_with(one_more(lacks), again)
+        }
+    }
+}
+
+/// A number with its count, if there is a number.
+fn kept_with(lacks: u32, number: Option<u32>) -> Option<Kept>
+    ensures { result ≡ kept_of lacks number }
+{
+    match number {
+        Some(slot) => Some(Kept { slot, lacks }),
+        None => None,
+    }
+}
+
+/// Serves a number: takes the next step of the job of its tenancy and reads the offset of its
+/// strip, makes the step without the lock through the window there, and puts it. A job that doesn't
+/// fit the graph is given back. `lacks` steps in a row ran out of memory before this one.
 fn serve<C: Begun, P: Ledger, G: Gate, R: Wait>(
     rt: &R,
     shared: &Shared<C, P>,
@@ -118,7 +147,7 @@ fn serve<C: Begun, P: Ledger, G: Gate, R: Wait>(
     served
 }
 
-/// The window for a job's step, where its strip stands.
+/// The window for a job's step, at the offset of its strip.
 fn window_at<'g>(graph: &'g DeviceGraph, job: &AnyJob, offset: Option<u32>) -> Option<Window<'g>>
     ensures { IfSome result (λ window. window ≡ basis_in job.now.step.sources) }
 {
@@ -128,7 +157,8 @@ fn window_at<'g>(graph: &'g DeviceGraph, job: &AnyJob, offset: Option<u32>) -> O
     }
 }
 
-/// Makes a step through its window without the lock, and puts it. Without memory the job is given back.
+/// Makes a step through its window without the lock, and puts it. If memory runs out the job is
+/// given back.
 fn step_and_put<C: Begun, P: Ledger, G: Gate, R: Wait>(
     rt: &R,
     shared: &Shared<C, P>,
@@ -147,9 +177,10 @@ fn step_and_put<C: Begun, P: Ledger, G: Gate, R: Wait>(
     }
 }
 
-/// Makes a step, and tells the gate.
+/// Makes a step, and calls the gate before and after it.
 fn stepped<G: Gate>(gate: &G, job: AnyJob, window: &Window<'_>) -> Result<Done, Back>
     requires { window.now ≡ basis_in job.step.sources }
+    ensures { Steps job result }
 {
     gate.before(&job);
     let stepped = job.step(window);
@@ -157,7 +188,7 @@ fn stepped<G: Gate>(gate: &G, job: AnyJob, window: &Window<'_>) -> Result<Done, 
     stepped
 }
 
-/// Pushes a number. One that isn't pushed comes back.
+/// Pushes a number. A number that isn't pushed is returned.
 fn push_next<J: Law, R: Wait>(
     rt: &R,
     ready: &Ready<J>,
@@ -165,7 +196,8 @@ fn push_next<J: Law, R: Wait>(
     next: Option<u32>,
 ) -> Option<u32>
     requires { seat.old.of ≡ ready.now }
-    ensures { seat.new.of ≡ seat.old.of }
+    ensures of { seat.new.of ≡ seat.old.of }
+    ensures pushed { PushesOrKeeps seat.old next result seat.new }
 {
     match ready.push_own(rt, seat, next?) {
         Ok(()) => None,

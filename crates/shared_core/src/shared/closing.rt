@@ -3,6 +3,7 @@ ghost use Rattle.std.specs.Prelude.{◌≡◌, ◌+◌, ◌≤◌, true};
 ghost use Rattle.shared_core.specs.Accounts.{AreMarks, leases_in, places_sum};
 ghost use Rattle.shared_core.specs.CoreState.{puts_in};
 ghost use Rattle.shared_core.specs.Following.{Follows, Stays};
+ghost use Rattle.shared_core.specs.Reaching.{IsReached};
 
 use crate::begun::Begun;
 use crate::lease_marks::LeaseMarks;
@@ -12,7 +13,8 @@ use std::sync::ledger;
 use std::sync::ledger::Ledger;
 
 impl<C: Begun, P: Ledger> Core<C, P> {
-    /// Of a core whose leases and shares are all back: their amounts are the marked entries and the puts.
+    /// The service and the marks of a core whose leases and shares are all back: their amounts are
+    /// the numbers of marked entries and of puts.
     pub fn close(
         self,
         commands: ledger::Share<C>,
@@ -29,6 +31,7 @@ impl<C: Begun, P: Ledger> Core<C, P> {
         ensures account { AreMarks C.begun.histories self.service.histories self.marks }
         ensures follows { Follows C.begun self.service }
         ensures stays { C.stay ≡ true → Stays C.begun self.service }
+        ensures reached { C.stay ≡ true → IsReached C.begun self.service self.marks }
     {
         let Core {
             alloc: _,
@@ -48,7 +51,7 @@ impl<C: Begun, P: Ledger> Core<C, P> {
         (service, marks)
     }
 
-    /// A part of nothing, to which leases' parts are added.
+    /// An empty part, to which the leases' parts are added.
     pub fn no_commands(&mut self) -> ledger::Share<C>
         ensures nothing { (result.parts ≡ 0) × (result.amount ≡ 0) }
         ensures same { self.new ≡ self.old }
@@ -56,7 +59,7 @@ impl<C: Begun, P: Ledger> Core<C, P> {
         self.spare.empty()
     }
 
-    /// A part of nothing, to which shares' parts are added.
+    /// An empty part, to which the shares' parts are added.
     pub fn no_puts(&mut self) -> ledger::Share<P>
         ensures nothing { (result.parts ≡ 0) × (result.amount ≡ 0) }
         ensures same { self.new ≡ self.old }

@@ -16,7 +16,7 @@ returns-clause-replies c =
     on_ok each.result
     (λ done. record {
       text = done.text;
-      serves = record { last = last; served = done.served; names_are = refl; given_back = c.give_back.ensures };
+      serves = record { calls = done.calls; last = last; served = done.served; names_are = refl; given_back = c.give_back.ensures };
       reply = done.reply;
     })
     (subst P c.new-jobs.ensures each.ensures)

@@ -4,6 +4,6 @@ use Rattle.operator.specs.Held.{held}
 use Rattle.script_threads.specs.Sessions.{evicted_line}
 use Rattle.script_threads.proofs.part.tell_all.Given as goal
 
--- the items so far are told
+-- the items so far are answered
 abbrev pub invariant-loop-item : goal.invariant-loop-item
 invariant-loop-item l = held l.text ≡ flat_map evicted_line l.yielded

@@ -6,7 +6,7 @@ use Rattle.script_threads.specs.Seats.{HasSeat}
 use Rattle.script_threads.specs.Sessions.{asked_of}
 use Rattle.script_threads.proofs.seated.seat_all.Given as goal
 
--- the sessions so far are seated, and no lease is another's
+-- the sessions so far are seated, and no other lease was given
 abbrev pub invariant-loop-said : goal.invariant-loop-said
 invariant-loop-said g l = record {
   service : l.core.service ≡ l.fn.core.service;

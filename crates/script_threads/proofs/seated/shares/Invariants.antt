@@ -1,7 +1,7 @@
 use Rattle.std.proofs.Common.{◌≡◌}
 use Rattle.script_threads.proofs.seated.shares.Given as goal
 
--- so many shares were given
+-- the number of shares that were given so far
 abbrev pub invariant-loop-worker : goal.invariant-loop-worker
 invariant-loop-worker g l = record {
   service : l.core.service ≡ l.fn.core.service;

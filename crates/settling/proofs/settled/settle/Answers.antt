@@ -1,8 +1,9 @@
 use Rattle.std.proofs.Common.{rules, ◌≡◌, ◌+◌, length, sym, ap, ◌∙◌}
 use Rattle.std.specs.Prelude.{All}
 use Rattle.shared_core.specs.CoreState.{CoreState}
-use Rattle.settling.specs.Settling.{AreAllThere, IsBorneOut, claims_of}
+use Rattle.settling.specs.Settling.{AreAllThere, IsBorneOut, IsFullIfTold, claims_of}
 use Rattle.settling.proofs.Agreeing.{settled}
+use Rattle.settling.proofs.AllCalls.{all_calls}
 use Rattle.settling.proofs.Totals.{enough}
 use Rattle.settling.proofs.settled.settle.Goals as goal
 
@@ -21,11 +22,13 @@ returns-clause-settled g c =
     let many : c.len.result ≡ length c.args.shares.items = search rules in
     let there : AreAllThere core c.args.transcripts.items (length c.args.shares.items) = rw (ts, many) at c.in_default.ensures.0 in
     let good : All (IsBorneOut core) (claims_of c.args.transcripts.items) = rw ts at c.in_default.ensures.1 in
+    let full : All (IsFullIfTold core.service) c.args.transcripts.items = rw ts at c.in_default.ensures.2 in
     settled g.C.Begun.begun core c.args.transcripts.items c.args.shares.items
     (rw same at c.close-service.ensures.account)
     there good
     (sym c.merge_leases-commands.ensures.parts ∙ (rw same at c.close-service.ensures.leases))
     (sym c.merge_leases-commands.ensures.amount ∙ (rw same at c.close-service.ensures.commands))
+    full
     (ap (λ n. n + core.own_puts) (sym c.merge_shares-puts.ensures.amount) ∙ (rw same at c.close-service.ensures.puts))
 
 pub returns-clause-follows : goal.returns-clause-follows
@@ -37,3 +40,8 @@ pub returns-clause-stays : goal.returns-clause-stays
 returns-clause-stays g c = λ stay.
     let same : c.no_puts-no_puts.new.self ≡ c.args.core = c.no_puts-no_puts.ensures.same ∙ c.no_commands-nothing.ensures.same in
     rw (c.close-service.ensures.service, same) (rw same at (c.close-service.ensures.stays stay))
+
+pub returns-clause-calls : goal.returns-clause-calls
+returns-clause-calls g c = λ stay.
+    let same : c.no_puts-no_puts.new.self ≡ c.args.core = c.no_puts-no_puts.ensures.same ∙ c.no_commands-nothing.ensures.same in
+    rw (c.close-service.ensures.service, same) (all_calls g.C.Begun.begun c.args.core c.args.transcripts.items c.args.shares.items (returns-clause-settled g c) (rw same at (c.close-service.ensures.reached stay)))

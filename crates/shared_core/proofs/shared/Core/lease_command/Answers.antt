@@ -1,13 +1,16 @@
 use Rattle.std.proofs.Common.{rules, arith, ◌≡◌, ◌-◌, true, false, get_or, set, refl}
 use Rattle.service_core.specs.Service.{AreAlone, live_of}
 use Rattle.shared_core.specs.CoreState.{Marked, has_room_in, remarked, with_place}
-use Rattle.shared_core.proofs.Kept.{IsAccount-grown, IsAccount-marked, Unserved, core_is, live_within, room_live, unserved}
-use Rattle.shared_core.proofs.Journals.{served}
+use Rattle.shared_core.proofs.Kept.{IsAccount-marked, Unserved, core_is, live_within, room_live, unserved}
 use Rattle.shared_core.proofs.Marks.{set-remarked}
 use Rattle.shared_core.proofs.shared.Core.lease_command.Goals as goal
 
 pub invariant_of-self : goal.invariant_of-self
-invariant_of-self g c = IsAccount-grown _ _ _ _ _ _ _ _ _ _ _ (served _ _ _ _ _ c.tenant.ensures) (omega arith) c.self.invariant
+invariant_of-self g c =
+    let no : has_room_in (live_of c.self.inside.service.histories c.lease.inside.id) ≡ false = search rules in
+    let alone : AreAlone c.self.inside.service = search rules in
+    let un : Unserved c.self.inside.service c.tenant.new.self c.tenant.result = unserved _ _ c.lease.inside.id c.args.command c.tenant.result alone no c.tenant.ensures in
+    rw un.same c.self.invariant
 
 pub returns-then-not-has_room-clause-rest : goal.returns-then-not-has_room-clause-rest
 returns-then-not-has_room-clause-rest g c =

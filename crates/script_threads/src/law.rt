@@ -1,0 +1,39 @@
+ghost use Rattle.std.specs.Prelude.{◌≡◌, All, Some, slice_get};
+ghost use Rattle.service_core.specs.declared.device.Device.{Device};
+ghost use Rattle.service_core.specs.Service.{journal_of};
+ghost use Rattle.settling.specs.Settling.{entry_of};
+ghost use Rattle.transcripts.specs.Transcripts.{receipts_of};
+ghost use Rattle.script_threads.specs.Sessions.{transcripts_of};
+ghost use Rattle.script_text.specs.Threaded.{Parts as Script};
+ghost use Rattle.script_threads.specs.declared.answered.Answered.{Answered};
+ghost use Rattle.script_threads.specs.OneRun.{IsOneRun, calls_of};
+ghost use Rattle.script_threads.specs.Served.{IsServedOnThreads};
+ghost use Rattle.shared_core.specs.Following.{Follows, Stays};
+
+/// With workers as without, all calls of a script are one run of the core from the empty device on.
+/// Each tenancy is served as if it were alone, with exactly the commands that its session and the
+/// operator's lines asked.
+pub fn one_run()
+    ensures { (device : Device) (script : Script) (answered : Answered)
+        (is : IsServedOnThreads device script answered) →
+        IsOneRun device (calls_of is) is.last }
+{}
+
+/// What the threads leave goes on from what they were given. It is of the same device and
+/// tenancies; the same tenancies are live, their strips are at the same offsets, and the entries
+/// that were in a journal are the first that are in it now.
+pub fn threads_go_on()
+    ensures { (device : Device) (script : Script) (answered : Answered)
+        (is : IsServedOnThreads device script answered) →
+        Follows is.service is.settled × Stays is.service is.settled }
+{}
+
+/// The journals confirm the answers to the sessions: each receipt is of its tenancy, and is the
+/// entry at its place.
+pub fn receipts_stand()
+    ensures { (device : Device) (script : Script) (answered : Answered)
+        (is : IsServedOnThreads device script answered) →
+        All (λ t. All (λ r. (r.id ≡ t.id)
+        × (slice_get (journal_of is.settled t.id) r.place ≡ Some (entry_of r)))
+        (receipts_of t.items)) (transcripts_of is.ran.parts) }
+{}

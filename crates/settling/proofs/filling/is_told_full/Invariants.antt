@@ -1,0 +1,8 @@
+use Rattle.std.proofs.Common.{take}
+use Rattle.std.specs.Prelude.{All}
+use Rattle.settling.specs.Settling.{TellsFull}
+use Rattle.settling.proofs.filling.is_told_full.Given as goal
+
+-- none of the items so far
+abbrev pub invariant-loop-i : goal.invariant-loop-i
+invariant-loop-i l = All (λ item. TellsFull item → ⊥) (take l.i l.items)
