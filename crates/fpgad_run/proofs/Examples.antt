@@ -1,4 +1,4 @@
--- Examples that are computed.
+-- Computed examples.
 use Rattle.std.proofs.Common.{◌≡◌, ◌∷◌, [], codes, refl}
 use Rattle.sessions.specs.declared.line.SessionLine.TheVariants.{Blank}
 use Rattle.script_text.specs.declared.act.Act.TheVariants.{Session}

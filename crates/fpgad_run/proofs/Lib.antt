@@ -1,4 +1,4 @@
 mod Examples
 mod SectionLemmas
-mod Telling
+pub mod Telling
 mod ThreadLemmas

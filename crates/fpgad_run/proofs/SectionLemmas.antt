@@ -48,7 +48,7 @@ zipped-set (n ∷ names) (t ∷ texts) name text (suc k) v at within same told =
           ∙ sym (with_text-later (section n (held t)) (zipped names texts) name text e)
     ] refl
 
--- and one that has none
+-- and a name that has no section
 pub zipped-push : (names : List (List ℕ)) (texts : List Text) (name : List ℕ) (v : Text) → length texts ≡ length names → length texts ≤ number_of names name →
     zipped (with_name names name) (texts ++ v ∷ []) ≡ with_text (zipped names texts) name (held v)
 zipped-push [] [] name v same at = refl
@@ -63,7 +63,7 @@ zipped-push (n ∷ names) (t ∷ texts) name v same at =
           ∙ sym (with_text-later (section n (held t)) (zipped names texts) name (held v) e)
     ] refl
 
--- a name of a place is among the names, so that there are as many of them as before
+-- the name at an index is among the names, so their number doesn't change
 pub length-found : (names : List (List ℕ)) (name : List ℕ) → number_of names name < length names → length (with_name names name) ≡ length names
 length-found [] name h = absurd (omega arith)
 length-found (n ∷ names) name h =
@@ -72,7 +72,7 @@ length-found (n ∷ names) name h =
       | false ↦ λ e. let later = number_of-later n names name e in ap length (with_name-later n names name e) ∙ ap suc (length-found names name (omega (arith, h, later)))
     ] refl
 
--- the section at a place
+-- the section at an index
 pub section-at : (names : List (List ℕ)) (texts : List Text) (n : ℕ) (name : List ℕ) (v : Text) → length texts ≡ length names → n < length texts → slice_get names n ≡ Some name → v ≡ get_or texts n v →
     slice_get (zipped names texts) n ≡ Some (section name (held v))
 section-at names [] n name v same within at is = absurd (omega arith)
@@ -87,7 +87,7 @@ length-zipped [] (t ∷ texts) same = absurd (omega arith)
 length-zipped (n ∷ names) [] same = refl
 length-zipped (n ∷ names) (t ∷ texts) same = ap suc (length-zipped names texts (omega arith))
 
--- the answer is written where the sink had the memory
+-- the answer is written if the sink had enough memory
 pub on_told : {P : Type 0} (r : Result (Unit {0}) AllocError) (w : Result (Unit {0}) Failed) (old new : MemorySink) (text : List ℕ) → is_ok r ≡ is_ok w →
     Writes (λ (s : MemorySink). Some (held s)) (λ (s : MemorySink). s.failed) old new text w → (held new ≡ held old ++ text → P) → OnOk r P
 on_told (Ok u) (Ok v) old new text same writes f = f writes.bytes
@@ -99,7 +99,7 @@ pub is_told : (w : Result (Unit {0}) Failed) (old new : MemorySink) (text : List
 is_told (Ok v) old new text same writes = writes.bytes
 is_told (Err e) old new text same writes = absurd (false≢true same)
 
--- a name that is new makes one more
+-- a new name makes one more
 pub length-new : (names : List (List ℕ)) (name : List ℕ) (k : ℕ) → length names ≤ k → k < length (with_name names name) → length (with_name names name) ≡ suc (length names)
 length-new names name k past within =
     elim (has_name names name) as (λ b. k < length (if b then names else names ++ name ∷ []) → length (if b then names else names ++ name ∷ []) ≡ suc (length names)) [

@@ -1,4 +1,4 @@
--- The acts of a script that runs, told one after another.
+-- The acts of a script that runs, answered one after another.
 use Rattle.std.proofs.Common.{◌≡◌, ℕ, List, [], ◌∷◌, ◌++◌, length, Ok, refl, sym, ap, ◌∙◌, subst, append-nil}
 use Rattle.std.specs.Prelude.{map}
 use Rattle.std.specs.List.{flat_map}
@@ -33,11 +33,11 @@ use Rattle.fpgad_run.specs.declared.options.Options.{Options}
 use Rattle.arch_file.specs.declared.arch.Arch.{Arch}
 use Rattle.fpgad_run.specs.Program.{IsReplies, device_of}
 
--- the operator's texts
+-- the answers to the operator's lines, one after another
 abbrev pub operator_texts : List Telling → List ℕ
 operator_texts tellings = flat_map (λ t. told_operator t.act t.text) tellings
 
--- a service whose running told these acts
+-- a running service that has answered these acts
 pub record Progress (start : Stage) (running : Running) (acts : List (Act (List ℕ))) : Type 0 where
   pub tellings : List Telling
   pub all : map (λ t. t.act) tellings ≡ acts
@@ -86,17 +86,16 @@ told_runs old [] new is = ap (λ (s : Stage). s.service) is
 told_runs old (t ∷ ts) new is = Run-append old.service t.calls (is.0).service (calls_of ts) new.service (answered_runs old t.act t.calls t.text is.0 is.1) (told_runs is.0 ts new is.2)
 
 -- a session's line is answered by the core
-pub session_answers : (names : List (List ℕ)) (jobs : HeldList) (graph : Basis) (old new : ServiceState) (name : List ℕ) (id : ℕ) (line : SessionLine) (answer : Answer) → id ≡ last_id names name → IsAnswer old id line answer new →
-    (graph ≡ own_graph old.device → LeavesNone id line answer new) →
+pub session_answers : (names : List (List ℕ)) (jobs : HeldList) (graph : Basis) (old new : ServiceState) (name : List ℕ) (id : ℕ) (line : SessionLine) (answer : Answer) → id ≡ last_id names name → IsAnswer graph old id line answer new →
     (calls : List Call) × IsAnswered (record { names = names; jobs = jobs; service = old; graph = graph }) (Session name line) calls (answer_text answer) (record { names = names; jobs = jobs; service = new; graph = graph })
-session_answers names jobs graph old new name id line answer at is leaves =
+session_answers names jobs graph old new name id line answer at is =
     let P : ℕ → Type 0 = λ n. Asks n line is.0 answer in
-    let Q : ℕ → Type 0 = λ n. graph ≡ own_graph old.device → LeavesNone n line answer new in
-    (is.0, (answer, subst P at is.1, is.2, refl, refl, refl, refl, subst Q at leaves))
+    let Q : ℕ → Type 0 = λ n. graph ≡ own_graph old.device → LeavesNone n line is.0 answer new in
+    (is.0, (answer, subst P at is.1, is.2, refl, refl, refl, refl, subst Q at is.3))
 
 -- it admits and evicts no one
-pub lengths-answered : (old new : ServiceState) (id : ℕ) (line : SessionLine) (answer : Answer) → IsAnswer old id line answer new → length old.histories ≡ length new.histories
-lengths-answered old new id line answer is = lengths-run old new is.0 (steady_asks id line is.0 answer is.1) is.2
+pub lengths-answered : (graph : Basis) (old new : ServiceState) (id : ℕ) (line : SessionLine) (answer : Answer) → IsAnswer graph old id line answer new → length old.histories ≡ length new.histories
+lengths-answered graph old new id line answer is = lengths-run old new is.0 (steady_asks id line is.0 answer is.1) is.2
 
 -- what the core's main theorem says of every run from an empty device
 pub record IsHeadline : Type 0 where
@@ -124,7 +123,7 @@ tellings_alone headline device before old (t ∷ ts) last runs told = (
   ),
 )
 
--- all that was told is what is written
+-- all answers are written
 pub replies_all : (options : Options) (arch : Arch) (all : List (Act (List ℕ))) (running : Running) (acts : List (Act (List ℕ))) (output : List ℕ) → IsHeadline →
     Progress (record { names = []; jobs = []; service = empty (device_of options arch); graph = own_graph (device_of options arch) }) running acts → acts ≡ all → output ≡ told_so_far running →
     IsReplies options (Ok (arch, all)) output

@@ -1,4 +1,4 @@
--- What each name's session is told, by the service for a single user.
+-- The answers to each name's session, by the service for a single user.
 use Rattle.std.specs.Prelude.{ℕ, ◌≡◌, List, [], ◌∷◌, ◌++◌, ⊤}
 use Rattle.service_core.specs.declared.device.Device.{Device}
 use Rattle.service_core.specs.Run.{Call}
@@ -11,13 +11,14 @@ use Rattle.operator.specs.OperatorText.{last_id}
 use Rattle.operator.specs.Serving.{Stage}
 use Rattle.fpgad_run.specs.Run.{Telling, IsAnswered}
 
--- a session's line that makes those calls is told what its name's last tenancy is told alone, after its own events of the calls before
+-- a session's line that makes those calls is answered what its name's last tenancy is answered
+-- alone, after its own events of the calls before
 abbrev pub IsToldAlone : Device → Stage → List Call → List Call → Act (List ℕ) → List ℕ → Type 0
 IsToldAlone device stage before calls (Operator line) text = ⊤
 IsToldAlone device stage before calls (Session name line) text =
     (answer : Answer) × LineIsToldAlone device stage.service (last_id stage.names name) before calls line answer × (text ≡ answer_text answer)
 
--- and so is each, one after another
+-- so is each line, one after another
 abbrev pub AreToldAlone : Device → Stage → List Call → List Telling → Type 0
 AreToldAlone device stage before [] = ⊤
 AreToldAlone device stage before (t ∷ ts) =

@@ -18,7 +18,7 @@ IsInput architecture remaining (Err InputFailed) failed = (architecture ≢ Unre
 IsInput architecture remaining (Err NoMemory) failed = architecture ≢ Unreadable
 IsInput architecture remaining (Err outcome) failed = ⊥
 
--- a script with that start may be answered so, what it was told being of that kind
+-- a script with that start may be answered so, with answers of that kind
 abbrev pub Replies : {A B : Type 0} → (B → Type 0) → Start A → Result B Outcome → Type 0
 Replies IsReply start (Ok told) = IsReply told
 Replies IsReply start (Err ArchUnreadable) = start ≡ Err ArchUnreadable
@@ -28,14 +28,14 @@ Replies IsReply start (Err NoMemory) = ⊤
 Replies IsReply start (Err NotSettled) = IsOk start
 Replies IsReply start (Err outcome) = ⊥
 
--- what was told is written, or the first of it, or nothing where nothing was
+-- the answers are written, or a beginning of them, or nothing if there are none
 abbrev pub EndsWith : {B : Type 0} → (B → List ℕ) → Result B Outcome → Outcome → Option (List ℕ) → Option (List ℕ) → Bool → Type 0
 EndsWith text_of (Ok told) Done old new failed = Appends old new (text_of told)
 EndsWith text_of (Ok told) OutputFailed old new failed = ((n : ℕ) × Appends old new (take n (text_of told))) × (failed ≡ true)
 EndsWith text_of (Ok told) outcome old new failed = ⊥
 EndsWith text_of (Err refusal) outcome old new failed = (outcome ≡ refusal) × (new ≡ old)
 
--- how a run ends that is written so
+-- how a run ends whose writing ended so
 abbrev pub ending : Result (Unit {0}) Failed → Outcome
 ending (Ok u) = Done
 ending (Err failed) = OutputFailed

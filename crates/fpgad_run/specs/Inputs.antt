@@ -8,7 +8,7 @@ use Rattle.script_text.specs.Threaded.{threaded_of}
 use Rattle.fpgad_run.specs.OnThreads.{threaded_start_of}
 use Rattle.fpgad_run.specs.Program.{checked, start_of}
 
--- what the input comes to stands in the texts
+-- the texts are those of the input
 pub record AreTexts (architecture : Architecture) (input : List ℕ) (texts : Texts) : Type 0 where
   pub in_order : (tracks : ℕ) → start_of tracks architecture input ≡ checked (arch_of texts.architecture.now tracks) (script_of texts.number texts.script.now)
   pub on_threads : (tracks : ℕ) → threaded_start_of tracks architecture input ≡ checked (arch_of texts.architecture.now tracks) (threaded_of texts.number texts.script.now)

@@ -1,4 +1,4 @@
--- The limits of a device, and of how many threads work.
+-- The limits of a device, and of the number of workers.
 use Rattle.std.specs.Prelude.{ℕ, ◌≡◌, ◌≤◌}
 use Rattle.fpgad_run.specs.declared.options.Options.{Options}
 

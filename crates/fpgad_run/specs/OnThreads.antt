@@ -1,4 +1,4 @@
--- A script that is served on threads: what it comes to before anything runs, and what is written.
+-- A script that is served on threads: what is known before anything runs, and what is written.
 use Rattle.std.specs.Prelude.{ℕ, ◌≡◌, Bool, true, false, List, map, Ok}
 use Rattle.arch_file.specs.declared.arch.Arch.{Arch}
 use Rattle.script_text.specs.Threaded.{Parts, Threaded, heard, nothing_said, threaded_from}
@@ -11,7 +11,8 @@ use Rattle.fpgad_run.specs.declared.options.Options.{Options}
 use Rattle.fpgad_run.specs.Program.{Start, device_of, start_by}
 use Rattle.fpgad_run.specs.Run.{Section, output_of}
 
--- a script that is served on threads says what the operator asks ahead of all sessions, what each name's session says, and what the operator asks else
+-- what a script that is served on threads says: what the operator asks before all sessions, what
+-- each name's session says, and what the operator asks after
 abbrev pub said_in : Bool → List (List ℕ) → Threaded
 said_in true lines = threaded_from 1 (heard nothing_said Head) lines
 said_in false lines = threaded_from 1 (heard nothing_said Script) lines
@@ -26,7 +27,7 @@ section_of s = record { name = s.name.now; text = s.text.items }
 abbrev pub answered_text : Answered → List ℕ
 answered_text answered = output_of answered.operator.items (map section_of answered.sections.items)
 
--- the bytes are what the script is answered on threads, section by section
+-- the bytes are the answers to the script on threads, section by section
 pub record AreThreadedReplies (options : Options) (start : Start Parts) (output : List ℕ) : Type 0 where
   pub arch : Arch
   pub parts : Parts

@@ -1,4 +1,4 @@
--- What a script and an architecture come to before anything runs, and how a run ends.
+-- What a script and an architecture give before anything runs, and how a run ends.
 use Rattle.std.specs.Prelude.{ℕ, ◌≡◌, Bool, true, false, List, [], map, take, Result, Ok, Err, Option, Some, None, unwrap_or, ⊤, IsOk}
 use Rattle.std.specs.Io.KnownBytes.{Appends}
 use Rattle.arch_file.specs.declared.arch.Arch.{Arch}
@@ -23,7 +23,7 @@ use Rattle.fpgad_run.specs.EndToEnd.{AreToldAlone}
 use Rattle.operator.specs.Serving.{Stage}
 use Rattle.fpgad_run.specs.Run.{Telling, Tells, calls_of, written}
 
--- the architecture and what the script says, or the fault of the one before that of the other
+-- the architecture and what the script says; or a fault, the architecture's before the script's
 abbrev pub Start : Type 0 → Type 0
 Start A = Result (Arch × A) Outcome
 
@@ -32,8 +32,8 @@ checked (Err fault) said = Err (ArchRefused fault)
 checked (Ok arch) (Err line) = Err (ScriptFault line)
 checked (Ok arch) (Ok said) = Ok (arch, said)
 
--- an architecture at the script's head is the text ahead; without a line that ends it all of the input is. What the script says is told from
--- its lines, and whether a text comes first
+-- an architecture at the script's head is the text before the script; if no line ends it, it is the
+-- whole input. What the script says depends on its lines, and on whether a text comes first
 abbrev pub start_by : {A : Type 0} → (Bool → List (List ℕ) → Result A ℕ) → ℕ → Architecture → List ℕ → Start A
 start_by says tracks InScript input = checked (arch_of (unwrap_or (bytes_ahead (physical_lines input)) input) tracks) (says true (physical_lines input))
 start_by says tracks (Text text) input = checked (arch_of text.now tracks) (says false (physical_lines input))
@@ -46,8 +46,10 @@ start_of tracks architecture input = start_by (acts_from 1) tracks architecture 
 abbrev pub device_of : Options → Arch → Device
 device_of options arch = record { arch = arch; columns = options.columns; rows = options.rows }
 
--- the bytes are what a run of the acts from the empty device writes, over the device's own graph. Each session's line is told what its tenancy is told alone, by
--- the service for a single user; of the run's calls so is each tenancy, with its journal and what it owns, the strips are parted, and nothing has two owners
+-- the bytes are what a run of the acts from the empty device writes, over the device's own graph.
+-- Each session's line is answered what its tenancy is answered alone, by the service for a single
+-- user. So is each tenancy, with its journal and what it owns, by the calls of the run; the strips
+-- are separated, and nothing has two owners
 pub record IsReplies (options : Options) (start : Start (List (Act (List ℕ)))) (output : List ℕ) : Type 0 where
   pub arch : Arch
   pub acts : List (Act (List ℕ))
@@ -65,7 +67,7 @@ pub record IsReplies (options : Options) (start : Start (List (Act (List ℕ))))
   pub exact : HasOneOwner last.service
   pub output_is : output ≡ written tellings
 
--- what the texts decide of how a run ends
+-- what the texts decide about how a run ends
 abbrev pub Decides : {A : Type 0} → Start A → Outcome → Type 0
 Decides start Done = IsOk start
 Decides start OutputFailed = IsOk start
@@ -74,7 +76,8 @@ Decides start InputFailed = ⊤
 Decides start NoMemory = ⊤
 Decides start outcome = start ≡ Err outcome
 
--- what is written: replies, of which a failing device has taken the first; nothing where the run ends before
+-- what is written: replies, or a beginning of them if the device fails; nothing if the run ends
+-- before
 abbrev pub WritesSuch : (List ℕ → List ℕ → Type 0) → Option (List ℕ) → Outcome → Option (List ℕ) → Option (List ℕ) → Type 0
 WritesSuch AreReplies (Some input) Done old new = (output : List ℕ) × AreReplies input output × Appends old new output
 WritesSuch AreReplies (Some input) OutputFailed old new = (output : List ℕ) × (n : ℕ) × AreReplies input output × Appends old new (take n output)

@@ -1,4 +1,4 @@
--- What the lines of a script are answered, one after another.
+-- The answers to the lines of a script, one after another.
 use Rattle.std.specs.Prelude.{ℕ, ◌≡◌, List, [], ◌∷◌, ◌++◌, codes, if◌then◌else◌}
 use Rattle.std.specs.List.{flat_map}
 use Rattle.std.specs.Str.{bytes_eq}
@@ -11,13 +11,14 @@ use Rattle.script_text.specs.declared.act.Act.TheVariants.{Operator, Session}
 use Rattle.operator.specs.OperatorText.{last_id}
 use Rattle.operator.specs.Serving.{HasOwnGraph, Stage, IsServed}
 
--- an act is answered with that text, after those calls of the core. Over the device's own graph a wait leaves no step to take
+-- an act makes those calls of the core and is answered that text; on the device's own graph a wait
+-- leaves no step undone
 abbrev pub IsAnswered : Stage → Act (List ℕ) → List Call → List ℕ → Stage → Type 0
 IsAnswered old (Operator line) calls text new = IsServed old line calls text new
 IsAnswered old (Session name line) calls text new = (answer : Answer)
     × Asks (last_id old.names name) line calls answer × Run old.service calls new.service × (new.names ≡ old.names)
     × (new.jobs ≡ old.jobs) × (text ≡ answer_text answer)
-    × (new.graph ≡ old.graph) × (HasOwnGraph old → LeavesNone (last_id old.names name) line answer new.service)
+    × (new.graph ≡ old.graph) × (HasOwnGraph old → LeavesNone (last_id old.names name) line calls answer new.service)
 
 -- an act with its calls and its text
 pub record Telling : Type 0 where
@@ -34,7 +35,7 @@ Tells old (t ∷ ts) new = (mid : Stage) × IsAnswered old t.act t.calls t.text 
 abbrev pub calls_of : List Telling → List Call
 calls_of tellings = flat_map (λ t. t.calls) tellings
 
--- what a name's session was told
+-- a name and the answers to its session
 pub record Section : Type 0 where
   pub name : List ℕ
   pub text : List ℕ
@@ -52,7 +53,7 @@ abbrev pub told_operator : Act (List ℕ) → List ℕ → List ℕ
 told_operator (Operator line) text = text
 told_operator (Session name line) text = []
 
--- the sections once those were told
+-- the sections after those acts are answered
 abbrev pub sections_after : List Section → List Telling → List Section
 sections_after sections [] = sections
 sections_after sections (t ∷ ts) = sections_after (told_session sections t.act t.text) ts

@@ -1,12 +1,11 @@
--- Private: a script that runs, and what it has told so far.
+-- Private: a script that runs, and its answers so far.
 use Rattle.std.specs.Prelude.{ℕ, ◌≡◌, List, [], ◌++◌, length}
 use Rattle.rr_graph.specs.Graph.{Basis}
 use Rattle.service_core.specs.Run.{Call}
 use Rattle.service_core.specs.Service.{ServiceState}
 use Rattle.sessions.specs.declared.line.SessionLine.{SessionLine}
 use Rattle.sessions.specs.declared.told.Answer.{Answer}
-use Rattle.sessions.specs.Fitting.{own_graph}
-use Rattle.sessions.specs.SessionAnswer.{IsAnswer, LeavesNone}
+use Rattle.sessions.specs.SessionAnswer.{IsAnswer}
 use Rattle.sessions.specs.SessionText.{answer_text}
 use Rattle.fpgad_run.specs.declared.in_order.Running.{Running}
 use Rattle.fpgad_run.specs.declared.told.Told.{Told}
@@ -26,7 +25,7 @@ sections_in sections = zipped sections.names sections.texts.items
 abbrev pub sections_of : Running → List Section
 sections_of running = sections_in running.sections
 
--- each section has a name, and each id one
+-- each section has a name, and each id has a section
 pub record IsEven (running : Running) : Type 0 where
   pub sections : length running.sections.texts.items ≡ length running.sections.names
   pub ids : length running.operator ≡ length running.core.histories
@@ -35,11 +34,11 @@ pub record IsEven (running : Running) : Type 0 where
 abbrev pub told_so_far : Running → List ℕ
 told_so_far running = output_of (held running.operator_text) (sections_of running)
 
--- what is written of what was told
+-- the text of the answers
 abbrev pub told_text : Told → List ℕ
 told_text told = output_of (held told.operator) (sections_in told.sections)
 
--- nothing is told yet
+-- nothing is answered yet
 pub record Begins (graph : Basis) (core : ServiceState) (running : Running) : Type 0 where
   pub stage : stage_of running ≡ record { names = []; jobs = []; service = core; graph = graph }
   pub operator_text : held running.operator_text ≡ []
@@ -55,9 +54,9 @@ pub record Serves (old : Running) (act : Act (List ℕ)) (new : Running) : Type 
   pub sections : sections_of new ≡ told_session (sections_of old) act text
   pub even : IsEven new
 
--- a line of a name's session is answered by the core, over that graph, and the answer stands in the name's section
+-- the core answers a line of a name's session, over that graph, and the answer is in the name's
+-- section
 abbrev pub AnswersSession : Basis → Sections → ServiceState → List ℕ → ℕ → SessionLine → Sections → ServiceState → Type 0
 AnswersSession graph old service name id line new new_service = (answer : Answer)
-    × IsAnswer service id line answer new_service
+    × IsAnswer graph service id line answer new_service
     × (sections_in new ≡ with_text (sections_in old) name (answer_text answer)) × (length new.texts.items ≡ length new.names)
-    × (graph ≡ own_graph service.device → LeavesNone id line answer new_service)

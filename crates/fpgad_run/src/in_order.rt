@@ -21,7 +21,7 @@ use sessions::{device_graph, end_to_end};
 use std::alloc::{AllocError, Global};
 use strips::DeviceGraph;
 
-/// What the run of a script tells, or why it tells nothing.
+/// The answers to a script, or why there are none.
 pub(crate) fn replies<'t>(
     alloc: Global,
     options: &Options,
@@ -64,7 +64,7 @@ fn serve<'t>(
 }
 
 impl Told<'_> {
-    /// Writes it, section by section.
+    /// Writes the answers, section by section.
     pub(crate) fn write_to<W: Sink>(&self, writer: &mut W) -> Result<(), Failed>
         ensures { Writes W.contents W.has_failed writer.old writer.new (told_text self.now) result }
     {
@@ -73,7 +73,8 @@ impl Told<'_> {
     }
 }
 
-/// A script that runs: the device's graph, the core, the operator's names and jobs, and what was told so far.
+/// A script that runs: the device's graph, the core, the operator's names and jobs, and the answers
+/// so far.
 struct Running<'t, 'g> {
     graph: &'g DeviceGraph,
     core: Service,
@@ -105,7 +106,7 @@ impl<'t, 'g> Running<'t, 'g> {
         }
     }
 
-    /// Serves a script in order.
+    /// Serves all acts of a script, in order.
     fn serve_all(&mut self, script: Script<'t>) -> Result<(), AllocError>
         requires { Begins self.old.graph.now self.old.core self.old }
         ensures told { (options : Options) (arch : Arch) →
@@ -122,7 +123,8 @@ impl<'t, 'g> Running<'t, 'g> {
         Ok(())
     }
 
-    /// Ends the service, and gives what was told: the operator, and each session. Jobs that are still held are given back.
+    /// Ends the service. Returns the answers to the operator and to each session. Jobs that are
+    /// still out are given back.
     fn end(self) -> (MemorySink, Sections<'t>)
         ensures { (result.0 ≡ self.entry.operator_text) × (result.1 ≡ self.entry.sections) }
     {
@@ -140,7 +142,7 @@ impl<'t, 'g> Running<'t, 'g> {
         (operator_text, sections)
     }
 
-    /// Serves one act.
+    /// Answers one act: the operator's text or the name's section gets its reply.
     fn serve(&mut self, act: Act<&'t [u8]>) -> Result<(), AllocError>
         requires { IsEven self.old }
         ensures { OnOk result (Serves self.old (named_act act.entry) self.new) }

@@ -1,4 +1,4 @@
-//! What of the input is whose text.
+//! Which part of the input is the architecture, and which the script.
 ghost use Rattle.std.specs.Prelude.{◌≡◌, ◌<◌, ◌^◌, length, MatchOption};
 ghost use Rattle.fpgad_run.specs.Inputs.{AreTexts};
 
@@ -9,7 +9,7 @@ use script_text::cut_text;
 pub enum Architecture<'a> {
     /// At the script's head, up to a line that is `.` alone.
     InScript,
-    /// The text.
+    /// The text is this.
     Text(&'a [u8]),
     /// In a file that can't be read.
     Unreadable,
@@ -18,16 +18,16 @@ pub enum Architecture<'a> {
 /// The texts of a run.
 #[derive(Clone, Copy)]
 pub(crate) struct Texts<'a> {
-    /// The architecture's.
+    /// The architecture's text.
     pub architecture: &'a [u8],
-    /// The script's.
+    /// The script's text.
     pub script: &'a [u8],
     /// The number of the script's first line.
     pub number: usize,
 }
 
 impl<'a> Texts<'a> {
-    /// The texts of a run with that input, if the architecture can be read.
+    /// The texts of a run with that input. None if the architecture can't be read.
     pub(crate) fn new(architecture: Architecture<'a>, input: &'a [u8]) -> Option<Self>
         requires { length input.now < 2 ^ 63 }
         ensures { MatchOption result (architecture.entry ≡ Architecture.Unreadable)
@@ -44,7 +44,8 @@ impl<'a> Texts<'a> {
         }
     }
 
-    /// The texts of an input that begins with the architecture. Where no line ends it, it is all there is.
+    /// The texts of an input that begins with the architecture. If no line ends it, it is the whole
+    /// input.
     fn below_architecture(input: &'a [u8]) -> Self
         requires { length input.now < 2 ^ 63 }
         ensures { AreTexts Architecture.InScript input.now result }

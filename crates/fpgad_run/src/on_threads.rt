@@ -19,7 +19,8 @@ use std::sync::Wait;
 use std::thread::Threads;
 use std::time::Clock;
 
-/// What a script is answered beside so many workers as the options say, at least one, or why it is answered nothing.
+/// The answers to a script beside as many workers as the options say, at least one, or why there
+/// are none.
 pub(crate) fn replies<'t, H: Threads + Wait + Clock + AllocGlobal + Sync>(
     rt: &H,
     options: &Options,

@@ -7,7 +7,7 @@ use service_core::Device;
 use std::alloc::Global;
 use std::convert::AsStr;
 
-/// What stands behind the options where help is asked.
+/// What follows the options in the help.
 const HELP: &str = "\
 Lines of a script, in any order; NAME is 1 to 32 letters, digits and `_`:
   op admit NAME WIDTH | evict NAME | move NAME OFFSET | list | owners
@@ -69,7 +69,8 @@ const PROGRAM: Program = Program {
 
 const BEYOND: &str = "a number is beyond its limits";
 
-/// The size of the device and of its channels, and how many threads make the jobs' steps, within their limits.
+/// The size of the device and of its channels, and how many threads make the jobs' steps, within
+/// their limits.
 #[derive(Clone, Copy)]
 pub struct Options {
     /// Tracks of each channel, 1 to 64.
@@ -78,7 +79,7 @@ pub struct Options {
     pub columns: u32,
     /// Rows of the device, 1 to 64.
     pub rows: u32,
-    /// Threads that make the jobs' steps, 0 to 16. With none, a script is served in order.
+    /// Threads that make the jobs' steps, 0 to 16. With 0 a script is served in order.
     pub workers: u32,
     ghost tracks_lawful: { (1 ≤ tracks) × (tracks ≤ 64) },
     ghost columns_lawful: { (1 ≤ columns) × (columns ≤ 256) },
@@ -90,7 +91,7 @@ impl Options {
     ghost use Rattle.fpgad_run.specs.Limits.{AreLawful, Holds};
     ghost use Rattle.fpgad_run.specs.Program.{device_of};
 
-    /// These numbers, if they are within their limits.
+    /// Options of these numbers. None if one is not within its limits.
     pub fn new(tracks: u32, columns: u32, rows: u32, workers: u32) -> Option<Self>
         ensures some { IfSome result (λ options. Holds options tracks columns rows workers) }
         ensures none { IfNone result (AreLawful tracks columns rows workers → ⊥) }
@@ -109,7 +110,7 @@ impl Options {
         })
     }
 
-    /// The device of these sizes, of that architecture.
+    /// The device of these sizes and of that architecture.
     pub(crate) fn device(&self, arch: Arch) -> Device
         ensures { result ≡ device_of self.now arch }
     {
@@ -128,12 +129,13 @@ pub struct CommandLine<'a> {
     pub arch: Option<&'a str>,
 }
 
-/// The options that these words give, the first being the program's name. An error is clap's, and a call for help is one.
+/// The options that these words give, the first being the program's name. An error is clap's; a
+/// request for help is one.
 pub fn read_options<'a, S: AsStr>(alloc: Global, words: &'a [S]) -> Result<CommandLine<'a>, Error> {
     options_by(alloc, &PROGRAM, words)
 }
 
-/// The same, by the program for its options.
+/// The command line that these words give, read by the program that describes its options.
 fn options_by<'a, S: AsStr>(
     alloc: Global,
     program: &Program,

@@ -19,11 +19,11 @@ pub enum Outcome {
     ArchRefused(ArchFault),
     InputFailed,
     OutputFailed,
-    /// The number of the script's least faulty line.
+    /// A line of the script is faulty; the number is that of the first such line.
     ScriptFault(usize),
-    /// There was no memory for the program's own tables, or for a thread.
+    /// Memory ran out for the program's own tables, or for a thread.
     NoMemory,
-    /// What the sessions were told is not what the journals say.
+    /// The answers to the sessions are not what the journals say.
     NotSettled,
 }
 
@@ -44,7 +44,7 @@ impl Outcome {
         }
     }
 
-    /// That status, as a program ends with it.
+    /// The status as an exit code.
     pub fn exit_code(&self) -> ExitCode
         ensures { exit_status result ≡ status_of self.now }
     {

@@ -19,8 +19,9 @@ use std::sync::Wait;
 use std::thread::Threads;
 use std::time::Clock;
 
-/// Runs a script: reads it whole, checks it whole, serves it in order, and writes the replies. Without memory for
-/// the program's own tables, and where it or the architecture is refused, nothing is written.
+/// Runs a script: reads it whole, checks it whole, serves it in order, and writes the replies. If
+/// memory runs out for the program's own tables, or the script or the architecture is refused,
+/// nothing is written.
 pub fn run_script<R: Source, W: Sink>(
     alloc: Global,
     options: &Options,
@@ -28,7 +29,7 @@ pub fn run_script<R: Source, W: Sink>(
     reader: &mut R,
     writer: &mut W,
 ) -> Outcome
-    // What the text decides, where the reader tells it.
+    // What the text decides, if the reader says what is left.
     ensures decided { IfSome (R.remaining reader.old)
         (λ input. Decides (start_of options.now.tracks architecture.entry input) result) }
     // What is written, and that nothing else is.
@@ -49,7 +50,8 @@ pub fn run_script<R: Source, W: Sink>(
     }
 }
 
-/// The same without workers; with some, the sessions are served on threads of their own beside them.
+/// Runs a script as `run_script` does, if the options have no workers; else serves the sessions on
+/// threads of their own, beside the workers.
 pub fn run<H: Threads + Wait + Clock + AllocGlobal + Sync, R: Source, W: Sink>(
     rt: &H,
     options: &Options,
@@ -98,7 +100,7 @@ fn read_input<R: Source>(
     }
 }
 
-/// Writes what a script was told in order, where it was told something.
+/// Writes the answers to a script that was served in order, if there are any.
 fn end_in_order<W: Sink>(writer: &mut W, told: Result<Told<'_>, Outcome>) -> Outcome
     ensures { EndsWith told_text told.entry result (W.contents writer.old) (W.contents writer.new)
         (W.has_failed writer.new) }
@@ -109,7 +111,7 @@ fn end_in_order<W: Sink>(writer: &mut W, told: Result<Told<'_>, Outcome>) -> Out
     }
 }
 
-/// Writes what a script was answered on threads, where it was answered something.
+/// Writes the answers to a script that was served on threads, if there are any.
 fn end_on_threads<W: Sink>(writer: &mut W, answered: Result<Answered<'_>, Outcome>) -> Outcome
     ensures { EndsWith answered_text answered.entry result (W.contents writer.old)
         (W.contents writer.new) (W.has_failed writer.new) }
@@ -120,7 +122,7 @@ fn end_on_threads<W: Sink>(writer: &mut W, answered: Result<Answered<'_>, Outcom
     }
 }
 
-/// How a run ends that is written so.
+/// How a run ends whose writing ended so.
 fn end(written: Result<(), Failed>) -> Outcome
     ensures { result ≡ ending written }
 {

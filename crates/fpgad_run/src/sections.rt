@@ -10,7 +10,7 @@ use sessions::{Answer, SessionLine, answer};
 use std::alloc::{AllocError, Global};
 use strips::DeviceGraph;
 
-/// What each session was told, by names in the order of their first lines.
+/// The answers to each session, by names in the order of their first lines.
 #[derive(Drop)]
 pub(crate) struct Sections<'t> {
     alloc: Global,
@@ -32,8 +32,8 @@ impl<'t> Sections<'t> {
         }
     }
 
-    /// Has the core answer a line of that name's session, and appends the answer to the name's section; a name that has
-    /// none gets one, the last.
+    /// Has the core answer a line of that name's session, and appends the answer to the name's
+    /// section. A name without a section gets one, the last.
     pub(crate) fn answer(
         &mut self,
         core: &mut Service,
@@ -77,7 +77,7 @@ pub(crate) fn write_section<W: Sink>(writer: &mut W, name: &[u8], text: &[u8]) -
     write_parts(writer, &[b"== ", name, b"\n", text])
 }
 
-/// Whether what was answered is written.
+/// Ok if the answer was written, an error if memory ran out for it.
 fn told(answered: (Answer, Result<(), Failed>)) -> Result<(), AllocError>
     ensures { is_ok result ≡ is_ok answered.1 }
 {

@@ -1,10 +1,10 @@
-//! What a script was told that was served in order.
+//! The answers to a script that was served in order.
 ghost use Rattle.std.specs.Prelude.{◌≡◌, length};
 
 use crate::sections::Sections;
 use line_text::MemorySink;
 
-/// What the operator was told, and each name's session.
+/// The answers to the operator, and to each name's session.
 #[derive(Drop)]
 pub(crate) struct Told<'t> {
     pub(crate) operator: MemorySink,

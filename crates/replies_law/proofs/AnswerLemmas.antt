@@ -1,4 +1,4 @@
--- What sessions are answered is read as it is.
+-- The replies to sessions are read back unchanged.
 use Rattle.std.proofs.Common.{◌≡◌, ℕ, ◌<◌, ◌^◌, Bool, true, false, cond, eqb, List, [], ◌∷◌, ◌++◌, length, codes, decimal, Result, Ok, Err, Option, Some, None, refl, arith, length-append, subst}
 use Rattle.std.specs.Prelude.{⊤, IfSome, nat_lt, option_and_then, slice_get}
 use Rattle.std.specs.Option.{option_map_or}
@@ -34,7 +34,7 @@ use Rattle.replies_law.specs.ReadBack.{NetsAreWords, NoFeed}
 use Rattle.replies_law.proofs.FeedLemmas.{IsLine, decimal_no_feed, line_behind, no_feed-append}
 use Rattle.replies_law.proofs.FormLemmas.{file_behind, plain_line}
 
--- the nets that a reply names hold no line feed
+-- the nets that a reply names contain no line feed
 abbrev pub IsPlain : Reply → Type 0
 IsPlain (Refused (BadBlif fault)) = IfSome (net_of fault.kind) NoFeed
 IsPlain (InState status) = NoFeed (ending_text status.ending)
@@ -98,7 +98,7 @@ file_is_small kind text small =
     let e = length-append (codes "text" ++ blank_word (file_text kind) ++ blank_word (decimal (length text))) (10 ∷ text) in
     omega (arith, small, e)
 
--- a reply is read as it is
+-- a reply is read back unchanged
 pub reply_is_read : (reply : Reply) → IsPlain reply → length (reply_text reply) < 2 ^ 64 → IsRead (reply_text reply)
 reply_is_read (Accepted state) plain small rest = plain_line (reply_text (Accepted state)) rest (line_of_bytes (codes "ok" ++ blank_word (state_text state)) (state_no_feed state)) refl
 reply_is_read (InState status) plain small rest =
@@ -112,7 +112,7 @@ reply_is_read (Step Stale) plain small rest = plain_line (reply_text (Step Stale
 reply_is_read (Refused refusal) plain small rest =
     plain_line (reply_text (Refused refusal)) rest (numbered_no_feed (codes "refused") (refusal_text refusal) (cause_text refusal) (refusal_number refusal) refl (name_no_feed refusal) (cause_no_feed refusal plain)) refl
 
--- and a tenancy's replies are so
+-- a tenancy's replies are of this kind
 of_circuit : NetsAreWords → (text : List ℕ) (lut_size : ℕ) (leads : Circuit → Option State × Reply) → ((circuit : Circuit) → circuit_of text lut_size ≡ Ok circuit → IsPlain (leads circuit).1) → IsPlain (with_circuit (circuit_of text lut_size) leads).1
 of_circuit words text lut_size leads all = by_result (circuit_of text lut_size) refl
   where

@@ -1,4 +1,4 @@
--- What holds of each element of a list.
+-- Properties that hold for each element of a list.
 use Rattle.std.proofs.Common.{ℕ, zero, suc, Bool, true, false, cond, List, [], ◌∷◌, ◌++◌, take, drop, map, get_or}
 use Rattle.std.specs.Prelude.{⊤, filter, flat_map}
 

@@ -35,7 +35,7 @@ pub decimal_no_feed : (n : ℕ) → NoFeed (decimal n)
 unfolding digits
 decimal_no_feed n = digits_other 64 n [] refl
 
--- a line feed ends the bytes, and no other stands in them
+-- a line feed ends the bytes, and there is no other in them
 abbrev pub is_none : List ℕ → Bool
 is_none [] = true
 is_none (c ∷ cs) = false
@@ -57,7 +57,7 @@ line_behind (b ∷ front) text all is =
     by_test true never rest = absurd (false≢true never)
     by_test false e rest = rest
 
--- what stands before its line feed
+-- the text before its line feed
 pub record Parted (text : List ℕ) : Type 0 where
   pub line : List ℕ
   pub is : text ≡ line ++ 10 ∷ []
@@ -96,7 +96,7 @@ ended_length line rest all =
     ap (λ n. option_map (λ k. k + 1) (cond (nat_lt n (length (line ++ 10 ∷ rest))) (Some n) None)) place
     ∙ ap (λ b. option_map (λ k. k + 1) (cond b (Some (length line)) None)) within
 
--- the first line of the bytes is as long as the line that they begin with
+-- the first line of the bytes is as long as the line with which they begin
 pub line_is_first : (text rest : List ℕ) → IsLine text → line_length (text ++ rest) ≡ Some (length text)
 line_is_first text rest is =
     let parts = line_parts text is in

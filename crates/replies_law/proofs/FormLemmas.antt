@@ -34,7 +34,7 @@ decimal_of-decimal n small =
     let less : nat_lt (value_of ds) (2 ^ 64) ≡ true = ap (λ v. nat_lt v (2 ^ 64)) told.1 ∙ grind (arith, nat_tests, small) in
     ap (λ v. cond v (Some (value_of ds)) None) (and_from _ _ (and_from _ _ told.0 some) less) ∙ ap Some told.1
 
--- a line that begins otherwise tells of no file
+-- a line with another beginning announces no file
 begins_more : (start line more : List ℕ) → behind start (line ++ more) ≡ None → behind start line ≡ None
 begins_more [] line more never = cc
 begins_more (a ∷ start) [] more never = refl
@@ -44,7 +44,7 @@ begins_more (a ∷ start) (b ∷ line) more never = by_test (eqb a b) never (beg
     by_test true e rest = rest e
     by_test false e rest = refl
 
--- the bytes of a line and what stands behind it
+-- the bytes of a line and the rest after it
 line_before : (line rest : List ℕ) → line_of (length line + 1) (line ++ 10 ∷ rest) ≡ line
 line_before line rest =
     let same : length line + 1 - 1 ≡ length line = omega arith in
@@ -55,7 +55,7 @@ is_within bytes n few =
     let test : nat_le n (length bytes) ≡ true = grind (arith, nat_tests, few) in
     ap (λ b. cond b (Some n) None) test
 
--- how long a session's reply is whose first line tells of so many bytes
+-- the length of a session's reply whose first line announces a number of bytes
 told_length : (line rest : List ℕ) (told : Option (List ℕ × ℕ)) → NoFeed line → told_file line ≡ told → told_bytes told ≤ length rest →
     session_length (line ++ 10 ∷ rest) ≡ Some (length line + 1 + told_bytes told)
 told_length line rest told all is few =
@@ -66,7 +66,7 @@ told_length line rest told all is few =
     ∙ ap (λ o. within bytes (length line + 1 + told_bytes o)) is
     ∙ is_within bytes (length line + 1 + told_bytes told) (omega (arith, few, whole))
 
--- a line of a session that tells of no file
+-- a session's line that announces no file
 pub plain_line : (text rest : List ℕ) → IsLine text → behind (codes "text ") text ≡ None → session_length (text ++ rest) ≡ Some (length text)
 plain_line text rest is never =
     let parts = line_parts text is in
@@ -75,7 +75,7 @@ plain_line text rest is never =
     ap (λ t. session_length (t ++ rest)) parts.is ∙ ap session_length (append_assoc parts.line (10 ∷ []) rest)
     ∙ told_length parts.line rest None parts.other none (omega arith) ∙ ap Some long
 
--- and one that a file stands behind
+-- and one that a file follows
 pub file_behind : (head kind file rest : List ℕ) → NoFeed head → told_file (head ++ decimal (length file)) ≡ option_map (λ n. (kind, n)) (decimal_of 64 (decimal (length file))) → length file < 2 ^ 64 →
     session_length ((head ++ decimal (length file) ++ 10 ∷ file) ++ rest) ≡ Some (length (head ++ decimal (length file) ++ 10 ∷ file))
 file_behind head kind file rest all tells small =
@@ -88,7 +88,7 @@ file_behind head kind file rest all tells small =
     ∙ told_length line (file ++ rest) (Some (kind, n)) (no_feed-append head (decimal n) all (decimal_no_feed n)) told few
     ∙ ap Some long
 
--- so many lines
+-- a number of lines
 abbrev pub AreLines : ℕ → List ℕ → Type 0
 AreLines zero text = text ≡ []
 AreLines (suc count) text = (first : List ℕ) × (more : List ℕ) × IsLine first × AreLines count more × (text ≡ first ++ more)
@@ -113,7 +113,7 @@ lines_more (suc count) text line are is =
     let e : suc (count + 1) ≡ suc count + 1 = omega arith in
     subst P e (are.0, are.1 ++ line, are.2, lines_more count are.1 line are.3 is, (ap (λ t. t ++ line) are.4 ∙ append_assoc are.0 are.1 line))
 
--- owners are so many lines behind one that tells how many
+-- the owners are a number of lines after one that announces the number
 pub owners_are_read : (text rest : List ℕ) (count : ℕ) → count < 2 ^ 64 → AreLines count text →
     owners_length ((codes "owners " ++ decimal count ++ 10 ∷ text) ++ rest) ≡ Some (length (codes "owners " ++ decimal count ++ 10 ∷ text))
 owners_are_read text rest count small are =

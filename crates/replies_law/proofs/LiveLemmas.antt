@@ -1,4 +1,4 @@
--- How many tenancies live, and their lines in the operator's list.
+-- The number of live tenancies, and their lines in the operator's list.
 use Rattle.std.proofs.Common.{◌≡◌, ℕ, zero, suc, ◌+◌, ◌-◌, ◌<◌, ◌≤◌, Bool, true, false, cond, eqb, List, [], ◌∷◌, ◌++◌, length, take, get_or, decimal, Result, Ok, Err, Option, Some, None, refl, sym, ap, ◌∙◌, arith, subst, append-nil}
 use Rattle.std.specs.Prelude.{⊤, IsSome, option_and_then, unwrap_or}
 use Rattle.std.proofs.lemmas.Bool.{false≢true}
@@ -33,7 +33,7 @@ pub lives-append : (xs ys : List History) → lives (xs ++ ys) ≡ lives xs + li
 lives-append [] ys = omega arith
 lives-append (h ∷ xs) ys = let more = lives-append xs ys in omega (arith, more)
 
--- a change that keeps who lives
+-- a change that keeps which tenancies are live
 lives-kept : (hs : List History) (id : ℕ) (change : History → History) → ((h : History) → (change h).live ≡ h.live) → lives (modified hs id change) ≡ lives hs
 lives-kept [] id change same = refl
 lives-kept (h ∷ hs) id change same = by_test (eqb id 1) (lives-kept hs (id - 1) change same)
@@ -42,7 +42,7 @@ lives-kept (h ∷ hs) id change same = by_test (eqb id 1) (lives-kept hs (id - 1
     by_test true more = ap (λ b. cond b 1 0 + lives hs) (same h)
     by_test false more = ap (λ n. cond h.live 1 0 + n) more
 
--- and one by which a tenancy ends
+-- and one that ends a tenancy
 pub lives-ended : (hs : List History) (id : ℕ) (change : History → History) → ((h : History) → (change h).live ≡ false) → IsSome (live_of hs id) → lives (modified hs id change) + 1 ≡ lives hs
 lives-ended [] id change ends is = absurd (false≢true is)
 lives-ended (h ∷ hs) id change ends is = by_test (eqb id 1) is (lives-ended hs (id - 1) change ends)
@@ -104,7 +104,7 @@ abbrev pub AreOther : List (List ℕ) → Type 0
 AreOther [] = ⊤
 AreOther (name ∷ names) = NoFeed name × AreOther names
 
--- the history of an id, by its place
+-- the history of an id, by its index
 history_at : (hs : List History) (k : ℕ) (d : History) → k < length hs → history_of hs (k + 1) ≡ Some (get_or hs k d)
 history_at [] k d within = absurd (omega arith)
 history_at (h ∷ hs) zero d within = refl
@@ -124,7 +124,7 @@ listed_line h offset id name all =
     (no_feed-append front (blank_word (decimal (unwrap_or offset 0))) (no_feed-append (decimal id) (blank_word name) (decimal_no_feed id) all) (decimal_no_feed (unwrap_or offset 0)))
     (decimal_no_feed h.strip.width)) (state_no_feed (state_of h).name))
 
--- the list has a line for each tenancy that lives
+-- the list has a line for each live tenancy
 listed_so_far : (service : ServiceState) (names : List (List ℕ)) (d : History) → length names ≤ length service.histories → AreOther names → AreLines (lives (take (length names) service.histories)) (list_text service names)
 listed_so_far service [] d few all = refl
 listed_so_far service (newest ∷ older) d few all =

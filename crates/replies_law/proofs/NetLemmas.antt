@@ -1,4 +1,4 @@
--- The nets of a netlist are words of it.
+-- The nets of a netlist are words of its text.
 use Rattle.std.proofs.Common.{◌≡◌, ℕ, ◌+◌, ◌-◌, Bool, true, false, not, cond, List, [], ◌∷◌, ◌++◌, length, take, drop, Result, Ok, Err, Option, Some, None, codes, refl, subst}
 use Rattle.std.specs.Prelude.{◌&&◌, ◌||◌, IfSome, flat_map, nat_lt, option_map}
 use Rattle.std.specs.List.{enumerate_from}
@@ -175,7 +175,7 @@ final_other declared [] each = (tt, tt)
 final_other declared (line ∷ lines) each =
     each-flat_map HasWords FoundOther (undriven_faults (driven (sights_of declared (line ∷ lines)))) (undriven_other (driven (sights_of declared (line ∷ lines)))) (line ∷ lines) each
 
--- the least of them is one of them
+-- the least element is one of the elements
 least_other : (all : List (Found BlifFault)) → Each FoundOther all → IfSome (least_by precedes all) FoundOther
 least_other [] each = tt
 least_other (found ∷ all) each = by_least (least_by precedes all) (least_other all each.1)
@@ -224,7 +224,7 @@ nets_other : (declared : List (List ℕ)) (lines : List JoinedLine) → Each Has
 unfolding circuit_from sights_of
 nets_other declared lines each = with_names_other [] (flat_map names_of lines) tt (each-flat_map HasWords NoFeed names_of (λ line. names_other (kind_of line) line.words) lines each)
 
--- so is all that a netlist names
+-- this holds for all that a netlist names
 of_lines_fault : (lut_size : ℕ) (lines : List JoinedLine) (fault : BlifFault) → Each HasWords lines → circuit_of_lines lut_size lines ≡ Err fault → NamesOther fault.kind
 unfolding circuit_of_lines
 of_lines_fault lut_size lines fault each e =
@@ -242,7 +242,7 @@ line_fault_other : (fault : LineFault) → NamesOther (fault_of_lines fault).kin
 line_fault_other (LineNotAscii number) = tt
 line_fault_other (LineLineTooLong number) = tt
 
--- what a text says that has these lines
+-- the circuit, or the fault, of a text with these lines
 abbrev circuit_of_read : ℕ → Result (List JoinedLine) LineFault → Result Circuit BlifFault
 circuit_of_read lut_size read = result_flatten (result_map_both (circuit_of_lines lut_size) fault_of_lines read)
 

@@ -1,4 +1,4 @@
--- The owners are told in lines.
+-- The owners are printed in lines.
 use Rattle.std.proofs.Common.{ℕ, ◌<◌, ◌≤◌, ◌^◌, Bool, true, false, List, [], ◌∷◌, ◌++◌, length, codes, decimal, refl, arith, length-append}
 use Rattle.std.specs.Prelude.{◌||◌, ◌==◌, nat_lt, flat_map}
 use Rattle.device_book.specs.declared.book.Owned.{Owned}

@@ -36,7 +36,7 @@ bytes_other (b ∷ bytes) all =
 name_other : (name : List ℕ) → is_name name ≡ true → NoFeed name
 name_other name is = bytes_other name (and_parts (nat_lt 0 (length name) && nat_le (length name) 32) (list_all is_name_byte name) is).1
 
--- what a line of the operator asks
+-- a line of the operator
 abbrev LineHas : Option (OperatorLine (List ℕ)) → Type 0
 LineHas None = ⊤
 LineHas (Some line) = HasName (Operator line)
@@ -91,7 +91,7 @@ act_has : (act : Act (List ℕ)) (rest : Acts) → HasName act → AllHave rest 
 act_has act (Ok acts) one all = (one, all)
 act_has act (Err fault) one all = tt
 
--- a line ahead of others; `form_by [] []` is skipped, and `operator_form None` is faulty
+-- a line before others; `form_by [] []` is skipped, and `operator_form None` is faulty
 asks_has : (number : ℕ) (lines : List (List ℕ)) (rest : Acts) → AllHave rest → (o : Option (OperatorLine (List ℕ))) → LineHas o → AllHave (with_line number (operator_form o) lines rest)
 asks_has number lines rest all None has = tt
 asks_has number lines rest all (Some line) has = act_has (Operator line) rest has all

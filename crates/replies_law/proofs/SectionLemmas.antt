@@ -1,4 +1,4 @@
--- What is written is what is printed for the tellings.
+-- What is written is what is printed for the replies.
 use Rattle.std.proofs.Common.{◌≡◌, ℕ, Bool, true, false, cond, ◌||◌, List, [], ◌∷◌, ◌++◌, map, fold, Some, None, refl, sym, ap, ◌∙◌, append_assoc, append-nil, subst}
 use Rattle.std.specs.Prelude.{⊤, flat_map}
 use Rattle.std.specs.Str.{bytes_eq}
@@ -27,7 +27,7 @@ operator_told (t ∷ ts) = by_act t.act (operator_told ts)
     by_act (Operator line) more = ap (λ o. t.text ++ o) more
     by_act (Session name line) more = more
 
--- names, no two of them the same
+-- names, no two of them equal
 abbrev pub Others : List ℕ → List (List ℕ) → Type 0
 Others name [] = ⊤
 Others name (other ∷ names) = (bytes_eq other name ≡ false) × Others name names
@@ -53,7 +53,7 @@ turned a b e = by_test (bytes_eq b a) refl
     by_test true same = absurd (false≢true (sym e ∙ (bytes_eq-Decides a b).1 (sym ((bytes_eq-Decides b a).0 same))))
     by_test false differ = refl
 
--- others are told nothing more
+-- the texts of the others don't change
 rest_same : (f : List ℕ → List ℕ) (name text : List ℕ) (names : List (List ℕ)) → Others name names → map (λ n. sec n (f n)) names ≡ map (λ n. sec n (f n ++ more_for name text n)) names
 rest_same f name text [] others = refl
 rest_same f name text (n ∷ names) others =
@@ -81,7 +81,7 @@ one_told f name text (n ∷ names) distinct none = by_test (bytes_eq name n) ref
         ∙ ap (λ ss. sec n (f n ++ more_for name text n) ∷ ss) (rest e)
         ∙ ap (map (λ n. sec n (f n ++ more_for name text n))) (sym (with_name-later n names name e))
 
--- a name more
+-- one more name
 others_more : (name new : List ℕ) (names : List (List ℕ)) → bytes_eq new name ≡ false → Others name names → Others name (with_name names new)
 others_more name new [] differ others = (differ, tt)
 others_more name new (n ∷ names) differ others = by_test (bytes_eq new n) refl (others_more name new names differ others.1)
@@ -98,7 +98,7 @@ distinct_more new (n ∷ names) distinct = by_test (bytes_eq new n) refl (distin
     by_test true e more = subst AreDistinct (sym (with_name-first n names new e)) distinct
     by_test false e more = subst AreDistinct (sym (with_name-later n names new e)) (others_more n new names e distinct.0, more)
 
--- who is no name with one more was none, and isn't that one
+-- a name that isn't in the list with one more name isn't in the list, and isn't that name
 not_named : (names : List (List ℕ)) (new name : List ℕ) → has_name (with_name names new) name ≡ false → (has_name names name ≡ false) × (bytes_eq name new ≡ false)
 not_named [] new name none = (refl, by_or (bytes_eq name new) none)
   where
@@ -124,7 +124,7 @@ not_named (n ∷ names) new name none = by_test (bytes_eq new n) refl (λ e. not
 abbrev pub names_from : List (List ℕ) → List AskedLine → List (List ℕ)
 names_from names asked = fold (λ names line. with_speaker names line.speaker) names asked
 
--- the sections once those were told
+-- the sections after those replies
 sections_told : (ts : List Telling) (names : List (List ℕ)) (f : List ℕ → List ℕ) → AreDistinct names → ((name : List ℕ) → has_name names name ≡ false → f name ≡ []) →
     sections_after (map (λ n. sec n (f n)) names) ts ≡ map (λ n. sec n (f n ++ told_to (Some n) (lines_of ts))) (names_from names (asked_in (lines_of ts)))
 sections_told [] names f distinct none = map_same (λ n. sec n (f n)) (λ n. sec n (f n ++ [])) (λ n. ap (sec n) (sym (append-nil (f n)))) names

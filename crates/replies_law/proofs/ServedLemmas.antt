@@ -1,4 +1,5 @@
--- What the operator and sessions are answered is read as it is, and how many tenancies live then.
+-- The replies to the operator and to sessions are read back unchanged, and the number of live
+-- tenancies afterwards is right.
 use Rattle.std.proofs.Common.{◌≡◌, ℕ, suc, ◌<◌, ◌^◌, List, [], ◌∷◌, ◌++◌, length, codes, decimal, Result, Ok, Err, Option, Some, None, refl, sym, arith, subst}
 use Rattle.std.specs.Prelude.{All}
 use Rattle.service_core.specs.declared.not_served.NotServed.{NotServed}
@@ -48,7 +49,7 @@ run_parts old new (call ∷ first) next run =
     let rest = run_parts run.0 new first next run.2 in
     record { mid = rest.mid; before = (run.0, run.1, rest.before); behind = rest.behind }
 
--- what a session is told where the core isn't asked, or has no reply
+-- the reply to a session when the core isn't asked, or has no reply
 refused_read : (refusal : SessionRefusal) → IsRead (session_refusal_text refusal)
 refused_read UnknownCommand rest = plain_line (session_refusal_text UnknownCommand) rest (numbered_no_feed (codes "line") (codes "UnknownCommand") [] 1 refl refl refl) refl
 refused_read BadNumber rest = plain_line (session_refusal_text BadNumber) rest (numbered_no_feed (codes "line") (codes "BadNumber") [] 2 refl refl refl) refl

@@ -17,7 +17,7 @@ abbrev in_sections : List Section → ℕ
 in_sections [] = 0
 in_sections (s ∷ sections) = length s.text + in_sections sections
 
--- a text more
+-- one more text
 text_more : (sections : List Section) (name text : List ℕ) → in_sections (with_text sections name text) ≡ in_sections sections + length text
 text_more [] name text = omega arith
 text_more (s ∷ sections) name text = by_test (bytes_eq name s.name) (text_more sections name text)
@@ -27,7 +27,7 @@ text_more (s ∷ sections) name text = by_test (bytes_eq name s.name) (text_more
     by_test true more = let e = length-append s.text text in omega (arith, e)
     by_test false more = omega (arith, more)
 
--- what the operator and the sessions are told is all of it
+-- the replies to the operator and to the sessions are all of it
 told_somewhere : (sections : List Section) (ts : List Telling) → length (flat_map (λ t. told_operator t.act t.text) ts) + in_sections (sections_after sections ts) ≡ in_sections sections + all_told ts
 told_somewhere sections [] = omega arith
 told_somewhere sections (t ∷ ts) = by_act t.act (told_somewhere sections ts) (λ name. told_somewhere (with_text sections name t.text) ts)
@@ -56,7 +56,7 @@ all_written ts =
     let first = length-append (heading (codes "op")) operator in
     omega (arith, told, long, whole, first)
 
--- so all of it can be told
+-- so all of it can be written
 tellable_from : (ts : List Telling) → Each HasName (map (λ t. t.act) ts) → all_told ts < 2 ^ 64 → AreTellable ts
 tellable_from [] each small = tt
 tellable_from (t ∷ ts) each small = ((each.0, omega (arith, small)), tellable_from ts each.1 (omega (arith, small)))

@@ -25,12 +25,12 @@ use Rattle.replies_law.proofs.LiveLemmas.{AreOther, list_has_lines, lives, lives
 use Rattle.replies_law.proofs.OwnerLemmas.{owners_lines, owners_small}
 use Rattle.replies_law.proofs.ServedLemmas.{admitted_line, evicted_line, line_read, moved_line, outcome_line, refused_line, steady_tried, taken_line, tried_lines}
 
--- each id has a name, and names are such
+-- each id has a name, and names have no line feed
 pub record IsFine (stage : Stage) : Type 0 where
   pub even : length stage.names ≡ length stage.service.histories
   pub names : AreOther stage.names
 
--- a line of the operator whose reply has that form was told that text
+-- the reply to a line of the operator, of that form, is that text
 pub record IsTold (old new : Stage) (form : ReplyForm) (text : List ℕ) : Type 0 where
   pub reads : IsReply (lives old.service.histories) form text
   pub lives : live_after (lives old.service.histories) form text ≡ lives new.service.histories

@@ -1,4 +1,4 @@
--- All that was told is read back.
+-- All replies are read back.
 use Rattle.std.proofs.Common.{◌≡◌, ℕ, ◌<◌, ◌^◌, Bool, true, false, List, [], ◌∷◌, length, map, Ok, Some, None, refl, sym, ap, ◌∙◌, subst}
 use Rattle.std.specs.Str.{bytes_eq}
 use Rattle.script_text.specs.declared.act.Act.{Act}
@@ -17,7 +17,7 @@ use Rattle.replies_law.proofs.SectionLemmas.{lines_of, printed_is_written}
 use Rattle.replies_law.proofs.ServedLemmas.{session_read}
 use Rattle.replies_law.proofs.StageLemmas.{IsFine, fine_same, operator_told}
 
--- a session's line was told what is read, whoever lives
+-- the reply to a session's line is read back, however many tenancies are live
 session_told : NetsAreWords → (old new : Stage) (name : List ℕ) (line : _) (calls : _) (text : List ℕ) (live : ℕ) → IsAnswered old (Session name line) calls text new → length text < 2 ^ 64 → IsReply live (session_form line) text
 session_told words old new name line calls text live is small =
     let P : List ℕ → Type 0 = λ t. IsReply live (session_form line) t in

@@ -1,4 +1,4 @@
--- The words of a netlist hold no line feed.
+-- The words of a netlist contain no line feed.
 use Rattle.std.proofs.Common.{◌≡◌, ℕ, zero, suc, ◌+◌, ◌-◌, Bool, true, false, not, cond, eqb, List, [], ◌∷◌, ◌++◌, length, take, map, Ok, Err, refl, ap, subst}
 use Rattle.std.specs.Prelude.{filter, slice_get}
 use Rattle.std.specs.List.{enumerate_from, filter_map, list_all, onto_first, position_or_len, slice_split, suffix_len}

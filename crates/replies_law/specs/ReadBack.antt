@@ -24,7 +24,7 @@ is_other b = not (is_line_feed b)
 abbrev pub NoFeed : List ℕ → Type 0
 NoFeed bytes = list_all is_other bytes ≡ true
 
--- private: no net that a netlist names, in a fault or in its circuit, holds a line feed
+-- private: no net that a netlist names, in a fault or in its circuit, contains a line feed
 pub record NetsAreWords : Type 0 where
   pub faults : (text : List ℕ) (lut_size : ℕ) (fault : BlifFault) → circuit_of text lut_size ≡ Err fault → IfSome (net_of fault.kind) NoFeed
   pub nets : (text : List ℕ) (lut_size : ℕ) (circuit : Circuit) (net : ℕ) → circuit_of text lut_size ≡ Ok circuit → NoFeed (net_name circuit net)
@@ -33,17 +33,17 @@ pub record NetsAreWords : Type 0 where
 abbrev pub answered : Telling → AnsweredLine
 answered t = replied (asked_of t.act) t.text
 
--- private: a name that a tenancy is to be admitted under holds no line feed; a script's names never do
+-- private: the name in an admission contains no line feed; names in a script never do
 abbrev pub HasName : Act (List ℕ) → Type 0
 HasName (Operator (Admit name width)) = NoFeed name
 HasName act = ⊤
 
--- private: each telling is of such an act, and its text fits into memory
+-- private: each act is of this kind, and its reply fits into memory
 abbrev pub AreTellable : List Telling → Type 0
 AreTellable [] = ⊤
 AreTellable (t ∷ ts) = (HasName t.act × (length t.text < 2 ^ 64)) × AreTellable ts
 
--- what the acts of a script were told is read back from what the program writes for it
+-- the replies to the acts of a script are read back from what the program writes for it
 abbrev pub IsOutputReadBack : Type 0
 IsOutputReadBack = (options : Options) (tracks : ℕ) (architecture : Architecture) (input output : List ℕ) → (r : IsReplies options (start_of tracks architecture input) output) → length output < 2 ^ 64 →
     replies_in r.acts output ≡ Ok (map answered r.tellings)

@@ -1,7 +1,8 @@
-//! The law.
+//! The law that the replies to a script's acts are read back.
 ghost use Rattle.replies_law.specs.ReadBack.{IsOutputReadBack};
 
-/// What each act of a script was told is read back from what the program writes for the script, whatever names and nets tenants choose.
+/// The reply to each act of a script is read back from what the program writes for the script,
+/// whatever names and nets the tenants choose.
 pub fn replies_are_read()
     ensures { IsOutputReadBack }
 {}

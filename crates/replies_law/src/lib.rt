@@ -1,4 +1,5 @@
-//! The law that what a run writes is read back, each line with its own reply, whatever names and nets tenants choose.
+//! The law that what a run writes is read back, each line with its own reply, whatever names and
+//! nets the tenants choose.
 #![tactic(auto)]
 
 mod law;

@@ -1,4 +1,4 @@
--- A step that is recorded takes one of the entries that the tenancy's journal has room for.
+-- A recorded step uses one of the entries that the tenancy's journal has left.
 use Rattle.std.proofs.Common.{◌≡◌, ◌∙◌, ℕ, ◌+◌, ◌-◌, ◌<◌, List, [], ◌∷◌, Bool, true, false, Option, Some, None, Ok, refl, sym, ap, subst, arith}
 use Rattle.std.specs.Prelude.{IsSomeAnd, option_map, if◌then◌else◌}
 use Rattle.std.proofs.lemmas.Bool.Decides.{nat_tests}
@@ -25,7 +25,7 @@ use Rattle.sessions.specs.declared.steps.StepOutcome.{StepOutcome}
 use Rattle.sessions.specs.declared.steps.StepOutcome.TheVariants.{Recorded}
 use Rattle.sessions.specs.Steps.{MakesStep}
 
--- the entries that a live tenancy's journal has room for
+-- the number of entries that a live tenancy's journal has left
 abbrev pub left_in : Option History → ℕ
 left_in None = 0
 left_in (Some h) = 65536 - (state_of h).entries
@@ -41,7 +41,7 @@ if_live-changed change same (Some g) h is =
       | false ↦ λ live e. cc
     ] refl is
 
--- a live tenancy that is changed
+-- a live tenancy after a change
 pub live_of-changed : (hs : List History) (id : ℕ) (change : History → History) (h : History) → ((h : History) → (change h).live ≡ h.live) → live_of hs id ≡ Some h → live_of (modified hs id change) id ≡ Some (change h)
 live_of-changed hs id change h same is =
     let own : history_of (modified hs id change) id ≡ option_map change (history_of hs id) = grind (arith, nat_tests, history_of-modified hs id id change) in
@@ -51,7 +51,7 @@ pub some_and : (P : History → Type 0) (o : Option History) → IsSomeAnd o P �
 some_and P None never = absurd never
 some_and P (Some h) is = (h, refl, is)
 
--- a running job's next step is one of its tenancy
+-- a running job's next step belongs to its tenancy
 next_own : (slot : SlotState) (o : Option Sources) (s : JobStep) → option_map (λ sources. record { id = slot.id; generation = slot.state.generation; number = slot.state.steps + 1; sources = sources }) o ≡ Some s → s.id ≡ slot.id
 next_own slot None s is = cc
 next_own slot (Some sources) s is =
@@ -74,7 +74,6 @@ taken_next old mid id job takes =
     let here : live_of mid.histories job.step.id ≡ Some (with_here None h) = ap (live_of mid.histories) own ∙ out in
     subst (λ o. IsSomeAnd o (λ g. next_job (slot_of g) ≡ Some job.step)) (sym here) was.2.2
 
--- an entry more
 entry_more : (h : History) (done : JobStep) (foreign : Bool) (reply : StepReply) → IsStepOf h done foreign reply →
     ((state_of (with_entry (step_entry done foreign reply) h)).entries ≡ (state_of h).entries + 1)
 entry_more h done foreign reply is =
@@ -102,7 +101,7 @@ recorded old mid new id job foreign reply takes puts =
     let k : left old id ≡ 65536 - (state_of h).entries = ap left_in was.1 in
     omega (arith, l, k, more, entries, room)
 
--- a step that is recorded leaves less
+-- after a recorded step fewer entries are left
 pub step_counts : (old new : ServiceState) (id : ℕ) (calls : List Call) (outcome : StepOutcome) (reply : StepReply) → outcome ≡ Recorded reply → MakesStep id calls outcome → Run old calls new → left new id < left old id
 step_counts old new id calls outcome reply is makes runs =
     let its : MakesStep id calls (Recorded reply) = (let P : StepOutcome → Type 0 = λ o. MakesStep id calls o in subst P is makes) in

@@ -1,4 +1,4 @@
--- A line is told what the service for a single user tells.
+-- A line is answered what the service for a single user replies.
 use Rattle.std.proofs.Common.{◌≡◌, ◌∙◌, ℕ, ◌-◌, List, [], ◌∷◌, ◌++◌, length, length-append, take, Option, Some, None, Result, Ok, Err, inl, inr, refl, sym, ap, subst, arith}
 use Rattle.std.specs.Prelude.{◌⊎◌, IsSomeAnd, option_map}
 use Rattle.std.proofs.lemmas.List.{take-append-le, take_all}
@@ -78,13 +78,12 @@ asked_told device before calls old new id command answer runs asks next =
     let P : Answer → Type 0 = λ a. IsToldAlone device old id before command a in
     subst P (sym asks.2) (command_told device before old call.0 id command asks.0 runs call.1)
 
--- all calls but the last
 all_but_last : (steps : List Call) (call : Call) → take (length (steps ++ call ∷ []) - 1) (steps ++ call ∷ []) ≡ steps
 all_but_last steps call =
     let less : length (steps ++ call ∷ []) - 1 ≡ length steps = omega (arith, length-append steps (call ∷ [])) in
     ap (λ n. take n (steps ++ call ∷ [])) less ∙ (take-append-le (length steps) steps (call ∷ []) (omega arith) ∙ take_all (length steps) steps (omega arith))
 
--- a status behind steps, which change no width
+-- a status after steps, which change no width
 behind_told : (device : Device) (before steps more calls : List Call) (old mid new : ServiceState) (id : ℕ) (answer : Answer) → Run (empty device) (before ++ steps) mid → live_width mid.histories id ≡ live_width old.histories id →
     AsksCommand id Status more answer → Run mid more new → calls ≡ steps ++ more → IsToldAlone device old id (before ++ take (length calls - 1) calls) Status answer
 behind_told device before steps more calls old mid new id answer runs width asks next is =

@@ -1,4 +1,4 @@
--- Examples that are computed.
+-- Computed examples.
 use Rattle.std.proofs.Common.{◌≡◌, ◌∷◌, ◌++◌, codes, decimal, refl}
 use Rattle.tenant_slot.specs.declared.command.Command.TheVariants.{Status}
 use Rattle.tenant_slot.specs.declared.reply.StateName.TheVariants.{Loaded}

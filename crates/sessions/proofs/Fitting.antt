@@ -101,7 +101,7 @@ on_device device width offset wide inside =
     (and_from (device.rows == device.rows) ((device.arch.io_rat == device.arch.io_rat) && nat_le (offset + width) device.columns) (same_number device.rows)
     (and_from (device.arch.io_rat == device.arch.io_rat) (nat_le (offset + width) device.columns) (same_number device.arch.io_rat) (le-leb (offset + width) device.columns inside)))
 
--- a live tenancy's next step has its window there
+-- a live tenancy's next step has its window at its strip
 pub window_there : (state : ServiceState) (step : JobStep) → AreWide state → AreParted state.device state → AreAlone state → IsNextStep state step → HasWindow (own_graph state.device) state step
 window_there state step wide parted all next =
     let device : Device = state.device in
@@ -121,7 +121,7 @@ window_there state step wide parted all next =
     let strip : step.sources.strip ≡ strip_on device h.strip.width = job.strip ∙ on.strip_is ∙ alone.strip in
     (place.0, place.1, sym (job.arch ∙ on.arch_is ∙ alone.arch), ap (λ (s : Strip). is_on_device (own_graph device).strip s place.0) strip ∙ stands)
 
--- and so has one that was just taken
+-- so has a step that was just taken
 pub taken_has_window : (device : Device) (before : List Call) (old new : ServiceState) (id : ℕ) (job : JobState) → Run (empty device) before old → IsTaken old id (Some job) new → HasWindow (own_graph device) new job.step
 taken_has_window device before old new id job runs takes =
     let calls : List Call = before ++ Take id (Some job) ∷ [] in
@@ -132,7 +132,7 @@ taken_has_window device before old new id job runs takes =
     let wide : AreWide new = run_wide (empty device) calls new all (All-nil (λ (s : PlacedStrip). 0 < s.width)) in
     subst (λ d. HasWindow (own_graph d) new job.step) same (window_there new job.step wide parted kept.alone (taken_next old new id job takes))
 
--- the window that is made where the strip stands
+-- the window that is made at the strip
 pub window_made : (state : ServiceState) (step : JobStep) (graph : Basis) (offset : ℕ) → AreWide state → AreParted state.device state → AreAlone state → offset_of state.plan.strips step.id ≡ Some offset →
     graph ≡ own_graph state.device → IsNextStep state step → (graph.arch ≡ step.sources.arch) × (is_on_device graph.strip step.sources.strip offset ≡ true)
 window_made state step graph offset wide parted all at own next =
@@ -140,13 +140,13 @@ window_made state step graph offset wide parted all at own next =
     let same : has.0 ≡ offset = same_Some _ _ (sym has.1 ∙ at) in
     (ap (λ (g : Basis). g.arch) own ∙ has.2, ap (λ (g : Basis). is_on_device g.strip step.sources.strip offset) own ∙ ap (is_on_device (own_graph state.device).strip step.sources.strip) (sym same) ∙ has.3)
 
--- the strip of a running job stands somewhere
+-- the strip of a running job has an offset
 pub stands_somewhere : (state : ServiceState) (step : JobStep) → AreWide state → AreParted state.device state → AreAlone state → offset_of state.plan.strips step.id ≡ None → IsNextStep state step → ⊥
 stands_somewhere state step wide parted all none next =
     let has : HasWindow (own_graph state.device) state step = window_there state step wide parted all next in
     none-some has.0 (sym none ∙ has.1)
 
--- so the device's own graph has a window for a job that was just taken
+-- the device's own graph has a window for a job that was just taken
 pub taken_fits : {A : Type 0} (old mid : ServiceState) (id : ℕ) (job : JobState) (graph : Basis) (window : Option A) → IsTaken old id (Some job) mid →
     (graph ≡ own_graph mid.device → IsNextStep mid job.step → IsSome window) → graph ≡ own_graph old.device → IsSome window
 taken_fits old mid id job graph window takes has own =
@@ -164,6 +164,6 @@ own_made device (Ok graph) arch strip =
     ap with_arch arch ∙ ap with_strip strip
 own_made device (Err error) arch strip = tt
 
--- and the device stays
+-- the device doesn't change
 pub own_after : (old : ServiceState) (calls : List Call) (new : ServiceState) (graph : Basis) → Run old calls new → graph ≡ own_graph old.device → graph ≡ own_graph new.device
 own_after old calls new graph runs own = own ∙ ap own_graph (sym (run_device old calls new runs))

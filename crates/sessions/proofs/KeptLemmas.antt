@@ -1,4 +1,4 @@
--- What is kept of a text.
+-- The part of a text that is kept.
 use Rattle.std.proofs.Common.{◌≡◌, ℕ, inl, inr, ◌+◌, ◌-◌, ◌≤◌, List, ◌++◌, length, take, length-append, refl, sym, ap, ◌∙◌, arith}
 use Rattle.std.proofs.lemmas.Bool.{cases_lt}
 use Rattle.std.proofs.lemmas.List.{take_all, take-take, take-append-le, length-take-le}
@@ -20,7 +20,7 @@ pub kept-kept : (xs ys : List ℕ) → kept (kept xs ++ ys) ≡ kept (xs ++ ys)
 unfolding kept
 kept-kept xs ys = take-take-append 1048577 xs ys
 
--- what fits is kept whole
+-- a text that isn't too long is kept whole
 pub kept-whole : (xs ys : List ℕ) → length xs ≤ 1048577 → length ys ≤ 1048577 - length xs → kept (xs ++ ys) ≡ xs ++ ys
 unfolding kept
 kept-whole xs ys h k = take_all 1048577 (xs ++ ys) (rw (length-append xs ys) (omega arith))

@@ -1,8 +1,9 @@
 mod CommandLemmas
-mod Counted
-mod EndToEndLemmas
+pub mod Counted
+pub mod EndToEndLemmas
 mod Examples
 pub mod Fitting
+pub mod GivenBack
 pub mod KeptLemmas
 pub mod ReadingLemmas
 pub mod StepLemmas

@@ -1,4 +1,4 @@
--- What a session's input that is being read comes to, line by line.
+-- The items of a session's input that is read line by line.
 use Rattle.std.proofs.Common.{◌≡◌, ℕ, List, [], ◌∷◌, ◌++◌, length, true, false, Option, Some, None, refl, sym, ap, ◌∙◌, arith, append_assoc, append-nil}
 use Rattle.std.specs.Prelude.{option_map}
 use Rattle.line_text.specs.Lines.{physical_lines}
@@ -7,7 +7,7 @@ use Rattle.sessions.specs.Items.{ends_text, items_from, kept, text_ahead, text_i
 use Rattle.sessions.specs.Reading.{GivesItem, TextSoFar, item_and, items_to_come, resumed}
 use Rattle.sessions.proofs.KeptLemmas.{kept-kept}
 
--- a line of a text, with what is still to come of it
+-- a line of a text, with the lines of the text that follow it
 one_more : (old : TextSoFar) (line bytes : List ℕ) (ahead : Option (List ℕ)) → bytes ≡ kept (old.bytes ++ line ++ 10 ∷ []) →
     text_item old.kind (option_map (λ more. old.bytes ++ more) (option_map (λ text. line ++ 10 ∷ text) ahead)) ≡ text_item old.kind (option_map (λ more. bytes ++ more) ahead)
 one_more old line bytes None is = refl
@@ -27,7 +27,7 @@ continued old line new ends is = λ lines.
     ap (λ a. text_item old.kind (option_map (λ more. old.bytes ++ more) a)) ahead ∙ one_more old (without_cr line) bytes (text_ahead lines) refl in
     ap (λ item. item ∷ items_from true (line ∷ lines)) (same ∙ ap (λ t. resumed t lines) (sym is)) ∙ ap (λ items. resumed new lines ∷ items) rest
 
--- the items with one more, if there is one
+-- the items after one more, if there is one
 abbrev pub pushed : List SessionLine → Option SessionLine → List SessionLine
 pushed items None = items
 pushed items (Some item) = items ++ item ∷ []

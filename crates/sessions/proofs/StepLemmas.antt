@@ -1,4 +1,4 @@
--- The calls of the core that the making of a step comes to.
+-- The calls of the core that make a step.
 use Rattle.std.proofs.Common.{◌≡◌, ◌∙◌, ℕ, List, [], ◌∷◌, ◌++◌, Bool, true, Option, Some, Result, Err, refl, sym, ap, subst, append-nil}
 use Rattle.std.specs.Prelude.{All}
 use Rattle.std.specs.declared.alloc.AllocError.{AllocError}
@@ -8,6 +8,7 @@ use Rattle.std.proofs.lemmas.List.Elements.{All-push}
 use Rattle.tenant_slot.specs.declared.reply.StepReply.{StepReply}
 use Rattle.job_state.specs.declared.step.JobStep.{JobStep}
 use Rattle.job_state.specs.Job.{JobState}
+use Rattle.rr_graph.specs.Graph.{Basis}
 use Rattle.service_core.specs.declared.put_reply.PutReply.{PutReply}
 use Rattle.service_core.specs.Calls.{IsGivenBack, IsPut, IsTaken, Puts}
 use Rattle.service_core.specs.Run.{Call, Run}
@@ -21,7 +22,8 @@ use Rattle.sessions.specs.declared.line.SessionLine.TheVariants.{Wait}
 use Rattle.sessions.specs.declared.told.Answer.{Answer}
 use Rattle.sessions.specs.declared.told.Answer.TheVariants.{Served}
 use Rattle.service_core.specs.declared.not_served.NotServed.TheVariants.{NoMemory as NotServedNoMemory}
-use Rattle.sessions.specs.SessionAnswer.{AsksCommand, EndsWait, IsAnswer}
+use Rattle.sessions.specs.Fitting.{own_graph}
+use Rattle.sessions.specs.SessionAnswer.{AsksCommand, EndsWait, IsAnswer, LeavesNone}
 use Rattle.sessions.specs.Steps.{EndsSteps, MadeStep, MakesStep, StepsAndPuts, Waits}
 
 pub Run-append : (a : ServiceState) (xs : List Call) (b : ServiceState) (ys : List Call) (c : ServiceState) → Run a xs b → Run b ys c → Run a (xs ++ ys) c
@@ -34,14 +36,14 @@ PutAnswer = Result PutReply (JobStep × AllocError)
 answered : (old new : ServiceState) (done : JobStep) (result answer : PutAnswer) → result ≡ answer → Puts old done result new → (foreign : Bool) × IsPut old done foreign answer new
 answered old new done result answer same puts = (puts.0, (let P : PutAnswer → Type 0 = λ r. IsPut old done puts.0 r new in subst P same puts.1))
 
--- a put
+-- the calls of a put are a run
 pub put_runs : (old new : ServiceState) (job : JobState) (done : JobStep) (result answer : PutAnswer) → done ≡ job.step → result ≡ answer → Puts old done result new →
     (foreign : Bool) × Run old (Put job.step foreign answer ∷ []) new
 put_runs old new job done result answer made same puts =
     let put = answered old new done result answer same puts in
     (put.0, (new, (let P : JobStep → Type 0 = λ d. IsPut old d put.0 answer new in subst P made put.1), refl))
 
--- one that found no memory
+-- a put that ran out of memory
 pub back_runs : (old mid new : ServiceState) (job returned : JobState) (done : JobStep) (result : PutAnswer) (back : JobStep × AllocError) → done ≡ job.step → result ≡ Err back → Puts old done result mid →
     returned ≡ record { step = back.0; made = true } → IsGivenBack mid returned new →
     (foreign : Bool) × Run old (Put job.step foreign (Err back) ∷ GiveBack (record { step = job.step; made = true }) ∷ []) new
@@ -52,7 +54,7 @@ back_runs old mid new job returned done result back made same puts is gives =
       (mid, (let P : JobStep → Type 0 = λ d. IsPut old d put.0 (Err back) mid in subst P made put.1), (new, (let P : JobState → Type 0 = λ b. IsGivenBack mid b new in subst P e gives), refl)),
     )
 
--- a step that found none
+-- a step that ran out of memory
 pub given_runs : (old new : ServiceState) (job back : JobState) → back ≡ job → IsGivenBack old back new → Run old (GiveBack job ∷ []) new
 given_runs old new job back same gives = (new, (let P : JobState → Type 0 = λ b. IsGivenBack old b new in subst P same gives), refl)
 
@@ -68,7 +70,7 @@ taken id job more Unfit s = (job, more, s, refl)
 pub take_happens : (old new : ServiceState) (id : ℕ) (result : Option JobState) (job : JobState) → result ≡ Some job → IsTaken old id result new → IsTaken old id (Some job) new
 take_happens old new id result job same is = let P : Option JobState → Type 0 = λ j. IsTaken old id j new in subst P same is
 
--- steps that were recorded so far
+-- the steps that were recorded so far
 abbrev pub Made : ℕ → ServiceState → ServiceState → Type 0
 Made id old new = (made : List MadeStep) × All (λ (m : MadeStep). MakesStep id m.0 (Recorded m.1)) made × Run old (flat_map (λ (m : MadeStep). m.0) made) new
 
@@ -84,14 +86,14 @@ made_more id old mid new calls outcome reply so_far is makes runs =
       (let P : List Call → Type 0 = λ cs. Run old cs new in subst P (sym flat) (Run-append old (flat_map (λ (m : MadeStep). m.0) so_far.0) mid calls new so_far.2 runs)),
     )
 
--- and one that was not
+-- and a last one that wasn't recorded
 pub made_ends : (id : ℕ) (old mid new : ServiceState) (calls : List Call) (outcome : StepOutcome) → Made id old mid → MakesStep id calls outcome → EndsSteps outcome → Run mid calls new →
     (all : List Call) × Waits id all outcome × Run old all new
 made_ends id old mid new calls outcome so_far makes ends runs =
     let flat = flat_map (λ (m : MadeStep). m.0) so_far.0 in
     (flat ++ calls, (so_far.0, calls, so_far.1, makes, ends, refl), Run-append old flat mid calls new so_far.2 runs)
 
--- none that was recorded
+-- a step that wasn't recorded
 pub ends_unrecorded : (outcome : StepOutcome) → ((reply : StepReply) → outcome ≡ Recorded reply → ⊥) → EndsSteps outcome
 ends_unrecorded (Recorded reply) not = not reply refl
 ends_unrecorded Full not = tt
@@ -100,10 +102,9 @@ ends_unrecorded NoMemory not = tt
 ends_unrecorded Nothing not = tt
 ends_unrecorded Unfit not = tt
 
--- what a wait is answered
-pub wait_asks : (old mid new : ServiceState) (id : ℕ) (line : SessionLine) (last : StepOutcome) (steps more : List Call) (answer : Answer) → line ≡ Wait → Waits id steps last → Run old steps mid →
-    EndsWait id last more answer → Run mid more new → IsAnswer old id line answer new
-wait_asks old mid new id line last steps more answer is waits first ends next = rw is (steps ++ more, (last, steps, more, waits, ends, refl), Run-append old steps mid more new first next)
+pub wait_asks : (graph : Basis) (old mid new : ServiceState) (id : ℕ) (line : SessionLine) (last : StepOutcome) (steps more : List Call) (answer : Answer) → line ≡ Wait → Waits id steps last → Run old steps mid →
+    EndsWait id last more answer → Run mid more new → (graph ≡ own_graph old.device → LeavesNone id Wait (steps ++ more) answer new) → IsAnswer graph old id line answer new
+wait_asks graph old mid new id line last steps more answer is waits first ends next leaves = rw is (steps ++ more, (last, steps, more, waits, ends, refl), Run-append old steps mid more new first next, leaves)
 
 pub ends_as_status : (id : ℕ) (last : StepOutcome) (calls : List Call) (answer : Answer) → (last ≡ NoMemory → ⊥) → AsksCommand id Status calls answer → EndsWait id last calls answer
 ends_as_status id (Recorded reply) calls answer not asks = asks

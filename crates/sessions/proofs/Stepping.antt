@@ -1,4 +1,4 @@
--- The calls by which steps are made, and that they change no strip's width.
+-- The calls that make steps change no strip's width.
 use Rattle.std.proofs.Common.{◌≡◌, ◌∙◌, ℕ, List, [], ◌∷◌, ◌++◌, true, false, eqb, Option, Some, None, Ok, Err, inl, inr, suc, refl, sym, ap, arith}
 use Rattle.std.specs.Prelude.{All, ⊤, option_map, if◌then◌else◌}
 use Rattle.std.specs.List.{flat_map}
@@ -14,7 +14,7 @@ use Rattle.sessions.specs.declared.steps.StepOutcome.{StepOutcome}
 use Rattle.sessions.specs.declared.steps.StepOutcome.TheVariants.{Recorded, Full, Gone, NoMemory as StepNoMemory, Nothing, Unfit}
 use Rattle.sessions.specs.Steps.{MadeStep, MakesStep, StepsAndPuts, Waits}
 
--- a call that steps are made by
+-- a call that makes steps
 abbrev pub IsStepping : Call → Type 0
 IsStepping (Take t answer) = ⊤
 IsStepping (Put done foreign answer) = ⊤
@@ -25,7 +25,7 @@ abbrev pub AreStepping : List Call → Type 0
 AreStepping [] = ⊤
 AreStepping (call ∷ calls) = IsStepping call × AreStepping calls
 
--- the making of a step is such calls, and so are the steps of a wait
+-- a step is made by such calls, and so are the steps of a wait
 to_stepping : (calls these : List Call) → calls ≡ these → AreStepping these → AreStepping calls
 to_stepping calls these is are = rw is are
 
@@ -67,7 +67,7 @@ width_in o = option_map (λ h. h.strip.width) (if_live o)
 width_some : (g : History) → width_in (Some g) ≡ (if g.live then Some g.strip.width else None)
 width_some g = elim g.live as (λ b. option_map (λ (h : History). h.strip.width) (if b then Some g else None) ≡ (if b then Some g.strip.width else None)) [ true ↦ refl | false ↦ refl ]
 
--- a change that keeps a tenancy's width, and that it is live
+-- a change that keeps a tenancy's width and keeps it live
 abbrev pub KeepsWidth : (History → History) → Type 0
 KeepsWidth change = (h : History) → ((change h).live ≡ h.live) × ((change h).strip ≡ h.strip)
 

@@ -1,4 +1,4 @@
--- Where the steps of a wait end.
+-- When the steps of a wait end.
 use Rattle.std.proofs.Common.{◌≡◌, ◌∙◌, ℕ, ◌+◌, List, [], ◌∷◌, ◌++◌, Bool, true, false, Option, Some, None, Ok, Err, Result, inl, inr, refl, sym, ap, subst, arith}
 use Rattle.std.specs.Prelude.{◌⊎◌, ◌&&◌, IfSome, is_some, nat_lt, if◌then◌else◌}
 use Rattle.std.proofs.lemmas.Bool.Decides.{nat_tests}
@@ -24,15 +24,18 @@ use Rattle.service_core.specs.Calls.{IsServed, IsTaken, takeable_in}
 use Rattle.service_core.specs.History.{History, slot_of, state_of, with_entry, with_here}
 use Rattle.service_core.specs.Receipt.{Receipted}
 use Rattle.service_core.specs.Run.{Call, Run, IsReceipt}
-use Rattle.service_core.specs.Run.Call.{Take, Put}
+use Rattle.service_core.specs.Run.Call.{Tenant, Take, Put}
 use Rattle.service_core.specs.Service.{ServiceState, live_of}
 use Rattle.service_core.proofs.Histories.{state_after-push}
 use Rattle.sessions.specs.declared.told.Answer.TheVariants.{Served}
 use Rattle.sessions.specs.declared.steps.StepOutcome.{StepOutcome}
 use Rattle.sessions.specs.declared.steps.StepOutcome.TheVariants.{Recorded, Full, Gone, NoMemory, Nothing, Unfit}
+use Rattle.sessions.specs.declared.line.SessionLine.TheVariants.{Wait}
+use Rattle.sessions.specs.SessionAnswer.{LeavesNone}
 use Rattle.sessions.specs.Steps.{EndsSteps, IsOnePut, MadeStep, MakesStep, Waits}
 use Rattle.sessions.proofs.Counted.{live_of-changed, some_and}
 use Rattle.sessions.proofs.EndToEndLemmas.{split}
+use Rattle.sessions.proofs.GivenBack.{none_back-append, wait_none_back}
 
 abbrev NothingLeft : ServiceState → ℕ → Type 0
 NothingLeft state id = takeable_in (live_of state.histories id) ≡ false
@@ -44,7 +47,7 @@ and_false false = refl
 same_left : (old new : ServiceState) (id : ℕ) → new ≡ old → NothingLeft old id → NothingLeft new id
 same_left old new id same left = let P : ServiceState → Type 0 = λ s. NothingLeft s id in subst P (sym same) left
 
--- while the step is out there is none to take
+-- while the step is out there is no step to take
 taken_left : (old new : ServiceState) (id : ℕ) (job : JobState) → IsTaken old id (Some job) new → NothingLeft new id
 taken_left old new id job takes =
     let was = some_and (λ h. (h.id ≡ id) × (is_takeable (slot_of h) ≡ true) × (next_job (slot_of h) ≡ Some job.step) × (h.here ≡ Some job.made)) (live_of old.histories id) takes.0 in
@@ -58,7 +61,7 @@ put_left old new id job calls more answer stays put is runs =
     let run : Run old (Take id (Some job) ∷ Put job.step put.0 answer ∷ []) new = (let P : List Call → Type 0 = λ cs. Run old cs new in subst P all runs) in
     same_left run.0 new id (stays put.0 run.0 new run.2) (taken_left old run.0 id job run.1)
 
--- no step to take is none that is takeable
+-- without a step to take nothing is takeable
 none_left : (o : Option History) → IfSome o (λ h. is_takeable (slot_of h) ≡ false) → takeable_in o ≡ false
 none_left None none = refl
 none_left (Some h) none = none
@@ -82,7 +85,7 @@ wait_left old new id steps last waits runs =
     let parts = split old (flat_map (λ (m : MadeStep). m.0) waits.0) waits.1 new whole in
     step_left parts.0 new id waits.1 last waits.3 waits.4 parts.2
 
--- `status` changes no more than the number of entries
+-- `status` changes at most the number of entries
 either_none : (b : Bool) (one other : Option State × Reply) → one.0 ≡ None → other.0 ≡ None → (if b then one else other).0 ≡ None
 either_none true one other is else_is = is
 either_none false one other is else_is = else_is
@@ -123,11 +126,16 @@ status_left old new id (Ok r) is left = inr (by_live (live_of old.histories id) 
         let there : live_of new.histories id ≡ Some (with_entry e h) = ap (λ (s : ServiceState). live_of s.histories id) is.1 ∙ live_of-changed old.histories id (with_entry e) h (λ g. refl) live in
         ap takeable_in there ∙ status_left_of h r.reply receipt.3 left
 
--- a wait that ended with neither, and the status behind it
+-- a wait whose last step neither ran out of memory nor had a job that doesn't fit the graph, and
+-- the status after it
 pub wait_leaves : (old mid new : ServiceState) (id : ℕ) (steps : List Call) (last : StepOutcome) (served : Result Receipted NotServed) → Waits id steps last → Run old steps mid →
-    (last ≡ NoMemory → ⊥) → (last ≡ Unfit → ⊥) → IsServed mid id Status served new → (Served served ≡ Served (Err NotServedNoMemory)) ⊎ (takeable_in (live_of new.histories id) ≡ false)
-wait_leaves old mid new id steps last served waits runs memory fits is = status_left mid new id served is (ended (wait_left old mid id steps last waits runs))
+    (last ≡ NoMemory → ⊥) → (last ≡ Unfit → ⊥) → IsServed mid id Status served new → LeavesNone id Wait (steps ++ Tenant id Status served ∷ []) (Served served) new
+wait_leaves old mid new id steps last served waits runs memory fits is = with_steps (status_left mid new id served is (ended (wait_left old mid id steps last waits runs)))
   where
+    with_steps : (Served served ≡ Served (Err NotServedNoMemory)) ⊎ NothingLeft new id → LeavesNone id Wait (steps ++ Tenant id Status served ∷ []) (Served served) new
+    with_steps (inl none) = inl none
+    with_steps (inr left) = inr (none_back-append steps (Tenant id Status served ∷ []) (wait_none_back id steps last memory fits waits) tt, left)
+
     ended : (last ≡ NoMemory) ⊎ ((last ≡ Unfit) ⊎ NothingLeft mid id) → NothingLeft mid id
     ended (inl none) = absurd (memory none)
     ended (inr (inl unfit)) = absurd (fits unfit)

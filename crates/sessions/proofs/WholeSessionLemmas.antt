@@ -1,4 +1,4 @@
--- What a whole session is told is what the service for a single user replies.
+-- A whole session is answered what the service for a single user replies.
 use Rattle.std.proofs.Common.{◌≡◌, ◌≢◌, ◌∙◌, ℕ, ◌+◌, List, [], ◌∷◌, ◌++◌, length, map, Bool, true, false, eqb, Option, Some, None, Result, Ok, Err, refl, sym, ap, subst, append_assoc, append-nil, arith}
 use Rattle.std.specs.Prelude.{⊤, option_map, if◌then◌else◌}
 use Rattle.std.proofs.lemmas.Bool.Decides.{nat_tests, Decides-eqb}
@@ -43,7 +43,7 @@ use Rattle.sessions.proofs.EndToEndLemmas.{journal_told, receipt_told, split}
 use Rattle.sessions.proofs.StepLemmas.{Run-append}
 use Rattle.sessions.proofs.Stepping.{AreStepping, IsStepping, KeepsWidth, same_width, wait_stepping, width_in}
 
--- first these calls, then those
+-- the events of some calls, and then of more
 pub own_events-append : (id : ℕ) (xs ys : List Call) → own_events id (xs ++ ys) ≡ own_events id xs ++ own_events id ys
 own_events-append id xs ys =
     ap (map (λ (e : Event × Option Reply). e.0)) (flat_map-append (own_exchange id) xs ys)
@@ -54,7 +54,6 @@ alone_after-append device width id before calls =
     ap (state_after (start device.arch (strip_on device width))) (own_events-append id before calls)
     ∙ state_after-append (start device.arch (strip_on device width)) (own_events id before) (own_events id calls)
 
--- events that are steps
 abbrev AreSteps : List Event → Type 0
 AreSteps [] = ⊤
 AreSteps (Asked command ∷ events) = ⊥
@@ -74,7 +73,7 @@ other_asked t id command reply differ = elim (eqb t id) as (λ b. eqb t id ≡ b
   | false ↦ λ e. tt
 ] refl
 
--- a call that others make is no command of this tenancy
+-- a call that others make asks no command of this tenancy
 others_steps : (id : ℕ) (call : Call) → IsOthers id call → AreSteps (map (λ (e : Event × Option Reply). e.0) (own_exchange id call))
 others_steps id (Tenant t command (Ok receipt)) is = other_asked t id command (Some receipt.reply) is
 others_steps id (Tenant t command (Err (JournalFull note))) is = other_asked t id command None is
@@ -120,7 +119,7 @@ stepping_others id (call ∷ calls) are = (one call are.0, stepping_others id ca
 wait_others : (id : ℕ) (calls : List Call) (last : StepOutcome) → Waits id calls last → AreOthers id calls
 wait_others id calls last is = stepping_others id calls (wait_stepping id calls last is)
 
--- a tenancy that is live stays so, with its width, where it isn't evicted
+-- a live tenancy stays live and keeps its width unless it is evicted
 width_changed : (hs : List History) (t id width : ℕ) (change : History → History) → KeepsWidth change → live_width hs id ≡ Some width → live_width (modified hs t change) id ≡ Some width
 width_changed hs t id width change keeps was =
     let P : Option History → Type 0 = λ o. width_in o ≡ Some width in
@@ -143,7 +142,7 @@ width_pushed hs h id width was = by_id (eqb id (length hs + 1)) refl
     by_id true e = let none : history_of hs id ≡ None = history_of-past hs id (grind (arith, nat_tests)) in let never : None ≡ Some width = sym (ap width_in none) ∙ was in cc
     by_id false e = let same : history_of (hs ++ h ∷ []) id ≡ history_of hs id = rw e at (history_of-push hs h id) in ap width_in same ∙ was
 
--- a call that doesn't evict it
+-- a call that doesn't evict the tenancy
 abbrev Spares : ℕ → Call → Type 0
 Spares id (Evict t answer) = t ≢ id
 Spares id call = ⊤
@@ -202,7 +201,8 @@ run_stays : (id width : ℕ) (old : ServiceState) (calls : List Call) (new : Ser
 run_stays id width old [] new are run was = unchanged id width old new run was
 run_stays id width old (call ∷ calls) new are run was = run_stays id width run.0 calls new are.1 run.2 (call_stays id width old call run.0 are.0 run.1 was)
 
--- what the service for a single user tells of what it hears, and the state that it is left in, whatever it hears then
+-- from this state the service for a single user writes this text for what it hears, and is then in
+-- that state, whatever it hears later
 abbrev Tells : State → List Heard → List ℕ → State → Type 0
 Tells old hs text new = (rest : List Heard) → session_text (hs ++ rest) (replies_to old (events_in (hs ++ rest))) ≡ text ++ session_text rest (replies_to new (events_in rest))
 
@@ -257,7 +257,7 @@ wait_ends device before calls old new id width StepNoMemory answer runs stays en
 wait_ends device before calls old new id width Nothing answer runs stays ends next = asked_ends device before calls old new id width Status answer runs stays ends next
 wait_ends device before calls old new id width Unfit answer runs stays ends next = asked_ends device before calls old new id width Status answer runs stays ends next
 
--- steps of others, and then an end
+-- steps of others, and then an answer
 steps_then : (device : Device) (width id : ℕ) (before steps more : List Call) (answer : Answer) → AreOthers id steps → Ends device width id (before ++ steps) more answer → Ends device width id before (steps ++ more) answer
 steps_then device width id before steps more answer are ends =
     let s = alone_after device width id before in
@@ -285,7 +285,7 @@ end_spares id StepNoMemory calls answer ends = rw ends.0 tt
 end_spares id Nothing calls answer ends = rw ends.1 (tt, tt)
 end_spares id Unfit calls answer ends = rw ends.1 (tt, tt)
 
--- an item
+-- an item leads to its answer
 item_ends : (device : Device) (before calls : List Call) (old new : ServiceState) (id width : ℕ) (line : SessionLine) (answer : Answer) → Run (empty device) before old → Stays id width old → Asks id line calls answer → Run old calls new →
     Ends device width id before calls answer × AreSparing id calls
 item_ends device before calls old new id width Blank answer runs stays asks next = (rw (asks.0, asks.1) (λ rest. refl), rw asks.0 tt)
@@ -303,7 +303,7 @@ item_ends device before calls old new id width Wait answer runs stays asks next 
     let Q : List Call → Type 0 = λ cs. AreSparing id cs in
     (subst P (sym asks.5) (steps_then device width id before steps more answer others ends), subst Q (sym asks.5) (AreSparing-append id steps more (others_spare id steps others) (end_spares id asks.0 more answer asks.4)))
 
--- all turns
+-- all turns of a session are answered what the service for a single user replies
 pub turns_told : (device : Device) (before : List Call) (old new : ServiceState) (id width : ℕ) (turns : List Turn) → Run (empty device) before old → live_width old.histories id ≡ Some width → Turns id old turns new →
     written turns ≡ session_text (heard id turns) (replies_to (alone_after device width id before) (events_in (heard id turns)))
 turns_told device before old new id width [] runs stays turns = refl
@@ -323,7 +323,7 @@ turns_told device before old new id width (Meanwhile call ∷ rest) runs stays t
     let tells = tells_steps s (own_events id calls) (all_steps id calls others) in
     more ∙ ap (λ m. session_text (heard id rest) (replies_to m (events_in (heard id rest)))) after ∙ sym (tells (heard id rest))
 
--- in a core with that tenancy alone, from its admission on
+-- a core with that tenancy alone, from its admission on
 pub one_tenancy : (device : Device) (width offset : ℕ) (old new : ServiceState) (turns : List Turn) → Run (empty device) (Admit width (Ok (1, offset)) ∷ []) old → Turns 1 old turns new →
     written turns ≡ session_text (heard 1 turns) (replies_to (start device.arch (strip_on device width)) (events_in (heard 1 turns)))
 one_tenancy device width offset old new turns runs told =

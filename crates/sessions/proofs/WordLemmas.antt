@@ -1,13 +1,13 @@
--- The first word of a line, taken off.
+-- The first word of a line is taken off.
 use Rattle.std.proofs.Common.{◌≡◌, ℕ, suc, ◌+◌, ◌<◌, true, false, not, cond, List, [], ◌∷◌, length, take, drop, filter, refl, sym, ap, ◌∙◌, arith}
 use Rattle.std.specs.List.{slice_split, onto_first, before_first, position_or_len}
 use Rattle.line_text.specs.Words.{is_blank, is_filled, words_of}
 
--- the place of the first byte that is no blank
+-- the index of the first byte that isn't blank
 abbrev word_start : List ℕ → ℕ
 word_start bytes = position_or_len (λ b. not (is_blank b)) bytes
 
--- the place of the first blank
+-- the index of the first blank
 abbrev word_end : List ℕ → ℕ
 word_end bytes = position_or_len is_blank bytes
 
@@ -17,7 +17,7 @@ take_next n x xs = let e : 1 + n ≡ suc n = omega arith in ap (λ m. take m (x 
 drop_next : {X : Type 0} (n : ℕ) (x : X) (xs : List X) → drop (1 + n) (x ∷ xs) ≡ drop n xs
 drop_next n x xs = let e : 1 + n ≡ suc n = omega arith in ap (λ m. drop m (x ∷ xs)) e
 
--- blanks before the first word part nothing
+-- blanks before the first word separate nothing
 words_of-skipped : (bytes : List ℕ) → words_of (drop (word_start bytes) bytes) ≡ words_of bytes
 words_of-skipped [] = refl
 words_of-skipped (x ∷ xs) =
@@ -78,7 +78,7 @@ pub no_word : (line rest : List ℕ) → rest ≡ drop (word_start line) line �
 no_word line [] is none = sym (ap words_of is ∙ words_of-skipped line)
 no_word line (b ∷ rest) is none = absurd (omega arith)
 
--- the first word, and the others behind it
+-- the first word, and the others after it
 pub a_word : (line rest word others : List ℕ) → rest ≡ drop (word_start line) line → 0 < length rest → word ≡ before_first is_blank rest → others ≡ drop (word_end rest) rest → words_of line ≡ word ∷ words_of others
 a_word line rest word others is some first behind =
     let start : word_start rest ≡ 0 = ap word_start is ∙ word_start-skipped line in

@@ -1,4 +1,4 @@
--- What a session is told, by the service for a single user.
+-- The answers to a session, by the service for a single user.
 use Rattle.std.specs.Prelude.{ℕ, ◌≡◌, ◌-◌, ◌⊎◌, List, [], ◌++◌, length, take, Option, Some, None, Err}
 use Rattle.std.specs.Option.{option_map_or}
 use Rattle.tenant_slot.specs.declared.command.Command.{Command as TenantCommand}
@@ -18,21 +18,22 @@ use Rattle.sessions.specs.declared.told.Answer.{Answer}
 use Rattle.sessions.specs.declared.told.Answer.TheVariants.{Served}
 use Rattle.sessions.specs.SessionText.{answer_text, journal_full_text, reply_text, session_refusal_text}
 
--- that service's reply as it is told; it has none where the journal is full
+-- that service's reply as the session's text; it has no reply if the journal is full
 abbrev pub told_text : Option Reply → List ℕ
 told_text reply = option_map_or reply_text reply journal_full_text
 
--- what it tells for a command in the state that a tenancy's own events of those calls lead to alone, on a device of its strip's size;
--- without a width the tenancy isn't live
+-- its text for a command in the state to which a tenancy's own events of those calls lead alone, on
+-- a device of its strip's size; without a width the tenancy isn't live
 abbrev pub alone_text : Device → Option ℕ → ℕ → List Call → TenantCommand → List ℕ
 alone_text device (Some width) id calls command = told_text (step (state_after (start device.arch (strip_on device width)) (own_events id calls)) (Asked command)).1
 alone_text device None id calls command = session_refusal_text Evicted
 
--- a command is told so in that state of the core, unless memory lacked
+-- unless memory ran out, that is the answer to the command in that state of the core
 abbrev pub IsToldAlone : Device → ServiceState → ℕ → List Call → TenantCommand → Answer → Type 0
 IsToldAlone device state id calls command answer = (answer ≡ Served (Err NoMemory)) ⊎ (answer_text answer ≡ alone_text device (live_width state.histories id) id calls command)
 
--- and so is a line that makes those calls, after those before; a wait as a status behind its steps, which are all of its calls but the last
+-- and the answer to a line that makes those calls, after the calls before; a wait is answered like
+-- a status after its steps, which are all of its calls except the last
 abbrev pub LineIsToldAlone : Device → ServiceState → ℕ → List Call → List Call → SessionLine → Answer → Type 0
 LineIsToldAlone device state id before calls Blank answer = answer_text answer ≡ []
 LineIsToldAlone device state id before calls (Refused refusal) answer = answer_text answer ≡ session_refusal_text refusal

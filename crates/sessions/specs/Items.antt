@@ -1,4 +1,5 @@
--- The items of a session's input: what its lines ask, in order. A command that has a text is one item with it.
+-- The items of a session's input: what its lines ask, in order. A command with a text is one item
+-- together with it.
 use Rattle.std.specs.Prelude.{ℕ, ◌-◌, List, [], ◌∷◌, ◌++◌, length, take, Bool, true, false, Option, Some, None, option_map, slice_index, ◌==◌, if◌then◌else◌}
 use Rattle.line_text.specs.Lines.{physical_lines}
 use Rattle.sessions.specs.declared.line.SessionLine.{SessionLine}
@@ -21,16 +22,18 @@ is_point line = false
 abbrev pub ends_text : List ℕ → Bool
 ends_text line = is_point (without_cr line)
 
--- the text up to a line that is `.` alone, each of its lines ended by LF, the CR before it dropped; None without such a line
+-- the text up to a line that is `.` alone, each of its lines ended by LF, the CR before it dropped;
+-- None without such a line
 abbrev pub text_ahead : List (List ℕ) → Option (List ℕ)
 text_ahead [] = None
 text_ahead (line ∷ lines) = if ends_text line then Some [] else option_map (λ text. without_cr line ++ 10 ∷ text) (text_ahead lines)
 
--- so much of a text is kept
+-- the part of a text that is kept: its first 1,048,577 bytes
 unfoldable pub kept : List ℕ → List ℕ
 kept text = take 1048577 text
 
--- the command with its text, of which the first 1,048,577 bytes are kept, or the refusal of one that doesn't end
+-- the command with its text, of which the first 1,048,577 bytes are kept; a text that doesn't end
+-- is refused
 abbrev pub text_item : TextKind → Option (List ℕ) → SessionLine
 text_item kind (Some text) = Command (text_command kind (kept text))
 text_item kind None = Refused UnfinishedUpload
@@ -40,7 +43,7 @@ abbrev pub with_item : SessionLine → List SessionLine → List SessionLine
 with_item Blank items = items
 with_item item items = item ∷ items
 
--- what a line makes of the items behind it
+-- the items of a line of that form and of the lines after it
 abbrev pub with_form : LineForm → List (List ℕ) → List SessionLine → List SessionLine
 with_form (Asks item) lines items = with_item item items
 with_form (Begins kind) lines items = text_item kind (text_ahead lines) ∷ items
@@ -49,7 +52,7 @@ abbrev pub begins_text : LineForm → Bool
 begins_text (Begins kind) = true
 begins_text (Asks item) = false
 
--- the items of these lines; the lines of a text are none of the session's
+-- the items of these lines; the lines of a text are not items themselves
 abbrev pub items_from : Bool → List (List ℕ) → List SessionLine
 items_from within [] = []
 items_from true (line ∷ lines) = if ends_text line then items_from false lines else items_from true lines

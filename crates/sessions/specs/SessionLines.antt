@@ -23,7 +23,7 @@ abbrev pub place_line : List (List ℕ) → SessionLine
 place_line (seed ∷ effort ∷ []) = placing (decimal_of 64 seed) (decimal_of 32 effort)
 place_line words = Refused BadNumber
 
--- a line that is one word
+-- a line of one word
 abbrev pub verb_form : List ℕ → LineForm
 verb_form verb =
     if bytes_eq verb (codes "upload") then Begins Upload else
@@ -39,7 +39,7 @@ verb_form verb =
     if bytes_eq verb (codes "wait") then Asks Wait else
     Asks (Refused UnknownCommand)
 
--- a word that stands alone
+-- a word that must be the only one of its line
 abbrev pub alone_form : List ℕ → List (List ℕ) → LineForm
 alone_form verb [] = verb_form verb
 alone_form verb words = Asks (Refused UnknownCommand)
@@ -48,12 +48,12 @@ alone_form verb words = Asks (Refused UnknownCommand)
 abbrev pub filled_form : List ℕ → List (List ℕ) → LineForm
 filled_form verb words = if bytes_eq verb (codes "place") then Asks (place_line words) else alone_form verb words
 
--- the words of a line of that length
+-- the words of a line, which has that length
 abbrev pub words_form : ℕ → List (List ℕ) → LineForm
 words_form length [] = Asks Blank
 words_form length (verb ∷ words) = if nat_lt 4096 length then Asks (Refused UnknownCommand) else filled_form verb words
 
--- a line without its end
+-- what a line without its end asks
 abbrev pub line_form : List ℕ → LineForm
 line_form line = words_form (length line) (words_of line)
 

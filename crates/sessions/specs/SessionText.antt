@@ -1,4 +1,4 @@
--- The texts that a session is answered with.
+-- The texts of a session's answers.
 use Rattle.std.specs.Prelude.{ℕ, List, [], ◌∷◌, ◌++◌, length, codes, decimal, Option, Some, None, Ok, Err}
 use Rattle.std.specs.Option.{option_map_or}
 use Rattle.blif.specs.Faults.{net_of, number_of}
@@ -23,8 +23,8 @@ use Rattle.sessions.specs.declared.refusal.SessionRefusal.TheVariants.{UnknownCo
 abbrev pub blank_word : List ℕ → List ℕ
 blank_word word = 32 ∷ word
 
--- what follows a refusal's name: of a netlist's fault its number, its line, and the net that it names; of what a strip has too little,
--- how much of it there is, and how much is needed
+-- what follows a refusal's name. For a netlist's fault: its number, its line, and the net that it
+-- names. If a strip has too little of something: how much of it there is, and how much is needed
 abbrev pub cause_text : Refusal → List ℕ
 cause_text (WrongState state) = blank_word (state_text state)
 cause_text (BadBlif fault) = blank_word (decimal (number_of fault.kind)) ++ blank_word (decimal fault.line) ++ option_map_or blank_word (net_of fault.kind) []
@@ -49,7 +49,7 @@ ending_text None = []
 ending_text (Some GaveUp) = blank_word (codes "gaveup")
 ending_text (Some (NoPath net)) = blank_word (codes "nopath") ++ blank_word net
 
--- a reply as a line; a refusal tells its cause, and a file follows its line as it is
+-- a reply as a line; a refusal's line ends with its cause, and a file follows its line unchanged
 abbrev pub reply_text : Reply → List ℕ
 reply_text (Accepted state) = codes "ok" ++ blank_word (state_text state) ++ 10 ∷ []
 reply_text (InState status) = codes "status" ++ blank_word (state_text status.state) ++ blank_word (decimal status.steps) ++ ending_text status.ending ++ 10 ∷ []
@@ -64,7 +64,7 @@ session_refusal_text BadNumber = numbered_line (codes "line") 2 (codes "BadNumbe
 session_refusal_text UnfinishedUpload = numbered_line (codes "line") 3 (codes "UnfinishedUpload") []
 session_refusal_text Evicted = numbered_line (codes "line") 4 (codes "Evicted") []
 
--- no memory, and a full journal, as lines
+-- the lines for a command that ran out of memory, and for a full journal
 abbrev pub no_memory_text : List ℕ
 no_memory_text = numbered_line (codes "refused") 1 (codes "NoMemory") []
 
@@ -77,7 +77,7 @@ unserved_text NoMemory = no_memory_text
 unserved_text (JournalFull note) = journal_full_text
 unserved_text (NoSuchTenancy note) = session_refusal_text Evicted
 
--- what a session is told
+-- the text of an answer, which is empty if the line asks nothing
 abbrev pub answer_text : Answer → List ℕ
 answer_text Nothing = []
 answer_text (Served (Ok receipt)) = reply_text receipt.reply

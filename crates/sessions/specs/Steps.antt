@@ -1,4 +1,4 @@
--- What the making of a step asks of the core.
+-- The calls of the core that make a step.
 use Rattle.std.specs.Prelude.{ℕ, ◌≡◌, ◌⊎◌, ⊤, List, [], ◌∷◌, ◌++◌, All, Bool, true, Some, None, Result, Ok, Err}
 use Rattle.std.specs.declared.alloc.AllocError.{AllocError}
 use Rattle.std.specs.List.{flat_map}
@@ -12,12 +12,13 @@ use Rattle.service_core.specs.Run.Call.{Take, Put, GiveBack}
 use Rattle.sessions.specs.declared.steps.StepOutcome.{StepOutcome}
 use Rattle.sessions.specs.declared.steps.StepOutcome.TheVariants.{Recorded, Full, Gone, NoMemory, Nothing, Unfit}
 
--- the job's step is put, and answered so; the flag of its event isn't told
+-- the job's step is put, and answered so, whatever the flag of its event
 abbrev pub IsOnePut : JobState → List Call → Result PutReply (JobStep × AllocError) → Type 0
 IsOnePut job calls answer = (foreign : Bool) × (calls ≡ Put job.step foreign answer ∷ [])
 
--- the calls of the core that a job is stepped and put by, and what comes of it: without memory it is given back, unstepped, or with
--- its step made; and unstepped where the graph isn't that of its device
+-- the calls of the core that step and put a job, and the outcome. If memory runs out the job is
+-- given back, unstepped or with its step made; if the graph isn't that of its device it is given
+-- back unstepped
 abbrev pub StepsAndPuts : JobState → List Call → StepOutcome → Type 0
 StepsAndPuts job calls (Recorded reply) = IsOnePut job calls (Ok (PutRecorded reply))
 StepsAndPuts job calls Full = IsOnePut job calls (Ok PutFull)
@@ -28,12 +29,12 @@ StepsAndPuts job calls NoMemory =
 StepsAndPuts job calls Nothing = ⊥
 StepsAndPuts job calls Unfit = calls ≡ GiveBack job ∷ []
 
--- the same with the take before it
+-- those calls after the call that takes the job
 abbrev pub MakesStep : ℕ → List Call → StepOutcome → Type 0
 MakesStep id calls Nothing = calls ≡ Take id None ∷ []
 MakesStep id calls outcome = (job : JobState) × (more : List Call) × StepsAndPuts job more outcome × (calls ≡ Take id (Some job) ∷ more)
 
--- the steps that were recorded end there
+-- a step with this outcome ends a row of recorded steps
 abbrev pub EndsSteps : StepOutcome → Type 0
 EndsSteps (Recorded reply) = ⊥
 EndsSteps outcome = ⊤

@@ -17,13 +17,13 @@ use Rattle.sessions.specs.EndToEnd.{told_text}
 use Rattle.sessions.specs.SessionAnswer.{Asks}
 use Rattle.sessions.specs.SessionText.{answer_text, no_memory_text, session_refusal_text}
 
--- what happens while a session goes on: an item of it, with the calls of the core that it makes and its answer; or a call that
--- is made by another hand
+-- what happens during a session: an item of it, with the calls of the core that it makes and its
+-- answer; or a call that others make
 pub data Turn : Type 0 where
   Item : SessionLine → List Call → Answer → Turn
   Meanwhile : Call → Turn
 
--- another hand may call what it likes but a command of this tenancy, and its eviction
+-- others may make any call except a command of this tenancy and its eviction
 abbrev pub IsOthers : ℕ → Call → Type 0
 IsOthers id (Tenant t command served) = t ≢ id
 IsOthers id (Evict t answer) = t ≢ id
@@ -43,14 +43,14 @@ turn_text (Meanwhile call) = []
 abbrev pub written : List Turn → List ℕ
 written turns = flat_map turn_text turns
 
--- what of a session the service for a single user sees: an event; or that there is none, since an item was refused by itself, or
--- found no memory
+-- what the service for a single user hears of a session: an event; or nothing, since an item was
+-- refused by itself or ran out of memory
 pub data Heard : Type 0 where
   Happened : Event → Heard
   Refused : SessionRefusal → Heard
   NoMemory : Heard
 
--- what an answer is that isn't the tenancy's
+-- an answer that isn't the tenancy's
 abbrev pub aside : Answer → List Heard
 aside (RefusedAnswer refusal) = Refused refusal ∷ []
 aside (Served (Err NotServedNoMemory)) = NoMemory ∷ []
@@ -70,7 +70,8 @@ events_in (Happened event ∷ more) = event ∷ events_in more
 events_in (Refused refusal ∷ more) = events_in more
 events_in (NoMemory ∷ more) = events_in more
 
--- the text of a session whose events get those replies: the reply to a command is told, that to a step isn't
+-- the text of a session whose events get those replies: the reply to a command is written, the
+-- reply to a step isn't
 abbrev pub session_text : List Heard → List (Option Reply) → List ℕ
 session_text [] replies = []
 session_text (Refused refusal ∷ more) replies = session_refusal_text refusal ++ session_text more replies

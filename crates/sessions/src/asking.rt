@@ -1,7 +1,5 @@
-ghost use Rattle.std.specs.Prelude.{◌≡◌};
 ghost use Rattle.line_text.specs.Writing.{Writes};
-ghost use Rattle.sessions.specs.Fitting.{own_graph};
-ghost use Rattle.sessions.specs.SessionAnswer.{IsAnswer, LeavesNone};
+ghost use Rattle.sessions.specs.SessionAnswer.{IsAnswer};
 ghost use Rattle.sessions.specs.SessionText.{answer_text};
 
 use crate::line::SessionLine;
@@ -12,9 +10,9 @@ use service_core::{NotServed, Service};
 use strips::DeviceGraph;
 use tenant_slot::Command;
 
-/// Asks the core what a session's line asks, for the tenancy of that id, and writes what the session is told. The answer
-/// stands also where the writer fails: it has then taken a beginning of the text. Over the device's own graph a wait leaves no step
-/// to take, unless memory lacks.
+/// Asks the core what a session's line asks, for the tenancy of that id, and writes the answer. If
+/// the writer fails, the answer is still returned, and the writer has taken a beginning of its
+/// text. On the device's own graph a wait leaves no step undone, unless memory runs out.
 pub fn answer<W: Sink>(
     core: &mut Service,
     graph: &DeviceGraph,
@@ -22,8 +20,7 @@ pub fn answer<W: Sink>(
     line: SessionLine,
     writer: &mut W,
 ) -> (Answer, Result<(), Failed>)
-    ensures answered { IsAnswer core.old id line result.0 core.new }
-    ensures own { graph.now ≡ own_graph core.old.device → LeavesNone id line result.0 core.new }
+    ensures answered { IsAnswer graph.now core.old id line result.0 core.new }
     ensures written { Writes W.contents W.has_failed writer.old writer.new (answer_text result.0)
         result.1 }
 {
@@ -32,10 +29,9 @@ pub fn answer<W: Sink>(
     (answer, written)
 }
 
-/// Asks the core.
+/// Asks the core what the line asks, for the tenancy of that id.
 fn ask(core: &mut Service, graph: &DeviceGraph, id: u32, line: SessionLine) -> Answer
-    ensures answered { IsAnswer core.old id line result core.new }
-    ensures own { graph.now ≡ own_graph core.old.device → LeavesNone id line result core.new }
+    ensures { IsAnswer graph.now core.old id line result core.new }
 {
     match line {
         SessionLine::Blank => Answer::Nothing,

@@ -6,7 +6,8 @@ use service_core::Device;
 use std::alloc::{AllocError, Global};
 use strips::DeviceGraph;
 
-/// The device's own graph, that its jobs are stepped on. To be made ahead of the core, which takes the device.
+/// The device's own graph, on which its jobs are stepped. To be made before the core, which takes
+/// the device.
 pub fn device_graph(alloc: Global, device: &Device) -> Result<DeviceGraph, AllocError>
     requires { IsDevice device.now }
     ensures { IfOk result (λ graph. graph ≡ own_graph device.now) }

@@ -15,9 +15,10 @@ ghost use Rattle.sessions.specs.SessionAnswer.{Asks};
 ghost use Rattle.sessions.specs.Steps.{Waits};
 ghost use Rattle.sessions.specs.WholeSession.{Turn, Turns, events_in, heard, session_text, written};
 
-/// A session, end to end. Whatever calls were made of the core of a device before, in any order, with jobs out for any
-/// time, a line is told the text of what the service for a single user replies after the tenancy's own events: a wait what that
-/// service replies to `status` after those and the steps that the wait has made.
+/// A session, end to end. Whatever calls were made of a device's core before, in any order, with
+/// jobs out for any time, a line is answered the text that the service for a single user replies
+/// after the tenancy's own events. A wait is answered what that service replies to `status` after
+/// those events and the steps that the wait has made.
 pub fn end_to_end()
     ensures { (device : Device) (before calls : List Call) (old new : ServiceState) (id : ℕ)
         (line : SessionLine) (answer : Answer) → Run (empty device) before old →
@@ -25,10 +26,11 @@ pub fn end_to_end()
         LineIsToldAlone device old id before calls line answer }
 {}
 
-/// A whole session, end to end. While it goes on, others may call the core as they like, but for the commands and the eviction
-/// of this tenancy: admit and evict, ask commands of other tenancies, and take, step, put and give back any job, this tenancy's too.
-/// The bytes that the session is written are one text: that of the replies that the service for a single user gives to the
-/// tenancy's events, in order. So in a core with one tenancy, from its admission on; and in any core, from any moment on.
+/// A whole session, end to end. While it goes on, others may make any calls of the core except the
+/// commands and the eviction of this tenancy: admit and evict, ask commands of other tenancies, and
+/// take, step, put and give back any job, this tenancy's too. The bytes that the session writes are
+/// one text: the replies of the service for a single user to the tenancy's events, in order. This
+/// holds in a core with one tenancy, from its admission on, and in any core, from any moment on.
 pub fn whole_session()
     ensures one { (device : Device) (width offset : ℕ) (old new : ServiceState)
         (turns : List Turn) → Run (empty device) (Admit width (Ok (1, offset)) ∷ []) old →
@@ -42,16 +44,17 @@ pub fn whole_session()
         (replies_to (alone_after device width id before) (events_in (heard id turns))) }
 {}
 
-/// Where the steps of a wait end, if memory didn't lack and the graph is that of the job's device: there is no step to take. So no
-/// job of the tenancy runs, its next step is out, the journal is full, or the tenancy isn't live.
+/// When the steps of a wait end. If memory didn't run out and the graph is that of the job's
+/// device, there is no step to take. So no job of the tenancy runs, its next step is out, the
+/// journal is full, or the tenancy isn't live.
 pub fn wait_ends()
     ensures { (old new : ServiceState) (id : ℕ) (steps : List Call) (last : StepOutcome) →
         Waits id steps last → Run old steps new → (last ≡ NoMemory)
         ⊎ ((last ≡ Unfit) ⊎ (takeable_in (live_of new.histories id) ≡ false)) }
 {}
 
-/// The device's own graph has a window for each job that the core gives out, where the strip of its tenancy stands then. Whatever
-/// calls were made of the core before.
+/// Whatever calls were made of the core before, the device's own graph has a window for each job
+/// that the core gives out, at the offset that the strip of its tenancy has then.
 pub fn fits_own_device()
     ensures { FitsOwnDevice }
 {}

@@ -9,16 +9,16 @@ use crate::refusal::SessionRefusal;
 use line_text::{decimal_u32, decimal_u64, skip_blanks, split_word};
 use tenant_slot::{Command, SharedText};
 
-/// So many bytes a session's line may have.
+/// The most bytes of a session's line.
 const MAX_LINE: usize = 4096;
 
-/// What a session's line asks. A command stands with its text.
+/// What a session's line asks. A command includes its text.
 #[derive(Drop)]
 pub enum SessionLine {
-    /// No words: it is answered nothing.
+    /// The line has no words, and is answered nothing.
     Blank,
     Command(Command),
-    /// The steps of the running job, and then what `status` does.
+    /// Makes the steps of the running job, and then does what `status` does.
     Wait,
     Refused(SessionRefusal),
 }
@@ -31,7 +31,7 @@ pub enum TextKind {
 }
 
 impl TextKind {
-    /// The command of that text.
+    /// The command of this kind with that text.
     pub fn command(self, text: SharedText) -> Command
         ensures { result ≡ text_command self text }
     {
@@ -42,11 +42,11 @@ impl TextKind {
     }
 }
 
-/// What a session's line is by itself.
+/// The form of a session's line by itself.
 #[derive(Drop)]
 pub enum LineForm {
     Asks(SessionLine),
-    /// The text follows.
+    /// The line begins a command whose text follows.
     Begins(TextKind),
 }
 
@@ -64,7 +64,7 @@ pub fn line_form(line: &[u8]) -> LineForm
     }
 }
 
-/// The first word of a line, and what stands behind it. None where there is no word.
+/// The first word of a line, and what follows it. None if there is no word.
 fn next_word(line: &[u8]) -> Option<(&[u8], &[u8])>
     ensures { MatchOption result (words_of line.now ≡ [])
         (λ parts. words_of line.now ≡ parts.0.now ∷ words_of parts.1.now) }
@@ -82,7 +82,7 @@ fn unknown() -> LineForm
     LineForm::Asks(SessionLine::Refused(SessionRefusal::UnknownCommand))
 }
 
-/// What a line's first word and those behind it ask.
+/// What a line asks, by its first word and those after it.
 fn filled_form(verb: &[u8], others: &[u8]) -> LineForm
     ensures { result ≡ filled_form verb.now (words_of others.now) }
 {
@@ -95,7 +95,7 @@ fn filled_form(verb: &[u8], others: &[u8]) -> LineForm
     }
 }
 
-/// What the words behind `place` ask.
+/// What a line asks, by the words after `place`.
 fn place_line(words: &[u8]) -> SessionLine
     ensures { result ≡ place_line (words_of words.now) }
 {
@@ -105,7 +105,7 @@ fn place_line(words: &[u8]) -> SessionLine
     }
 }
 
-/// The words, where they are two.
+/// The words, if there are two.
 fn two_words(words: &[u8]) -> Option<(&[u8], &[u8])>
     ensures { MatchOption result (length (words_of words.now) ≢ 2)
         (λ two. words_of words.now ≡ two.0.now ∷ two.1.now ∷ []) }
@@ -118,7 +118,6 @@ fn two_words(words: &[u8]) -> Option<(&[u8], &[u8])>
     }
 }
 
-/// A placing with that seed and effort.
 fn placing(seed: Option<u64>, effort: Option<u32>) -> SessionLine
     ensures { result ≡ placing seed effort }
 {

@@ -8,10 +8,11 @@ use std::alloc::{AllocError, Global};
 use std::marker::Model;
 use tenant_slot::SharedText;
 
-/// So many bytes of a text are kept, one more than a netlist may have.
+/// The number of bytes of a text that are kept, one more than a netlist may have.
 pub const MAX_KEPT: usize = 1_048_577;
 
-/// A text whose end isn't read yet. Its value is the command that it is for, and what of it is kept so far.
+/// A text whose end isn't read yet. Its value is its command, and the bytes of it that are kept so
+/// far.
 #[derive(Drop)]
 pub struct PendingText {
     kind: TextKind,
@@ -40,7 +41,7 @@ impl PendingText {
         }
     }
 
-    /// The text with one more line, without its end, as far as it is kept.
+    /// The text with one more line, without its end, up to the bytes that are kept.
     pub fn with_line(self, line: &[u8]) -> Result<Self, AllocError>
         ensures { IfOk result (λ text.
             text ≡ record { kind = self.kind; bytes = kept (self.bytes ++ line.now ++ 10 ∷ []) }) }
@@ -51,7 +52,7 @@ impl PendingText {
         Ok(PendingText { kind, bytes })
     }
 
-    /// The command of the text, which is whole.
+    /// The command with the text, which is whole.
     pub fn into_line(self, alloc: Global) -> Result<SessionLine, AllocError>
         ensures { IfOk result (λ line. line ≡ text_item self.kind (Some self.bytes)) }
     {
@@ -63,7 +64,7 @@ impl PendingText {
     }
 }
 
-/// Appends the bytes to a text, as far as they are kept.
+/// Appends the bytes to a text, up to the bytes that are kept.
 pub fn append_kept(text: &mut Vec<u8>, bytes: &[u8]) -> Result<(), AllocError>
     requires { vec_len text.old ≤ 1048577 }
     ensures items { OnOk result (text.new.items ≡ kept (text.old.items ++ bytes.now)) }

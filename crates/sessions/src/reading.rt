@@ -12,8 +12,8 @@ use line_text::split_line;
 use std::alloc::{AllocError, Global};
 use std::marker::Model;
 
-/// Reads a session's input line by line, each to the item that it gives, if one. Its value is the text that is being read, if
-/// one is.
+/// Reads a session's input line by line, and returns the item of a line, if it has one. Its value
+/// is the text that is being read, if there is one.
 #[derive(Drop)]
 pub struct SessionReader {
     alloc: Global,
@@ -30,15 +30,15 @@ impl Model for SessionReader {
 }
 
 impl SessionReader {
-    /// At the input's begin.
+    /// A reader at the beginning of the input.
     pub fn new(alloc: Global) -> Self
         ensures { result ≡ None }
     {
         SessionReader { alloc, text: None }
     }
 
-    /// Takes the next line, without its LF. Memory can lack within a text only: the text is lost then, and the next line stands
-    /// outside of texts.
+    /// Takes the next line, without its LF. Memory can run out within a text only: the text is lost
+    /// then, and the next line is outside of texts.
     pub fn take_line(&mut self, line: &[u8]) -> Result<Option<SessionLine>, AllocError>
         ensures given { IfOk result (λ item. GivesItem self.old line.now item self.new) }
         ensures lost { OnErr result (IsSome self.old × (self.new ≡ None)) }
@@ -96,7 +96,7 @@ fn filled(line: SessionLine) -> Option<SessionLine>
     }
 }
 
-/// The items of a session's input.
+/// The items of a session's whole input, in order. An error if memory runs out.
 pub fn read_items(alloc: Global, input: &[u8]) -> Result<Vec<SessionLine>, AllocError>
     ensures { IfOk result (λ items. items.items ≡ items_of input.now) }
 {

@@ -12,7 +12,7 @@ pub enum SessionRefusal {
 }
 
 impl SessionRefusal {
-    /// The refusal's number in replies. They are looked at in this order.
+    /// The refusal's number in replies. The causes are checked in this order.
     pub fn number(self) -> u32
         ensures { result ≡ session_refusal_number self }
     {

@@ -11,7 +11,7 @@ use service_core::{PutReply, Service};
 use strips::{DeviceGraph, Window};
 use tenant_slot::{Origin, StepReply};
 
-/// What the making of a step of a tenancy's job came to.
+/// The outcome of making a step of a tenancy's job.
 #[derive(Clone, Copy, PartialEq, Eq)]
 pub enum StepOutcome {
     /// The step was put, and is an entry of the journal.
@@ -20,7 +20,7 @@ pub enum StepOutcome {
     Full,
     /// The tenancy isn't live, and the job is spent.
     Gone,
-    /// The job was given back.
+    /// Memory ran out, and the job was given back.
     NoMemory,
     /// There was no job to take.
     Nothing,
@@ -28,8 +28,9 @@ pub enum StepOutcome {
     Unfit,
 }
 
-/// Takes the next step of that tenancy's job, makes it on the device's graph, where the strip stands, and puts it. A job that the
-/// graph doesn't fit is given back; the device's own graph fits each.
+/// Takes the next step of that tenancy's job, makes it on the device's graph, at the offset of its
+/// strip, and puts it. A job that doesn't fit the graph is given back; each job fits the device's
+/// own graph.
 pub fn make_step(core: &mut Service, graph: &DeviceGraph, id: u32) -> StepOutcome
     ensures made { (calls : List Call) × MakesStep id calls result × Run core.old calls core.new }
     ensures own { graph.now ≡ own_graph core.old.device → result ≢ Unfit }
@@ -43,8 +44,9 @@ pub fn make_step(core: &mut Service, graph: &DeviceGraph, id: u32) -> StepOutcom
     }
 }
 
-/// The window for a job's step, where the strip of its tenancy stands now: none where it isn't live, or the graph doesn't fit. The
-/// device's own graph has one for each job that its tenancy would take now.
+/// The window for a job's step, at the offset that the strip of its tenancy has now. None if the
+/// tenancy isn't live or the graph doesn't fit. The device's own graph has one for each job that
+/// its tenancy would take now.
 pub fn window_of<'g>(core: &Service, graph: &'g DeviceGraph, job: &AnyJob) -> Option<Window<'g>>
     ensures fits { IfSome result (λ window. window ≡ basis_in job.now.step.sources) }
     ensures own { graph.now ≡ own_graph core.now.device → IsNextStep core.now job.now.step →
@@ -56,7 +58,7 @@ pub fn window_of<'g>(core: &Service, graph: &'g DeviceGraph, job: &AnyJob) -> Op
     }
 }
 
-/// Gives a job back that its graph doesn't fit.
+/// Gives a job back that doesn't fit the graph.
 fn unfit(core: &mut Service, job: AnyJob) -> StepOutcome
     ensures { (calls : List Call) × StepsAndPuts job calls result × Run core.old calls core.new }
 {
@@ -64,8 +66,8 @@ fn unfit(core: &mut Service, job: AnyJob) -> StepOutcome
     StepOutcome::Unfit
 }
 
-/// Makes the step of a job through its window, and puts it. A job whose step finds no memory, or can't be put for want of it, is
-/// given back.
+/// Makes the step of a job through its window, and puts it. If memory runs out for the step or the
+/// put, the job is given back.
 pub fn step_and_put(core: &mut Service, job: AnyJob, window: &Window<'_>) -> StepOutcome
     requires { window.now ≡ basis_in job.step.sources }
     ensures put { (calls : List Call) × StepsAndPuts job calls result
@@ -75,7 +77,8 @@ pub fn step_and_put(core: &mut Service, job: AnyJob, window: &Window<'_>) -> Ste
     step_and_put_from(core, job, window, Origin::Unknown)
 }
 
-/// The same of a job of whose step that is known.
+/// Makes the step of a job through its window, and puts it. `origin` says whether the step is known
+/// to be the running job's next one. If memory runs out the job is given back.
 fn step_and_put_from(
     core: &mut Service,
     job: AnyJob,
@@ -105,9 +108,9 @@ fn step_and_put_from(
     }
 }
 
-/// Makes steps of that tenancy's job until there is none to take, or memory lacks. Tells what the last came to. Each that is
-/// recorded is an entry of the journal, so they end.
-pub(crate) fn run_steps(core: &mut Service, graph: &DeviceGraph, id: u32) -> StepOutcome
+/// Makes steps of that tenancy's job until there is no step to take or memory runs out. Returns the
+/// outcome of the last. Each step that is recorded is an entry of the journal, so they end.
+pub fn run_steps(core: &mut Service, graph: &DeviceGraph, id: u32) -> StepOutcome
     ensures waits { (calls : List Call) × Waits id calls result × Run core.old calls core.new }
     ensures own { graph.now ≡ own_graph core.old.device → result ≢ Unfit }
 {

@@ -57,7 +57,7 @@ pub fn step_word(reply: StepReply) -> &'static [u8]
     }
 }
 
-/// Writes a reply: its line, and the bytes of a file behind it.
+/// Writes a reply: its line, and after it the bytes of a file.
 pub fn write_reply<W: Sink>(sink: &mut W, reply: &Reply) -> Result<(), Failed>
     ensures { Writes W.contents W.has_failed sink.old sink.new (reply_text reply.now) result }
 {
@@ -103,7 +103,7 @@ fn write_steps<'t, W: Sink>(
     write_parts(sink, &[b"status ", name, b" ", steps, more, last, b"\n"])
 }
 
-/// Writes the line of a file of that name, and its bytes behind it.
+/// Writes the line of a file of that name, and after it its bytes.
 fn write_file<'t, W: Sink>(sink: &mut W, name: &'t str, file: &'t [u8]) -> Result<(), Failed>
     ensures { Writes W.contents W.has_failed sink.old sink.new
         (codes "text" ++ blank_word name.now ++ blank_word (decimal (length file.now)) ++ 10
@@ -143,7 +143,8 @@ fn write_refusal<W: Sink>(sink: &mut W, refusal: &Refusal) -> Result<(), Failed>
     }
 }
 
-/// Writes the line of a refusal for what a strip has too little of: how much of it there is, and how much is needed.
+/// Writes the line of a refusal because a strip has too little of something: how much of it there
+/// is, and how much is needed.
 fn write_misfit<'t, W: Sink>(
     sink: &mut W,
     number: u32,
@@ -161,7 +162,7 @@ fn write_misfit<'t, W: Sink>(
     }
 }
 
-/// Writes the line of a refusal with a word, in blanks, and two amounts.
+/// Writes the line of a refusal with a word (with a blank on each side) and two amounts.
 fn write_amounts<'t, W: Sink>(
     sink: &mut W,
     number: u32,
@@ -211,7 +212,8 @@ fn write_fault<W: Sink>(
     }
 }
 
-/// Writes the line of a refusal with the number and the line of a netlist's fault, and two more parts.
+/// Writes the line of a refusal with the number and the line of a netlist's fault, and two more
+/// parts.
 fn write_fault_with<'t, W: Sink>(
     sink: &mut W,
     number: u32,

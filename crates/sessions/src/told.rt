@@ -11,13 +11,13 @@ use service_core::{NotServed, Receipt};
 pub enum Answer {
     /// The line asks nothing.
     Nothing,
-    /// What the core answered. A wait whose steps found no memory is answered so too.
+    /// The core's answer. A wait whose steps ran out of memory has such an answer too.
     Served(Result<Receipt, NotServed>),
     /// The core wasn't asked.
     Refused(SessionRefusal),
 }
 
-/// Writes what a session is told.
+/// Writes the text of an answer.
 pub(crate) fn write_answer<W: Sink>(writer: &mut W, answer: &Answer) -> Result<(), Failed>
     ensures { Writes W.contents W.has_failed writer.old writer.new (answer_text answer.now) result }
 {

@@ -6,6 +6,6 @@ use Rattle.sessions.proofs.steps.run_steps.Given as goal
 abbrev pub invariant-steps : goal.invariant-steps
 invariant-steps l = Made l.id l.fn.core l.core
 
--- the entries for which the journal has room
+-- the number of entries that the journal has left
 abbrev pub decreases-steps : goal.decreases-steps
 decreases-steps l = left l.core l.id

@@ -28,7 +28,6 @@ returns-then-number-len c =
       c.answer.ensures.answered,
       rw named (zipped-set names texts name text k v at within c.requires (e ∙ ap (λ (t : MemorySink). held t ++ text) same)),
       rw named (length-set texts k v ∙ c.requires ∙ sym (length-found names name (omega (arith, at, within, c.requires)))),
-      c.answer.ensures.own,
     ))
 
 pub returns : goal.returns
@@ -52,5 +51,4 @@ returns c =
       rw (named, pushed) (zipped-push names texts name v c.requires (omega (arith, at, past)) ∙ ap (with_text (zipped names texts) name) first),
       rw (named, pushed) (length-append texts (v ∷ []) ∙ add-one (length texts) ∙ ap suc c.requires
           ∙ sym (length-new names name k (omega (arith, past, c.requires)) (rw (← named) within))),
-      c.answer-2.ensures.own,
     )

@@ -1,5 +1,5 @@
 use Rattle.std.proofs.Common.{inr}
-use Rattle.fpgad_run.proofs.command.run_words.Goals as goal
+use Rattle.promises.proofs.command.run_words.Goals as goal
 
 pub returns-in-Ok : goal.returns-in-Ok
 returns-in-Ok g c = inr (c.in-Ok.line, c.run_line.ensures)

@@ -1,11 +1,9 @@
-ghost use Rattle.fpgad_run.specs.Commands.{Runs, RunsWords};
+ghost use Rattle.promises.specs.Commands.{Runs, RunsWords};
 
-use crate::inputs::Architecture;
-use crate::options::{CommandLine, read_options};
-use crate::outcome::Outcome;
-use crate::program::run;
+use crate::page::serve;
 use clap::Error;
 use clap::error::ErrorKind;
+use fpgad_run::{Architecture, CommandLine, Outcome, read_options};
 use line_text::{MAX_TEXT, ReadError, Sink, Source, StdSource, read_all};
 use std::convert::AsStr;
 use std::fs::File;
@@ -15,8 +13,9 @@ use std::sync::Wait;
 use std::thread::Threads;
 use std::time::Clock;
 
-/// What the program does with its words, the first being its name: reads the options, the architecture's file if there
-/// is one, and the script, and serves it. An error is clap's: the option line is refused, or asks for help.
+/// What the program does with its words, the first being its name: reads the options, the
+/// architecture's file if there is one, and the script, and serves it. An error is clap's: the
+/// option line is refused, or asks for help.
 pub fn run_words<
     H: Files + Threads + Wait + Clock + AllocGlobal + Sync,
     S: AsStr,
@@ -45,23 +44,24 @@ pub fn run_line<H: Files + Threads + Wait + Clock + AllocGlobal + Sync, R: Sourc
 {
     let options = &line.options;
     let Some(path) = line.arch else {
-        return run(rt, options, Architecture::InScript, reader, writer);
+        return serve(rt, options, Architecture::InScript, reader, writer);
     };
     match read_architecture(rt, path) {
-        Ok(text) => run(
+        Ok(text) => serve(
             rt,
             options,
             Architecture::Text(text.as_slice()),
             reader,
             writer,
         ),
-        Err(ReadError::Failed) => run(rt, options, Architecture::Unreadable, reader, writer),
+        Err(ReadError::Failed) => serve(rt, options, Architecture::Unreadable, reader, writer),
         Err(ReadError::NoMemory) => Outcome::NoMemory,
     }
 }
 
-/// The text of the architecture's file. Of a file that is longer than a text may be, the first byte above that is the last that
-/// is read: it is refused whatever else it holds. The file is closed again, so that its number is never taken for standard input's.
+/// The text of the architecture's file. Of a file that is longer than a text may be, the first byte
+/// above that is the last that is read: it is refused whatever else it holds. The file is closed
+/// again, so that its number is never taken for standard input's.
 fn read_architecture<H: Files + AllocGlobal>(rt: &H, path: &str) -> Result<Vec<u8>, ReadError> {
     match File::open(rt, path) {
         Ok(file) => read_all(

@@ -1,0 +1,11 @@
+mod Examples
+pub mod Found
+pub mod Lines
+pub mod Memory
+pub mod Others
+pub mod Scripts
+pub mod Seats
+pub mod Solo
+pub mod Stages
+pub mod Steps
+pub mod Told

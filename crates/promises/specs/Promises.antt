@@ -1,0 +1,22 @@
+-- What the clauses of `serve` are made of, beside the definitions that they name.
+use Rattle.std.specs.Prelude.{ℕ, ◌≡◌, ◌≢◌, ◌≤◌, List, Option, IfSome}
+use Rattle.service_core.specs.declared.device.Device.{Device}
+use Rattle.service_core.specs.Run.{Call, Run}
+use Rattle.service_core.specs.Service.{ServiceState, empty}
+use Rattle.fpgad_run.specs.declared.inputs.Architecture.{Architecture}
+use Rattle.fpgad_run.specs.declared.options.Options.{Options}
+use Rattle.fpgad_run.specs.declared.outcome.Outcome.{Outcome}
+use Rattle.fpgad_run.specs.declared.outcome.Outcome.TheVariants.{NotSettled}
+use Rattle.fpgad_run.specs.OnThreads.{threaded_start_of}
+use Rattle.fpgad_run.specs.Program.{Decides, start_of}
+
+-- the run ends as the architecture and the script decide. Without workers no session disagrees with
+-- its journal
+abbrev pub EndsAsDecided : Options → Architecture → Option (List ℕ) → Outcome → Type 0
+EndsAsDecided options architecture input outcome = (options.workers ≡ 0 → (outcome ≢ NotSettled) × IfSome input (λ text. Decides (start_of options.tracks architecture text) outcome))
+    × (1 ≤ options.workers → IfSome input (λ text. Decides (threaded_start_of options.tracks architecture text) outcome))
+
+-- it holds of every list of calls that the core of a device can be asked, from the empty device on,
+-- and of the state after them
+abbrev pub OfEachRun : (Device → List Call → ServiceState → Type 0) → Type 0
+OfEachRun Holds = (device : Device) (calls : List Call) (state : ServiceState) → Run (empty device) calls state → Holds device calls state

@@ -1,0 +1,2 @@
+pub mod OwnColumns
+pub mod Switches
