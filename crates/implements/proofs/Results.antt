@@ -1,0 +1,40 @@
+-- Parts of what the layout of results keeps: inside a cluster, and at its ports.
+use Rattle.std.specs.Prelude.{ℕ, ◌≡◌, ◌≢◌, ◌≤◌, List, [], All, AllPairs, Contains, length, map}
+use Rattle.std.specs.List.{flat_map}
+use Rattle.blif.specs.declared.circuit.Circuit.{Circuit}
+use Rattle.block_places.specs.Fits.{kind_of}
+use Rattle.cluster.specs.Clusters.{PackedCircuit}
+use Rattle.cluster.specs.Blocks.{elements_in}
+use Rattle.ble_cluster.specs.Bles.{LogicElement}
+use Rattle.cluster.specs.declared.block.Block.{Block}
+use Rattle.cluster.specs.declared.block.Block.TheVariants.{Cluster}
+use Rattle.grid.specs.declared.Strip.{Strip}
+use Rattle.grid.specs.declared.place.Place.{Place}
+use Rattle.grid.specs.Places.{places_of}
+use Rattle.implements.specs.Implements.{input_at, output_at}
+use Rattle.implements.specs.Layouts.{IsFed, LaidBlock, Layout, traced}
+use Rattle.implements.specs.LayoutOf.{laid_block}
+
+-- the block of that cluster on its place
+abbrev pub laid_cluster : PackedCircuit → ℕ → Place → LaidBlock
+laid_cluster packed cluster place = laid_block packed (Cluster cluster) place
+
+-- Traced back, the BLEs of a cluster's lines are those that were packed: to each input comes the
+-- net that it reads, and its clock, and each pin by which one leaves carries what it drives.
+pub record IsTracedBack (packed : PackedCircuit) (cluster : ℕ) (place : Place) : Type 0 where
+  pub same : map (traced packed.arch (laid_cluster packed cluster place)) (laid_cluster packed cluster place).bles ≡ elements_in packed cluster
+  pub fed : All (IsFed packed.arch (laid_cluster packed cluster place)) (laid_cluster packed cluster place).bles
+  pub few : length (laid_cluster packed cluster place).bles ≤ packed.arch.cluster_size
+
+-- The ports of a layout: its input pads are the circuit's inputs, its output pads the outputs, and
+-- each block has a place of its kind that no other has.
+pub record HasPorts (circuit : Circuit) (strip : Strip) (layout : Layout) : Type 0 where
+  pub inputs : flat_map (λ laid. input_at laid.block) layout.blocks ≡ circuit.inputs
+  pub outputs : flat_map (λ laid. output_at laid.block) layout.blocks ≡ circuit.outputs
+  pub placed : All (λ laid. Contains (places_of strip (kind_of laid.block)) laid.place) layout.blocks
+  pub apart : AllPairs (λ laid other. laid.place ≢ other.place) layout.blocks
+
+-- the BLEs that were packed into a block
+abbrev pub packed_bles : PackedCircuit → Block → List LogicElement
+packed_bles packed (Cluster cluster) = elements_in packed cluster
+packed_bles packed block = []

@@ -1,0 +1,5 @@
+pub mod Layouts
+pub mod Holding
+pub mod Implements
+pub mod Connects
+pub mod LayoutOf
