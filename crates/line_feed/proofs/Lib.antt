@@ -1,0 +1,3 @@
+pub mod CutLemmas
+mod Examples
+mod FeedLemmas

@@ -1,0 +1,6 @@
+use Rattle.std.proofs.Common.{sym, ◌∙◌}
+use Rattle.line_feed.proofs.CutLemmas.{kept_none}
+use Rattle.line_feed.proofs.fed_line.FedLine.new.Goals as goal
+
+pub returns : goal.returns
+returns c = c.in_ok-with_capacity.ensures.items ∙ sym kept_none

@@ -1,0 +1,72 @@
+//! A line that is being read.
+ghost use Rattle.std.specs.Prelude.{◌≡◌, ◌++◌, [], ℕ, List, IfOk, take};
+ghost use Rattle.line_feed.specs.Pieces.{IsKept};
+
+use std::alloc::{AllocError, Global};
+use std::marker::Model;
+
+/// How many bytes of a line are kept: the first 1,048,577 bytes of a line of a text, and room for
+/// a tag before them.
+pub const MAX_LINE: usize = 1_048_640;
+
+/// What is kept of a line that is being read: its first [`MAX_LINE`] bytes. The memory for them is
+/// taken at the start, so reading a line takes none.
+#[derive(Drop)]
+pub(crate) struct FedLine {
+    bytes: Vec<u8>,
+}
+
+impl Model for FedLine {
+    ghost use Rattle.std.specs.Prelude.{◌≤◌, List, ℕ, vec_capacity};
+
+    ghost Value = { List ℕ };
+
+    ghost view = { λ l. l.bytes.items };
+
+    ghost invariant = { λ l. 1048640 ≤ vec_capacity l.bytes };
+}
+
+/// The first bytes, at most that many.
+fn first_bytes(bytes: &[u8], count: usize) -> &[u8]
+    ensures { result.now ≡ take count bytes.now }
+{
+    if count < bytes.len() {
+        &bytes[..count]
+    } else {
+        bytes
+    }
+}
+
+impl FedLine {
+    /// A line of no bytes.
+    pub(crate) fn new(alloc: Global) -> Result<Self, AllocError>
+        ensures { IfOk result (λ line. IsKept line []) }
+    {
+        Ok(FedLine {
+            bytes: Vec::with_capacity(alloc, MAX_LINE)?,
+        })
+    }
+
+    /// Begins a new line.
+    pub(crate) fn clear(&mut self)
+        ensures { IsKept self.new [] }
+    {
+        self.bytes.clear();
+    }
+
+    /// Appends bytes to the line. Those beyond [`MAX_LINE`] are dropped.
+    pub(crate) fn append(&mut self, bytes: &[u8])
+        ensures { (line : List ℕ) → IsKept self.old line → IsKept self.new (line ++ bytes.now) }
+    {
+        let room = MAX_LINE.saturating_sub(self.bytes.len());
+        let taken = first_bytes(bytes, room);
+        self.bytes.extend_from_slice(taken).unwrap();
+    }
+
+    /// What is kept of the line.
+    pub(crate) fn bytes(&self) -> &[u8]
+        ensures { result.now ≡ self.now }
+    {
+        self.bytes.as_slice()
+    }
+}

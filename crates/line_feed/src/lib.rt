@@ -1,0 +1,13 @@
+//! A source, line by line, as the lines come.
+//!
+//! [`LineFeed`] makes no read while it has a line that has come. It keeps the first [`MAX_LINE`]
+//! bytes of a line and drops the others. In `specs/`, `Pieces` says what is kept of a line, and
+//! `Feed` what a read of a line does.
+#![tactic(auto)]
+
+mod ahead;
+mod fed_line;
+mod feed;
+
+pub use fed_line::MAX_LINE;
+pub use feed::{LineEnd, LineFeed};

@@ -1,0 +1,14 @@
+-- The lines of an input, computed by the checker.
+use Rattle.std.proofs.Common.{◌≡◌, [], ◌∷◌, refl, codes}
+use Rattle.line_feed.specs.Pieces.{kept_of}
+use Rattle.tagged_lines.specs.Tags.{told_to}
+use Rattle.live_input.specs.Serving.{kept_input, kept_lines}
+
+-- the last line needs no LF
+lines : kept_lines (codes "@a x\nop list") ≡ codes "@a x" ∷ codes "op list" ∷ []
+unfolding kept_of
+lines = refl
+
+mixed : told_to (codes "@a") (kept_input (codes "@a x\n@b y\n@a z")) ≡ codes "x\nz\n"
+unfolding kept_of
+mixed = refl

@@ -1,0 +1,90 @@
+-- The lines of an input, as they are read and as they are cut.
+use Rattle.std.proofs.Common.{◌≡◌, ℕ, zero, suc, ◌+◌, List, [], ◌∷◌, ◌++◌, Bool, true, false, not, ◌&&◌, cond, eqb, map, take, drop, None, refl, sym, ap, ◌∙◌, append-nil, append_assoc}
+use Rattle.std.specs.List.{flat_map, list_all, onto_first, position_or_len}
+use Rattle.std.specs.Str.{bytes_eq}
+use Rattle.line_text.specs.Lines.{physical_lines}
+use Rattle.line_feed.specs.Pieces.{is_one_line, kept_of}
+use Rattle.sessions.specs.Items.{items_from, items_of}
+use Rattle.sessions.specs.Reading.{items_to_come}
+use Rattle.tagged_lines.specs.Tags.{ended, rest_of, tag_of, told_to}
+use Rattle.tagged_lines.proofs.TagLemmas.{are_lines, both, is_line, line_then}
+use Rattle.live_lines.specs.Laws.{said_by}
+use Rattle.live_input.specs.Serving.{kept_input, kept_lines}
+
+pub to_line : (line : List ℕ) → is_one_line line ≡ true → is_line line ≡ true
+to_line [] one = refl
+to_line (x ∷ line) one = let parts = both (not (eqb x 10)) (is_one_line line) one in ap (λ b. b && is_line line) parts.0 ∙ to_line line parts.1
+
+-- lines with their ends are those lines
+pub lines_then : (lines : List (List ℕ)) (more : List ℕ) → list_all is_line lines ≡ true → physical_lines (flat_map ended lines ++ more) ≡ lines ++ physical_lines more
+lines_then [] more are = refl
+lines_then (line ∷ lines) more are =
+    let parts = both (is_line line) (list_all is_line lines) are in
+    ap physical_lines (append_assoc (line ++ 10 ∷ []) (flat_map ended lines) more ∙ append_assoc line (10 ∷ []) (flat_map ended lines ++ more))
+    ∙ (line_then line (flat_map ended lines ++ more) parts.0 ∙ ap (λ ls. line ∷ ls) (lines_then lines more parts.1))
+
+pub lines_back : (lines : List (List ℕ)) → list_all is_line lines ≡ true → physical_lines (flat_map ended lines) ≡ lines
+lines_back lines are = ap physical_lines (sym (append-nil (flat_map ended lines))) ∙ (lines_then lines [] are ∙ append-nil lines)
+
+not_false : (a : Bool) → not a ≡ true → a ≡ false
+not_false false e = refl
+not_false true e = absurd (cc)
+
+-- a last line without its end is a line, if it has a byte
+pub last_line : (x : ℕ) (line : List ℕ) → is_line (x ∷ line) ≡ true → physical_lines (x ∷ line) ≡ (x ∷ line) ∷ []
+last_line x [] is =
+    let parts = both (not (eqb x 10)) true is in
+    ap (λ b. cond b ([] ∷ []) (onto_first x [])) (not_false (eqb x 10) parts.0)
+last_line x (y ∷ line) is =
+    let parts = both (not (eqb x 10)) (is_line (y ∷ line)) is in
+    ap (λ b. cond b ([] ∷ physical_lines (y ∷ line)) (onto_first x (physical_lines (y ∷ line)))) (not_false (eqb x 10) parts.0)
+    ∙ ap (onto_first x) (last_line y line parts.1)
+
+-- a part of a line is a line
+take_line : (n : ℕ) (line : List ℕ) → is_line line ≡ true → is_line (take n line) ≡ true
+take_line zero line is = refl
+take_line (suc n) [] is = refl
+take_line (suc n) (x ∷ line) is = let parts = both (not (eqb x 10)) (is_line line) is in ap (λ b. b && is_line (take n line)) parts.0 ∙ take_line n line parts.1
+
+drop_line : (n : ℕ) (line : List ℕ) → is_line line ≡ true → is_line (drop n line) ≡ true
+drop_line zero line is = is
+drop_line (suc n) [] is = refl
+drop_line (suc n) (x ∷ line) is = let parts = both (not (eqb x 10)) (is_line line) is in drop_line n line parts.1
+
+kept_line : (line : List ℕ) → is_line line ≡ true → is_line (kept_of line) ≡ true
+unfolding kept_of
+kept_line line is = take_line 1048640 line is
+
+are_kept : (lines : List (List ℕ)) → list_all is_line lines ≡ true → list_all is_line (map kept_of lines) ≡ true
+are_kept [] are = refl
+are_kept (line ∷ lines) are =
+    let parts = both (is_line line) (list_all is_line lines) are in
+    ap (λ b. b && list_all is_line (map kept_of lines)) (kept_line line parts.0) ∙ are_kept lines parts.1
+
+-- what a name's lines say is those lines again
+told_lines : (tag : List ℕ) (lines : List (List ℕ)) → flat_map (λ line. cond (bytes_eq (tag_of line) tag) (ended (rest_of line)) []) lines ≡ flat_map ended (flat_map (λ line. cond (bytes_eq (tag_of line) tag) (rest_of line ∷ []) []) lines)
+told_lines tag [] = refl
+told_lines tag (line ∷ lines) =
+    elim (bytes_eq (tag_of line) tag) as (λ b. cond b (ended (rest_of line)) [] ++ flat_map (λ line. cond (bytes_eq (tag_of line) tag) (ended (rest_of line)) []) lines
+    ≡ flat_map ended (cond b (rest_of line ∷ []) [] ++ flat_map (λ line. cond (bytes_eq (tag_of line) tag) (rest_of line ∷ []) []) lines)) [
+      | true ↦ ap (λ bytes. ended (rest_of line) ++ bytes) (told_lines tag lines)
+      | false ↦ told_lines tag lines
+    ]
+
+said_lines : (name : List ℕ) (lines : List (List ℕ)) → list_all is_line lines ≡ true → list_all is_line (said_by name lines) ≡ true
+said_lines name [] are = refl
+said_lines name (line ∷ lines) are =
+    let parts = both (is_line line) (list_all is_line lines) are in
+    let rest : is_line (rest_of line) ≡ true = drop_line (position_or_len (λ byte. eqb byte 32) line + 1) line parts.0 in
+    elim (bytes_eq (tag_of line) (64 ∷ name)) as (λ b. list_all is_line (cond b (rest_of line ∷ []) [] ++ said_by name lines) ≡ true) [
+      | true ↦ ap (λ b. b && list_all is_line (said_by name lines)) rest ∙ said_lines name lines parts.1
+      | false ↦ said_lines name lines parts.1
+    ]
+
+pub items_said : (name input : List ℕ) → items_of (told_to (64 ∷ name) (kept_input input)) ≡ items_to_come None (said_by name (kept_lines input))
+items_said name input =
+    let lines = kept_lines input in
+    let are = are_kept (physical_lines input) (are_lines input) in
+    ap (λ ls. items_of (flat_map (λ line. cond (bytes_eq (tag_of line) (64 ∷ name)) (ended (rest_of line)) []) ls)) (lines_back lines are)
+    ∙ (ap items_of (told_lines (64 ∷ name) lines)
+    ∙ ap (items_from false) (lines_back (said_by name lines) (said_lines name lines are)))

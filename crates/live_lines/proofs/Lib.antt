@@ -1,0 +1,8 @@
+mod AnswerLemmas
+mod EndLemmas
+mod EndSteps
+mod Examples
+mod ItemLemmas
+mod LawLemmas
+mod LineLemmas
+mod SaidLemmas

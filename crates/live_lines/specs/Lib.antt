@@ -1,0 +1,5 @@
+pub mod Acts
+pub mod Ends
+pub mod Laws
+pub mod Live
+pub mod Said

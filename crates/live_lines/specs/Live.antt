@@ -1,0 +1,146 @@
+-- What each line of a live service asks, and what is done and written for it.
+use Rattle.std.specs.Prelude.{ℕ, ◌≡◌, ◌+◌, List, [], ◌∷◌, ◌++◌, codes, decimal, length, Bool, true, false, ◌==◌, ◌||◌, Option, Some, None, Ok, ⊤, if◌then◌else◌}
+use Rattle.std.specs.List.{list_all}
+use Rattle.std.specs.Str.{bytes_eq}
+use Rattle.line_text.specs.Lines.{physical_lines}
+use Rattle.line_text.specs.Words.{is_blank}
+use Rattle.script_text.specs.declared.act.Act.TheVariants.{Operator, Session}
+use Rattle.script_text.specs.declared.operator_line.OperatorLine.{OperatorLine}
+use Rattle.script_text.specs.declared.operator_line.OperatorLine.TheVariants.{Step, List as ListAll}
+use Rattle.script_text.specs.Script.{Acts, is_name, named_operator, script_of}
+use Rattle.sessions.specs.declared.line.SessionLine.{SessionLine}
+use Rattle.operator.specs.Serving.{Stage}
+use Rattle.live_lines.specs.Acts.{IsAnswered, Telling}
+use Rattle.std.specs.Io.KnownBytes.{Appends}
+use Rattle.tagged_lines.specs.Tags.{Tagged, output_of, rest_of, tag_of}
+use Rattle.live_lines.specs.declared.live.Live.{Live}
+use Rattle.live_lines.specs.declared.asked.Asked.{Asked as AskedIn}
+use Rattle.live_lines.specs.declared.asked.Asked.TheVariants.{Nothing as NothingIn, NoForm as NoFormIn, Operates as OperatesIn, Says as SaysIn}
+use Rattle.live_lines.specs.Said.{HearsLine, IsEven, Texts, texts_of}
+
+-- what a line asks: nothing; something without a form, which is refused; a line of the operator; or
+-- a line of that name's session
+pub data Asked : Type 0 where
+  Nothing : Asked
+  NoForm : Asked
+  Operates : OperatorLine (List ℕ) → Asked
+  Says : List ℕ → List ℕ → Asked
+
+-- a comment, or a line without a word
+abbrev pub begins_comment : List ℕ → Bool
+begins_comment [] = false
+begins_comment (b ∷ line) = b == 35
+
+abbrev pub is_passed : List ℕ → Bool
+is_passed line = begins_comment line || list_all is_blank line
+
+-- what a script of this one line asks of the operator
+abbrev pub operated : Acts → Asked
+operated (Ok (Operator line ∷ [])) = Operates line
+operated acts = NoForm
+
+-- what a line asks, from its tag, the line, and what it says
+abbrev pub asked_by : List ℕ → List ℕ → List ℕ → Asked
+asked_by [] line rest = NoForm
+asked_by (b ∷ name) line rest =
+    if b == 64 then (if is_name name then Says name rest else NoForm) else
+    if bytes_eq (b ∷ name) (codes "op") then operated (script_of 1 line) else NoForm
+
+abbrev pub asked_of : List ℕ → Asked
+asked_of line = if is_passed line then Nothing else asked_by (tag_of line) line (rest_of line)
+
+-- private: what a value of the program asks
+abbrev pub asks : AskedIn → Asked
+asks NothingIn = Nothing
+asks NoFormIn = NoForm
+asks (OperatesIn line) = Operates (named_operator line)
+asks (SaysIn tag name rest) = Says name.now rest.now
+
+-- private: the tag is that of the name
+abbrev pub HasTag : AskedIn → Type 0
+HasTag (SaysIn tag name rest) = tag.now ≡ 64 ∷ name.now
+HasTag asked = ⊤
+
+-- the state of the service, and the text that each name is in
+pub record LiveState : Type 0 where
+  pub stage : Stage
+  pub texts : Texts
+
+abbrev pub for_operator : List ℕ → Tagged
+for_operator text = record { tag = codes "op"; text = text }
+
+abbrev pub for_name : List ℕ → List ℕ → Tagged
+for_name name text = record { tag = 64 ∷ name; text = text }
+
+-- whether the number of lines of the reply is open: the reply itself does not say it
+abbrev pub is_open : OperatorLine (List ℕ) → Bool
+is_open ListAll = true
+is_open (Step name count) = true
+is_open line = false
+
+-- the line that says how many lines follow
+abbrev pub count_text : List ℕ → List ℕ
+count_text text = codes "lines " ++ decimal (length (physical_lines text))
+
+abbrev pub told_by : Bool → List ℕ → List Tagged
+told_by true text = for_operator (count_text text) ∷ for_operator text ∷ []
+told_by false text = for_operator text ∷ []
+
+abbrev pub operator_told : OperatorLine (List ℕ) → List ℕ → List Tagged
+operator_told line text = told_by (is_open line) text
+
+-- an item is answered, if there is one
+abbrev pub TellsItem : Stage → List ℕ → Option SessionLine → List Telling → List Tagged → Stage → Type 0
+TellsItem old name None tellings told new = (tellings ≡ []) × (told ≡ []) × (new ≡ old)
+TellsItem old name (Some item) tellings told new = (t : Telling)
+    × (t.act ≡ Session name item) × IsAnswered old t.act t.calls t.text new × (tellings ≡ t ∷ []) × (told ≡ for_name name t.text ∷ [])
+
+-- a line of that number that asks this leads to these answered acts, to what is written, and to the
+-- new state
+abbrev pub TakesAsked : LiveState → ℕ → Asked → List Telling → List Tagged → LiveState → Type 0
+TakesAsked old number Nothing tellings told new = (tellings ≡ []) × (told ≡ []) × (new ≡ old)
+TakesAsked old number NoForm tellings told new = (tellings ≡ []) × (told ≡ record { tag = codes "?"; text = decimal number } ∷ []) × (new ≡ old)
+TakesAsked old number (Operates line) tellings told new = (t : Telling)
+    × (t.act ≡ Operator line) × IsAnswered old.stage t.act t.calls t.text new.stage × (tellings ≡ t ∷ []) × (told ≡ operator_told line t.text) × (new.texts ≡ old.texts)
+TakesAsked old number (Says name line) tellings told new = (item : Option SessionLine)
+    × HearsLine old.texts name line item new.texts × TellsItem old.stage name item tellings told new.stage
+
+-- the lines, one after another, the first of them having that number
+abbrev pub Takes : LiveState → ℕ → List (List ℕ) → List Telling → List Tagged → LiveState → Type 0
+Takes old number [] tellings told new = (tellings ≡ []) × (told ≡ []) × (new ≡ old)
+Takes old number (line ∷ lines) tellings told new = (first : List Telling) × (first_told : List Tagged) × (mid : LiveState) × (others : List Telling) × (others_told : List Tagged)
+    × TakesAsked old number (asked_of line) first first_told mid × Takes mid (number + 1) lines others others_told new
+    × (tellings ≡ first ++ others) × (told ≡ first_told ++ others_told)
+
+-- private: the state of a live service
+abbrev pub stage_of : Live → Stage
+stage_of live = record { names = live.operator; jobs = live.jobs; service = live.core; graph = live.graph.now }
+
+abbrev pub state_of : Live → LiveState
+state_of live = record { stage = stage_of live; texts = texts_of live.said }
+
+-- private: each id has a name, and each name a reader
+pub record IsSteady (live : Live) : Type 0 where
+  pub ids : length live.operator ≡ length live.core.histories
+  pub said : IsEven live.said
+
+-- private: a line was taken, and this was written
+pub record TakesLine (old : LiveState) (number : ℕ) (asked : Asked) (before after : Option (List ℕ)) (new : LiveState) : Type 0 where
+  pub tellings : List Telling
+  pub told : List Tagged
+  pub takes : TakesAsked old number asked tellings told new
+  pub writes : Appends before after (output_of told)
+
+-- private: an item was taken, and this was written
+pub record TakesItem (old : Stage) (name : List ℕ) (item : SessionLine) (before after : Option (List ℕ)) (new : Stage) : Type 0 where
+  pub telling : Telling
+  pub act : telling.act ≡ Session name item
+  pub answered : IsAnswered old telling.act telling.calls telling.text new
+  pub writes : Appends before after (output_of (for_name name telling.text ∷ []))
+
+-- private: a line of the operator was taken, and this was written
+pub record TakesOperator (old : Stage) (line : OperatorLine (List ℕ)) (before after : Option (List ℕ)) (new : Stage) : Type 0 where
+  pub telling : Telling
+  pub act : telling.act ≡ Operator line
+  pub answered : IsAnswered old telling.act telling.calls telling.text new
+  pub writes : Appends before after (output_of (operator_told line telling.text))

@@ -1,0 +1,95 @@
+//! What a line asks.
+ghost use Rattle.std.specs.Prelude.{◌≡◌, ◌<◌, ◌^◌, Ok, length, map, IfOk};
+ghost use Rattle.std.specs.List.{list_all};
+ghost use Rattle.line_text.specs.Words.{is_blank as is_blank_byte};
+ghost use Rattle.script_text.specs.Script.{named_act, script_of};
+ghost use Rattle.live_lines.specs.Live.{HasTag, asked_of, asks, begins_comment, is_passed, operated};
+
+use line_text::{is_blank, is_word};
+use script_text::{Act, OperatorLine, ScriptError, is_name, read_script};
+use std::alloc::{AllocError, Global};
+use tagged_lines::split_tag;
+
+/// What a line asks.
+pub(crate) enum Asked<'l> {
+    Nothing,
+    NoForm,
+    Operates(OperatorLine<&'l [u8]>),
+    /// The tag, the name in it, and what the line says.
+    Says(&'l [u8], &'l [u8], &'l [u8]),
+}
+
+/// What a line asks.
+pub(crate) fn asked_of(alloc: Global, line: &[u8]) -> Result<Asked<'_>, AllocError>
+    requires { length line.now < 2 ^ 63 }
+    ensures asks { IfOk result (λ asked. asks asked ≡ asked_of line.now) }
+    ensures tag { IfOk result HasTag }
+{
+    if is_passed(line) {
+        return Ok(Asked::Nothing);
+    }
+    let (tag, rest) = split_tag(line);
+    match tag {
+        [b'@', name @ ..] => {
+            if is_name(name) {
+                Ok(Asked::Says(tag, name, rest))
+            } else {
+                Ok(Asked::NoForm)
+            }
+        }
+        _ => {
+            if is_word(tag, "op") {
+                operated(alloc, line)
+            } else {
+                Ok(Asked::NoForm)
+            }
+        }
+    }
+}
+
+/// Whether a line is passed over: it is a comment, or has no word.
+fn is_passed(line: &[u8]) -> bool
+    ensures { result ≡ is_passed line.now }
+{
+    begins_comment(line) || has_no_word(line)
+}
+
+fn begins_comment(line: &[u8]) -> bool
+    ensures { result ≡ begins_comment line.now }
+{
+    match line {
+        [first, ..] => *first == b'#',
+        [] => false,
+    }
+}
+
+fn has_no_word(line: &[u8]) -> bool
+    ensures { result ≡ list_all is_blank_byte line.now }
+{
+    line.iter().all(|byte| is_blank(*byte))
+}
+
+/// What a line of the operator asks.
+fn operated(alloc: Global, line: &[u8]) -> Result<Asked<'_>, AllocError>
+    requires { length line.now < 2 ^ 63 }
+    ensures { IfOk result (λ asked. asks asked ≡ operated (script_of 1 line.now)) }
+{
+    match read_script(alloc, line, 1) {
+        Ok(script) => Ok(sole_operation(script.into_acts())),
+        Err(ScriptError::NoMemory) => Err(AllocError),
+        Err(ScriptError::Fault(_)) => Ok(Asked::NoForm),
+    }
+}
+
+/// What these acts ask, if they are one act of the operator.
+fn sole_operation<'l>(acts: Vec<Act<&'l [u8]>>) -> Asked<'l>
+    ensures { asks result ≡ operated (Ok (map named_act acts.entry.items)) }
+{
+    match acts.as_slice() {
+        [act] => match act {
+            Act::Operator(line) => Asked::Operates(*line),
+            Act::Session(_, _) => Asked::NoForm,
+        },
+        _ => Asked::NoForm,
+    }
+}
