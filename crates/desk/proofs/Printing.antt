@@ -1,4 +1,4 @@
--- A tenancy's script that is printed.
+-- Printing a tenancy's script.
 use Rattle.std.proofs.Common.{◌≡◌, ℕ, Bool, List, Option, Result, Ok, Err, sym, subst}
 use Rattle.line_text.specs.declared.source.Failed.{Failed}
 use Rattle.line_text.specs.Writing.{Writes}

@@ -2,7 +2,7 @@
 use Rattle.std.specs.Prelude.{ℕ, Result, Ok, Err}
 use Rattle.line_text.specs.declared.source.Failed.{Failed}
 use Rattle.desk.specs.declared.outcome.Outcome.{Outcome}
-use Rattle.desk.specs.declared.outcome.Outcome.TheVariants.{Done, InputFailed, OutputFailed, FileFailed, NoMemory}
+use Rattle.desk.specs.declared.outcome.Outcome.TheVariants.{Done, InputFailed, OutputFailed, FileFailed, LinesRefused, NoMemory}
 
 -- the status that the program ends with
 abbrev pub status_of : Outcome → ℕ
@@ -10,10 +10,11 @@ status_of Done = 0
 status_of InputFailed = 1
 status_of OutputFailed = 1
 status_of (FileFailed role) = 1
+status_of (LinesRefused lines) = 1
 status_of NoMemory = 4
 status_of refused = 3
 
--- how an errand ends that was written so
+-- how an errand ends whose writing ended so
 abbrev pub written_so : Result (Unit {0}) Failed → Outcome
 written_so (Ok u) = Done
 written_so (Err failed) = OutputFailed

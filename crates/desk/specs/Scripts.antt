@@ -1,4 +1,4 @@
--- What the tool that prints a tenancy's script comes to.
+-- The result of the tool that prints a tenancy's script.
 use Rattle.std.specs.Prelude.{◌≡◌, ℕ, Bool, List, Option, Some}
 use Rattle.line_text.specs.Writing.{TakesAll, TakesPart}
 use Rattle.tenancy_script.specs.declared.script.TenancyScript.{TenancyScript}
@@ -9,19 +9,20 @@ use Rattle.tenancy_script.specs.Says.{IsOf}
 use Rattle.desk.specs.declared.outcome.Outcome.{Outcome}
 use Rattle.desk.specs.declared.outcome.Outcome.TheVariants.{Done, OutputFailed, TextRefused}
 
--- the script of these wishes round this text is written, whole
+-- the whole script with these wishes around this text is written
 pub record IsPrinted {S : Type 0} (contents : S → Option (List ℕ)) (has_failed : S → Bool) (old new : S) (wishes : Wishes) (netlist : List ℕ) : Type 0 where
   pub script : TenancyScript
   pub of : IsOf wishes netlist script
   pub bytes : TakesAll contents has_failed old new (printed script)
 
--- a beginning of it is written, and the device has failed
+-- a beginning of the script is written, and the device has failed
 pub record IsPrintedInPart {S : Type 0} (contents : S → Option (List ℕ)) (has_failed : S → Bool) (old new : S) (wishes : Wishes) (netlist : List ℕ) : Type 0 where
   pub script : TenancyScript
   pub of : IsOf wishes netlist script
   pub bytes : TakesPart contents has_failed old new (printed script)
 
--- it is, or the output fails on the way, or the name or the text is refused and nothing is written
+-- the script is printed, or the output fails on the way, or the name or the text is refused and
+-- nothing is written
 abbrev pub Prints : {S : Type 0} → (S → Option (List ℕ)) → (S → Bool) → S → S → Wishes → List ℕ → Outcome → Type 0
 Prints contents has_failed old new wishes netlist Done = IsPrinted contents has_failed old new wishes netlist
 Prints contents has_failed old new wishes netlist OutputFailed = IsPrintedInPart contents has_failed old new wishes netlist

@@ -1,4 +1,4 @@
-//! What the words ask.
+//! Reads the program's words to an errand.
 use crate::size::size_of;
 use crate::{files, picture, random, report, route, script, strip};
 use clap::Error;
@@ -9,14 +9,14 @@ use std::alloc::Global;
 use std::convert::AsStr;
 use tenancy_script::Wishes;
 
-/// The tools for their options.
+/// The tools, for their options.
 const TOOLBOX: Toolbox = Toolbox {
     name: "fpgad_desk",
     about: "Tools beside fpgad: they make its scripts and read what it prints",
     after_help: "\
-Each tool has its own help: fpgad_desk TOOL --help
+Each tool has its own help: fpgad_desk TOOL --help, or fpgad_desk help TOOL. The version: fpgad_desk --version
 
-Status: 0 done, 1 a device failed, 2 the options are refused, 3 the input is, with its line, 4 memory lacks
+Status: 0 done; 1 a file or a device failed, or `files` found a refused line; 2 the options are refused; 3 the input is, with its line; 4 out of memory
 
 Example: fpgad_desk script --name T --width 2 < t.blif | fpgad --arch my.arch --tracks 8 --columns 10 --rows 10",
     tools: &[
@@ -30,7 +30,7 @@ Example: fpgad_desk script --name T --width 2 < t.blif | fpgad --arch my.arch --
     ],
 };
 
-/// Why a tool is refused that the desk lacks.
+/// Why the name of a tool is refused that the desk doesn't have.
 const NO_TOOL: &str = "no tool has this name";
 
 /// What is shown of a device.
@@ -53,13 +53,14 @@ pub(crate) enum Errand<'a> {
     Route(route::Wishes<'a>),
     /// A picture of a tenancy.
     Strip(strip::Wishes<'a>),
-    /// A view of a device of that size.
+    /// What is shown of a device, and the device's size.
     View(DeviceSize, View),
     /// A script with random circuits.
     Random(Plan),
 }
 
-/// What these words ask, the first being the program's name. An error is clap's, and a call for help is one.
+/// What these words ask, the first being the program's name. An error is clap's; a request for help
+/// is one.
 pub(crate) fn read_errand<'a, S: AsStr>(
     alloc: Global,
     words: &'a [S],
@@ -67,7 +68,7 @@ pub(crate) fn read_errand<'a, S: AsStr>(
     errand_by(alloc, &TOOLBOX, words)
 }
 
-/// The same, by the tools.
+/// What these words ask, read by this toolbox.
 fn errand_by<'a, S: AsStr>(
     alloc: Global,
     toolbox: &Toolbox,

@@ -1,17 +1,20 @@
-//! The tool that takes the files out of what the service printed.
+//! The tool that saves the files which the service printed.
 ghost use Rattle.std.specs.Prelude.{◌+◌, ◌<◌, ◌^◌, length};
 
 use crate::outcome::Outcome;
-use crate::paths::{FileRole, make_folder, read_file, write_file};
+use crate::paths::{FileRole, ResultFile, make_folder, read_file, tell_stale, write_file};
 use crate::words::FOLDER;
-use line_text::{NameSet, Sink, Source, read_all};
+use line_text::{Failed, NameSet, Sink, Source, read_all};
 use option_words::{Given, OptionWord, Program, Takes};
 use printed_replies::{ReadError, Replies};
-use script_replies::{file_of, read_replies, script_lines, session_names, told_lines, write_told};
+use script_replies::{
+    ToldLine, file_of, read_replies, script_lines, session_names, told_lines, write_told,
+};
 use script_text::{Act, ScriptError, cut_text, read_script};
 use std::alloc::Global;
 use std::rt::Files;
 use tenant_slot::FileKind;
+use text_parts::{Part, write_parts};
 
 const NO_FILE: &str = "a script and a folder are wanted";
 
@@ -20,7 +23,8 @@ pub(crate) const TOOL: Program = Program {
     about: "Takes the result files out of what fpgad printed for a script, which stands on standard input, and prints each line of the script beside its reply",
     after_help: "\
 Of each name the last .net, .place and .route that it was told is written into the folder. A file is found by its length, whatever
-stands in it. Refusals are told in words, with what may be done.
+stands in it. Refusals are told in words, with what may be done. The last line counts the lines that were served and refused, and the
+files; the status is 1 if a line was refused. A file of an earlier run that is left in the folder is told on standard error.
 
 Example: fpgad --arch my.arch --tracks 8 --columns 10 < my.script | fpgad_desk files --arch my.arch my.script results",
     options: &[
@@ -42,7 +46,7 @@ Example: fpgad --arch my.arch --tracks 8 --columns 10 < my.script | fpgad_desk f
     ],
 };
 
-/// Whose files are wanted, and where.
+/// Whose files are wanted, and the folder to write them to.
 #[derive(Clone, Copy)]
 pub(crate) struct Wishes<'a> {
     script: &'a str,
@@ -51,7 +55,7 @@ pub(crate) struct Wishes<'a> {
     has_architecture: bool,
 }
 
-/// What the options wish, or why they are refused.
+/// What the options ask for, or why they are refused.
 pub(crate) fn wishes_of<'a>(given: &Given<'a>) -> Result<Wishes<'a>, &'static str> {
     Ok(Wishes {
         script: given.text("script").ok_or(NO_FILE)?,
@@ -60,7 +64,7 @@ pub(crate) fn wishes_of<'a>(given: &Given<'a>) -> Result<Wishes<'a>, &'static st
     })
 }
 
-/// A script behind its architecture.
+/// The lines of a script after its architecture.
 #[derive(Clone, Copy)]
 struct Lines<'t> {
     text: &'t [u8],
@@ -69,7 +73,7 @@ struct Lines<'t> {
     ghost counted: { number + length text.now < 2 ^ 64 },
 }
 
-/// The lines of a script behind its architecture, if that stands there.
+/// The lines of a script after its architecture, if it begins with one.
 fn lines_of(script: &[u8], has_architecture: bool) -> Lines<'_>
     requires { length script.now < 2 ^ 63 }
 {
@@ -89,31 +93,34 @@ fn lines_of(script: &[u8], has_architecture: bool) -> Lines<'_>
     }
 }
 
-/// Writes the files, and prints the lines beside their replies.
-pub(crate) fn run<H: Files + AllocGlobal, R: Source, W: Sink>(
+/// Reads the script, and what was printed for its lines. Writes the files, and prints the lines
+/// beside their replies.
+pub(crate) fn run<H: Files + AllocGlobal, R: Source, W: Sink, E: Sink>(
     rt: &H,
     wishes: Wishes<'_>,
     reader: &mut R,
     writer: &mut W,
+    teller: &mut E,
 ) -> Result<(), Outcome> {
-    let script = read_file(rt, FileRole::Script, wishes.script, u64::MAX)?;
+    let script = read_file(rt, FileRole::Script, wishes.script, u64::MAX, teller)?;
     let lines = lines_of(script.as_slice(), wishes.has_architecture);
-    let outcome = parted_as_read(rt, wishes.folder, lines, reader, writer);
+    let outcome = run_on_lines(rt, wishes.folder, lines, reader, writer, teller);
     drop(script);
     outcome
 }
 
-/// The same, of the lines of the script.
-fn parted_as_read<H: Files + AllocGlobal, R: Source, W: Sink>(
+/// Reads what was printed for the lines, writes the files and prints the lines.
+fn run_on_lines<H: Files + AllocGlobal, R: Source, W: Sink, E: Sink>(
     rt: &H,
     folder: &str,
     lines: Lines<'_>,
     reader: &mut R,
     writer: &mut W,
+    teller: &mut E,
 ) -> Result<(), Outcome> {
     match read_all(rt.alloc(), reader) {
         Ok(printed) => {
-            let outcome = parted(rt, folder, lines, printed.as_slice(), writer);
+            let outcome = run_on_texts(rt, folder, lines, printed.as_slice(), writer, teller);
             drop(printed);
             outcome
         }
@@ -121,13 +128,14 @@ fn parted_as_read<H: Files + AllocGlobal, R: Source, W: Sink>(
     }
 }
 
-/// The same, of the texts.
-fn parted<H: Files + AllocGlobal, W: Sink>(
+/// Reads the replies from the printed text, writes the files and prints the lines.
+fn run_on_texts<H: Files + AllocGlobal, W: Sink, E: Sink>(
     rt: &H,
     folder: &str,
     lines: Lines<'_>,
     printed: &[u8],
     writer: &mut W,
+    teller: &mut E,
 ) -> Result<(), Outcome> {
     let script = match read_script(rt.alloc(), lines.text, lines.number) {
         Ok(script) => script,
@@ -137,7 +145,11 @@ fn parted<H: Files + AllocGlobal, W: Sink>(
     let acts = script.into_acts();
     let outcome = match read_replies(rt.alloc(), &acts, printed) {
         Ok(replies) => {
-            let outcome = taken_out(rt, folder, lines, &acts, &replies, writer);
+            let saved = save_files(rt, folder, &acts, &replies, teller);
+            let outcome = match saved {
+                Ok(files) => print(rt.alloc(), lines, &acts, &replies, files, writer),
+                Err(outcome) => Err(outcome),
+            };
             drop(replies);
             outcome
         }
@@ -148,60 +160,78 @@ fn parted<H: Files + AllocGlobal, W: Sink>(
     outcome
 }
 
-/// The same, of the acts and their replies.
-fn taken_out<H: Files + AllocGlobal, W: Sink>(
+/// Writes the files of all names into the folder, and returns how many they are.
+fn save_files<H: Files + AllocGlobal, E: Sink>(
     rt: &H,
     folder: &str,
-    lines: Lines<'_>,
     acts: &[Act<&[u8]>],
     replies: &Replies<'_, '_>,
-    writer: &mut W,
-) -> Result<(), Outcome> {
-    make_folder(rt, folder)?;
+    teller: &mut E,
+) -> Result<u32, Outcome> {
+    make_folder(rt, folder, teller)?;
     let Ok(names) = session_names(rt.alloc(), acts) else {
         return Err(Outcome::NoMemory);
     };
-    let saved = save_all(rt, folder, &names, replies);
+    let saved = save_all(rt, folder, &names, replies, teller);
     drop(names);
-    saved?;
-    print(rt.alloc(), lines, acts, replies, writer)
+    saved
 }
 
-/// Writes the files of all names.
-fn save_all<H: Files + AllocGlobal>(
+/// Writes the files of all names, and returns how many they are.
+fn save_all<H: Files + AllocGlobal, E: Sink>(
     rt: &H,
     folder: &str,
     names: &NameSet<'_>,
     replies: &Replies<'_, '_>,
-) -> Result<(), Outcome> {
+    teller: &mut E,
+) -> Result<u32, Outcome> {
+    let mut files = 0u32;
     for number in 0..names.len() {
-        save(rt, folder, names.name(number), FileKind::Net, replies)?;
-        save(rt, folder, names.name(number), FileKind::Place, replies)?;
-        save(rt, folder, names.name(number), FileKind::Route, replies)?;
+        let saved = save_name(rt, folder, names.name(number), replies, teller)?;
+        files = files.saturating_add(saved);
     }
-    Ok(())
+    Ok(files)
 }
 
-/// Writes the last file of that kind that the name was told, if there is one.
-fn save<H: Files + AllocGlobal>(
+/// Writes the files of a name, and returns how many they are.
+fn save_name<H: Files + AllocGlobal, E: Sink>(
     rt: &H,
     folder: &str,
     name: &[u8],
-    kind: FileKind,
     replies: &Replies<'_, '_>,
-) -> Result<(), Outcome> {
-    let (Some(bytes), Ok(name)) = (file_of(replies, name, kind), str::from_utf8(name)) else {
-        return Ok(());
+    teller: &mut E,
+) -> Result<u32, Outcome> {
+    let Ok(text) = str::from_utf8(name) else {
+        return Ok(0);
     };
-    write_file(rt, folder, name, kind.name(), bytes)
+    let mut files = 0u32;
+    for kind in KINDS.iter() {
+        let file = ResultFile {
+            folder,
+            name: text,
+            kind: kind.name(),
+        };
+        match file_of(replies, name, *kind) {
+            Some(bytes) => {
+                write_file(rt, file, bytes, teller)?;
+                files = files.saturating_add(1);
+            }
+            None => tell_stale(rt, file, teller),
+        }
+    }
+    Ok(files)
 }
 
-/// Prints the lines beside their replies.
+/// The kinds of files that a name may have.
+const KINDS: [FileKind; 3] = [FileKind::Net, FileKind::Place, FileKind::Route];
+
+/// Prints the lines beside their replies, and their numbers.
 fn print<W: Sink>(
     alloc: Global,
     lines: Lines<'_>,
     acts: &[Act<&[u8]>],
     replies: &Replies<'_, '_>,
+    files: u32,
     writer: &mut W,
 ) -> Result<(), Outcome> {
     let Ok(asked) = script_lines(alloc, lines.text, lines.number, acts) else {
@@ -211,10 +241,43 @@ fn print<W: Sink>(
     drop(asked);
     match told {
         Ok(told) => {
-            let written = write_told(writer, &told);
+            let outcome = print_told(writer, &told, files);
             drop(told);
-            written.or(Err(Outcome::OutputFailed))
+            outcome
         }
         Err(_) => Err(Outcome::NoMemory),
     }
+}
+
+/// Prints the lines with their replies, and how many were served and refused.
+fn print_told<W: Sink>(writer: &mut W, told: &[ToldLine<'_>], files: u32) -> Result<(), Outcome> {
+    let refused = told.iter().filter(|line| line.is_refused()).count();
+    let served = told.len().saturating_sub(refused);
+    write_told(writer, told).or(Err(Outcome::OutputFailed))?;
+    write_summary(writer, served, refused, files).or(Err(Outcome::OutputFailed))?;
+    if refused > 0 {
+        return Err(Outcome::LinesRefused(refused));
+    }
+    Ok(())
+}
+
+/// Writes the numbers of lines that were served and refused, and of files.
+fn write_summary<W: Sink>(
+    writer: &mut W,
+    served: usize,
+    refused: usize,
+    files: u32,
+) -> Result<(), Failed> {
+    write_parts(
+        writer,
+        &[
+            Part::Text("served "),
+            Part::Long(served as u64),
+            Part::Text(", refused "),
+            Part::Long(refused as u64),
+            Part::Text(", files written "),
+            Part::Number(files),
+            Part::Text("\n"),
+        ],
+    )
 }

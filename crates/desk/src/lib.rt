@@ -1,18 +1,23 @@
-//! The desk: tools for those who write scripts for the service and read what it printed, each called by its name.
+//! The desk: tools for those who write scripts for the service and read what it printed, each
+//! called by its name.
 //!
-//! - `script` prints the lines of one tenancy round the netlist on its input; nothing that the netlist holds can be a command.
-//! - `files` takes the result files out of what the service printed for a script, and tells each line beside its reply.
+//! - `script` prints the lines of one tenancy around the netlist on its input; no line of the
+//!   netlist can be taken for a command.
+//! - `files` saves the result files which the service printed for a script, and prints each line
+//!   beside its reply.
 //! - `route` packs, places and routes one netlist on a device of its own, and writes its files.
 //! - `strip` draws one tenancy from its three files.
-//! - `picture` draws the device from what the service printed, and `report` tells how full it is.
+//! - `picture` draws the device from what the service printed, and `report` says how full it is.
 //! - `random` prints a script with random circuits, to measure the service with.
 //!
-//! [`run_words`] reads a program's words and does what they ask, over any input and output. [`Outcome`] tells how it ended, by a status and a
-//! message.
+//! [`run_words`] reads a program's words and does what they ask, over any input and output.
+//! [`Outcome`] says how it ended, by a status and a message.
 #![tactic(auto)]
 
+mod arch_words;
 mod errand;
 mod files;
+mod latches;
 mod outcome;
 mod paths;
 mod picture;

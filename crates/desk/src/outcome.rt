@@ -17,22 +17,25 @@ pub enum Outcome {
     Done,
     InputFailed,
     OutputFailed,
-    /// No script can tell the netlist.
+    /// No script can contain the netlist.
     TextRefused(Fault),
-    /// It is nothing that the service printed of such a device.
+    /// The input isn't what the service printed for such a device.
     ReplyRefused(InputFault),
-    /// That file can't be read, or nothing be written into the folder.
+    /// That file can't be read, or nothing can be written into the folder.
     FileFailed(FileRole),
+    /// That many lines of a script were refused.
+    LinesRefused(usize),
     /// That line of a script is faulty.
     ScriptRefused(usize),
-    /// That line of what the service printed fits no reply to the script.
+    /// That line of what the service printed isn't a reply to the script.
     RepliesRefused(usize),
     ArchRefused(ArchFault),
-    /// The netlist has a fault, or fits no cluster or not the device, which was told.
+    /// The netlist has a fault, or doesn't fit a cluster or the device. The cause is written to
+    /// standard error.
     NetlistRefused,
-    /// The netlist is left without routes, which was told.
+    /// The netlist is left without routes. The cause is written to standard error.
     Unrouted,
-    /// It is no file that the service wrote of a tenancy.
+    /// A file isn't one that the service wrote for a tenancy.
     StripRefused(FileFault),
     /// No net has the name.
     NoNet,
@@ -47,6 +50,7 @@ impl Outcome {
         match self {
             Outcome::Done => 0,
             Outcome::InputFailed | Outcome::OutputFailed | Outcome::FileFailed(_) => 1,
+            Outcome::LinesRefused(_) => 1,
             Outcome::NoMemory => 4,
             _ => 3,
         }
@@ -60,7 +64,7 @@ impl Outcome {
         }
     }
 
-    /// How an errand ended that was done or ended so.
+    /// How an errand ended that was done, or failed so.
     pub(crate) fn of(done: Result<(), Outcome>) -> Self {
         match done {
             Ok(()) => Outcome::Done,
@@ -68,7 +72,7 @@ impl Outcome {
         }
     }
 
-    /// How an errand ended that was written so.
+    /// How an errand ended whose writing ended so.
     pub(crate) fn of_writing(written: Result<(), Failed>) -> Self
         ensures { result ≡ written_so written }
     {
@@ -89,6 +93,8 @@ impl fmt::Display for Outcome {
             Outcome::TextRefused(fault) => write!(f, "{fault}"),
             Outcome::ReplyRefused(fault) => write!(f, "{fault}"),
             Outcome::FileFailed(role) => write!(f, "{role}: failed"),
+            Outcome::LinesRefused(1) => write!(f, "1 line is refused"),
+            Outcome::LinesRefused(lines) => write!(f, "{lines} lines are refused"),
             Outcome::ScriptRefused(line) => write!(f, "script: line {line}"),
             Outcome::RepliesRefused(line) => write!(f, "line {line}: no reply to the script"),
             Outcome::ArchRefused(fault) => write!(f, "arch: {fault}"),

@@ -1,9 +1,10 @@
 //! Files that tools read and write.
 use crate::outcome::Outcome;
-use line_text::{ReadError, StdSource, read_all};
+use line_text::{ReadError, Sink, StdSource, read_all, write_all, write_parts};
+use std::alloc::Global;
 use std::fmt;
 use std::fs::{self, File};
-use std::io::{ErrorKind, Read};
+use std::io::{Error, ErrorKind, Read};
 use std::rt::Files;
 
 /// A file that a tool reads or writes, or the folder in which it writes.
@@ -32,56 +33,110 @@ impl fmt::Display for FileRole {
     }
 }
 
-/// All that a file holds, up to so many bytes, or how the errand ends that lacks it.
-pub(crate) fn read_file<H: Files + AllocGlobal>(
+/// The contents of a file, up to `most` bytes. If it can't be read, the path and the reason are
+/// written to the teller.
+pub(crate) fn read_file<H: Files + AllocGlobal, E: Sink>(
     rt: &H,
     role: FileRole,
     path: &str,
     most: u64,
+    teller: &mut E,
 ) -> Result<Vec<u8>, Outcome> {
     match File::open(rt, path) {
-        Ok(file) => read_open(rt, role, file.take(most)),
-        Err(_) => Err(Outcome::FileFailed(role)),
+        Ok(file) => read_open(rt, role, path, file.take(most), teller),
+        Err(error) => Err(told_failed(rt.alloc(), role, path, error, teller)),
     }
 }
 
-/// All that an open file holds.
-fn read_open<H: Files + AllocGlobal, F: Read + Drop>(
+/// The contents of an open file.
+fn read_open<H: Files + AllocGlobal, F: Read + Drop, E: Sink>(
     rt: &H,
     role: FileRole,
+    path: &str,
     file: F,
+    teller: &mut E,
 ) -> Result<Vec<u8>, Outcome> {
     match read_all(rt.alloc(), &mut StdSource::new(file)) {
         Ok(bytes) => Ok(bytes),
         Err(ReadError::NoMemory) => Err(Outcome::NoMemory),
-        Err(ReadError::Failed) => Err(Outcome::FileFailed(role)),
+        Err(ReadError::Failed) => {
+            let _ = write_parts(teller, &[path.as_bytes(), b": can't be read\n"]);
+            Err(Outcome::FileFailed(role))
+        }
     }
 }
 
-/// Makes a folder, if it isn't there.
-pub(crate) fn make_folder<H: Files>(rt: &H, path: &str) -> Result<(), Outcome> {
+/// Writes the path that failed and the system's reason, and returns how the errand ends.
+fn told_failed<E: Sink>(
+    alloc: Global,
+    role: FileRole,
+    path: &str,
+    error: Error,
+    teller: &mut E,
+) -> Outcome {
+    if let Ok(line) = format!(in alloc; "{path}: {error}\n") {
+        let _ = write_all(teller, line.as_bytes());
+        drop(line);
+    }
+    Outcome::FileFailed(role)
+}
+
+/// Makes a folder, if it isn't there. If it can't be made, the path and the reason are written to
+/// the teller.
+pub(crate) fn make_folder<H: Files + AllocGlobal, E: Sink>(
+    rt: &H,
+    path: &str,
+    teller: &mut E,
+) -> Result<(), Outcome> {
     match fs::create_dir(rt, path) {
         Ok(()) => Ok(()),
         Err(error) if error.kind() == ErrorKind::AlreadyExists => Ok(()),
-        Err(_) => Err(Outcome::FileFailed(FileRole::Folder)),
+        Err(error) => Err(told_failed(rt.alloc(), FileRole::Folder, path, error, teller)),
     }
 }
 
-/// Writes a file of that name into a folder, in place of one that is there.
-pub(crate) fn write_file<H: Files + AllocGlobal>(
+/// A file in a folder, by the name of a tenancy or of a netlist and the kind of file.
+#[derive(Clone, Copy)]
+pub(crate) struct ResultFile<'a> {
+    pub(crate) folder: &'a str,
+    pub(crate) name: &'a str,
+    pub(crate) kind: &'static str,
+}
+
+/// Writes a file, in place of one that is there. If it can't be written, the path and the reason
+/// are written to the teller.
+pub(crate) fn write_file<H: Files + AllocGlobal, E: Sink>(
     rt: &H,
-    folder: &str,
-    name: &str,
-    ending: &str,
+    file: ResultFile<'_>,
     bytes: &[u8],
+    teller: &mut E,
 ) -> Result<(), Outcome> {
-    let Ok(path) = format!(in rt.alloc(); "{folder}/{name}.{ending}") else {
-        return Err(Outcome::NoMemory);
-    };
-    let written = fs::write(rt, path.as_str(), bytes);
-    drop(path);
-    match written {
+    let path = path_of(rt.alloc(), file)?;
+    let written = match fs::write(rt, path.as_str(), bytes) {
         Ok(()) => Ok(()),
-        Err(_) => Err(Outcome::FileFailed(FileRole::Folder)),
+        Err(error) => Err(told_failed(rt.alloc(), FileRole::Folder, path.as_str(), error, teller)),
+    };
+    drop(path);
+    written
+}
+
+/// Writes to the teller that a file is left from an earlier run, if it is there.
+pub(crate) fn tell_stale<H: Files + AllocGlobal, E: Sink>(
+    rt: &H,
+    file: ResultFile<'_>,
+    teller: &mut E,
+) {
+    if let Ok(path) = path_of(rt.alloc(), file) {
+        if let Ok(old) = File::open(rt, path.as_str()) {
+            drop(old);
+            let _ = write_parts(teller, &[path.as_bytes(), b": left from an earlier run\n"]);
+        }
+        drop(path);
     }
+}
+
+/// The path of a file. An error if memory runs out.
+fn path_of(alloc: Global, file: ResultFile<'_>) -> Result<String, Outcome> {
+    let ResultFile { folder, name, kind } = file;
+    format!(in alloc; "{folder}/{name}.{kind}").or(Err(Outcome::NoMemory))
 }

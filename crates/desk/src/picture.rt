@@ -13,7 +13,7 @@ pub(crate) const TOOL: Program = Program {
     options: SIZES,
 };
 
-/// Draws a device.
+/// Draws a device, and returns how the errand ended.
 pub(crate) fn print<W: Sink>(alloc: Global, device: &Device<'_>, writer: &mut W) -> Outcome {
     match draw(alloc, device, writer) {
         Ok(()) => Outcome::Done,

@@ -69,7 +69,7 @@ pub(crate) fn plan_of(given: &Given<'_>) -> Result<Plan, &'static str> {
     Plan::new(wishes).ok_or(NO_ROOM)
 }
 
-/// The phase of that word.
+/// The phase that the word names. None if no phase has this name.
 fn phase(word: &str) -> Option<Phase> {
     match word {
         "reading" => Some(Phase::Reading),

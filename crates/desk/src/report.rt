@@ -1,4 +1,4 @@
-//! The tool that tells how full the device is.
+//! The tool that says how full the device is.
 use crate::outcome::Outcome;
 use crate::size::SIZES;
 use device_picture::Device;
@@ -18,7 +18,7 @@ Example: fpgad --tracks 8 --columns 10 --rows 8 < my.script | fpgad_desk report 
     options: SIZES,
 };
 
-/// Tells of a device.
+/// Writes the report of a device.
 pub(crate) fn print<W: Sink>(alloc: Global, device: &Device<'_>, writer: &mut W) -> Outcome {
     match Report::new(alloc, device) {
         Ok(report) => told(report, writer),

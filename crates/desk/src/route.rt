@@ -1,8 +1,10 @@
 //! The tool that routes one netlist on a device of its own.
 ghost use Rattle.std.specs.Prelude.{◌≤◌};
 
+use crate::arch_words::write_arch_fault;
+use crate::latches::warn_of_latches;
 use crate::outcome::Outcome;
-use crate::paths::{FileRole, make_folder, read_file, write_file};
+use crate::paths::{FileRole, ResultFile, make_folder, read_file, tell_stale, write_file};
 use crate::silence::Silence;
 use crate::words::{COLUMNS, EFFORT, FOLDER, NO_DEVICE, ROWS, SEED};
 use arch_file::ArchError;
@@ -25,7 +27,7 @@ const NO_FILE: &str = "an architecture, a netlist and a folder are wanted";
 
 const NO_TRACKS: &str = "--tracks W or --least-tracks is wanted, and not both";
 
-/// As much of a text as is looked at: one byte more than it may have.
+/// The most bytes of a text that are read: one more than it may have.
 const MAX_READ: u64 = MAX_TEXT as u64 + 1;
 
 pub(crate) const TOOL: Program = Program {
@@ -87,7 +89,7 @@ struct Tracks {
     ghost lawful: { (1 ≤ number) × (number ≤ 64) },
 }
 
-/// What is routed, and where.
+/// What is routed, on which device, and the folder for the files.
 #[derive(Clone, Copy)]
 pub(crate) struct Wishes<'a> {
     arch: &'a str,
@@ -99,14 +101,14 @@ pub(crate) struct Wishes<'a> {
     rows: u32,
     seed: u64,
     effort: u32,
-    /// Whether a line a step is told in any case.
+    /// Whether a line for each step is written in any case.
     is_told: bool,
     ghost columns_lawful: { (1 ≤ columns) × (columns ≤ 256) },
     ghost rows_lawful: { (1 ≤ rows) × (rows ≤ 64) },
     ghost effort_lawful: { effort ≤ 100 },
 }
 
-/// What the options wish, or why they are refused.
+/// What the options ask for, or why they are refused.
 pub(crate) fn wishes_of<'a>(given: &Given<'a>) -> Result<Wishes<'a>, &'static str> {
     let columns = given.number("columns")?;
     let rows = given.number("rows")?;
@@ -127,7 +129,7 @@ pub(crate) fn wishes_of<'a>(given: &Given<'a>) -> Result<Wishes<'a>, &'static st
     })
 }
 
-/// The number of tracks, or none where the least is wanted.
+/// The number of tracks. None if the least is wanted.
 fn tracks_of(given: &Given<'_>) -> Result<Option<Tracks>, &'static str> {
     match (given.text("tracks"), given.is_given("least-tracks")) {
         (Some(_), false) => {
@@ -150,23 +152,65 @@ pub(crate) fn run<H: Files + AllocGlobal, W: Sink, E: Sink>(
     teller: &mut E,
     is_terminal: bool,
 ) -> Result<(), Outcome> {
-    let arch = read_file(rt, FileRole::Architecture, wishes.arch, MAX_READ)?;
-    let least = if wishes.is_told || is_terminal {
-        least_on(rt, wishes, arch.as_slice(), teller)
-    } else {
-        least_on(rt, wishes, arch.as_slice(), &mut Silence)
-    };
+    let arch = read_file(rt, FileRole::Architecture, wishes.arch, MAX_READ, teller)?;
+    let trial = trial_on(rt, wishes, arch.as_slice(), teller, is_terminal);
     drop(arch);
-    match least? {
-        Least::Routed { run, .. } => ended(rt, wishes, run, writer, teller),
-        Least::Refused(run) => ended(rt, wishes, run, writer, teller),
-        Least::Unrouted => Err(Outcome::Unrouted),
+    let outcome = match trial {
+        Ok(Trial::Decided(run)) => ended(rt, wishes, run, writer, teller),
+        Ok(Trial::NeverRouted) => Err(Outcome::Unrouted),
+        Err(outcome) => Err(outcome),
+    };
+    if let Err(Outcome::Unrouted | Outcome::NetlistRefused | Outcome::ArchRefused(_)) = outcome {
+        tell_all_stale(rt, wishes, teller);
+    }
+    outcome
+}
+
+/// Writes which of the three files are left from an earlier run.
+fn tell_all_stale<H: Files + AllocGlobal, E: Sink>(rt: &H, wishes: Wishes<'_>, teller: &mut E) {
+    tell_stale(rt, result_file(wishes, "net"), teller);
+    tell_stale(rt, result_file(wishes, "place"), teller);
+    tell_stale(rt, result_file(wishes, "route"), teller);
+}
+
+/// The file of that kind.
+fn result_file<'a>(wishes: Wishes<'a>, kind: &'static str) -> ResultFile<'a> {
+    ResultFile {
+        folder: wishes.folder,
+        name: stem_of(wishes.netlist),
+        kind,
     }
 }
 
-/// The netlist that is routed.
-fn netlist_of<H: Files + AllocGlobal>(rt: &H, wishes: Wishes<'_>) -> Result<SharedText, Outcome> {
-    let netlist = read_file(rt, FileRole::Netlist, wishes.netlist, MAX_READ)?;
+/// The result of trying one or several numbers of tracks.
+#[derive(Drop)]
+enum Trial {
+    /// The run with the number that is asked for, or else with the least with which the netlist is
+    /// routed or refused.
+    Decided(Run),
+    /// The netlist was left unrouted with each number that a channel may have.
+    NeverRouted,
+}
+
+impl Trial {
+    /// The result of a search for the least number.
+    fn of_least(least: Least) -> Self {
+        match least {
+            Least::Routed { run, .. } => Trial::Decided(run),
+            Least::Refused(run) => Trial::Decided(run),
+            Least::Unrouted => Trial::NeverRouted,
+        }
+    }
+}
+
+/// Reads the netlist that is to be routed, and warns of its latches without a clock.
+fn netlist_of<H: Files + AllocGlobal, E: Sink>(
+    rt: &H,
+    wishes: Wishes<'_>,
+    teller: &mut E,
+) -> Result<SharedText, Outcome> {
+    let netlist = read_file(rt, FileRole::Netlist, wishes.netlist, MAX_READ, teller)?;
+    warn_of_latches(rt.alloc(), netlist.as_slice(), teller);
     match SharedText::new(rt.alloc(), Text::new(netlist)) {
         Ok(netlist) => Ok(netlist),
         Err(refused) => {
@@ -176,31 +220,40 @@ fn netlist_of<H: Files + AllocGlobal>(rt: &H, wishes: Wishes<'_>) -> Result<Shar
     }
 }
 
-/// The run of the netlist that is read, on that architecture.
-fn least_on<H: Files + AllocGlobal, E: Sink>(
+/// Reads the netlist, and tries it on that architecture.
+fn trial_on<H: Files + AllocGlobal, E: Sink>(
     rt: &H,
     wishes: Wishes<'_>,
     arch: &[u8],
     teller: &mut E,
-) -> Result<Least, Outcome> {
-    let netlist = netlist_of(rt, wishes)?;
-    let least = searched(rt.alloc(), wishes, arch, &netlist, teller);
+    is_terminal: bool,
+) -> Result<Trial, Outcome> {
+    let netlist = netlist_of(rt, wishes, teller)?;
+    let trial = if wishes.is_told || is_terminal {
+        trial_with(rt.alloc(), wishes, arch, &netlist, teller)
+    } else {
+        trial_with(rt.alloc(), wishes, arch, &netlist, &mut Silence)
+    };
     drop(netlist);
-    match least {
-        Ok(least) => Ok(least),
+    match trial {
+        Ok(trial) => Ok(trial),
         Err(TextError::NoMemory) => Err(Outcome::NoMemory),
-        Err(TextError::Fault(fault)) => Err(Outcome::ArchRefused(fault)),
+        Err(TextError::Fault(fault)) => {
+            let _ = write_arch_fault(teller, wishes.arch, fault);
+            Err(Outcome::ArchRefused(fault))
+        }
     }
 }
 
-/// The run with so many tracks as are wished, or with the least that do.
-fn searched<E: Sink>(
+/// Runs the netlist with the number of tracks that is asked for, or else with one number after
+/// another until it is routed or refused.
+fn trial_with<E: Sink>(
     alloc: Global,
     wishes: Wishes<'_>,
     arch: &[u8],
     netlist: &SharedText,
     teller: &mut E,
-) -> Result<Least, ArchError> {
+) -> Result<Trial, ArchError> {
     let plan = DevicePlan {
         text: arch,
         columns: wishes.columns,
@@ -214,14 +267,16 @@ fn searched<E: Sink>(
     match wishes.tracks {
         Some(Tracks { number, .. }) => {
             let run = run_with(alloc, plan, number, request, teller)?;
-            let tracks = number;
-            Ok(Least::Routed { tracks, run })
+            Ok(Trial::Decided(run))
         }
-        None => least_tracks(alloc, plan, request, teller),
+        None => {
+            let least = least_tracks(alloc, plan, request, teller)?;
+            Ok(Trial::of_least(least))
+        }
     }
 }
 
-/// Writes what came of a run.
+/// Writes the result of a run.
 fn ended<H: Files + AllocGlobal, W: Sink, E: Sink>(
     rt: &H,
     wishes: Wishes<'_>,
@@ -232,7 +287,7 @@ fn ended<H: Files + AllocGlobal, W: Sink, E: Sink>(
     let Run { outcome, figures } = run;
     match outcome {
         End::Routed(files) => {
-            let saved = saved(rt, wishes, &files);
+            let saved = saved(rt, wishes, &files, teller);
             drop(files);
             saved?;
             print_known(writer, figures)
@@ -250,7 +305,7 @@ fn print_known<W: Sink>(writer: &mut W, figures: Option<Figures>) -> Result<(), 
     }
 }
 
-/// Prints with how many tracks it was routed, and what it uses.
+/// Prints with how many tracks the netlist was routed, and what it uses.
 fn print<W: Sink>(writer: &mut W, figures: &Figures) -> Result<(), Failed> {
     let parts = [
         Part::Text("tracks "),
@@ -262,17 +317,18 @@ fn print<W: Sink>(writer: &mut W, figures: &Figures) -> Result<(), Failed> {
 }
 
 /// Writes the three files.
-fn saved<H: Files + AllocGlobal>(
+fn saved<H: Files + AllocGlobal, E: Sink>(
     rt: &H,
     wishes: Wishes<'_>,
     files: &Results,
+    teller: &mut E,
 ) -> Result<(), Outcome> {
-    let name = stem_of(wishes.netlist);
-    let folder = wishes.folder;
-    make_folder(rt, folder)?;
-    write_file(rt, folder, name, "net", files.net.as_bytes())?;
-    write_file(rt, folder, name, "place", files.places.as_bytes())?;
-    write_file(rt, folder, name, "route", files.routes.as_bytes())
+    make_folder(rt, wishes.folder, teller)?;
+    let (net, places) = (files.net.as_bytes(), files.places.as_bytes());
+    write_file(rt, result_file(wishes, "net"), net, teller)?;
+    write_file(rt, result_file(wishes, "place"), places, teller)?;
+    let routes = files.routes.as_bytes();
+    write_file(rt, result_file(wishes, "route"), routes, teller)
 }
 
 /// The name of a file without its folders and the ending `.blif`.
@@ -284,7 +340,8 @@ fn stem_of(path: &str) -> &str {
     name.strip_suffix(".blif").unwrap_or(name)
 }
 
-/// Tells how a routing ended without routes, as the service tells it.
+/// Writes how a routing ended without routes, as the service would reply, and returns how the
+/// errand ended.
 fn told_unrouted<E: Sink>(alloc: Global, ending: Ending, teller: &mut E) -> Outcome {
     let reply = Reply::Status(Status {
         state: StateName::Unrouted,
@@ -295,13 +352,13 @@ fn told_unrouted<E: Sink>(alloc: Global, ending: Ending, teller: &mut E) -> Outc
     Outcome::Unrouted
 }
 
-/// Tells why the netlist is refused, as the service tells it.
+/// Writes why the netlist is refused, as the service would reply, and returns how the errand ended.
 fn told_refused<E: Sink>(alloc: Global, refusal: Refusal, teller: &mut E) -> Outcome {
     tell(alloc, Reply::Refused(refusal), teller);
     Outcome::NetlistRefused
 }
 
-/// Tells a reply's line and what may be done, if that can be written.
+/// Writes a reply's line and what can be done about it, if that can be written.
 fn tell<E: Sink>(alloc: Global, reply: Reply, teller: &mut E) {
     let mut line = MemorySink::new(alloc);
     if write_reply(&mut line, &reply).is_ok() {

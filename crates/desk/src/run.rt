@@ -1,30 +1,53 @@
-//! Errands that are run.
+//! Runs errands.
 use crate::errand::{Errand, View, read_errand};
+use crate::latches::warn_of_latches;
 use crate::outcome::Outcome;
 use crate::{files, picture, report, route, script, strip};
 use clap::Error;
 use clap::error::ErrorKind;
 use device_picture::{DeviceSize, ReadError, read_device};
-use line_text::{Sink, Source, read_all};
+use line_text::{Sink, Source, read_all, write_all};
 use random_script::write_script;
 use std::alloc::Global;
 use std::convert::AsStr;
 use std::rt::Files;
 use tenancy_script::Wishes;
 
-/// What a program reads and writes beside files.
+/// What a program reads and writes besides files.
 #[derive(Drop)]
 pub struct Streams<'a, R: Source, W: Sink, E: Sink> {
     pub reader: &'a mut R,
     pub writer: &'a mut W,
-    /// Where progress is told, and why something is refused.
+    /// Progress goes here, and why something is refused.
     pub teller: &'a mut E,
-    /// Whether that is a terminal: then progress is told unasked.
+    /// Whether that is a terminal: then progress is written without being asked for.
     pub is_terminal: bool,
 }
 
-/// Does what a program's words ask, the first being its name. An error is clap's: the words are refused, or ask for help.
+/// What `--version` prints.
+const VERSION: &str = "fpgad_desk 1.0\n";
+
+/// Does what a program's words ask, the first being its name. Help and the version are printed to
+/// the writer. An error is clap's: the words are refused.
 pub fn run_words<H: Files + AllocGlobal, S: AsStr, R: Source, W: Sink, E: Sink>(
+    rt: &H,
+    words: &[S],
+    streams: Streams<'_, R, W, E>,
+) -> Result<Outcome, Error> {
+    let name = words.first().map_or("", |word| word.as_str());
+    let asked = words.get(1).map_or("", |word| word.as_str());
+    let tool = words.get(2).map_or("--help", |word| word.as_str());
+    match asked {
+        "help" if words.len() < 4 => run_read(rt, &[name, tool, "--help"], streams),
+        "--version" | "-V" if words.len() == 2 => {
+            Ok(Outcome::of_writing(write_all(streams.writer, VERSION.as_bytes())))
+        }
+        _ => run_read(rt, words, streams),
+    }
+}
+
+/// Reads the words and does what they ask. Help is printed to the writer.
+fn run_read<H: Files + AllocGlobal, S: AsStr, R: Source, W: Sink, E: Sink>(
     rt: &H,
     words: &[S],
     streams: Streams<'_, R, W, E>,
@@ -32,7 +55,22 @@ pub fn run_words<H: Files + AllocGlobal, S: AsStr, R: Source, W: Sink, E: Sink>(
     match read_errand(rt.alloc(), words) {
         Ok(errand) => Ok(run(rt, errand, streams)),
         Err(error) if error.kind() == ErrorKind::OutOfMemory => Ok(Outcome::NoMemory),
+        Err(error) if error.kind() == ErrorKind::DisplayHelp => {
+            Ok(print_help(rt.alloc(), error, streams.writer))
+        }
         Err(error) => Err(error),
+    }
+}
+
+/// Prints the help, and returns how the errand ended.
+fn print_help<W: Sink>(alloc: Global, help: Error, writer: &mut W) -> Outcome {
+    match help.to_string(alloc) {
+        Ok(text) => {
+            let outcome = Outcome::of_writing(write_all(writer, text.as_bytes()));
+            drop(text);
+            outcome
+        }
+        Err(_) => Outcome::NoMemory,
     }
 }
 
@@ -49,25 +87,29 @@ fn run<H: Files + AllocGlobal, R: Source, W: Sink, E: Sink>(
         is_terminal,
     } = streams;
     match errand {
-        Errand::Script(wishes) => print_script(rt.alloc(), wishes, reader, writer),
-        Errand::Files(wishes) => Outcome::of(files::run(rt, wishes, reader, writer)),
+        Errand::Script(wishes) => print_script(rt.alloc(), wishes, reader, writer, teller),
+        Errand::Files(wishes) => Outcome::of(files::run(rt, wishes, reader, writer, teller)),
         Errand::Route(wishes) => Outcome::of(route::run(rt, wishes, writer, teller, is_terminal)),
-        Errand::Strip(wishes) => Outcome::of(strip::print(rt, wishes, writer)),
+        Errand::Strip(wishes) => Outcome::of(strip::print(rt, wishes, writer, teller)),
         Errand::View(size, view) => show(rt.alloc(), size, view, reader, writer),
         Errand::Random(plan) => Outcome::of_writing(write_script(writer, plan)),
     }
 }
 
 /// Prints the script of a tenancy with the netlist that is read.
-fn print_script<R: Source, W: Sink>(
+fn print_script<R: Source, W: Sink, E: Sink>(
     alloc: Global,
     wishes: Wishes<'_>,
     reader: &mut R,
     writer: &mut W,
+    teller: &mut E,
 ) -> Outcome {
     match read_all(alloc, reader) {
         Ok(text) => {
             let outcome = script::print(wishes, text.as_slice(), writer);
+            if let Outcome::Done = outcome {
+                warn_of_latches(alloc, text.as_slice(), teller);
+            }
             drop(text);
             outcome
         }
@@ -93,7 +135,7 @@ fn show<R: Source, W: Sink>(
     }
 }
 
-/// The same, of the text.
+/// Shows the device of that size which the text prints.
 fn show_text<W: Sink>(
     alloc: Global,
     size: DeviceSize,

@@ -16,6 +16,7 @@ pub(crate) const TOOL: Program = Program {
     after_help: "\
 A netlist with a line that is `.` alone, or of more than 1048576 bytes, is refused with that line and status 3:
 whatever else it holds, the script says what it said before, one upload of this text, and the commands above.
+Of each latch without a clock a warning is told on standard error.
 
 Example: fpgad_desk script --name T --width 2 --seed 1 --effort 50 < t.blif >> my.script",
     options: &[
@@ -38,7 +39,7 @@ Example: fpgad_desk script --name T --width 2 --seed 1 --effort 50 < t.blif >> m
     ],
 };
 
-/// What the options wish, or why they are refused.
+/// What the options ask for, or why they are refused.
 pub(crate) fn wishes_of<'a>(given: &Given<'a>) -> Result<Wishes<'a>, &'static str> {
     let name = given.text("name").ok_or(NO_NAME)?.as_bytes();
     if !is_name(name) {

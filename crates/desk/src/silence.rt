@@ -1,4 +1,4 @@
-//! A sink for what nobody wants to be told.
+//! A sink for text that nobody wants.
 ghost use Rattle.std.specs.Prelude.{None, true, false};
 
 use line_text::{Failed, Sink};

@@ -15,7 +15,7 @@ pub(crate) const TOOL: Program = Program {
     about: "Draws one tenancy as an SVG, from the three files that the service wrote of it",
     after_help: "\
 Its blocks with their names, and a colour a net; with --net one net before the others, with --heat how many tracks of each
-channel are used. A file that the service didn't write so is refused with its line and status 3.
+channel are used. A line that no such file has is refused with its number and status 3. What the lines say is drawn unchecked.
 
 Example: fpgad_desk strip T.net T.place T.route --heat > t.svg",
     options: &[
@@ -74,7 +74,7 @@ enum Shown<'a> {
     Channels,
 }
 
-/// What the options wish, or why they are refused.
+/// What the options ask for, or why they are refused.
 pub(crate) fn wishes_of<'a>(given: &Given<'a>) -> Result<Wishes<'a>, &'static str> {
     Ok(Wishes {
         net_file: given.text("packing").ok_or(NO_FILE)?,
@@ -95,39 +95,42 @@ fn shown_of<'a>(given: &Given<'a>) -> Result<Shown<'a>, &'static str> {
 }
 
 /// Draws a tenancy from its files.
-pub(crate) fn print<H: Files + AllocGlobal, W: Sink>(
+pub(crate) fn print<H: Files + AllocGlobal, W: Sink, E: Sink>(
     rt: &H,
     wishes: Wishes<'_>,
     writer: &mut W,
+    teller: &mut E,
 ) -> Result<(), Outcome> {
-    let net = read_file(rt, FileRole::Net, wishes.net_file, u64::MAX)?;
-    let outcome = print_packed(rt, wishes, net.as_slice(), writer);
+    let net = read_file(rt, FileRole::Net, wishes.net_file, u64::MAX, teller)?;
+    let outcome = print_packed(rt, wishes, net.as_slice(), writer, teller);
     drop(net);
     outcome
 }
 
-/// The same, of the text of the packing.
-fn print_packed<H: Files + AllocGlobal, W: Sink>(
+/// Draws a tenancy from the text of its packing and its other files.
+fn print_packed<H: Files + AllocGlobal, W: Sink, E: Sink>(
     rt: &H,
     wishes: Wishes<'_>,
     net: &[u8],
     writer: &mut W,
+    teller: &mut E,
 ) -> Result<(), Outcome> {
-    let place = read_file(rt, FileRole::Places, wishes.place_file, u64::MAX)?;
-    let outcome = print_placed(rt, wishes, net, place.as_slice(), writer);
+    let place = read_file(rt, FileRole::Places, wishes.place_file, u64::MAX, teller)?;
+    let outcome = print_placed(rt, wishes, net, place.as_slice(), writer, teller);
     drop(place);
     outcome
 }
 
-/// The same, of the texts of the packing and of the places.
-fn print_placed<H: Files + AllocGlobal, W: Sink>(
+/// Draws a tenancy from the texts of its packing and placement and the file of its routes.
+fn print_placed<H: Files + AllocGlobal, W: Sink, E: Sink>(
     rt: &H,
     wishes: Wishes<'_>,
     net: &[u8],
     place: &[u8],
     writer: &mut W,
+    teller: &mut E,
 ) -> Result<(), Outcome> {
-    let route = read_file(rt, FileRole::Routes, wishes.route_file, u64::MAX)?;
+    let route = read_file(rt, FileRole::Routes, wishes.route_file, u64::MAX, teller)?;
     let texts = StripTexts {
         net,
         place,
@@ -158,7 +161,7 @@ fn drawn<W: Sink>(
     outcome
 }
 
-/// What the picture shows. None where no net has the name.
+/// The view that is asked for. None if no net has the name.
 fn view_of(strip: &RoutedStrip<'_>, shown: Shown<'_>) -> Option<View> {
     match shown {
         Shown::Nets => Some(View::Nets),
@@ -167,7 +170,7 @@ fn view_of(strip: &RoutedStrip<'_>, shown: Shown<'_>) -> Option<View> {
     }
 }
 
-/// How the errand ends of a picture that was drawn so.
+/// How the errand ends after a drawing that ended so.
 fn written(drawn: Result<(), DrawError>) -> Result<(), Outcome> {
     match drawn {
         Ok(()) => Ok(()),

@@ -1,7 +1,7 @@
 //! Options that several tools take.
 use option_words::{OptionWord, Takes};
 
-/// Why numbers are refused that are no device's.
+/// Why numbers are refused that are not the sizes of a device.
 pub(crate) const NO_DEVICE: &str = "no device has these sizes";
 
 pub(crate) const COLUMNS: OptionWord = OptionWord {

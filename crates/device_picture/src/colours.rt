@@ -2,7 +2,8 @@
 use line_text::Sink;
 use text_parts::{Part, Pen};
 
-/// Writes the colour of the tenancy at a place of the list, as a value of CSS. Colours of places side by side lie far apart.
+/// Writes the colour of the tenancy at an index of the list, as a value of CSS. The colours of
+/// neighbouring indices differ strongly.
 pub(crate) fn write_colour<K: Sink>(pen: &mut Pen<'_, K>, place: usize) {
     let place = (place % 360) as u32;
     let hue = (210 + 137 * place) % 360;

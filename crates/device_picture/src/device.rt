@@ -1,4 +1,4 @@
-//! What is drawn.
+//! The device that is drawn.
 ghost use Rattle.std.specs.Prelude.{◌≡◌, ◌≤◌, Contains, IfSome};
 
 use crate::size::DeviceSize;
@@ -14,7 +14,7 @@ pub struct Owned {
     ghost on_largest: { (node.x ≤ 256) × (node.y ≤ 65) × (node.n ≤ 144) },
 }
 
-/// The device: its size, the tenancies that live on it, and what they own, in node order.
+/// The device: its size, its live tenancies, and what they own, in node order.
 #[derive(Drop)]
 pub struct Device<'t> {
     pub size: DeviceSize,
@@ -23,7 +23,7 @@ pub struct Device<'t> {
 }
 
 impl<'t> Device<'t> {
-    /// A device of that size without tenancies.
+    /// Returns a device of that size without tenancies.
     pub fn new(alloc: Global, size: DeviceSize) -> Self {
         Device {
             size,
@@ -32,7 +32,7 @@ impl<'t> Device<'t> {
         }
     }
 
-    /// The tenancy of that id.
+    /// The tenancy of that id; `None` if it isn't listed.
     pub(crate) fn tenancy(&self, id: u32) -> Option<&Tenancy<'t>>
         ensures { IfSome result (λ tenancy. Contains self.now.tenancies.items tenancy.now
             × (tenancy.now.id ≡ id)) }
@@ -40,35 +40,36 @@ impl<'t> Device<'t> {
         self.tenancies.iter().find(|tenancy| tenancy.id == id)
     }
 
-    /// Whether a tenancy of that id may follow those in the list.
+    /// Returns whether a tenancy of that id may follow those in the list: its id is greater.
     pub(crate) fn is_next(&self, id: u32) -> bool {
         self.tenancies.last().is_none_or(|last| last.id < id)
     }
 
-    /// Whether a node follows the owned ones in node order.
+    /// Returns whether a node comes after the owned ones in node order.
     pub(crate) fn goes_on_with(&self, node: Resource) -> bool {
         self.owned
             .last()
             .is_none_or(|last| last.node.is_before(node))
     }
 
-    /// Whether an unused column parts this strip from all others.
+    /// Returns whether this strip is separated from all others by an unused column.
     pub(crate) fn is_parted(&self, strip: &Tenancy<'_>) -> bool {
         self.tenancies.iter().all(|other| other.is_parted(strip))
     }
 
-    /// Whether a column stands in a strip.
+    /// Returns whether a column is in a strip.
     pub(crate) fn is_used(&self, column: u32) -> bool {
         self.tenancies.iter().any(|strip| strip.has_column(column))
     }
 
-    /// Whether a column is unused and stands beside a strip.
+    /// Returns whether a column is unused and beside a strip.
     pub(crate) fn is_guard(&self, column: u32) -> bool {
         let beside = self.tenancies.iter().any(|strip| strip.is_beside(column));
         beside && !self.is_used(column)
     }
 
-    /// What a tenancy owns: the first owned nodes in a row that are its own. No other is, where each stands in its owner's strip.
+    /// What a tenancy owns: the first contiguous run of owned nodes that are its own. There are no
+    /// others, if each node is in its owner's strip.
     pub(crate) fn owned_by(&self, id: u32) -> &[Owned] {
         let all = self.owned.as_slice();
         let first = all.iter().position(|owned| owned.owner == id);
@@ -78,7 +79,7 @@ impl<'t> Device<'t> {
         own
     }
 
-    /// How long the longest name is.
+    /// The length of the longest name.
     pub(crate) fn longest_name(&self) -> u32
         ensures { result ≤ 32 }
     {

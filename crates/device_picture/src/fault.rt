@@ -2,14 +2,15 @@
 use std::alloc::AllocError;
 use std::fmt;
 
-/// What is wrong with a line.
+/// What is wrong with a line of the input.
 #[derive(Clone, Copy, PartialEq, Eq)]
 pub enum Fault {
     /// The first line is not `== op`.
     NoSection,
-    /// It is none of the operator's replies.
+    /// The line isn't one of the operator's replies.
     UnknownLine,
-    /// A line of `op list` whose numbers, name or state are none, or whose strip leaves the device.
+    /// A line of `op list` with a bad number, name or state, or with a strip that isn't within the
+    /// device.
     BadTenancy,
     /// Two strips with no unused column between them.
     NotParted,
@@ -17,35 +18,49 @@ pub enum Fault {
     BadOwner,
     /// A wire, pin or pad that the device does not have.
     NotThere,
-    /// A wire, pin or pad that does not follow the one before it in node order.
+    /// A wire, pin or pad that does not come after the previous one in node order.
     OutOfOrder,
-    /// An owner that no line of `op list` tells.
+    /// An owner that isn't in `op list`.
     NotListed,
     /// A wire, pin or pad outside its owner's strip.
     OutsideStrip,
     /// The input ends before all lines of `op owners` came.
     Unfinished,
+    /// Tenancies are live, and no line of `op list` follows the last change of the device.
+    NoList,
+    /// No `op owners` follows the last change of the device.
+    NoOwners,
 }
 
 impl Fault {
-    /// It in words.
+    /// The fault in words.
     fn text(self) -> &'static str {
         match self {
             Fault::NoSection => "the input does not begin with the operator's section, `== op`",
             Fault::UnknownLine => "not a reply to the operator",
-            Fault::BadTenancy => "not a tenancy on this device: ID NAME OFFSET WIDTH STATE",
+            Fault::BadTenancy => {
+                "not a tenancy on a device with these --columns: ID NAME OFFSET WIDTH STATE"
+            }
             Fault::NotParted => "no unused column parts this strip from an earlier one",
             Fault::BadOwner => "not an owned wire, pin or pad: NODE owner ID",
-            Fault::NotThere => "the device has no such wire, pin or pad",
+            Fault::NotThere => {
+                "a device of these --columns, --rows, --tracks and --pads has no such wire, pin or pad"
+            }
             Fault::OutOfOrder => "it does not follow the one before it in node order",
-            Fault::NotListed => "no line of `op list` tells of this owner",
-            Fault::OutsideStrip => "it stands outside its owner's strip",
+            Fault::NotListed => "the last `op list` has no tenancy with this id",
+            Fault::OutsideStrip => "it is outside its owner's strip",
             Fault::Unfinished => "the input ends before the last owner",
+            Fault::NoList => {
+                "no `op list` follows this line: end the script with `op list` and `op owners`"
+            }
+            Fault::NoOwners => {
+                "no `op owners` follows this line: end the script with `op list` and `op owners`"
+            }
         }
     }
 }
 
-/// The least line that is refused, counted from 1.
+/// The first line that is refused, counted from 1.
 #[derive(Clone, Copy)]
 pub struct InputFault {
     pub fault: Fault,

@@ -1,4 +1,4 @@
-//! The sheet that the picture stands on: its size, its styles, its heading and the numbers beside it.
+//! The sheet of the picture: its size, its styles, its heading and the numbers beside the device.
 ghost use Rattle.std.specs.Prelude.{◌≤◌};
 
 use crate::device::Device;
@@ -7,7 +7,8 @@ use line_text::Sink;
 use picture_lines::{Sheet, begin_group, end_group, write_numbers, write_rows};
 use text_parts::{Part, Pen};
 
-/// The styles: tracks, blocks and pads, wires, owned pads, output pins, input pins, strips, guard columns.
+/// The styles: tracks, blocks and pads, wires, owned pads, output pins, input pins, strips, guard
+/// columns.
 const STYLES: &str = "<style>text{font-family:sans-serif;fill:#222}\
 .t{fill:none;stroke:#ccc;stroke-width:.15}\
 .b{fill:#f6f6f6;stroke:#888;stroke-width:.15}\
@@ -18,19 +19,19 @@ const STYLES: &str = "<style>text{font-family:sans-serif;fill:#222}\
 .s{fill:currentColor;fill-opacity:.1}\
 .g{fill:url(#guard)}</style>\n";
 
-/// How things are laid out on the sheet, in the lengths of the device.
+/// The layout of the sheet, in units of the picture.
 #[derive(Clone, Copy)]
 pub(crate) struct Frame {
     pub(crate) geometry: Geometry,
     /// The size of letters.
     pub(crate) font: u32,
-    /// How long an entry of the legend is.
+    /// The length of an entry of the legend.
     pub(crate) entry: u32,
-    /// How many entries of the legend stand side by side.
+    /// The number of entries of the legend side by side.
     pub(crate) side: u32,
-    /// How long the sheet is.
+    /// The width of the sheet.
     pub(crate) width: u32,
-    /// How many lines the legend has.
+    /// The number of lines of the legend.
     pub(crate) lines: u32,
     ghost font_small: { (1 ≤ font) × (font ≤ 400) },
     ghost entry_small: { (1 ≤ entry) × (entry ≤ 20_000) },
@@ -40,7 +41,7 @@ pub(crate) struct Frame {
 }
 
 impl Frame {
-    /// That of a device.
+    /// The layout for a device.
     pub(crate) fn of(device: &Device<'_>) -> Self {
         let geometry = Geometry::of(device);
         let font = (geometry.length() / 90).max(1);
@@ -58,35 +59,36 @@ impl Frame {
         }
     }
 
-    /// How far the device stands from the left.
+    /// The distance of the device from the left.
     fn left(&self) -> u32
         ensures { result ≤ 1200 }
     {
         3 * self.font
     }
 
-    /// How far the device's lower end stands from above.
+    /// The distance of the device's lower end from the top.
     fn ground(&self) -> u32
         ensures { result ≤ 35_000 }
     {
         3 * self.font + self.geometry.height()
     }
 
-    /// How far the legend stands from above.
+    /// The distance of the legend from the top.
     pub(crate) fn legend(&self) -> u32
         ensures { result ≤ 37_000 }
     {
         self.ground() + 4 * self.font
     }
 
-    /// How high the sheet is.
+    /// The height of the sheet.
     fn height(&self) -> u32
         ensures { result ≤ 300_000 }
     {
         self.legend() + 2 * self.lines * self.font
     }
 
-    /// How many dots of a screen the sheet is long: 14 for a track where that is no more than 1,400, and 10 for a column at least.
+    /// The width of the sheet on a screen, in pixels: 14 for a track if that is at most 1,400, and
+    /// at least 10 for a column.
     fn dots(&self) -> u32
         ensures { result ≤ 2_560 }
     {
@@ -192,7 +194,7 @@ impl Frame {
         );
     }
 
-    /// Of so many columns, or rows, one has its number beside it.
+    /// How many columns, or rows, go with one number beside them.
     fn step(&self) -> u32
         ensures { 1 ≤ result }
     {

@@ -1,28 +1,28 @@
-//! Where things stand in the picture: columns, rows and tracks as [`picture_lines::Lattice`] has them. The pads of row 0 stand at its upper
-//! end, those above the last row at their row's lower end.
+//! The positions in the picture: columns, rows and tracks as [`picture_lines::Lattice`] has them.
+//! The pads of row 0 are at its upper end, those above the last row at the lower end of theirs.
 ghost use Rattle.std.specs.Prelude.{◌+◌, ◌*◌, ◌≤◌};
 
 use crate::device::Device;
 use picture_lines::Lattice;
 
-/// Where things stand. Heights count upwards.
+/// The positions in the picture. Heights count upwards.
 #[derive(Clone, Copy)]
 pub(crate) struct Geometry {
-    /// How large blocks and channels are.
+    /// The sizes of blocks and channels.
     pub(crate) lattice: Lattice,
     /// Columns of the device.
     pub(crate) columns: u32,
     /// Rows of the device.
     pub(crate) rows: u32,
-    /// How long a pad is, with the gap behind it.
+    /// The length of a pad, with the gap after it.
     pub(crate) pad: u32,
-    /// How high a pad is.
+    /// The height of a pad.
     pub(crate) pad_height: u32,
-    /// How many pins stand side by side in a block.
+    /// The number of pins side by side in a block.
     pub(crate) side: u32,
-    /// How long and high a pin is, with the gap behind it.
+    /// The width and height of a pin, with the gap after it.
     pub(crate) pin: u32,
-    /// How far the pins stand from the sides of their block.
+    /// The distance of the pins from the sides of their block.
     pub(crate) inset: u32,
     ghost columns_small: { (1 ≤ columns) × (columns ≤ 256) },
     ghost rows_small: { (1 ≤ rows) × (rows ≤ 64) },
@@ -34,7 +34,7 @@ pub(crate) struct Geometry {
 }
 
 impl Geometry {
-    /// That of a device: pins are as large as the largest number among them lets them be.
+    /// The positions for a device: pins are as large as the largest pin number allows.
     pub(crate) fn of(device: &Device<'_>) -> Self {
         let size = device.size;
         let side = side_of(device.last_pin());
@@ -53,21 +53,21 @@ impl Geometry {
         }
     }
 
-    /// How long the device is, from its first channel to its last one.
+    /// The length of the device, from its first channel to its last one.
     pub(crate) fn length(&self) -> u32
         ensures { result ≤ 33_500 }
     {
         self.lattice.span(self.columns) + self.lattice.channel
     }
 
-    /// How high the device is, from the lower pads to the upper ones.
+    /// The height of the device, from the lower pads to the upper ones.
     pub(crate) fn height(&self) -> u32
         ensures { result ≤ 33_700 }
     {
         self.lattice.span(self.rows) + self.lattice.channel + 2 * self.pad_height
     }
 
-    /// How high the lower end of the lower pads stands.
+    /// The height of the lower end of the lower pads.
     pub(crate) fn bottom(&self) -> u32
         ensures { result ≤ 65 }
     {
@@ -75,7 +75,7 @@ impl Geometry {
     }
 }
 
-/// The side of the least square that has room for the pins up to this one.
+/// The side, in pins, of the smallest square that holds the pins up to this one.
 fn side_of(last_pin: u32) -> u32
     requires { last_pin ≤ 144 }
     ensures { (1 ≤ result) × (result ≤ 13) }

@@ -1,4 +1,4 @@
-//! The device under what its tenancies own: tracks, blocks, pads, strips and guard columns.
+//! The background of what the tenancies own: tracks, blocks, pads, strips and guard columns.
 ghost use Rattle.std.specs.Prelude.{◌≤◌};
 
 use crate::colours::write_colour;
@@ -9,7 +9,7 @@ use line_text::Sink;
 use picture_lines::{write_box, write_line};
 use text_parts::{Part, Pen};
 
-/// Writes the device under what its tenancies own.
+/// Writes the background of what the tenancies own.
 pub(crate) fn write_ground<K: Sink>(pen: &mut Pen<'_, K>, geometry: Geometry, device: &Device<'_>) {
     write_strips(pen, geometry, device);
     write_tracks(pen, geometry, device.size.tracks);
@@ -17,7 +17,7 @@ pub(crate) fn write_ground<K: Sink>(pen: &mut Pen<'_, K>, geometry: Geometry, de
     write_guards(pen, geometry, device);
 }
 
-/// Writes what the ground refers to: the blocks and pads of a column, as if it were column 0.
+/// Writes what the background refers to: the blocks and pads of a column, as if it were column 0.
 pub(crate) fn write_column<K: Sink>(pen: &mut Pen<'_, K>, geometry: Geometry, pads: u32)
     requires { pads ≤ 8 }
 {
@@ -54,7 +54,6 @@ fn write_pads<K: Sink>(pen: &mut Pen<'_, K>, geometry: Geometry, pad: u32)
     );
 }
 
-/// Writes the columns.
 fn write_columns<K: Sink>(pen: &mut Pen<'_, K>, geometry: Geometry) {
     for column in 1..=geometry.columns {
         pen.write(&[
@@ -105,7 +104,6 @@ fn write_upwards<K: Sink>(pen: &mut Pen<'_, K>, geometry: Geometry, track: u32)
     }
 }
 
-/// Writes the strips.
 fn write_strips<K: Sink>(pen: &mut Pen<'_, K>, geometry: Geometry, device: &Device<'_>) {
     for (place, tenancy) in device.tenancies.iter().enumerate() {
         pen.text("<path class=\"s\" color=\"");

@@ -16,7 +16,6 @@ const KEYS: [(&str, &str); 4] = [
     ("g", "guard column"),
 ];
 
-/// Writes the legend.
 pub(crate) fn write_legend<K: Sink>(pen: &mut Pen<'_, K>, frame: Frame, device: &Device<'_>) {
     for (place, tenancy) in device.tenancies.iter().enumerate() {
         write_tenancy(pen, frame, *tenancy, place);

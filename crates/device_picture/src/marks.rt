@@ -7,7 +7,7 @@ use line_text::Sink;
 use rr_graph::ResourceKind;
 use text_parts::{Part, Pen};
 
-/// How many nodes one path draws at most.
+/// The largest number of nodes in one path.
 pub(crate) const LONGEST_PATH: usize = 4096;
 
 /// A rectangle.
@@ -83,7 +83,7 @@ fn mark_of(geometry: Geometry, owned: Owned) -> Mark {
     }
 }
 
-/// The part of a pad that is so high, on the side of the channel.
+/// The part of a pad with that height, on the side of the channel.
 fn pad_mark(geometry: Geometry, owned: Owned, height: u32) -> Mark
     requires { height ≤ geometry.pad_height }
 {
@@ -100,7 +100,7 @@ fn pad_mark(geometry: Geometry, owned: Owned, height: u32) -> Mark
     }
 }
 
-/// The place of a pin in its block: they stand side by side from the lower left corner on.
+/// The place of a pin in its block: pins are side by side, from the lower left corner.
 fn pin_mark(geometry: Geometry, owned: Owned) -> Mark {
     let node = owned.node;
     let length = geometry.pin - geometry.pin / 4;

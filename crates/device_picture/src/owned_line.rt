@@ -7,7 +7,7 @@ use crate::size::DeviceSize;
 use rr_graph::{Resource, ResourceKind};
 use text_parts::Scanner;
 
-/// How many pins a block has at most: 128 inputs, 16 outputs and a clock.
+/// The largest number of pins of a block: 128 inputs, 16 outputs and a clock.
 const MOST_PINS: u32 = 145;
 
 /// What the number of a wire, pin or pad counts.
@@ -18,7 +18,7 @@ enum Counted {
     Pads,
 }
 
-/// What a line of `op owners` tells: `NODE owner ID`.
+/// Reads a line of `op owners`: `NODE owner ID`.
 pub(crate) fn read_owned(size: DeviceSize, line: &[u8]) -> Result<Owned, Fault> {
     let Some((node, counted, owner)) = read_words(line) else {
         return Err(Fault::BadOwner);
@@ -47,7 +47,7 @@ fn read_words(line: &[u8]) -> Option<(Resource, Counted, u32)> {
     Some((Resource { x, kind, y, n }, counted, owner))
 }
 
-/// Takes the word for a kind off, up to the column.
+/// Reads the word for a kind, up to the column.
 fn take_kind(scanner: &mut Scanner<'_>) -> Option<ResourceKind> {
     if scanner.takes("CHANX (") {
         return Some(ResourceKind::ChanX);
@@ -64,7 +64,7 @@ fn take_kind(scanner: &mut Scanner<'_>) -> Option<ResourceKind> {
     scanner.takes("PAD (").then_some(ResourceKind::Pad)
 }
 
-/// Takes off what stands between the row and the number.
+/// Reads the word between the row and the number.
 fn take_counted(scanner: &mut Scanner<'_>) -> Option<Counted> {
     if scanner.takes(") Track: ") {
         return Some(Counted::Tracks);
@@ -75,7 +75,7 @@ fn take_counted(scanner: &mut Scanner<'_>) -> Option<Counted> {
     scanner.takes(") Pad: ").then_some(Counted::Pads)
 }
 
-/// Whether the device has it.
+/// Returns whether the device has the node.
 fn is_there(size: DeviceSize, node: Resource, counted: Counted) -> bool
     ensures column { result ≡ true → node.x ≤ 256 }
     ensures row { result ≡ true → node.y ≤ 65 }

@@ -15,15 +15,18 @@ use rr_graph::ResourceKind;
 use std::alloc::Global;
 use text_parts::{Part, Pen};
 
-/// How many runs of horizontal wires may grow at a time: the channels over 65 rows, with 65 places each.
+/// The largest number of runs of horizontal wires that may grow at one time: the channels over 65
+/// rows, with 65 places each.
 const LANES: usize = 4225;
 
-/// Writes the picture of a device as an SVG.
+/// Writes the picture of a device as an SVG. Fails if memory runs out, before it writes anything,
+/// or if the sink fails, which then has a first part of the picture.
 ///
 /// - Each track of each channel is a line, each block and pad a box. Row 1 is the lowest.
-/// - A strip is tinted in its tenancy's colour. A column that no strip has and that stands beside one is hatched.
-/// - Each owned wire, pin and pad has its owner's colour. Wires of one owner and track that adjoin are one line. A block's pins
-///   stand in a square in the order of their numbers, from its lower left corner on; the sides that they face are not told.
+/// - A strip is tinted in its tenancy's colour. An unused column beside a strip is hatched.
+/// - Each owned wire, pin and pad has its owner's colour. Adjoining wires of one owner and track
+///   are one line. A block's pins are arranged in a square in the order of their numbers, from its
+///   lower left corner; the sides that they face are not shown.
 /// - The legend has each tenancy's name, offset, width and state.
 pub fn draw<K: Sink>(alloc: Global, device: &Device<'_>, sink: &mut K) -> Result<(), DrawError> {
     let mut runs = Runs::new(alloc, LANES)?;
@@ -33,7 +36,7 @@ pub fn draw<K: Sink>(alloc: Global, device: &Device<'_>, sink: &mut K) -> Result
     Ok(pen.end()?)
 }
 
-/// Writes it by means of these runs.
+/// Writes the picture, with memory for these runs.
 fn draw_with<K: Sink>(device: &Device<'_>, pen: &mut Pen<'_, K>, runs: &mut Runs) {
     let frame = Frame::of(device);
     frame.write_head(pen);

@@ -6,12 +6,12 @@ use std::alloc::{AllocError, Global};
 /// Wires of one owner and track in one channel, each beside the next one.
 #[derive(Clone, Copy)]
 pub(crate) struct Run {
-    /// The channel: its row if it is horizontal, else its column.
+    /// The channel: its row if it is horizontal, otherwise its column.
     pub(crate) channel: u32,
     pub(crate) track: u32,
     /// The column, or the row, of the last wire.
     pub(crate) last: u32,
-    /// How many wires they are.
+    /// The number of wires.
     pub(crate) count: u32,
     ghost channel_small: { channel ≤ 256 },
     ghost track_small: { track ≤ 144 },
@@ -34,7 +34,7 @@ impl Run {
         }
     }
 
-    /// These wires and that one behind them. None where it does not adjoin the last of them.
+    /// These wires and that one after them; `None` if it does not adjoin the last of them.
     fn with(self, next: Run) -> Option<Run> {
         let adjoins = self.channel == next.channel && self.track == next.track;
         if !adjoins || next.last != self.last + 1 {
@@ -49,22 +49,23 @@ impl Run {
     }
 }
 
-/// The runs that may still grow, by lane. A lane is a place where at most one grows at a time.
+/// The runs that may still grow, by lane. A lane is a place at which at most one run grows at a
+/// time.
 #[derive(Drop)]
 pub(crate) struct Runs {
     open: Vec<Option<Run>>,
 }
 
 impl Runs {
-    /// So many lanes, with no run.
+    /// Returns `lanes` lanes without runs.
     pub(crate) fn new(alloc: Global, lanes: usize) -> Result<Self, AllocError> {
         Ok(Runs {
             open: Vec::from_elem(alloc, None, lanes)?,
         })
     }
 
-    /// Lets a lane's run grow by a wire, or begins a new one, and gives back the one that grows no more. A wire
-    /// beyond the lanes is a run alone.
+    /// Adds a wire to a lane's run, or begins a new one and returns the old one, which grows no
+    /// more. A wire beyond the lanes is a run of its own.
     pub(crate) fn push(&mut self, lane: usize, wire: Run) -> Option<Run> {
         let Some(place) = self.open.get_mut(lane) else {
             return Some(wire);

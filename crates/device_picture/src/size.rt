@@ -1,7 +1,7 @@
 //! The size of the device that is drawn.
 ghost use Rattle.std.specs.Prelude.{◌≤◌, IfNone, IfSome};
 
-/// The size of the device, of its channels and of its ends of columns, within the service's limits.
+/// The size of the device, of its channels and of its columns' ends, within the service's limits.
 #[derive(Clone, Copy)]
 pub struct DeviceSize {
     /// Columns of the device, 1 to 256.
@@ -21,7 +21,7 @@ pub struct DeviceSize {
 impl DeviceSize {
     ghost use Rattle.device_picture.specs.Sizes.{AreLawful, Holds};
 
-    /// This size, if it is within the limits.
+    /// Returns this size; `None` if it isn't within the limits.
     pub fn new(columns: u32, rows: u32, tracks: u32, pads: u32) -> Option<Self>
         ensures some { IfSome result (λ size. Holds size columns rows tracks pads) }
         ensures none { IfNone result (AreLawful columns rows tracks pads → ⊥) }

@@ -5,20 +5,20 @@ use crate::size::DeviceSize;
 use rr_graph::{Resource, ResourceKind};
 use text_parts::Scanner;
 
-/// How long a name may be.
+/// The greatest length of a name.
 const LONGEST_NAME: usize = 32;
 
-/// A tenancy that lives on the device.
+/// A live tenancy of the device.
 #[derive(Clone, Copy)]
 pub struct Tenancy<'t> {
     pub id: u32,
     /// Letters, digits and `_`, 1 to 32 of them.
     pub name: &'t [u8],
-    /// How many columns stand before its strip.
+    /// The number of columns before its strip.
     pub offset: u32,
-    /// How many columns its strip has.
+    /// The number of its strip's columns.
     pub width: u32,
-    /// Letters.
+    /// The name of its state: letters.
     pub state: &'t [u8],
     ghost on_largest: { offset + width ≤ 256 },
     ghost name_short: { length name.now ≤ 32 },
@@ -27,7 +27,8 @@ pub struct Tenancy<'t> {
 impl<'t> Tenancy<'t> {
     ghost use Rattle.device_picture.specs.Owning.{IsInStrip};
 
-    /// The tenancy that a line of `op list` tells: `ID NAME OFFSET WIDTH STATE`. None where it tells none on this device.
+    /// Reads a tenancy from a line of `op list`: `ID NAME OFFSET WIDTH STATE`. `None` if the line
+    /// has another form, or the strip isn't within this device.
     pub(crate) fn read(size: DeviceSize, line: &'t [u8]) -> Option<Self> {
         let mut scanner = Scanner::new(line);
         let id = scanner.number()?;
@@ -52,14 +53,13 @@ impl<'t> Tenancy<'t> {
         })
     }
 
-    /// How long its name is.
     pub(crate) fn name_length(&self) -> u32
         ensures { result ≤ 32 }
     {
         self.name.len() as u32
     }
 
-    /// Whether a column is one of its strip's.
+    /// Returns whether a column is one of its strip's.
     pub(crate) fn has_column(&self, column: u32) -> bool
         ensures { result ≡ true → (self.now.offset < column)
             × (column ≤ self.now.offset + self.now.width) }
@@ -67,32 +67,33 @@ impl<'t> Tenancy<'t> {
         self.offset < column && column <= self.offset + self.width
     }
 
-    /// Whether a column, counted from 1, stands right beside its strip.
+    /// Returns whether a column, counted from 1, is right beside its strip.
     pub(crate) fn is_beside(&self, column: u32) -> bool {
         column == self.offset || column == self.offset + self.width + 1
     }
 
-    /// Whether a node is one of its strip's. The vertical channel before the strip's first column is.
+    /// Returns whether a node is one of its strip's. The vertical channel before the strip's first
+    /// column belongs to it.
     pub(crate) fn has_node(&self, node: Resource) -> bool
         ensures { result ≡ true → IsInStrip self.now node }
     {
         self.has_column(node.x) || (node.kind == ResourceKind::ChanY && node.x == self.offset)
     }
 
-    /// Whether an unused column stands between the two strips.
+    /// Returns whether an unused column is between the two strips.
     pub(crate) fn is_parted(&self, other: &Tenancy<'_>) -> bool {
         self.offset + self.width < other.offset || other.offset + other.width < self.offset
     }
 }
 
-/// Whether a strip of so many columns behind so many others is one of the device.
+/// Returns whether a strip of that width at that offset is within the device.
 fn is_on_device(size: DeviceSize, offset: u32, width: u32) -> bool
     ensures { result ≡ true → offset + width ≤ 256 }
 {
     width >= 1 && width <= size.columns && offset <= size.columns - width
 }
 
-/// Whether these are 1 to 32 letters, digits and `_`.
+/// Returns whether these are 1 to 32 letters, digits and `_`.
 fn is_name(word: &[u8]) -> bool
     ensures { result ≡ true → length word.now ≤ 32 }
 {
@@ -102,7 +103,7 @@ fn is_name(word: &[u8]) -> bool
     !word.is_empty() && word.len() <= LONGEST_NAME && lawful
 }
 
-/// Whether these are letters.
+/// Returns whether these are letters.
 fn is_state(word: &[u8]) -> bool {
     !word.is_empty() && word.iter().all(|byte| byte.is_ascii_alphabetic())
 }

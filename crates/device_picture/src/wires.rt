@@ -9,7 +9,7 @@ use picture_lines::{Direction, write_line};
 use rr_graph::ResourceKind;
 use text_parts::Pen;
 
-/// Writes the wires that go one way among these nodes, as paths. Wires that adjoin are one line.
+/// Writes the wires of one direction among these nodes, as paths. Adjoining wires are one line.
 pub(crate) fn write_wires<K: Sink>(
     pen: &mut Pen<'_, K>,
     geometry: Geometry,
@@ -33,7 +33,6 @@ fn begin_path<K: Sink>(pen: &mut Pen<'_, K>) {
     pen.text("<path class=\"w\" d=\"");
 }
 
-/// Ends a path.
 fn end_path<K: Sink>(pen: &mut Pen<'_, K>) {
     pen.text("\"/>\n");
 }
@@ -70,7 +69,7 @@ fn write_open<K: Sink>(
     }
 }
 
-/// A node as a wire that goes that way. None where it is none.
+/// A node as a wire of that direction; `None` if it isn't one.
 fn wire_of(owned: Owned, direction: Direction) -> Option<Run> {
     let node = owned.node;
     match (node.kind, direction) {
@@ -80,7 +79,8 @@ fn wire_of(owned: Owned, direction: Direction) -> Option<Run> {
     }
 }
 
-/// Where a wire's run grows. In node order the wires of a column come one column at a time.
+/// The lane in which a wire's run grows. In node order the wires of a column come one column at a
+/// time.
 fn lane_of(geometry: Geometry, wire: Run, direction: Direction) -> usize {
     let lane = match direction {
         Direction::Across => wire.channel * geometry.lattice.channel + wire.track,

@@ -27,7 +27,8 @@ is_wire Up Pad = false
 abbrev pub wires_in : List Owned → Direction → ℕ → ℕ → ℕ
 wires_in owned direction x y = count_by (λ one. is_wire direction one.node.kind && (one.node.x == x) && (one.node.y == y)) owned
 
--- the channel of that number, in node order: column by column, first those above its rows, from 0 on, and then those right of it
+-- the channel of that number, in node order: column by column, first those above its rows, from row
+-- 0, and then those right of it
 abbrev pub channel_at : ℕ → List Owned → ℕ → ChannelUse
 channel_at rows owned number =
     let lines = rows + 1 in
@@ -41,11 +42,12 @@ abbrev pub channels_in : ℕ → ℕ → List Owned → List ChannelUse
 channels_in columns rows owned =
     filter (λ channel. nat_lt 0 channel.wires) (map (channel_at rows owned) (range_with_len 0 ((columns + 1) * (2 * (rows + 1)))))
 
--- a channel has more wires than another
+-- one channel has more owned wires than the other
 abbrev pub is_fuller : ChannelUse → ChannelUse → Bool
 is_fuller a b = nat_lt b.wires a.wires
 
--- the first ten of the channels once they are sorted: the fuller one first, and those that have as many in the order in which they stood
+-- the first ten of the sorted channels: the fuller one first, and equally full ones in their
+-- original order
 pub record AreFullest (channels shown : List ChannelUse) : Type 0 where
   pub sorted : List ChannelUse
   pub same : IsPermutation channels sorted

@@ -10,7 +10,7 @@ use Rattle.device_report.specs.Columns.{IsColumnUse}
 use Rattle.device_report.specs.Tenancies.{use_of}
 use Rattle.device_report.specs.Widest.{IsWidest}
 
--- the strips of the tenancies that live on a device
+-- the strips of a device's live tenancies
 abbrev pub strips_of : Device → List PlacedStrip
 strips_of device = map (λ (tenancy : Tenancy). record { id = tenancy.id; offset = tenancy.offset; width = tenancy.width }) device.tenancies.items
 
@@ -18,7 +18,8 @@ strips_of device = map (λ (tenancy : Tenancy). record { id = tenancy.id; offset
 abbrev pub uses_of : Device → List TenancyUse
 uses_of device = map (use_of device.size device.owned.items) device.tenancies.items
 
--- a report tells of a device what each tenancy uses, which columns are used, the widest strip that would be admitted and the fullest channels
+-- a report of a device: what each tenancy uses, which columns are used, the widest strip that would
+-- be admitted, and the fullest channels
 pub record IsReport (device : Device) (report : Report) : Type 0 where
   pub size : report.size ≡ device.size
   pub tenancies : report.tenancies.items ≡ uses_of device

@@ -30,7 +30,8 @@ is_pad ChanY = false
 abbrev pub has_pin : List Owned → ℕ → ℕ → Bool
 has_pin owned x y = list_any (λ one. is_pin one.node.kind && (one.node.x == x) && (one.node.y == y)) owned
 
--- how many blocks have an owned pin, of so many columns behind so many others; the blocks are numbered column by column
+-- how many blocks in `width` columns, after the first `offset`, have an owned pin; the blocks are
+-- numbered column by column
 abbrev pub blocks_used : List Owned → ℕ → ℕ → ℕ → ℕ
 blocks_used owned rows offset width = count_by (λ block. has_pin owned (offset + 1 + block / rows) (1 + block % rows)) (range_with_len 0 (width * rows))
 
@@ -38,11 +39,12 @@ blocks_used owned rows offset width = count_by (λ block. has_pin owned (offset 
 abbrev pub pads_used : List Owned → ℕ → ℕ
 pads_used owned id = count_by (λ one. (one.owner == id) && is_pad one.node.kind) owned
 
--- how many wires a tenancy owns that go that way
+-- how many wires of that direction a tenancy owns
 abbrev pub wires_used : List Owned → Direction → ℕ → ℕ
 wires_used owned direction id = count_by (λ one. (one.owner == id) && is_wire direction one.node.kind) owned
 
--- what a tenancy uses, and what its strip has: a strip of some columns has one channel right of a column more than columns, and one above a row more than rows
+-- what a tenancy uses, and what its strip has: a strip has one more channel right of a column than
+-- columns, and one more above a row than rows
 abbrev pub use_of : DeviceSize → List Owned → Tenancy → TenancyUse
 use_of size owned tenancy = record {
   tenancy = tenancy;

@@ -9,7 +9,8 @@ use Rattle.device_report.specs.declared.report.Report.{Report}
 use Rattle.device_report.specs.declared.tenancies.TenancyUse.{TenancyUse}
 use Rattle.device_report.specs.declared.widest.Room.{Room}
 
--- the line of a tenancy: its id, its name, where its strip stands, its state, and of each kind how many it uses of how many
+-- the line of a tenancy: its id, its name, its strip's offset and width, its state, and for each
+-- kind the numbers of used and of all
 abbrev pub tenancy_line : TenancyUse → List ℕ
 tenancy_line uses = concat (
     codes "tenancy " ∷ decimal uses.tenancy.id ∷ codes " " ∷ uses.tenancy.name.now
@@ -35,7 +36,7 @@ abbrev pub channel_word : Direction → List ℕ
 channel_word Across = codes "CHANX"
 channel_word Up = codes "CHANY"
 
--- the line of a channel, of so many tracks
+-- the line of a channel, which has `tracks` tracks
 abbrev pub channel_line : ℕ → ChannelUse → List ℕ
 channel_line tracks channel = concat (
     channel_word channel.direction ∷ codes " (" ∷ decimal channel.x ∷ codes "," ∷ decimal channel.y ∷ codes ") "

@@ -6,19 +6,19 @@ use device_picture::{DeviceSize, Owned};
 use rr_graph::ResourceKind;
 use std::alloc::{AllocError, Global};
 
-/// How many channels are told of at most.
+/// The largest number of channels in a report.
 pub const MAX_SHOWN: usize = 10;
 
-/// Which way the wires of a channel go.
+/// The direction of a channel's wires.
 #[derive(Clone, Copy, PartialEq, Eq)]
 pub enum Direction {
-    /// Above a row.
+    /// Horizontal, above a row.
     Across,
-    /// Right of a column.
+    /// Vertical, right of a column.
     Up,
 }
 
-/// How many wires of a channel are owned. A channel is what lies above a block, or right of it.
+/// The number of owned wires of a channel. A channel is above a block, or right of it.
 #[derive(Clone, Copy, PartialEq, Eq)]
 pub struct ChannelUse {
     pub x: u32,
@@ -27,8 +27,8 @@ pub struct ChannelUse {
     pub wires: usize,
 }
 
-/// The fullest channels of a device on which these are owned: of those with wires the ten that have most, in falling order. Those that have as
-/// many stand in node order.
+/// The fullest channels of a device with these owned nodes: of the channels with owned wires the
+/// ten that have most, in falling order. Equally full ones are in node order.
 pub(crate) fn fullest(
     alloc: Global,
     size: DeviceSize,
@@ -59,7 +59,8 @@ fn channels_in(
         .collect(alloc)
 }
 
-/// The channel of that number: column by column, first those above the rows and then those right of the column.
+/// The channel of that number: column by column, first those above the rows and then those right of
+/// the column.
 fn channel_at(size: DeviceSize, owned: &[Owned], number: u32) -> ChannelUse
     ensures { result ≡ channel_at size.rows owned.now number }
 {
@@ -80,7 +81,7 @@ fn channel_at(size: DeviceSize, owned: &[Owned], number: u32) -> ChannelUse
     }
 }
 
-/// How many wires of a channel are owned.
+/// The number of owned wires of a channel.
 fn wires_in(owned: &[Owned], direction: Direction, x: u32, y: u32) -> usize
     ensures { result ≡ wires_in owned.now direction x y }
 {
@@ -90,7 +91,7 @@ fn wires_in(owned: &[Owned], direction: Direction, x: u32, y: u32) -> usize
         .count()
 }
 
-/// Whether it is a wire that goes that way.
+/// Returns whether it is a wire of that direction.
 pub(crate) fn is_wire(direction: Direction, kind: ResourceKind) -> bool
     ensures { result ≡ is_wire direction kind }
 {

@@ -1,22 +1,22 @@
-//! Which columns are used.
+//! The use of columns.
 ghost use Rattle.std.specs.Prelude.{◌≡◌, ◌≤◌};
 ghost use Rattle.device_report.specs.Columns.{IsColumnUse, columns_that, is_beside, is_beside_any, is_free, is_guard, is_in, is_used};
 
 use strips::PlacedStrip;
 
-/// How many columns of the device are in strips, and how many are not.
+/// The numbers of the device's columns in strips, and outside.
 #[derive(Clone, Copy, PartialEq, Eq)]
 pub struct ColumnUse {
     /// Columns of strips.
     pub used: usize,
-    /// Unused columns right beside a strip, which stay unused as long as it stands.
+    /// Unused columns right beside a strip, which stay unused as long as the strip is there.
     pub guard: usize,
     /// All others.
     pub free: usize,
 }
 
 impl ColumnUse {
-    /// That of a device of so many columns with these strips.
+    /// The use of the columns of a device with `columns` columns and these strips.
     pub(crate) fn of(columns: u32, strips: &[PlacedStrip]) -> Self
         requires { columns ≤ 256 }
         ensures { IsColumnUse columns strips.now result }
@@ -29,7 +29,7 @@ impl ColumnUse {
     }
 }
 
-/// How many columns are in strips.
+/// The number of columns in strips.
 fn used_columns(columns: u32, strips: &[PlacedStrip]) -> usize
     requires { columns ≤ 256 }
     ensures { result ≡ columns_that columns (is_used strips.now) }
@@ -39,7 +39,7 @@ fn used_columns(columns: u32, strips: &[PlacedStrip]) -> usize
         .count()
 }
 
-/// How many columns are unused and stand beside a strip.
+/// The number of unused columns beside a strip.
 fn guard_columns(columns: u32, strips: &[PlacedStrip]) -> usize
     requires { columns ≤ 256 }
     ensures { result ≡ columns_that columns (is_guard strips.now) }
@@ -49,7 +49,7 @@ fn guard_columns(columns: u32, strips: &[PlacedStrip]) -> usize
         .count()
 }
 
-/// How many columns are unused and stand beside no strip.
+/// The number of unused columns that aren't beside a strip.
 fn free_columns(columns: u32, strips: &[PlacedStrip]) -> usize
     requires { columns ≤ 256 }
     ensures { result ≡ columns_that columns (is_free strips.now) }
@@ -59,28 +59,28 @@ fn free_columns(columns: u32, strips: &[PlacedStrip]) -> usize
         .count()
 }
 
-/// Whether a column is one of a strip's.
+/// Returns whether a column is one of a strip's.
 fn is_used(strips: &[PlacedStrip], column: u32) -> bool
     ensures { result ≡ is_used strips.now column }
 {
     strips.iter().any(|strip| is_in(*strip, column))
 }
 
-/// Whether a column stands right beside a strip.
+/// Returns whether a column is right beside a strip.
 fn is_beside_any(strips: &[PlacedStrip], column: u32) -> bool
     ensures { result ≡ is_beside_any strips.now column }
 {
     strips.iter().any(|strip| is_beside(*strip, column))
 }
 
-/// Whether a column, counted from 1, is one of the strip's.
+/// Returns whether a column, counted from 1, is one of the strip's.
 fn is_in(strip: PlacedStrip, column: u32) -> bool
     ensures { result ≡ is_in column strip }
 {
     strip.offset < column && column - strip.offset <= strip.width
 }
 
-/// Whether a column stands right beside the strip.
+/// Returns whether a column is right beside the strip.
 fn is_beside(strip: PlacedStrip, column: u32) -> bool
     ensures { result ≡ is_beside column strip }
 {

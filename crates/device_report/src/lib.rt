@@ -1,11 +1,14 @@
-//! How full the device is, from what the service's program printed for `op list` and `op owners`, as [`device_picture::read_device`] reads it.
+//! How full the device is, from what the service's program printed for `op list` and `op owners`,
+//! as [`device_picture::read_device`] reads it.
 //!
-//! A [`Report`] tells of each tenancy how many of its strip's blocks, pads and wires are used; of the device how many columns are used,
-//! guard others and are free, the widest strip that would be admitted now, and the ten fullest channels. [`write_report`] writes it to
-//! a [`line_text::Sink`], in small pieces, so the sink should have a buffer.
+//! A [`Report`] has for each tenancy how many of its strip's blocks, pads and wires are used; for
+//! the device how many columns are used, are guard columns and are free, the widest strip that
+//! would be admitted now, and the ten fullest channels. [`write_report`] writes it to a
+//! [`line_text::Sink`], in small pieces, so the sink should have a buffer.
 //!
-//! It is proved that each number is the count over what was read, that the widest strip is the widest for which the service's own
-//! rule finds room, that the channels are the first ten of all, the fuller one first, and that what is written is the text of these.
+//! It is proved that each number is the count over what was read, that the widest strip is the
+//! widest that fits by the service's own rule, that the channels are the first ten of all, the
+//! fuller one first, and that what is written is the text of these.
 #![tactic(auto)]
 
 mod channels;

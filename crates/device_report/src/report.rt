@@ -18,14 +18,15 @@ pub struct Report<'t> {
     /// What each tenancy uses, in the order of the device's list.
     pub tenancies: Vec<TenancyUse<'t>>,
     pub columns: ColumnUse,
-    /// The widest strip that would be admitted now, where it would be placed. None where none would be.
+    /// The widest strip that would be admitted now, at the offset that it would get; `None` if no
+    /// strip would be.
     pub widest: Option<Room>,
     /// The fullest channels, the fullest one first, at most [`crate::MAX_SHOWN`].
     pub fullest: Vec<ChannelUse>,
 }
 
 impl<'t> Report<'t> {
-    /// That of a device.
+    /// Returns the report of a device. Fails with [`AllocError`] if memory runs out.
     pub fn new(alloc: Global, device: &Device<'t>) -> Result<Self, AllocError>
         ensures { IfOk result (IsReport device.now) }
     {
@@ -41,7 +42,6 @@ impl<'t> Report<'t> {
     }
 }
 
-/// The strips of a device.
 fn strips_of(alloc: Global, device: &Device<'_>) -> Result<Vec<PlacedStrip>, AllocError>
     ensures value { IfOk result (λ strips. strips.items ≡ strips_of device.now) }
     ensures small { IfOk result (λ strips. All (λ s. s.offset + s.width ≤ 256) strips.items) }

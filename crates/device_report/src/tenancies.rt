@@ -6,11 +6,11 @@ use crate::channels::{Direction, is_wire};
 use device_picture::{DeviceSize, Owned, Tenancy};
 use rr_graph::ResourceKind;
 
-/// How many of a strip's things are used.
+/// How many resources of one kind a strip uses.
 #[derive(Clone, Copy, PartialEq, Eq)]
 pub struct Share {
     pub used: usize,
-    /// How many the strip has.
+    /// How many of them the strip has.
     pub there: u32,
 }
 
@@ -28,7 +28,7 @@ pub struct TenancyUse<'t> {
 }
 
 impl<'t> TenancyUse<'t> {
-    /// What a tenancy uses on a device of that size on which these are owned.
+    /// What a tenancy uses on a device of that size with these owned nodes.
     pub(crate) fn of(size: DeviceSize, owned: &[Owned], tenancy: &Tenancy<'t>) -> Self
         ensures { result ≡ use_of size owned.now tenancy.now }
     {
@@ -68,7 +68,7 @@ fn product(a: u32, b: u32, c: u32) -> u32
     ab * c
 }
 
-/// How many blocks of so many columns behind so many others have an owned pin.
+/// How many blocks in `width` columns, after the first `offset`, have an owned pin.
 fn blocks_used(owned: &[Owned], rows: u32, offset: u32, width: u32) -> usize
     requires rows { (1 ≤ rows) × (rows ≤ 64) }
     requires strip { offset + width ≤ 256 }
@@ -79,7 +79,7 @@ fn blocks_used(owned: &[Owned], rows: u32, offset: u32, width: u32) -> usize
         .count()
 }
 
-/// Whether a block has an owned pin.
+/// Returns whether a block has an owned pin.
 fn has_pin(owned: &[Owned], x: u32, y: u32) -> bool
     ensures { result ≡ has_pin owned.now x y }
 {
@@ -96,7 +96,7 @@ fn pads_used(owned: &[Owned], id: u32) -> usize
         .count()
 }
 
-/// How many wires a tenancy owns that go that way.
+/// How many wires of that direction a tenancy owns.
 fn wires_used(owned: &[Owned], direction: Direction, id: u32) -> usize
     ensures { result ≡ wires_used owned.now direction id }
 {
@@ -106,14 +106,12 @@ fn wires_used(owned: &[Owned], direction: Direction, id: u32) -> usize
         .count()
 }
 
-/// Whether it is a pin.
 fn is_pin(kind: ResourceKind) -> bool
     ensures { result ≡ is_pin kind }
 {
     matches!(kind, ResourceKind::Opin | ResourceKind::Ipin)
 }
 
-/// Whether it is a pad.
 fn is_pad(kind: ResourceKind) -> bool
     ensures { result ≡ is_pad kind }
 {

@@ -11,8 +11,9 @@ use crate::widest::Room;
 use line_text::{Failed, Sink};
 use text_parts::{Part, write_parts};
 
-/// Writes a report: a line a tenancy, as `op list` tells it, with what it uses, a line of columns, the widest strip that would be
-/// admitted, and a line for each of the fullest channels. Where the sink fails, it has taken a beginning of them.
+/// Writes a report: one line for each tenancy, as in `op list`, with what it uses, a line of
+/// columns, the widest strip that would be admitted, and one line for each of the fullest channels.
+/// If the sink fails, it has taken a first part of them.
 pub fn write_report<K: Sink>(sink: &mut K, report: &Report<'_>) -> Result<(), Failed>
     ensures { Writes K.contents K.has_failed sink.old sink.new (report_text report.now) result }
 {
@@ -122,7 +123,8 @@ fn write_widest<K: Sink>(sink: &mut K, widest: Option<Room>) -> Result<(), Faile
     }
 }
 
-/// Writes the line of a channel of so many tracks: its place, and how many of its tracks are used.
+/// Writes the line of a channel with `tracks` tracks: its place, and how many of its tracks are
+/// used. If the sink fails, it has taken a first part of the line.
 pub fn write_channel<K: Sink>(sink: &mut K, channel: ChannelUse, tracks: u32) -> Result<(), Failed>
     ensures { Writes K.contents K.has_failed sink.old sink.new (channel_line tracks channel)
         result }
@@ -144,7 +146,6 @@ pub fn write_channel<K: Sink>(sink: &mut K, channel: ChannelUse, tracks: u32) ->
     )
 }
 
-/// The word for a channel.
 fn channel_word(direction: Direction) -> &'static str
     ensures { result.now ≡ channel_word direction }
 {

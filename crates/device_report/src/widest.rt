@@ -5,7 +5,7 @@ ghost use Rattle.device_report.specs.Widest.{IsWidest};
 
 use strips::{MAX_STRIPS, PlacedStrip};
 
-/// Where a strip of that width would stand.
+/// A strip of that width, and the offset that it would get.
 #[derive(Clone, Copy, PartialEq, Eq)]
 pub struct Room {
     /// The columns to the left of it.
@@ -14,8 +14,8 @@ pub struct Room {
     pub width: u32,
 }
 
-/// The widest strip that a device of so many columns with these strips would admit, where the service would place it. None
-/// where it would admit none.
+/// The widest strip that a device with `columns` columns and these strips would admit, at the
+/// offset that the service would choose; `None` if it would admit no strip.
 pub(crate) fn widest(columns: u32, strips: &[PlacedStrip]) -> Option<Room>
     requires columns { columns ≤ 256 }
     requires strips { All (λ s. s.offset + s.width ≤ 256) strips.now }
@@ -33,7 +33,7 @@ pub(crate) fn widest(columns: u32, strips: &[PlacedStrip]) -> Option<Room>
     None
 }
 
-/// The least offset at which a strip of that width is parted from all others.
+/// The least offset at which a strip of that width is separated from all others.
 fn first_fit(columns: u32, strips: &[PlacedStrip], width: u32) -> Option<u32>
     requires columns { columns ≤ 256 }
     requires width { (1 ≤ width) × (width ≤ columns) }
@@ -53,7 +53,7 @@ fn first_fit(columns: u32, strips: &[PlacedStrip], width: u32) -> Option<u32>
     None
 }
 
-/// Whether each strip stands on the device, and a column lies unused between two.
+/// Returns whether each strip is within the device, and a column between any two is unused.
 fn are_parted(columns: u32, strips: &[PlacedStrip]) -> bool
     requires columns { columns ≤ 256 }
     requires strips { All (λ s. s.offset + s.width ≤ 256) strips.now }
@@ -62,7 +62,7 @@ fn are_parted(columns: u32, strips: &[PlacedStrip]) -> bool
     are_inside(columns, strips) && are_apart(strips)
 }
 
-/// Whether each strip stands on the device.
+/// Returns whether each strip is within the device.
 fn are_inside(columns: u32, strips: &[PlacedStrip]) -> bool
     requires { All (λ s. s.offset + s.width ≤ 256) strips.now }
     ensures { IsTrue result ↔ All (λ s. s.offset + s.width ≤ columns) strips.now }
@@ -72,7 +72,7 @@ fn are_inside(columns: u32, strips: &[PlacedStrip]) -> bool
         .all(|strip| strip.offset + strip.width <= columns)
 }
 
-/// Whether a column lies unused between two of the strips.
+/// Returns whether a column between any two of the strips is unused.
 fn are_apart(strips: &[PlacedStrip]) -> bool
     requires { All (λ s. s.offset + s.width ≤ 256) strips.now }
     ensures { IsTrue result ↔ AllPairs AreApart strips.now }
@@ -86,7 +86,7 @@ fn are_apart(strips: &[PlacedStrip]) -> bool
     true
 }
 
-/// Whether a column lies unused between the strip and each of those.
+/// Returns whether a column between the strip and each of those is unused.
 fn is_apart_from_all(strips: &[PlacedStrip], strip: PlacedStrip) -> bool
     requires strip { strip.offset + strip.width ≤ 256 }
     requires strips { All (λ s. s.offset + s.width ≤ 256) strips.now }

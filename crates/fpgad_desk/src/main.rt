@@ -1,7 +1,9 @@
-//! The program: tools beside the service, each called by its name: `script`, `files`, `route`, `strip`, `picture`, `report`, `random`.
+//! The program: tools beside the service, each called by its name: `script`, `files`, `route`,
+//! `strip`, `picture`, `report`, `random`.
 //!
-//! Statuses: 0; 1 where a file, standard input or standard output failed; 2 where the words are refused; 3 where the input is, with its line; 4 where memory lacks.
-//! With 2 and 3 nothing is written to standard output.
+//! Statuses: 0; 1 if a file, standard input or standard output failed, or `files` found a refused
+//! line; 2 if the words are refused; 3 if the input is, with its line; 4 if memory runs out. Help
+//! and the version go to standard output. With 2 and 3 nothing else is written there.
 #![tactic(auto)]
 
 use desk::{Outcome, Streams, run_words};
@@ -45,7 +47,7 @@ fn words(rt: &HostRuntime) -> io::Result<Vec<String>> {
     Ok(env::args(rt)?.collect(rt.alloc())?)
 }
 
-/// Tells how the errand ended: its message on standard error, if that can be written, and its status.
+/// Writes the errand's message to standard error, if that can be written, and returns its status.
 fn ended(rt: &HostRuntime, outcome: Outcome) -> ExitCode {
     let status = outcome.status();
     if status != 0 {
@@ -54,7 +56,7 @@ fn ended(rt: &HostRuntime, outcome: Outcome) -> ExitCode {
     ExitCode::from(status)
 }
 
-/// Tells why the words are refused.
+/// Writes to standard error why the words are refused.
 fn refused<M: Display + Drop>(rt: &HostRuntime, message: M) -> ExitCode {
     let _ = rt.eprint(message);
     ExitCode::from(2)

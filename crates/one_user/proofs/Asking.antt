@@ -1,4 +1,4 @@
--- What each command of a run is answered, and what that leads to.
+-- The reply to each command of a run, and the state after it.
 use Rattle.std.proofs.Common.{ℕ, ◌≡◌, ◌+◌, ◌<◌, ◌≤◌, Bool, true, false, List, [], Result, Ok, Err, Option, Some, None, refl, sym, ap, subst, ◌∙◌, arith}
 use Rattle.std.specs.Prelude.{nat_lt, if◌then◌else◌}
 use Rattle.arch_file.specs.declared.arch.Arch.{Arch}
@@ -29,7 +29,8 @@ use Rattle.one_user.specs.declared.outcome.Outcome.{Outcome}
 use Rattle.one_user.specs.declared.outcome.Outcome.TheVariants.{Refused}
 use Rattle.one_user.proofs.Events.{changed_by}
 
--- what a command leads to: it is refused, and so is the netlist, or there is that state after it
+-- the result of a command: it is refused, and so is the netlist; or the state after it is the next
+-- stage's
 abbrev pub Leads : Task → (Task → Type 0) → State → SlotState → Option Refusal → Type 0
 Leads task Passes new slot (Some refusal) = outcome_of task ≡ Refused refusal
 Leads task Passes new slot None = Passes task × (slot ≡ slot_in slot.id new)

@@ -1,4 +1,4 @@
--- How many passes a placing makes.
+-- The number of passes of a placing.
 use Rattle.std.proofs.Common.{ℕ, ◌≡◌, ◌≢◌, ◌+◌, ◌*◌, ◌/◌, ◌<◌, ◌≤◌, zero, suc, true, false, arith, ◌⊎◌, inl, inr, refl, sym, subst, ap, ◌∙◌}
 use Rattle.std.proofs.Math.Nat.{eq-or-lt_of_le}
 use Rattle.std.specs.Prelude.{◌==◌}
@@ -27,7 +27,7 @@ passes_are strip passes few cold warm =
     let at : is_past_last strip (suc passes) ≡ true = ap (λ t. t == 0) cold in
     sym (pass_count_is strip (passes + 1) (omega (arith, few)) (not_past strip passes warm) (subst (λ n. is_past_last strip n ≡ true) next at))
 
--- one pass more that isn't at temperature 0
+-- one more pass that isn't at temperature 0
 pub still_warm : (strip : Strip) (passes : ℕ) → ((before : ℕ) → before < passes → 0 < temperature_at strip before) → 0 < temperature_at strip passes → (before : ℕ) → before < passes + 1 → 0 < temperature_at strip before
 still_warm strip passes warm here before l = by (eq-or-lt_of_le (next before l))
   where

@@ -1,4 +1,4 @@
--- What each stage of a run goes on with.
+-- The state in which each stage of a run hands on to the next.
 use Rattle.std.proofs.Common.{ℕ, ◌≡◌, ◌+◌, ◌<◌, ◌≤◌, Bool, true, false, List, [], Ok, Option, Some, None, refl, sym, ap, subst, ◌∙◌, arith}
 use Rattle.std.specs.Prelude.{nat_lt, nat_le, is_some, option_map, IsSome, ◌==◌, ◌&&◌}
 use Rattle.std.proofs.lemmas.Bool.Decides.{nat_tests}
@@ -47,7 +47,7 @@ own_device state PackingJob = refl
 own_device state PlacingJob = refl
 own_device state RoutingJob = refl
 
--- a strip is the whole of its device
+-- a strip is all of its own device
 pub on_own_device : (strip : Strip) → IsStripSize strip → is_on_device strip strip 0 ≡ true
 on_own_device strip size =
     let wide : nat_le 1 strip.width ≡ true = (let least = size.width.0 in grind (arith, nat_tests)) in
@@ -95,16 +95,16 @@ route_leads task old at new refusal is after_it =
     (subst (λ (s : SlotState). refusal ≡ refusal_in (answer_to s.state (Asked Route)).1) at.is is)
     (subst (λ (s : SlotState). new ≡ after_event s (Asked Route)) at.is after_it)
 
--- a slot in a state of that name is as its own parts say
+-- a slot in a state of that name, in terms of its own parts
 pub at_own : (task : Task) (name : StateName) (seed effort generation entries most id : ℕ) (slot : SlotState) → slot ≡ slot_in id (state_at task name seed effort generation entries) → entries ≤ most → IsAt task name seed effort most slot
 at_own task name seed effort generation entries most id slot is few =
     subst (IsAt task name seed effort most) (sym is) (record { is = refl; few = few })
 
--- of its parts the same task is made
+-- the task made of these parts is the given one
 pub task_own : (task : Task) (name : StateName) (seed effort most : ℕ) (slot : SlotState) → IsAt task name seed effort most slot → task_in slot.state task.seed task.effort ≡ task
 task_own task name seed effort most slot at = ap (λ (s : SlotState). task_in s.state task.seed task.effort) at.is
 
--- what the last step of a packing leads to
+-- the result of the last step of a packing
 pub packing_done : (task : Task) (generation entries id : ℕ) (mid new : SlotState) (made : StepMade) → IsPacked task → mid ≡ slot_in id (state_at task Packing 0 0 generation entries) → entries ≤ 2 →
     ((kind : JobKind) → running mid.state.name ≡ Some kind → Finishes kind mid made new) →
     IsAt task Packed 0 0 8194 new × IsWhole made.progress × ((counts : PackedCounts) → HasCounts made.progress counts → AreCounts task counts)
@@ -113,14 +113,14 @@ packing_done task generation entries id mid new made packed is few finishes =
     let told = packing_told task packed.circuit made.number made.progress packed.said done.last done.told in
     (at_own task Packed 0 0 generation (entries + made.number) 8194 id new done.after (omega (arith, few, done.few)), told.0, told.1)
 
--- of a placing
+-- the result of the last step of a placing
 pub placing_done : (task : Task) (generation entries id : ℕ) (mid new : SlotState) (made : StepMade) → mid ≡ slot_in id (state_at task Placing task.seed task.effort generation entries) → entries ≤ 8195 →
     ((kind : JobKind) → running mid.state.name ≡ Some kind → Finishes kind mid made new) → IsAt task Placed task.seed task.effort 16387 new
 placing_done task generation entries id mid new made is few finishes =
     let done = subst (λ (s : SlotState). (kind : JobKind) → running s.state.name ≡ Some kind → Finishes kind s made new) is finishes PlacingJob refl in
     at_own task Placed task.seed task.effort generation (entries + made.number) 16387 id new done.after (omega (arith, few, done.few))
 
--- of a routing
+-- the result of the last step of a routing
 pub routing_done : (task : Task) (placed : IsPlaced task) (generation entries id : ℕ) (mid new : SlotState) (made : StepMade) → mid ≡ slot_in id (state_at task Routing task.seed task.effort generation entries) →
     ((kind : JobKind) → running mid.state.name ≡ Some kind → Finishes kind mid made new) →
     (new ≡ slot_in id (after_end task placed generation entries (entries + made.number) (failure_of (end_value (routing_of task))))) × (made.number ≡ step_count (routing_of task)) × (made.number ≤ 8192)
@@ -128,11 +128,11 @@ routing_done task placed generation entries id mid new made is finishes =
     let done = subst (λ (s : SlotState). (kind : JobKind) → running s.state.name ≡ Some kind → Finishes kind s made new) is finishes RoutingJob refl in
     (done.after, done.count, done.few)
 
--- of the parts of a loaded slot the same task is made
+-- the task made of a loaded slot's parts is the given one
 pub loaded_own : (task : Task) (slot : SlotState) → slot ≡ slot_in slot.id (state_at task Loaded 0 0 0 1) → task_in slot.state task.seed task.effort ≡ task
 loaded_own task slot is = ap (λ (s : SlotState). task_in s.state task.seed task.effort) is
 
--- a placed slot has its seed and its effort in it
+-- a placed slot has its own seed and effort
 pub placed_own : (task : Task) (slot : SlotState) → IsAt task Placed task.seed task.effort 16387 slot → task_in slot.state slot.state.seed slot.state.effort ≡ task
 placed_own task slot at = ap (λ (s : SlotState). task_in s.state s.state.seed s.state.effort) at.is
 

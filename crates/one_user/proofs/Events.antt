@@ -1,4 +1,4 @@
--- What an event makes of a slot that is in a state.
+-- How an event changes a slot in a given state.
 use Rattle.std.proofs.Common.{ℕ, ◌≡◌, ◌≢◌, ◌+◌, ◌<◌, Bool, eq-eqb, true, false, not, Option, Some, None, refl, sym, ap, subst, ◌∙◌, arith}
 use Rattle.std.specs.Prelude.{◌==◌, ◌&&◌, option_map, if◌then◌else◌}
 use Rattle.job_state.specs.declared.sources.JobKind.{JobKind}
@@ -18,7 +18,7 @@ use Rattle.tenant_slot.proofs.Runs.{step-room}
 use Rattle.tenant_slot.proofs.Leading.{advanced}
 use Rattle.one_user.specs.Steps.{Goes, slot_in}
 
--- the state and the reply where the journal isn't full
+-- the state and the reply, if the journal isn't full
 pub step_is : (state : State) (event : Event) (change : Option State) (reply : Reply) → state.entries < 65536 → answer_to state event ≡ (change, reply) → step state event ≡ (after state change, Some reply)
 step_is state event change reply room is = step-room state event (omega arith) ∙ ap (λ (p : Option State × Reply). (after state p.0, Some p.1)) is
 

@@ -1,4 +1,4 @@
--- What the last step of a packing tells.
+-- The progress after the last step of a packing.
 use Rattle.std.proofs.Common.{ℕ, ◌≡◌, ◌+◌, true, Result, Ok, Err, IfOk, refl, sym, ap, subst, ◌∙◌}
 use Rattle.std.specs.Prelude.{length}
 use Rattle.blif.specs.CircuitOf.{circuit_of}
@@ -33,7 +33,7 @@ packed_work (Routed routed) kind whole = absurd (cc)
 packed_work GaveUp kind whole = absurd (cc)
 packed_work (NoPath net) kind whole = absurd (cc)
 
--- what is told of it
+-- its counts
 abbrev CountsOf : PackedCircuit → PackedCounts → Type 0
 CountsOf packed counts = (counts.clusters ≡ length packed.clusters) × (counts.pads ≡ length packed.circuit.inputs + length packed.circuit.outputs) × (counts.nets ≡ length (block_nets packed))
 

@@ -1,4 +1,4 @@
--- How a routing ends, and what is told of it.
+-- How a routing ends, and the reply to that.
 use Rattle.std.proofs.Common.{ℕ, ◌≡◌, ◌+◌, true, List, [], Result, Ok, Err, Option, Some, None, refl, sym, ap, subst, ◌∙◌}
 use Rattle.std.specs.Prelude.{IfOk, IsSome, is_some, option_and_then}
 use Rattle.job_state.specs.RoutedSet.{resources_of}
@@ -29,12 +29,12 @@ use Rattle.one_user.specs.declared.outcome.Files.{Files}
 use Rattle.one_user.specs.declared.outcome.Outcome.{Outcome}
 use Rattle.one_user.specs.declared.outcome.Outcome.TheVariants.{Routed, Unrouted, Refused}
 
--- what comes of a placed netlist, by how its routing ends
+-- the outcome of a placed netlist, by how its routing ends
 pub outcome_is : (task : Task) (placed : IsPlaced task) (failure : Option RoutingFailure) → failure_of (end_value (routing_of task)) ≡ failure → outcome_of task ≡ by_routing task placed.circuit failure
 outcome_is task placed failure is =
     ap (by_netlist task) placed.said ∙ ap (by_packing task placed.circuit) placed.fits ∙ ap (by_fit task placed.circuit) placed.enough ∙ ap (by_routing task placed.circuit) is
 
--- a state of a routed netlist, in the definition's order
+-- a state of a routed netlist, in the definition's field order
 abbrev pub state_of : Task → State → State
 state_of task state = record state { name = RoutedName; arch = task.arch; strip = task.strip; text = task.text; kept = []; seed = task.seed; effort = task.effort }
 
@@ -79,7 +79,7 @@ module _ (task : Task) (placed : IsPlaced task) (generation entries count : ℕ)
   abbrev pub after_end : Option RoutingFailure → State
   after_end failure = record (routed_unless before failure) { entries = count }
 
-  -- it is routed just where there is no failure
+  -- it is routed exactly if there is no failure
   pub none_failed : (failure : Option RoutingFailure) → (after_end failure).name ≡ RoutedName → failure ≡ None
   none_failed None is = refl
   none_failed (Some failure) is = absurd (cc)
@@ -92,7 +92,7 @@ module _ (task : Task) (placed : IsPlaced task) (generation entries count : ℕ)
   has_routed failure is =
       subst (λ f. HasRouted task (after_end f)) (sym is) (record { name = refl; arch = refl; strip = refl; text = refl; kept = refl; seed = refl; effort = refl })
 
-  -- what a status tells where it failed
+  -- the reply to `status` if it failed
   status_told : (failure : RoutingFailure) → ending_in (answer_to (after_end (Some failure)) (Asked Status)).1 ≡ Some (ending_of (packed_of placed.circuit task.arch) failure)
   status_told failure = ap (λ (r : Result Circuit BlifFault). ending_told r task.arch failure) placed.said
 
@@ -101,7 +101,7 @@ module _ (task : Task) (placed : IsPlaced task) (generation entries count : ℕ)
   ending_is None is not = absurd (not refl)
   ending_is (Some failure) is not = (ending_of (packed_of placed.circuit task.arch) failure, status_told failure, outcome_is task placed (Some failure) is)
 
--- of the parts of a routed state the same task is made
+-- the task made of a routed state's parts is the given one
 pub routed_own : (task : Task) (state : State) → HasRouted task state → task_in state state.seed state.effort ≡ task
 routed_own task state has = ap (λ (s : State). task_in s s.seed s.effort) (state_is task state has)
 
@@ -118,12 +118,12 @@ routed_files task placed state files has none told =
     let same = said ∙ ap (λ t. files_of t placed.circuit) (routed_own task state has) in
     ap Routed same ∙ sym (outcome_is task placed None none)
 
--- what it holds
+-- what its circuit occupies
 pub routed_held : (task : Task) (state : State) → HasRouted task state → routed_set state ≡ resources_of (routing_of task)
 unfolding routed_set
 routed_held task state has = ap routed_set (state_is task state has)
 
--- a told ending is one
+-- an ending in a status is there
 pub some_ending : (told : Option Ending) (ending : Ending) → told ≡ Some ending → IsSome told
 some_ending told ending is = ap is_some is
 
@@ -133,7 +133,7 @@ same_ending task told ending other is so outcome =
     let same : other ≡ ending = cc in
     ap Unrouted same ∙ sym outcome
 
--- a share by its parts
+-- a share with these fields
 pub share_of : (used other there at : ℕ) (share : Share) → share ≡ record { used = used; there = there } → used ≡ other → there ≡ at → share ≡ record { used = other; there = at }
 share_of used other there at share is same so =
     is ∙ ap (λ n. let s : Share = record { used = n; there = there } in s) same ∙ ap (λ n. let s : Share = record { used = other; there = n } in s) so

@@ -1,4 +1,4 @@
--- What the steps of a job come to, one after another.
+-- The results of a job's steps, one after another.
 use Rattle.std.proofs.Common.{ℕ, ◌≡◌, ◌+◌, ◌≤◌, true, false, Option, Some, None, refl, sym, ap, subst, ◌∙◌, arith}
 use Rattle.std.specs.Prelude.{IsSome}
 use Rattle.job_state.specs.JobValue.{end_value, is_last, step_count}
@@ -14,11 +14,11 @@ use Rattle.tenant_slot.specs.declared.reply.StepReply.TheVariants.{Advanced, Fin
 use Rattle.one_user.specs.Steps.{Finishes, Goes, IsTold, MakesStep, slot_in}
 use Rattle.one_user.specs.declared.steps.StepMade.{StepMade}
 
--- the state once so many steps were made
+-- the state after `steps` steps
 abbrev pub state_after : State → ℕ → State
 state_after state steps = record state { steps = steps; entries = state.entries + steps }
 
--- what a job is computed from stays
+-- what a job is computed from is unchanged
 pub sources_same : (state : State) (steps : ℕ) (kind : JobKind) → sources_of (state_after state steps) kind ≡ sources_of state kind
 sources_same state steps PackingJob = refl
 sources_same state steps PlacingJob = refl
@@ -37,7 +37,7 @@ module _ (kind : JobKind) (old : SlotState) (steps : ℕ) where
   abbrev pub mid : SlotState
   mid = slot_in old.id (state_after old.state steps)
 
-  -- a step more
+  -- one more step
   pub steps_more : (made : StepMade) (new : SlotState) → MakesStep kind mid made new → made.reply ≡ Advanced → (new ≡ slot_in old.id (state_after old.state (steps + 1))) × (steps + 1 ≤ 8192)
   steps_more made new makes replied =
       let goes : Goes kind mid Advanced new = subst (λ (r : StepReply). Goes kind mid r new) replied makes.goes in
@@ -79,7 +79,7 @@ running_kind : (kind : Option JobKind) → IsSome kind → (k : JobKind) × (kin
 running_kind None is = absurd (cc)
 running_kind (Some k) is = (k, refl)
 
--- the job goes on by a step
+-- the job advances by a step
 pub step_goes_on : (old now new : SlotState) (steps : ℕ) (made : StepMade) → IsSome (running old.state.name) → now ≡ slot_in old.id (state_after old.state steps) →
     ((kind : JobKind) → running now.state.name ≡ Some kind → MakesStep kind now made new) → (made.reply ≡ Finished → ⊥) → (new ≡ slot_in old.id (state_after old.state (steps + 1))) × (steps + 1 ≤ 8192)
 step_goes_on old now new steps made runs is makes not =

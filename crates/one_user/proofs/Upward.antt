@@ -14,7 +14,7 @@ use Rattle.one_user.specs.declared.outcome.Outcome.{Outcome}
 pub none_below : (plan : DevicePlan) (request : Request) → AreUnroutedBelow plan request 1
 none_below plan request = λ tracks low l. absurd (omega (arith, low, l))
 
--- one number more
+-- one more number
 pub unrouted_more : (plan : DevicePlan) (request : Request) (limit : ℕ) (told : Outcome) → AreUnroutedBelow plan request limit → ComesTo plan request limit told → WasUnrouted told → AreUnroutedBelow plan request (limit + 1)
 unrouted_more plan request limit told below comes was = λ tracks low l. by tracks low (eq-or-lt_of_le (next tracks l))
   where
@@ -25,7 +25,7 @@ unrouted_more plan request limit told below comes was = λ tracks low l. by trac
     by tracks low (inl e) = subst (λ t. (told : Outcome) × ComesTo plan request t told × WasUnrouted told) (sym e) (told, comes, was)
     by tracks low (inr less) = below tracks low less
 
--- the fault of a text that a reader answers
+-- the fault of a text, as a reader returns it
 pub gives_fails : (meant : Result Arch ArchFault) (error : TextError ArchFault) → Gives meant (Err error) → Fails (fault_of meant) error
 gives_fails meant NoMemory gives = tt
 gives_fails meant (Fault fault) gives = ap fault_of gives

@@ -1,4 +1,4 @@
--- Private: what a packing has told.
+-- Private: the progress of a packing.
 use Rattle.std.specs.Prelude.{◌≡◌}
 use Rattle.job_state.specs.declared.progress.Progress.{Progress}
 use Rattle.job_state.specs.declared.progress.Progress.TheVariants.{Packing, Packed, Placing, Routing, Routed, GaveUp, NoPath}
@@ -9,7 +9,7 @@ abbrev pub HasCounts : Progress → PackedCounts → Type 0
 HasCounts (Packed clusters pads nets) counts = counts ≡ record { clusters = clusters; pads = pads; nets = nets }
 HasCounts progress counts = ⊥
 
--- it tells of a whole packing
+-- it is the progress of a whole packing
 abbrev pub IsWhole : Progress → Type 0
 IsWhole (Packed clusters pads nets) = Unit {0}
 IsWhole progress = ⊥

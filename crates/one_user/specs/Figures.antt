@@ -23,25 +23,26 @@ use Rattle.one_user.specs.declared.figures.Figures.{Figures}
 abbrev pub is_channel_wire : ResourceKind → Bool
 is_channel_wire kind = is_wire Across kind || is_wire Up kind
 
--- how many of these are
+-- how many of these are such wires
 abbrev pub wires_in : List Resource → ℕ
 wires_in held = count_by (λ one. is_channel_wire one.kind) held
 
--- so many columns of so many, of so many each
+-- a product of three numbers: columns, rows, and a number for each place
 unfoldable pub product : ℕ → ℕ → ℕ → ℕ
 product a b c = a * b * c
 
--- how many wires a device has: above its rows, and right of its columns and left of the first
+-- the number of wires of a device: above its rows, right of its columns, and left of the first
 abbrev pub wires_there : Basis → ℕ
 wires_there device = product device.strip.width (device.strip.rows + 1) device.arch.tracks + product (device.strip.width + 1) device.strip.rows device.arch.tracks
 
--- what the circuit holds of the device, in node order, each once
+-- what the circuit occupies of the device, in node order, each once
 pub record IsHeldList (task : Task) (held : List Resource) : Type 0 where
   pub order : AllPairs IsEarlier held
   pub exact : (r : Resource) → has held r ≡ has (resources_of (routing_of task)) r
 
--- how many of the blocks, the pads and the wires it has are used, and how many there are: each is the count over the packed circuit, or
--- over what the circuit holds. The wires above rows and right of columns are one as long as a block each
+-- the numbers of used and of all blocks, pads and wires; the used ones are counted over the packed
+-- circuit, or over what the circuit occupies. Each wire above a row or right of a column is as long
+-- as one block
 pub record IsFigures (task : Task) (circuit : Circuit) (figures : Figures) : Type 0 where
   pub blocks : figures.blocks ≡ record { used = length (packed_of circuit task.arch).clusters; there = product task.strip.width task.strip.rows 1 }
   pub pads : figures.pads ≡ record { used = length circuit.inputs + length circuit.outputs; there = product task.strip.width 2 task.strip.io_rat }
@@ -53,6 +54,6 @@ pub record IsFigures (task : Task) (circuit : Circuit) (figures : Figures) : Typ
   pub tracks : figures.tracks ≡ task.arch.tracks
   pub iterations : figures.iterations ≡ step_count (routing_of task)
 
--- the same, of the circuit that the netlist says
+-- the figures of the netlist's circuit
 abbrev pub HasFigures : Task → Figures → Type 0
 HasFigures task figures = (circuit : Circuit) × (circuit_of task.text task.arch.lut_size ≡ Ok circuit) × IsFigures task circuit figures

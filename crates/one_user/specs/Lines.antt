@@ -1,4 +1,4 @@
--- The lines that are written.
+-- The lines that a run writes.
 use Rattle.std.specs.Prelude.{ℕ, ◌+◌, ◌-◌, ◌^◌, min, List, [], ◌∷◌, ◌++◌, codes, decimal, Option, Some, None}
 use Rattle.std.specs.List.{concat}
 use Rattle.device_report.specs.declared.channels.ChannelUse.{ChannelUse}
@@ -22,7 +22,7 @@ kind_word Ipin = codes "IPIN"
 kind_word ChanX = codes "CHANX"
 kind_word ChanY = codes "CHANY"
 
--- the line of a cluster, of a packing that makes so many at most
+-- the line of a cluster, of a packing with at most that number of clusters
 abbrev pub cluster_line : ℕ → ℕ → List ℕ
 cluster_line number most = concat (codes "cluster " ∷ decimal number ∷ codes " of at most " ∷ decimal most ∷ codes "\n" ∷ [])
 
@@ -31,17 +31,18 @@ abbrev pub packed_line : ℕ → ℕ → ℕ → List ℕ
 packed_line clusters pads nets =
     concat (codes "packed: " ∷ decimal clusters ∷ codes " clusters, " ∷ decimal pads ∷ codes " pads, " ∷ decimal nets ∷ codes " nets\n" ∷ [])
 
--- the line of a pass, of so many, at a temperature
+-- the line of a pass, with the number of passes and its temperature
 abbrev pub pass_line : ℕ → ℕ → ℕ → ℕ → List ℕ
 pass_line number count temperature cost = concat (
     codes "pass " ∷ decimal number ∷ codes " of " ∷ decimal count ∷ codes ": temperature " ∷ decimal temperature
     ∷ codes ", cost " ∷ decimal cost ∷ codes "\n" ∷ [])
 
--- the line of an iteration that ends so
+-- the line of an iteration with that end
 abbrev pub iteration_line : ℕ → List ℕ → List ℕ
 iteration_line number end = concat (codes "iteration " ∷ decimal number ∷ codes " of 30: " ∷ end ∷ codes "\n" ∷ [])
 
--- the line of an iteration after which so many nodes are overused, and that one most
+-- the line of an iteration after which that number of nodes are overused, with the most overused
+-- one
 abbrev pub most_line : ℕ → ℕ → Node → List ℕ
 most_line number nodes most = concat (
     codes "iteration " ∷ decimal number ∷ codes " of 30: " ∷ decimal nodes ∷ codes " nodes overused, most at " ∷ kind_word most.kind
@@ -51,7 +52,8 @@ abbrev pub overuse_line : ℕ → ℕ → Option Node → List ℕ
 overuse_line number nodes None = iteration_line number (codes "no node overused")
 overuse_line number nodes (Some most) = most_line number nodes most
 
--- the line of the step of that number, on a strip; a circuit has fewer tables and latches than a number can tell
+-- the line of the step of that number, on a strip; the number of a circuit's tables and latches
+-- fits in 32 bits
 abbrev pub step_line : Strip → ℕ → Progress → List ℕ
 step_line strip number (Packing tables latches) = cluster_line number (min (tables + latches) (2 ^ 64 - 1))
 step_line strip number (Packed clusters pads nets) = packed_line clusters pads nets
@@ -61,7 +63,7 @@ step_line strip number Routed = iteration_line number (codes "no node overused")
 step_line strip number GaveUp = iteration_line number (codes "given up")
 step_line strip number NoPath = iteration_line number (codes "a net has no path")
 
--- the line of the fullest channel, which has so many tracks
+-- the line of the fullest channel, which has `tracks` tracks
 abbrev pub named_line : ℕ → ChannelUse → List ℕ
 named_line tracks channel = concat (codes "fullest channel " ∷ []) ++ channel_line tracks channel
 

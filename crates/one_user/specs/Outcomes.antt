@@ -1,5 +1,6 @@
--- What comes of a netlist that one user has on a device of its own: it is uploaded, packed, placed from no kept places and routed,
--- as the service for a single user does it, and the files are what that service answers at the end.
+-- The outcome of a netlist that one user has on a device of its own: it is uploaded, packed, placed
+-- without kept places and routed, as the service for a single user does it, and the files are that
+-- service's replies at the end.
 use Rattle.std.specs.Prelude.{ℕ, List, [], Result, Ok, Err, Option, Some, None}
 use Rattle.arch_file.specs.declared.arch.Arch.{Arch}
 use Rattle.blif.specs.CircuitOf.{circuit_of}
@@ -21,7 +22,7 @@ use Rattle.one_user.specs.declared.outcome.Files.{Files}
 use Rattle.one_user.specs.declared.outcome.Outcome.{Outcome}
 use Rattle.one_user.specs.declared.outcome.Outcome.TheVariants.{Routed, Unrouted, Refused}
 
--- what is asked for: the netlist on that device, placed with that seed and that effort
+-- the task: the netlist on that device, placed with that seed and effort
 pub record Task : Type 0 where
   pub arch : Arch
   pub strip : Strip
@@ -33,7 +34,7 @@ pub record Task : Type 0 where
 abbrev pub task_on : Basis → List ℕ → ℕ → ℕ → Task
 task_on device text seed effort = record { arch = device.arch; strip = device.strip; text = text; seed = seed; effort = effort }
 
--- what its placing and its routing are computed from; no places are kept
+-- the sources of its placing and its routing; no places are kept
 abbrev pub placing_of : Task → Sources
 placing_of task = placing_sources task.arch task.strip task.text [] task.seed task.effort
 
@@ -53,21 +54,21 @@ abbrev pub by_routing : Task → Circuit → Option RoutingFailure → Outcome
 by_routing task circuit None = Routed (files_of task circuit)
 by_routing task circuit (Some failure) = Unrouted (ending_of (packed_of circuit task.arch) failure)
 
--- it is placed where the device has places enough
+-- it is placed if the device has enough places
 abbrev pub by_fit : Task → Circuit → Option Misfit → Outcome
 by_fit task circuit None = by_routing task circuit (failure_of (end_value (routing_of task)))
 by_fit task circuit (Some misfit) = Refused (DoesNotFit misfit)
 
--- it is packed where each BLE fits into a cluster alone
+-- it is packed if each BLE fits into a cluster alone
 abbrev pub by_packing : Task → Circuit → Option ℕ → Outcome
 by_packing task circuit None = by_fit task circuit (misfit_of (fit_of task.strip (packed_of circuit task.arch)))
 by_packing task circuit (Some ble) = Refused (CannotPack ble)
 
--- it is loaded where it has no fault
+-- it is loaded if it has no fault
 abbrev pub by_netlist : Task → Result Circuit BlifFault → Outcome
 by_netlist task (Ok circuit) = by_packing task circuit (unfit_of circuit task.arch)
 by_netlist task (Err fault) = Refused (BadBlif fault)
 
--- what comes of it
+-- the outcome of the task
 abbrev pub outcome_of : Task → Outcome
 outcome_of task = by_netlist task (circuit_of task.text task.arch.lut_size)

@@ -1,5 +1,5 @@
--- What the files are to the service: by its main theorem each tenancy is in the state of the service for a single user and is told what that
--- service tells, on whatever device and beside whomever.
+-- How the files relate to the service: by its main theorem each tenancy is in the state of the
+-- service for a single user and gets that service's replies, on any device and beside any others.
 use Rattle.std.specs.Prelude.{◌≡◌, ℕ, []}
 use Rattle.tenant_slot.specs.SingleUser.{State, answer_to}
 use Rattle.tenant_slot.specs.declared.command.Command.TheVariants.{Net, PlaceFile, RouteFile}
@@ -10,7 +10,8 @@ use Rattle.tenant_slot.specs.declared.reply.StateName.TheVariants.{Routed}
 use Rattle.one_user.specs.Outcomes.{Task}
 use Rattle.one_user.specs.declared.outcome.Files.{Files}
 
--- a tenancy has the netlist routed, on a strip of the device's size, placed with that seed and that effort from no kept places
+-- a tenancy has the netlist routed, on a strip of the device's size, placed with that seed and
+-- effort without kept places
 pub record HasRouted (task : Task) (state : State) : Type 0 where
   pub name : state.name ≡ Routed
   pub arch : state.arch ≡ task.arch
@@ -20,7 +21,7 @@ pub record HasRouted (task : Task) (state : State) : Type 0 where
   pub seed : state.seed ≡ task.seed
   pub effort : state.effort ≡ task.effort
 
--- it is told these files when it asks for them
+-- its replies to the commands for the files are these files
 pub record AreTold (files : Files) (state : State) : Type 0 where
   pub net : (answer_to state (Asked Net)).1 ≡ File NetFile files.net
   pub places : (answer_to state (Asked PlaceFile)).1 ≡ File PlacesFile files.places

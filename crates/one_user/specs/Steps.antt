@@ -1,4 +1,4 @@
--- Private: what the stages of a run go on from, and what a job's steps come to.
+-- Private: the states between the stages of a run, and the results of a job's steps.
 use Rattle.std.specs.Prelude.{ℕ, ◌≡◌, ◌+◌, ◌<◌, ◌≤◌, List, [], true, false, Option, Some, None, IsSome, Ok, length}
 use Rattle.blif.specs.CircuitOf.{circuit_of}
 use Rattle.blif.specs.declared.circuit.Circuit.{Circuit}
@@ -26,7 +26,7 @@ use Rattle.one_user.specs.Outcomes.{Task}
 use Rattle.one_user.specs.declared.figures.PackedCounts.{PackedCounts}
 use Rattle.one_user.specs.declared.steps.StepMade.{StepMade}
 
--- what a reply refuses, if it does
+-- the refusal in a reply, if there is one
 abbrev pub refusal_in : Reply → Option Refusal
 refusal_in (Refused refusal) = Some refusal
 refusal_in (Accepted name) = None
@@ -34,7 +34,7 @@ refusal_in (Status status) = None
 refusal_in (File kind text) = None
 refusal_in (Step reply) = None
 
--- the text of a file, and how a routing ended, where a reply tells it
+-- the text of a file, and how a routing ended, if the reply has it
 abbrev pub text_in : Reply → Option (List ℕ)
 text_in (File kind text) = Some text
 text_in (Refused refusal) = None
@@ -53,7 +53,7 @@ ending_in (Step reply) = None
 abbrev pub device_of : State → Basis
 device_of state = record { arch = state.arch; strip = state.strip }
 
--- what a state's netlist is asked for with that seed and that effort
+-- the task of a state's netlist with that seed and effort
 abbrev pub task_in : State → ℕ → ℕ → Task
 task_in state seed effort = record { arch = state.arch; strip = state.strip; text = state.text; seed = seed; effort = effort }
 
@@ -77,12 +77,12 @@ state_at task name seed effort generation entries = record {
   entries = entries;
 }
 
--- the slot is in such a state, after so many entries at most
+-- the slot is in such a state, with at most that number of entries
 pub record IsAt (task : Task) (name : StateName) (seed effort most : ℕ) (slot : SlotState) : Type 0 where
   pub is : slot ≡ slot_in slot.id (state_at task name seed effort slot.state.generation slot.state.entries)
   pub few : slot.state.entries ≤ most
 
--- the circuit of the netlist; each BLE fits into a cluster alone; the device has places enough
+-- the circuit of the netlist; each BLE fits into a cluster alone; the device has enough places
 pub record IsLoaded (task : Task) : Type 0 where
   pub circuit : Circuit
   pub said : circuit_of task.text task.arch.lut_size ≡ Ok circuit
@@ -104,7 +104,7 @@ AreCounts task counts =
     (circuit : Circuit) × (circuit_of task.text task.arch.lut_size ≡ Ok circuit) × (counts.clusters ≡ length (packed_of circuit task.arch).clusters)
     × (counts.pads ≡ length circuit.inputs + length circuit.outputs) × (counts.nets ≡ length (block_nets (packed_of circuit task.arch)))
 
--- what a step may lead to: the job goes on, or is over with its last step
+-- the possible results of a step: the job advances, or is over after its last step
 abbrev pub Goes : JobKind → SlotState → StepReply → SlotState → Type 0
 Goes kind old Advanced new =
     (is_last (sources_of old.state kind) (old.state.steps + 1) ≡ false) × (new ≡ slot_in old.id (record old.state { steps = old.state.steps + 1; entries = old.state.entries + 1 }))
@@ -112,7 +112,7 @@ Goes kind old Finished new =
     (is_last (sources_of old.state kind) (old.state.steps + 1) ≡ true) × (new ≡ slot_in old.id (record (finished old.state kind) { entries = old.state.entries + 1 }))
 Goes kind old Stale new = ⊥
 
--- it tells how far the job is after so many steps
+-- the progress is that of the job after `steps` steps
 abbrev pub IsTold : Sources → ℕ → Progress → Type 0
 IsTold sources steps progress = (work : Work) × (job_value sources steps ≡ Ok work) × IsProgress work progress
 
@@ -124,7 +124,7 @@ pub record MakesStep (kind : JobKind) (old : SlotState) (made : StepMade) (new :
   pub count : is_last (sources_of old.state kind) made.number ≡ true → made.number ≡ step_count (sources_of old.state kind)
   pub goes : Goes kind old made.reply new
 
--- all its steps are made, and that was the last
+-- all its steps are made, and this was the last
 pub record Finishes (kind : JobKind) (old : SlotState) (made : StepMade) (new : SlotState) : Type 0 where
   pub few : made.number ≤ 8192
   pub told : IsTold (sources_of old.state kind) made.number made.progress
@@ -139,7 +139,7 @@ pub record CanStep (slot : SlotState) (device : Basis) : Type 0 where
   pub room : slot.state.entries < 65536
   pub window : device ≡ device_of slot.state
 
--- so can all its steps, of which none was made
+-- all its steps can be made; none was made yet
 pub record CanFinish (slot : SlotState) (device : Basis) : Type 0 where
   pub runs : IsSome (running slot.state.name)
   pub first : slot.state.steps ≡ 0
@@ -147,7 +147,7 @@ pub record CanFinish (slot : SlotState) (device : Basis) : Type 0 where
   pub room : slot.state.entries + 8192 < 65536
   pub window : device ≡ device_of slot.state
 
--- a fresh slot is ready for a netlist, over its own device, which is to be placed with such an effort
+-- a fresh slot is ready for a netlist, on its own device, and the effort is lawful
 pub record IsReadyToUpload (now : SlotState) (device : Basis) (tries : ℕ) : Type 0 where
   pub slot : now ≡ slot_in now.id (start now.state.arch now.state.strip)
   pub window : device ≡ device_of now.state
@@ -175,7 +175,7 @@ pub record IsReadyToRoute (task : Task) (now : SlotState) (device : Basis) (told
   pub placed : IsPlaced task
   pub counts : AreCounts task told
 
--- it has routed it, and there is room for the commands that ask for the files
+-- it has routed it, and the journal has space for the commands that ask for the files
 pub record HasFiles (state : State) : Type 0 where
   pub room : state.entries < 65536
   pub routed : state.name ≡ Routed

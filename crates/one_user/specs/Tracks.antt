@@ -15,21 +15,21 @@ use Rattle.one_user.specs.declared.least.TheConstants.{MAX_TRACKS}
 use Rattle.one_user.specs.declared.outcome.Outcome.{Outcome}
 use Rattle.one_user.specs.declared.outcome.Outcome.TheVariants as outcome
 
--- the device has 1 to 256 columns and 1 to 64 rows, and the effort is 100 at most
+-- the device has 1 to 256 columns and 1 to 64 rows, and the effort is at most 100
 pub record IsLawful (plan : DevicePlan) (request : Request) : Type 0 where
   pub columns : IsWithin 1 plan.columns 256
   pub rows : IsWithin 1 plan.rows 64
   pub effort : request.effort ≤ 100
 
--- a request for a device of that architecture
+-- the task of a request on a device of that architecture
 abbrev pub task_for : DevicePlan → Arch → Request → Task
 task_for plan arch request = record { arch = arch; strip = device_strip arch plan.columns plan.rows; text = request.netlist.now; seed = request.seed; effort = request.effort }
 
--- with so many tracks it comes to that
+-- with that number of tracks, the request has that outcome
 abbrev pub ComesTo : DevicePlan → Request → ℕ → Outcome → Type 0
 ComesTo plan request tracks told = (arch : Arch) × (arch_of plan.text.now tracks ≡ Ok arch) × (told ≡ outcome_of (task_for plan arch request))
 
--- what is used then
+-- with that number of tracks, the circuit has these figures
 abbrev pub HasFiguresWith : DevicePlan → Request → ℕ → Figures → Type 0
 HasFiguresWith plan request tracks figures = (arch : Arch) × (arch_of plan.text.now tracks ≡ Ok arch) × HasFigures (task_for plan arch request) figures
 
@@ -38,7 +38,7 @@ abbrev pub fault_of : Result Arch ArchFault → Option ArchFault
 fault_of (Ok arch) = None
 fault_of (Err fault) = Some fault
 
--- it is routed, it is left unrouted, it is refused
+-- the outcome is routed, unrouted, refused
 abbrev pub WasRouted : Outcome → Type 0
 WasRouted (outcome.Routed files) = Unit {0}
 WasRouted (outcome.Unrouted ending) = ⊥
@@ -54,12 +54,12 @@ WasRefused (outcome.Refused refusal) = Unit {0}
 WasRefused (outcome.Routed files) = ⊥
 WasRefused (outcome.Unrouted ending) = ⊥
 
--- with each number of tracks below that one it is left unrouted
+-- with each number of tracks below the limit it is left unrouted
 abbrev pub AreUnroutedBelow : DevicePlan → Request → ℕ → Type 0
 AreUnroutedBelow plan request limit = (tracks : ℕ) → 1 ≤ tracks → tracks < limit → (told : Outcome) × ComesTo plan request tracks told × WasUnrouted told
 
--- what the search comes to: the least number of tracks with which it is routed, the refusal with the least number with which it isn't left
--- unrouted, or neither with any
+-- the result of the search: the least number of tracks with which it is routed; or the refusal with
+-- the least number with which it isn't left unrouted; or neither for any number
 abbrev pub IsLeast : DevicePlan → Request → Least → Type 0
 IsLeast plan request (Routed tracks run) = (1 ≤ tracks) × (tracks ≤ MAX_TRACKS) × ComesTo plan request tracks run.outcome × WasRouted run.outcome × AreUnroutedBelow plan request tracks
 IsLeast plan request (Refused run) = (tracks : ℕ) × (1 ≤ tracks) × (tracks ≤ MAX_TRACKS) × ComesTo plan request tracks run.outcome × WasRefused run.outcome × AreUnroutedBelow plan request tracks

@@ -16,17 +16,18 @@ use std::marker::Model;
 use strips::{DeviceGraph, Window};
 use tenant_slot::{SharedText, Slot};
 
-/// What one user asks for: a netlist, and how it is placed.
+/// One user's request: a netlist, and how it is placed.
 #[derive(Clone, Copy)]
 pub struct Request<'a> {
     pub netlist: &'a SharedText,
-    /// Where the draws of the placing begin.
+    /// The start of the placing's random draws.
     pub seed: u64,
     /// How hard the placing tries, 0 to 100.
     pub effort: u32,
 }
 
-/// A device of one user's own: one strip of all its columns. Its value is what its routing graph stands on.
+/// A device of one user's own: one strip of all its columns. Its value is the basis of its routing
+/// graph.
 #[derive(Drop)]
 pub struct OwnDevice {
     alloc: Global,
@@ -49,7 +50,8 @@ impl Model for OwnDevice {
 }
 
 impl OwnDevice {
-    /// The device of that architecture with so many columns, 1 to 256, and rows, 1 to 64.
+    /// Returns the device of that architecture with `columns` columns, 1 to 256, and `rows` rows, 1
+    /// to 64. Fails with [`AllocError`] if memory runs out.
     pub fn new(alloc: Global, arch: Arch, columns: u32, rows: u32) -> Result<Self, AllocError>
         requires arch { IsArch arch }
         requires size { IsStripSize (device_strip arch columns rows) }
@@ -77,7 +79,8 @@ impl OwnDevice {
         }
     }
 
-    /// Has a netlist packed, placed and routed, and tells a line a step. A line that can't be told is left out, and changes nothing.
+    /// Packs, places and routes a netlist, and writes one line for each step. A line that can't be
+    /// written is skipped, and changes nothing. Fails with [`AllocError`] if memory runs out.
     pub fn run<W: Sink>(&self, request: Request<'_>, teller: &mut W) -> Result<Run, AllocError>
         requires { request.effort ≤ 100 }
         ensures outcome { IfOk result (λ run.

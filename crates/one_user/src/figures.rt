@@ -16,17 +16,18 @@ pub struct Figures {
     pub pads: Share,
     /// Nets between blocks.
     pub nets: usize,
-    /// Wires of the channels: each is as long as a block, so that is the wire length.
+    /// Wires of the channels. Each is as long as one block, so their number is the wire length.
     pub wires: Share,
-    /// The channel with the most used wires, if any are; of several the first in node order.
+    /// The channel with the most used wires, if any are used; the first in node order if there are
+    /// several.
     pub fullest: Option<ChannelUse>,
-    /// How many wires a channel has.
+    /// The number of wires of a channel.
     pub tracks: u32,
     /// The iterations of the routing.
     pub iterations: u32,
 }
 
-/// What a packing has made.
+/// The counts of a whole packing.
 #[derive(Clone, Copy)]
 pub(crate) struct PackedCounts {
     pub(crate) clusters: usize,
@@ -34,7 +35,7 @@ pub(crate) struct PackedCounts {
     pub(crate) nets: usize,
 }
 
-/// What a packing has made that is whole.
+/// The counts of a packing that is whole.
 pub(crate) fn packed_counts(progress: Progress) -> PackedCounts
     requires { IsWhole progress }
     ensures { HasCounts progress result }
@@ -53,7 +54,7 @@ pub(crate) fn packed_counts(progress: Progress) -> PackedCounts
     }
 }
 
-/// The figures of a circuit that holds these resources of the strip of a window, in node order.
+/// The figures of a circuit that occupies these resources, in node order, of the strip of a window.
 pub(crate) fn figures_of(
     window: &Window<'_>,
     packed: PackedCounts,
@@ -114,21 +115,22 @@ fn product(a: u32, b: u32, c: u32) -> u32
     ab * c
 }
 
-/// How many of these are wires of channels.
+/// The number of channel wires among these.
 fn wires_in(held: &[Resource]) -> usize
     ensures { result ≡ wires_in held.now }
 {
     held.iter().filter(|one| is_wire(one.kind)).count()
 }
 
-/// Whether it is a wire of a channel.
+/// Returns whether it is a wire of a channel.
 fn is_wire(kind: ResourceKind) -> bool
     ensures { result ≡ is_channel_wire kind }
 {
     matches!(kind, ResourceKind::ChanX | ResourceKind::ChanY)
 }
 
-/// The channel that has the most of these, which stand in node order, so that those of a channel stand together.
+/// The channel with the most of these wires. They are in node order, so those of one channel are
+/// next to each other.
 fn fullest(held: &[Resource]) -> Option<ChannelUse> {
     let mut fullest = None;
     let mut most = 0;
@@ -151,12 +153,12 @@ fn fullest(held: &[Resource]) -> Option<ChannelUse> {
     fullest
 }
 
-/// Whether both are of one channel, pin block or pad place.
+/// Returns whether both belong to one channel, pin block or pad place.
 fn is_same_channel(one: Resource, other: Resource) -> bool {
     one.x == other.x && one.kind == other.kind && one.y == other.y
 }
 
-/// Which way a wire goes.
+/// The direction of a wire.
 fn direction_of(kind: ResourceKind) -> Option<Direction> {
     match kind {
         ResourceKind::ChanX => Some(Direction::Across),

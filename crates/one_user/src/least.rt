@@ -11,21 +11,22 @@ use line_text::{Failed, Sink};
 use std::alloc::Global;
 use text_parts::{Part, write_parts};
 
-/// The most tracks of a channel.
+/// The largest number of tracks of a channel.
 pub const MAX_TRACKS: u32 = 64;
 
-/// What the search for the least tracks comes to.
+/// The result of the search for the least number of tracks.
 #[derive(Drop)]
 pub enum Least {
-    /// It is routed with so many tracks, and was left unrouted with each smaller number. That is the run.
+    /// The netlist is routed with `tracks` tracks, by that run, and was left unrouted with each
+    /// smaller number.
     Routed { tracks: u32, run: Run },
-    /// It is refused.
+    /// The netlist is refused.
     Refused(Run),
     /// It was left unrouted with each number of tracks.
     Unrouted,
 }
 
-/// The device of an architecture's text that runs are made on.
+/// A device, by its architecture's text, for runs with different numbers of tracks.
 #[derive(Clone, Copy)]
 pub struct DevicePlan<'a> {
     /// The architecture.
@@ -36,7 +37,8 @@ pub struct DevicePlan<'a> {
     pub rows: u32,
 }
 
-/// Has a netlist run with 1 track, then with 2, and so on, until it is routed or refused.
+/// Runs a netlist with 1 track, then with 2, and so on, until it is routed or refused. Fails if the
+/// architecture has a fault or memory runs out.
 pub fn least_tracks<W: Sink>(
     alloc: Global,
     plan: DevicePlan<'_>,
@@ -72,7 +74,8 @@ fn tell_tracks<W: Sink>(sink: &mut W, tracks: u32) -> Result<(), Failed> {
     )
 }
 
-/// Has a netlist run with so many tracks.
+/// Runs a netlist with that number of tracks. Fails if the architecture has a fault or memory runs
+/// out.
 pub fn run_with<W: Sink>(
     alloc: Global,
     plan: DevicePlan<'_>,

@@ -1,13 +1,17 @@
-//! A netlist on a device of one user's own, packed, placed and routed as the service does it for a single user.
+//! A netlist on a device of one user's own, packed, placed and routed as the service does it for a
+//! single user.
 //!
-//! - [`OwnDevice`] is the device. [`OwnDevice::run`] has a [`Request`] on it and answers what comes of it: the three files, how the
-//!   routing ended without routes, or why the netlist is refused. It tells a line a step to a [`line_text::Sink`].
+//! - [`OwnDevice`] is the device. [`OwnDevice::run`] executes a [`Request`] on it and returns the
+//!   outcome: the three files, how the routing ended without routes, or why the netlist is refused.
+//!   It writes one line for each step to a [`line_text::Sink`].
 //! - [`Figures`] are what the routed circuit uses of the device; [`write_figures`] writes them.
-//! - [`least_tracks`] finds the least number of tracks with which a netlist is routed. It goes upward, since a circuit that is
-//!   routed with some tracks may be left unrouted with more.
+//! - [`least_tracks`] finds the least number of tracks with which a netlist is routed. It searches
+//!   upward, since a circuit that is routed with some number of tracks may be left unrouted with a
+//!   larger one.
 //!
-//! `Outcomes` in `specs/` says what comes of a netlist, as a function of the single user's definition. [`same_files`] is the law that
-//! joins it to the service: whoever has the netlist routed so is told the same files.
+//! `Outcomes` in `specs/` defines the outcome of a netlist, as a function of the single user's
+//! definition. [`same_files`] is the law that connects it with the service: a tenancy that has the
+//! netlist routed in this way gets these files.
 #![tactic(auto)]
 
 mod device;

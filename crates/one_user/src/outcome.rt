@@ -1,4 +1,4 @@
-//! What comes of a netlist.
+//! The outcome of a netlist.
 use crate::figures::Figures;
 use tenant_slot::{Ending, Refusal, SharedText};
 
@@ -7,24 +7,24 @@ use tenant_slot::{Ending, Refusal, SharedText};
 pub struct Files {
     /// The `.net` file: the packed netlist.
     pub net: SharedText,
-    /// The `.place` file: where its blocks stand.
+    /// The `.place` file: the places of its blocks.
     pub places: SharedText,
-    /// The `.route` file: which ways its nets take.
+    /// The `.route` file: the routes of its nets.
     pub routes: SharedText,
 }
 
-/// What comes of a netlist on a device of one user's own.
+/// The outcome of a netlist on a device of one user's own.
 #[derive(Drop)]
 pub enum Outcome {
     /// It was packed, placed and routed.
     Routed(Files),
-    /// It was packed and placed, and a net is left without its way.
+    /// It was packed and placed, but the routing ended without routes.
     Unrouted(Ending),
-    /// The netlist has a fault, or fits no cluster or not the device.
+    /// The netlist has a fault, has a BLE that fits into no cluster, or doesn't fit on the device.
     Refused(Refusal),
 }
 
-/// What comes of a netlist, with what it uses of the device where it was routed.
+/// The outcome of a netlist, with what it uses of the device if it was routed.
 #[derive(Drop)]
 pub struct Run {
     pub outcome: Outcome,

@@ -6,10 +6,10 @@ ghost use Rattle.strip_place.specs.Anneal.{temperature_at};
 
 use grid::Strip;
 
-/// More than the passes of any placing.
+/// Greater than the number of passes of any placing.
 const MAX_PASSES: u32 = 512;
 
-/// The temperature of the pass after so many.
+/// The temperature of the next pass after `passes` passes.
 pub(crate) fn temperature_after(strip: Strip, passes: u32) -> u32
     requires { IsStripSize strip }
     ensures { result ≡ temperature_at strip passes }
@@ -21,7 +21,7 @@ pub(crate) fn temperature_after(strip: Strip, passes: u32) -> u32
     temperature
 }
 
-/// How many passes a placing makes.
+/// The number of passes of a placing.
 pub(crate) fn pass_count(strip: Strip) -> u32
     requires { IsStripSize strip }
     ensures { result ≡ pass_count strip }

@@ -1,4 +1,4 @@
-//! The stages of a run, each of which goes on with the next.
+//! The stages of a run; each hands on to the next.
 ghost use Rattle.std.specs.Prelude.{◌≡◌, ◌<◌, IfOk, IfSome, IsSome, None, OnOk, Some};
 ghost use Rattle.tenant_slot.specs.declared.command.Command.{Command};
 ghost use Rattle.tenant_slot.specs.declared.event.Event.TheVariants.{Command as Asked};
@@ -20,7 +20,7 @@ use tenant_slot::{
     Command, Ending, NotServed, Refusal, Reply, SharedText, Slot, StateName, Status,
 };
 
-/// Has the netlist loaded, and then packed.
+/// Loads the netlist, and then goes on to packing.
 pub(crate) fn upload<W: Sink>(
     slot: &mut Slot,
     window: &Window<'_>,
@@ -43,7 +43,7 @@ pub(crate) fn upload<W: Sink>(
     pack(slot, window, request, teller)
 }
 
-/// Has the netlist packed, and then placed.
+/// Packs the netlist, and then goes on to placing.
 fn pack<W: Sink>(
     slot: &mut Slot,
     window: &Window<'_>,
@@ -66,7 +66,7 @@ fn pack<W: Sink>(
     place(slot, window, request, packed_counts(last.progress), teller)
 }
 
-/// Has the packed netlist placed, and then routed.
+/// Places the packed netlist, and then goes on to routing.
 fn place<W: Sink>(
     slot: &mut Slot,
     window: &Window<'_>,
@@ -94,7 +94,7 @@ fn place<W: Sink>(
     route(slot, window, packed, teller)
 }
 
-/// Has the placed netlist routed.
+/// Routes the placed netlist.
 fn route<W: Sink>(
     slot: &mut Slot,
     window: &Window<'_>,
@@ -130,7 +130,7 @@ fn route<W: Sink>(
     }
 }
 
-/// A netlist that is refused.
+/// The run of a netlist that is refused.
 fn refused(refusal: Refusal) -> Run
     ensures { result ≡ record { outcome = Outcome.Refused refusal; figures = None } }
 {
@@ -140,7 +140,7 @@ fn refused(refusal: Refusal) -> Run
     }
 }
 
-/// Has a command served, and tells why it is refused, if it is.
+/// Serves a command, and returns why it is refused, if it is.
 fn ask(slot: &mut Slot, command: Command) -> Result<Option<Refusal>, AllocError>
     requires { slot.old.state.entries < 65536 }
     ensures reply { IfOk result (λ refusal.
@@ -172,7 +172,7 @@ fn files_of(slot: &Slot) -> Result<Files, AllocError>
     })
 }
 
-/// The file that a command is answered.
+/// The file in the reply to a command.
 fn file_of(slot: &Slot, command: Command) -> Result<SharedText, AllocError>
     requires room { slot.now.state.entries < 65536 }
     requires file { IsSome (text_in (answer_to slot.now.state (Asked command)).1) }
@@ -203,7 +203,7 @@ fn text_in(reply: &Reply) -> Result<SharedText, AllocError>
     }
 }
 
-/// How the routing ended that left a net without its way.
+/// How the routing ended without routes.
 fn ending_of(slot: &Slot) -> Result<Ending, AllocError>
     requires room { slot.now.state.entries < 65536 }
     requires ending { IsSome (ending_in (answer_to slot.now.state (Asked Command.Status)).1) }
@@ -224,7 +224,7 @@ fn ending_of(slot: &Slot) -> Result<Ending, AllocError>
     }
 }
 
-/// The ending that a status tells.
+/// The ending in a status.
 fn ending_in(reply: &Reply) -> Result<Ending, AllocError>
     requires { IsSome (ending_in reply.now) }
     ensures { IfOk result (λ ending. ending_in reply.now ≡ Some ending) }

@@ -11,19 +11,21 @@ use std::alloc::AllocError;
 use strips::Window;
 use tenant_slot::{Origin, Slot, StepReply};
 
-/// The most steps of a job: a circuit has no more BLEs, a placing no more passes, and a routing no more iterations.
+/// The largest number of steps of a job: a circuit has no more BLEs, a placing no more passes, and
+/// a routing no more iterations.
 const MAX_STEPS: u32 = 8192;
 
 /// A step that was made.
 #[derive(Clone, Copy)]
 pub(crate) struct StepMade {
-    /// The how many-th of the job's steps it is, from 1.
+    /// The step's number within the job, from 1.
     pub(crate) number: u32,
     pub(crate) progress: Progress,
     pub(crate) reply: StepReply,
 }
 
-/// Makes all steps of the running job, tells of each, and answers the last. What can't be told isn't.
+/// Makes all steps of the running job, writes a line for each and returns the last. A line that
+/// can't be written is skipped.
 pub(crate) fn make_steps<W: Sink>(
     slot: &mut Slot,
     window: &Window<'_>,
@@ -44,7 +46,7 @@ pub(crate) fn make_steps<W: Sink>(
     unreachable!()
 }
 
-/// Makes the next step of the running job. Without memory nothing changes.
+/// Makes the next step of the running job. If memory runs out, nothing changes.
 fn make_step(slot: &mut Slot, window: &Window<'_>) -> Result<StepMade, AllocError>
     requires { CanStep slot.old window.now }
     ensures { IfOk result (λ made. (kind : JobKind) → running slot.old.state.name ≡ Some kind →

@@ -8,7 +8,7 @@ use device_report::{ChannelUse, write_channel};
 use line_text::{Failed, Sink};
 use text_parts::{Part, write_parts};
 
-/// Writes a line for each figure. Where the sink fails, it has taken a beginning of them.
+/// Writes one line for each figure. If the sink fails, it has taken a first part of them.
 pub fn write_figures<W: Sink>(sink: &mut W, figures: &Figures) -> Result<(), Failed>
     ensures { Writes W.contents W.has_failed sink.old sink.new (figures_text figures.now) result }
 {
@@ -16,7 +16,7 @@ pub fn write_figures<W: Sink>(sink: &mut W, figures: &Figures) -> Result<(), Fai
     write_fullest(sink, figures.fullest, figures.tracks)
 }
 
-/// Writes the lines of all but the fullest channel.
+/// Writes the lines of all figures except the fullest channel.
 fn write_counts<W: Sink>(sink: &mut W, figures: &Figures) -> Result<(), Failed>
     ensures { Writes W.contents W.has_failed sink.old sink.new (counts_text figures.now) result }
 {
@@ -44,7 +44,7 @@ fn write_counts<W: Sink>(sink: &mut W, figures: &Figures) -> Result<(), Failed>
     )
 }
 
-/// Writes the line of the fullest channel, which has so many tracks.
+/// Writes the line of the fullest channel, which has `tracks` tracks.
 fn write_fullest<W: Sink>(
     sink: &mut W,
     fullest: Option<ChannelUse>,
@@ -67,7 +67,7 @@ fn write_named<W: Sink>(sink: &mut W, channel: ChannelUse, tracks: u32) -> Resul
     write_channel(sink, channel, tracks)
 }
 
-/// Writes that there is none.
+/// Writes that no channel is used.
 fn write_none<W: Sink>(sink: &mut W) -> Result<(), Failed>
     ensures { Writes W.contents W.has_failed sink.old sink.new none_line result }
 {

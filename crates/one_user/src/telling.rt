@@ -40,7 +40,7 @@ pub(crate) fn tell_step<W: Sink>(
     }
 }
 
-/// Writes the line of a cluster, of a packing that makes so many at most.
+/// Writes the line of a cluster, of a packing with at most `most` clusters.
 fn tell_cluster<W: Sink>(sink: &mut W, number: u32, most: usize) -> Result<(), Failed>
     ensures { Writes W.contents W.has_failed sink.old sink.new (cluster_line number most) result }
 {
@@ -98,7 +98,7 @@ fn tell_pass<W: Sink>(
     tell_pass_of(sink, number, passes, temperature, cost)
 }
 
-/// Writes the line of a pass, of so many, at a temperature.
+/// Writes the line of a pass, with the number of passes and its temperature.
 fn tell_pass_of<W: Sink>(
     sink: &mut W,
     number: u32,
@@ -125,7 +125,7 @@ fn tell_pass_of<W: Sink>(
     )
 }
 
-/// Writes the line of an iteration that ends so.
+/// Writes the line of an iteration with that end.
 fn tell_iteration<W: Sink>(sink: &mut W, number: u32, end: &str) -> Result<(), Failed>
     ensures { Writes W.contents W.has_failed sink.old sink.new (iteration_line number end.now)
         result }
@@ -153,7 +153,8 @@ fn tell_overuse<W: Sink>(sink: &mut W, number: u32, overuse: Overuse) -> Result<
     }
 }
 
-/// Writes the line of an iteration after which so many nodes are overused, and that one most.
+/// Writes the line of an iteration after which `nodes` nodes are overused, with the most overused
+/// one.
 fn tell_most<W: Sink>(sink: &mut W, number: u32, nodes: usize, most: Node) -> Result<(), Failed>
     ensures { Writes W.contents W.has_failed sink.old sink.new (most_line number nodes most)
         result }

@@ -5,9 +5,9 @@ use std::alloc::AllocError;
 /// Why no picture was drawn, or not all of it.
 #[derive(Clone, Copy, PartialEq, Eq)]
 pub enum DrawError {
-    /// There is no memory. Nothing was written.
+    /// Memory ran out. Nothing was written.
     NoMemory,
-    /// The sink failed. It has taken a beginning of the picture.
+    /// The sink failed. It has taken a first part of the picture.
     Failed,
 }
 

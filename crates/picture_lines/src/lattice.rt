@@ -1,28 +1,28 @@
 //! Columns, rows and tracks.
 ghost use Rattle.std.specs.Prelude.{◌+◌, ◌*◌, ◌≤◌};
 
-/// Which way a channel goes.
+/// The direction of a channel.
 #[derive(Clone, Copy, PartialEq, Eq)]
 pub enum Direction {
-    /// Above a row.
+    /// Horizontal, above a row.
     Across,
-    /// Right of a column.
+    /// Vertical, right of a column.
     Up,
 }
 
-/// How large blocks and channels are.
+/// The sizes of blocks and channels.
 #[derive(Clone, Copy)]
 pub struct Lattice {
-    /// How long and high a block is.
+    /// The width and height of a block.
     pub block: u32,
-    /// How wide a channel is.
+    /// The width of a channel.
     pub channel: u32,
     ghost block_small: { (4 ≤ block) × (block ≤ 65) },
     ghost channel_small: { (1 ≤ channel) × (channel ≤ 65) },
 }
 
 impl Lattice {
-    /// How far two columns, or two rows, stand apart.
+    /// The distance of two neighbouring columns, or rows.
     pub fn pitch(&self) -> u32
         ensures small { result ≤ 130 }
         ensures block { self.now.block ≤ result }
@@ -31,7 +31,7 @@ impl Lattice {
         self.block + self.channel
     }
 
-    /// Where column or row `number` begins.
+    /// The position at which column or row `number` begins.
     pub fn start(&self, number: u32) -> u32
         requires { number ≤ 257 }
         ensures { result ≤ 33_410 }
@@ -39,7 +39,7 @@ impl Lattice {
         number * self.pitch()
     }
 
-    /// The line of a track in the channel behind column or row `number`.
+    /// The position of a track in the channel after column or row `number`.
     pub fn track(&self, number: u32, track: u32) -> u32
         requires number { number ≤ 257 }
         requires track { track ≤ 144 }
@@ -48,14 +48,15 @@ impl Lattice {
         self.start(number) + self.block + track + 1
     }
 
-    /// The length of so many columns or rows.
+    /// The length of `count` columns or rows.
     pub fn span(&self, count: u32) -> u32
         requires { count ≤ 257 }
         ensures { result ≤ 33_410 }
     {
         count * self.pitch()
     }
-    /// Of so many columns, or rows, one has its number beside it, so that numbers stand so far apart at least.
+    /// How many columns, or rows, go with one number beside them, so that the numbers are at least
+    /// that distance apart.
     pub fn step(&self, apart: u32) -> u32
         ensures { 1 ≤ result }
     {

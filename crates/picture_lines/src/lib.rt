@@ -1,11 +1,13 @@
-//! Where columns, rows and tracks stand in a picture, lines and boxes of the paths of an SVG, and the sheet with what stands beside the picture.
-//! The pictures of a device and of a strip are drawn by it.
+//! The positions of columns, rows and tracks in a picture, the lines and boxes of an SVG's paths,
+//! and the sheet with the numbers and the legend beside the picture. The pictures of a device and
+//! of a strip are drawn with it.
 //!
-//! Lengths are counted in the distance of two tracks. Columns and rows are squares side by side, `pitch` long: of column x the
-//! blocks and pads stand in the first `block` of it, and the vertical channel right of them in the rest. So does row y upwards, with the
-//! horizontal channel above its blocks.
+//! The unit of lengths is the distance of two tracks. Columns and rows are squares side by side,
+//! `pitch` long. The blocks and pads of column x are in its first `block`, and the vertical channel
+//! right of them is in the rest. Row y is laid out upwards in this way, with the horizontal channel
+//! above its blocks.
 //!
-//! It is proved that all of it is safe, and how far things stand at most.
+//! It is proved that all of it is safe, and how large positions are at most.
 #![tactic(auto)]
 
 mod draw_error;

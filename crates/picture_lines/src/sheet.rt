@@ -1,18 +1,19 @@
-//! The sheet that a picture stands on: its beginning, groups, the numbers beside columns and rows, and squares of a legend.
+//! The sheet of a picture: its beginning, groups, the numbers beside columns and rows, and the
+//! squares of a legend.
 ghost use Rattle.std.specs.Prelude.{◌≤◌};
 
 use crate::lattice::Lattice;
 use line_text::Sink;
 use text_parts::{Part, Pen};
 
-/// How large a sheet is.
+/// The size of a sheet.
 #[derive(Clone, Copy)]
 pub struct Sheet {
     pub width: u32,
     pub height: u32,
-    /// How many dots of a screen it is long.
+    /// The width of the sheet on a screen, in pixels.
     pub dots: u32,
-    /// The size of letters.
+    /// The size of letters, in units of the picture.
     pub font: u32,
     ghost width_some: { 1 ≤ width },
     ghost height_small: { height ≤ 300_000 },
@@ -20,7 +21,7 @@ pub struct Sheet {
 }
 
 impl Sheet {
-    /// Writes the beginning: the size, the styles, and the ground.
+    /// Writes the beginning: the size, the styles, and the background.
     pub fn write_head<K: Sink>(&self, pen: &mut Pen<'_, K>, styles: &str) {
         pen.write(&[
             Part::Text("<svg xmlns=\"http://www.w3.org/2000/svg\" width=\""),
@@ -40,8 +41,8 @@ impl Sheet {
     }
 }
 
-/// Begins a group whose column 0 begins so far from the left, less the length of a block, and so far from above, and what is done with
-/// it then.
+/// Begins a group whose column 0 begins at `x` from the left, less the length of a block, and at
+/// `y` from the top, with a transformation for its contents.
 pub fn begin_group<K: Sink>(pen: &mut Pen<'_, K>, lattice: Lattice, x: u32, y: u32, turn: &str) {
     pen.write(&[
         Part::Text("<g transform=\"translate("),
@@ -60,7 +61,8 @@ pub fn end_group<K: Sink>(pen: &mut Pen<'_, K>) {
     pen.text("</g>\n");
 }
 
-/// Writes the numbers of rows, one of `step`, that end so far from the left; row 0 begins so far from above.
+/// Writes the numbers of rows, one for each `step` of them, which end at that distance from the
+/// left; row 0 begins at that distance from the top.
 pub fn write_rows<K: Sink>(
     pen: &mut Pen<'_, K>,
     lattice: Lattice,
@@ -83,7 +85,8 @@ pub fn write_rows<K: Sink>(
     end_group(pen);
 }
 
-/// Writes the numbers of columns or rows at their middles, one of `step`, each begun so.
+/// Writes the numbers of columns or rows at their middles, one for each `step` of them, each with
+/// that beginning.
 pub fn write_numbers<K: Sink>(
     pen: &mut Pen<'_, K>,
     lattice: Lattice,
@@ -102,7 +105,7 @@ pub fn write_numbers<K: Sink>(
     }
 }
 
-/// Writes a number at a place.
+/// Writes a number at a position.
 fn write_number<K: Sink>(pen: &mut Pen<'_, K>, start: &str, place: u32, number: u32) {
     pen.write(&[
         Part::Text(start),

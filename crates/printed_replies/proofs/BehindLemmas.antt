@@ -1,4 +1,4 @@
--- What stands behind a beginning.
+-- The bytes after a prefix.
 use Rattle.std.proofs.Common.{◌≡◌, ◌≢◌, ℕ, List, [], ◌∷◌, ◌++◌, Bool, true, false, cond, Option, Some, None, refl, sym, ap, ◌∙◌, codes}
 use Rattle.std.specs.Prelude.{MatchOption, option_map, option_and_then}
 use Rattle.std.specs.Borrow.{Bor}
@@ -6,12 +6,12 @@ use Rattle.std.proofs.Math.Dec.{eqb}
 use Rattle.std.proofs.lemmas.Bool.{eqb-true, eq-eqb}
 use Rattle.printed_replies.specs.Lengths.{behind}
 
--- what begins so has the rest behind it
+-- bytes made of the prefix and a rest have that rest after it
 pub behind-append : (start rest : List ℕ) → behind start (start ++ rest) ≡ Some rest
 behind-append [] rest = refl
 behind-append (a ∷ start) rest = ap (λ b. cond b (behind start (start ++ rest)) None) (eq-eqb a a refl) ∙ behind-append start rest
 
--- and nothing else does
+-- and no others have
 pub behind-begins : (start bytes rest : List ℕ) → behind start bytes ≡ Some rest → bytes ≡ start ++ rest
 behind-begins [] bytes rest is = cc
 behind-begins (a ∷ start) [] rest is = cc
@@ -29,7 +29,7 @@ behind-found start bytes None none = by_found (behind start bytes) refl
     by_found None e = refl
     by_found (Some rest) e = absurd (none rest (behind-begins start bytes rest e))
 
--- one beginning behind another
+-- one prefix after another
 pub behind-both : (first second bytes : List ℕ) → behind (first ++ second) bytes ≡ option_and_then (behind second) (behind first bytes)
 behind-both [] second bytes = refl
 behind-both (a ∷ first) second [] = refl
@@ -40,7 +40,7 @@ behind-both (a ∷ first) second (b ∷ bytes) = by_test (eqb a b) (behind-both 
     by_test true e = e
     by_test false e = refl
 
--- the words of a heading one behind the other
+-- the words of a heading one after the other
 pub heading_none : (name printed x : List ℕ) → Some x ≡ behind (codes "== ") printed → None ≡ behind name x → None ≡ behind (codes "== " ++ name ++ 10 ∷ []) printed
 heading_none name printed x first second =
     sym (behind-both (codes "== ") (name ++ 10 ∷ []) printed ∙ ap (option_and_then (behind (name ++ 10 ∷ []))) (sym first)

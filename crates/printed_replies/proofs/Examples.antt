@@ -1,4 +1,4 @@
--- Replies by hand.
+-- Examples of printed replies.
 use Rattle.std.proofs.Common.{◌≡◌, List, [], ◌∷◌, codes, Ok, Err, Some, None, refl}
 use Rattle.printed_replies.specs.declared.asked.ReplyForm.TheVariants.{Line, Session}
 use Rattle.printed_replies.specs.Lengths.{line_length, lines_length, owners_length, session_length}
@@ -16,7 +16,7 @@ two_lines = refl
 two_owners : owners_length (codes "owners 2\nPAD\nOPIN\n1 a\n") ≡ Some 18
 two_owners = refl
 
--- a file may hold headings
+-- a file may contain headings
 heading_in_file : session_length (codes "text net 5\n== b\n== b\n") ≡ Some 16
 heading_in_file = refl
 
@@ -32,7 +32,7 @@ both_read : replies_in asked (codes "== op\nok 3\n== a\ntext net 5\n== b\n")
 unfolding asked replies_in
 both_read = refl
 
--- six bytes are left where the heading of `a` doesn't stand
+-- six bytes are left at the point that should be the heading of `a`
 other_section : replies_in asked (codes "== op\nok 3\n== b\n:") ≡ Err 6
 unfolding asked replies_in
 other_section = refl

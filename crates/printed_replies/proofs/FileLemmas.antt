@@ -22,7 +22,7 @@ later_line name kind [] line = or_none (file_told name kind line)
 later_line name kind (first ∷ lines) line =
     ap (λ o. option_or o (file_told name kind first)) (later_line name kind lines line) ∙ or_or (file_told name kind line) (file_of name kind lines) (file_told name kind first)
 
--- one line more
+-- one more line
 file_more : (name kind : List ℕ) (lines : List Answered) (k : ℕ) (d : Answered) → k < length lines →
     file_of name kind (answered_lines (take (k + 1) lines)) ≡ option_or (file_told name kind (answered_line (get_or lines k d))) (file_of name kind (answered_lines (take k lines)))
 file_more name kind lines k d within =

@@ -1,4 +1,4 @@
--- The first place of a byte, as a search finds it.
+-- The first position of a byte, as a search finds it.
 use Rattle.std.proofs.Common.{◌≡◌, ℕ, zero, suc, ◌+◌, ◌<◌, Bool, true, false, not, cond, List, [], ◌∷◌, Option, Some, None, length, position, slice_index, nat_lt, refl, sym, ap, arith}
 use Rattle.std.specs.List.{position_or_len}
 use Rattle.std.proofs.lemmas.Bool.Decides.{nat_tests}

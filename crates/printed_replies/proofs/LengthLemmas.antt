@@ -1,4 +1,4 @@
--- So many lines, one by one.
+-- A number of lines, one by one.
 use Rattle.std.proofs.Common.{◌≡◌, ℕ, suc, ◌+◌, ◌-◌, ◌≤◌, List, length, drop, Option, Some, None, refl, sym, ap, ◌∙◌, arith}
 use Rattle.std.specs.Prelude.{option_map, option_and_then}
 use Rattle.std.proofs.lemmas.List.{length-drop}
@@ -9,7 +9,7 @@ counted : (whole first : ℕ) (rest : List ℕ) (o : Option ℕ) → first ≤ l
 counted whole first rest None within inside = refl
 counted whole first rest (Some more) within inside = ap Some (let e = length-drop first rest in omega (arith, e))
 
--- one line more
+-- one more line
 pub line_more : (left fewer whole first : ℕ) (rest : List ℕ) → left ≡ suc fewer → line_length rest ≡ Some first → first ≤ length rest → length rest ≤ whole →
     option_map (λ more. (whole - length (drop first rest)) + more) (lines_length fewer (drop first rest)) ≡ option_map (λ more. (whole - length rest) + more) (lines_length left rest)
 line_more left fewer whole first rest e is within inside =

@@ -11,7 +11,7 @@ use Rattle.printed_replies.specs.Printing.{HasReply, HaveReplies, IsReadBack, Is
 use Rattle.printed_replies.specs.Replies.{AnsweredLine, AskedLine, Speaker, and_then, begun, fitting, heading, is_of, lines_read, live_after, names_of, onto, read_from, replied, replies_in, reply_read, rest_of, section_read, sections_read, unanswered, with_speaker}
 use Rattle.printed_replies.proofs.BehindLemmas.{behind-append}
 
--- the lines once the sections of some speakers are read
+-- the lines after the sections of some speakers are read
 abbrev shown : (Speaker → Bool) → AnsweredLine → AnsweredLine
 shown done line = cond (done line.asked.speaker) line (unanswered line.asked)
 
@@ -33,7 +33,7 @@ reply_is_read live line tail is =
     ∙ ap (λ r. Ok (replied line.asked r, rest_of (live_after live line.asked.form r) (drop (length line.reply) (line.reply ++ tail)))) (take-append_seam line.reply tail)
     ∙ ap (λ t. Ok (line, rest_of (live_after live line.asked.form line.reply) t)) (drop-append_seam line.reply tail)
 
--- what a speaker's lines come to that are printed so
+-- what a speaker's lines are read to, if they are printed so
 record IsRead (speaker : Speaker) (done : Speaker → Bool) (live : ℕ) (lines : List AnsweredLine) (tail : List ℕ) : Type 0 where
   last : ℕ
   read : lines_read speaker (rest_of live (told_to speaker lines ++ tail)) (map (shown done) lines) ≡ Ok (map (shown (also speaker done)) lines, rest_of last tail)
@@ -98,7 +98,7 @@ sections_are_read (name ∷ names) done lines has =
     ap (λ r. and_then r (λ read. sections_read names read.0 read.1.bytes)) one.read
     ∙ sections_are_read names (also (Some name) done) lines has
 
--- whose section is read stays read
+-- a section that is read stays read
 or_true : (b : Bool) → (b || true) ≡ true
 or_true true = refl
 or_true false = refl
@@ -139,7 +139,7 @@ keeps_names : (asked : List AskedLine) (names : List (List ℕ)) (name : List �
 keeps_names [] names name has = has
 keeps_names (line ∷ asked) names name has = keeps_names asked (with_speaker names line.speaker) name (keeps_name names line.speaker name has)
 
--- so each line is read in the end
+-- so in the end each line is read
 each_is_read : (lines : List AnsweredLine) (names : List (List ℕ)) (done : Speaker → Bool) → done None ≡ true →
     ((name : List ℕ) → has_name (names_from names (asked_in lines)) name ≡ true → done (Some name) ≡ true) → map (shown done) lines ≡ lines
 each_is_read [] names done none some = refl

@@ -6,7 +6,7 @@ use Rattle.printed_replies.specs.declared.answered.Answered.{Answered}
 use Rattle.printed_replies.specs.Parts.{answered_lines}
 use Rattle.printed_replies.specs.Replies.{AnsweredLine, Reading, Rest, Speaker, and_then, answered_line, line_read, lines_read, onto, section_read, sections_read}
 
--- lines that are read already stand ahead
+-- lines that are read already come before the others
 abbrev pub behind_lines : List AnsweredLine → Reading (List AnsweredLine × Rest) → Reading (List AnsweredLine × Rest)
 behind_lines front (Ok read) = Ok (front ++ read.0, read.1)
 behind_lines front (Err left) = Err left
@@ -21,7 +21,7 @@ line_behind speaker rest next front lines line new is =
     one_more front new (lines_read speaker next lines)
     ∙ ap (λ r. behind_lines front (and_then r (λ read. onto read.0 (lines_read speaker read.1 lines)))) (sym is)
 
--- the line at a place stands ahead of those behind it
+-- the line at an index comes before those after it
 line_at_place : (items : List Answered) (k : ℕ) (old : Answered) → k < length items → old ≡ slice_index_or items k old → drop k (answered_lines items) ≡ answered_line old ∷ drop (k + 1) (answered_lines items)
 line_at_place items k old within is =
     let same = length-map items answered_line in
@@ -42,7 +42,7 @@ line_is_read speaker rest next items k old new within is read =
     ∙ line_behind speaker rest next (take k lines) (drop (k + 1) lines) (answered_line old) (answered_line new) read
     ∙ ap (λ ls. behind_lines (take k lines) (lines_read speaker rest ls)) (sym (line_at_place items k old within is))
 
--- or doesn't fit
+-- or it doesn't fit
 pub line_is_not : (speaker : Speaker) (rest : Rest) (items : List Answered) (k left : ℕ) (old : Answered) → k < length items → old ≡ slice_index_or items k old → line_read speaker rest (answered_line old) ≡ Err left →
     behind_lines (take k (answered_lines items)) (lines_read speaker rest (drop k (answered_lines items))) ≡ Err left
 line_is_not speaker rest items k left old within is stops =

@@ -1,4 +1,4 @@
--- Private: what the parts of reading give.
+-- Private: the results of the parts of reading.
 use Rattle.std.specs.Prelude.{ℕ, ◌≡◌, List, map, option_map, Option, Result, Ok, Err}
 use Rattle.std.specs.Borrow.{Bor}
 use Rattle.printed_replies.specs.declared.answered.Answered.{Answered}
@@ -15,7 +15,7 @@ speaker_of name = option_map (λ n. n.now) name
 abbrev pub answered_lines : List Answered → List AnsweredLine
 answered_lines lines = map answered_line lines
 
--- what was read is that, seen so
+-- what was read has that value
 abbrev pub IsRead : {A B : Type 0} → (A → B) → Reading B → Result A Left → Type 0
 IsRead view meant (Ok read) = meant ≡ Ok (view read)
 IsRead view meant (Err left) = meant ≡ Err left.bytes

@@ -1,4 +1,4 @@
--- What was printed for the lines of a script, taken apart again.
+-- The printed text for the lines of a script, taken apart into replies.
 use Rattle.std.specs.Prelude.{ℕ, ◌≡◌, ◌+◌, ◌-◌, Bool, true, false, if◌then◌else◌, List, [], ◌∷◌, ◌++◌, length, take, drop, map, fold, count_by, codes, is_some, Option, Some, None, option_map, Result, Ok, Err, ⊤}
 use Rattle.std.specs.Str.{bytes_eq}
 use Rattle.line_text.specs.Names.{with_name}
@@ -10,11 +10,11 @@ use Rattle.printed_replies.specs.declared.reading.ReadError.{ReadError}
 use Rattle.printed_replies.specs.declared.reading.ReadError.TheVariants.{NoMemory, Misfit}
 use Rattle.printed_replies.specs.Lengths.{behind, is_line_feed, reply_length}
 
--- who asks: the session of a name, or the operator
+-- a line's speaker: the session of a name, or the operator
 abbrev pub Speaker : Type 0
 Speaker = Option (List ℕ)
 
--- a line that was asked, and what form its reply has
+-- a line by its speaker, and the form of its reply
 pub record AskedLine : Type 0 where
   pub speaker : Speaker
   pub form : ReplyForm
@@ -24,7 +24,7 @@ pub record AnsweredLine : Type 0 where
   pub asked : AskedLine
   pub reply : List ℕ
 
--- how many tenancies live, and the bytes that are left
+-- the number of live tenancies, and the remaining bytes
 pub record Rest : Type 0 where
   pub live : ℕ
   pub bytes : List ℕ
@@ -32,7 +32,7 @@ pub record Rest : Type 0 where
 abbrev pub rest_of : ℕ → List ℕ → Rest
 rest_of live bytes = record { live = live; bytes = bytes }
 
--- what was read, or how many bytes were left where they don't fit the lines
+-- what was read, or the number of bytes that remained when they didn't fit the lines
 abbrev pub Reading : Type 0 → Type 0
 Reading A = Result A ℕ
 
@@ -40,7 +40,7 @@ abbrev pub and_then : {A B : Type 0} → Reading A → (A → Reading B) → Rea
 and_then (Ok a) next = next a
 and_then (Err left) next = Err left
 
--- so many bytes are read, if they fit
+-- the next bytes are read, if they fit
 abbrev pub fitting : {A : Type 0} → Rest → Option ℕ → (ℕ → Reading A) → Reading A
 fitting rest None next = Err (length rest.bytes)
 fitting rest (Some n) next = next n
@@ -50,7 +50,7 @@ is_of None None = true
 is_of (Some name) (Some other) = bytes_eq name other
 is_of speaker other = false
 
--- an admission that was answered `ok ..` brings a tenancy to life, and an eviction ends one
+-- an admission with a reply `ok ..` adds a live tenancy, and an eviction removes one
 abbrev pub live_after : ℕ → ReplyForm → List ℕ → ℕ
 live_after live Admission reply = if is_some (behind (codes "ok") reply) then live + 1 else live
 live_after live Eviction reply = if is_some (behind (codes "ok") reply) then live - 1 else live
@@ -64,7 +64,7 @@ abbrev pub reply_read : Rest → AskedLine → Reading (AnsweredLine × Rest)
 reply_read rest asked = fitting rest (reply_length rest.live asked.form rest.bytes) (λ n.
     Ok (replied asked (take n rest.bytes), rest_of (live_after rest.live asked.form (take n rest.bytes)) (drop n rest.bytes)))
 
--- a line of another speaker stays as it is
+-- a line of another speaker is left as it is
 abbrev pub line_read : Speaker → Rest → AnsweredLine → Reading (AnsweredLine × Rest)
 line_read speaker rest line = if is_of speaker line.asked.speaker then reply_read rest line.asked else Ok (line, rest)
 
@@ -95,7 +95,7 @@ behind_heading speaker bytes = begun bytes (behind (heading speaker) bytes)
 abbrev pub section_read : Speaker → List AnsweredLine → List ℕ → Reading (List AnsweredLine × Rest)
 section_read speaker lines bytes = and_then (behind_heading speaker bytes) (λ rest. lines_read speaker rest lines)
 
--- the sections of names stand one behind the other, up to the end
+-- the sections of the names follow one after the other, up to the end
 abbrev pub ended : List AnsweredLine → List ℕ → Reading (List AnsweredLine)
 ended lines [] = Ok lines
 ended lines (b ∷ bytes) = Err (length (b ∷ bytes))
@@ -112,7 +112,7 @@ with_speaker names (Some name) = with_name names name
 abbrev pub names_of : List AskedLine → List (List ℕ)
 names_of asked = fold (λ names line. with_speaker names line.speaker) [] asked
 
--- each line with its reply, where the bytes are the operator's section and those of the names
+-- each line with its reply, if the bytes are the operator's section and those of the names
 abbrev pub unanswered : AskedLine → AnsweredLine
 unanswered asked = replied asked []
 
@@ -122,18 +122,18 @@ read_from names lines bytes = and_then (section_read None lines bytes) (λ read.
 unfoldable pub replies_in : List AskedLine → List ℕ → Reading (List AnsweredLine)
 replies_in asked bytes = read_from (names_of asked) (map unanswered asked) bytes
 
--- the line of the bytes, from 1, where so many bytes are left
+-- the number of the line, from 1, at which that many bytes remain
 abbrev pub line_at : List ℕ → ℕ → ℕ
 line_at bytes left = count_by is_line_feed (take (length bytes - left) bytes) + 1
 
--- lines without where they lie in memory
+-- the values of lines: names and replies as lists of bytes
 abbrev pub asked_line : Asked → AskedLine
 asked_line asked = record { speaker = option_map (λ name. name.now) asked.name; form = asked.form }
 
 abbrev pub answered_line : Answered → AnsweredLine
 answered_line answered = record { asked = asked_line answered.asked; reply = answered.reply.now }
 
--- a reader of the lines may answer this
+-- the possible results of a reader of the lines
 abbrev pub Gives : List ℕ → Reading (List AnsweredLine) → Result (List AnsweredLine) ReadError → Type 0
 Gives bytes meant (Ok lines) = meant ≡ Ok lines
 Gives bytes meant (Err (Misfit line)) = (left : ℕ) × (meant ≡ Err left) × (line ≡ line_at bytes left)

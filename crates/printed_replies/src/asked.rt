@@ -1,31 +1,31 @@
-//! Lines that were asked, as far as their replies depend on them.
+//! Lines, as far as their replies depend on them.
 
-/// What form a reply has.
+/// The form of a reply.
 #[derive(Clone, Copy)]
 pub enum ReplyForm {
     /// Nothing is printed.
     Silence,
     /// One line.
     Line,
-    /// One line, and behind `text KIND LENGTH` so many bytes: a session is answered so.
+    /// One line; after a line `text KIND LENGTH` also LENGTH bytes. Sessions get such replies.
     Session,
-    /// One line. An `ok` brings a tenancy to life.
+    /// One line. An `ok` adds a live tenancy.
     Admission,
-    /// One line. An `ok` ends a tenancy.
+    /// One line. An `ok` removes a live tenancy.
     Eviction,
-    /// So many lines.
+    /// That number of lines.
     Lines(u32),
-    /// A line for each tenancy that lives.
+    /// One line for each live tenancy.
     Tenancies,
-    /// A line, and behind `owners COUNT` so many lines.
+    /// One line; after a line `owners COUNT` also COUNT lines.
     Owners,
 }
 
-/// A line that was asked.
+/// A line of a script.
 #[derive(Clone, Copy)]
 pub struct Asked<'t> {
-    /// Whose session asked it. None: the operator did.
+    /// The name of its session; `None` for the operator.
     pub name: Option<&'t [u8]>,
-    /// What form its reply has.
+    /// The form of its reply.
     pub form: ReplyForm,
 }

@@ -3,7 +3,8 @@ ghost use Rattle.std.specs.Prelude.{List};
 ghost use Rattle.printed_replies.specs.Printing.{IsReadBack};
 ghost use Rattle.printed_replies.specs.Replies.{AnsweredLine};
 
-/// Whatever stands in the replies to lines, what is printed for them is read back: each line with its own reply.
+/// Whatever the replies to lines contain, what is printed for them is read back: each line with its
+/// own reply.
 pub fn printed_is_read()
     ensures { (lines : List AnsweredLine) → IsReadBack lines }
 {}

@@ -6,7 +6,7 @@ use crate::asked::ReplyForm;
 use line_text::{decimal_u64, word_end};
 use memchr::memchr;
 
-/// The place of the first line feed.
+/// The index of the first line feed.
 #[tactic(auto, using(crate::proofs::FirstPlaces::first_place))]
 fn line_end(bytes: &[u8]) -> Option<usize>
     ensures { result ≡ position is_line_feed bytes.now }
@@ -14,7 +14,7 @@ fn line_end(bytes: &[u8]) -> Option<usize>
     memchr(b'\n', bytes)
 }
 
-/// The first line with its line feed.
+/// The length of the first line with its line feed.
 pub(crate) fn line_length(bytes: &[u8]) -> Option<usize>
     ensures length { result ≡ line_length bytes.now }
     ensures within { IfSome result (λ n. (1 ≤ n) × (n ≤ length bytes.now)) }
@@ -22,7 +22,7 @@ pub(crate) fn line_length(bytes: &[u8]) -> Option<usize>
     Some(line_end(bytes)? + 1)
 }
 
-/// The first so many lines.
+/// The length of the first `count` lines.
 fn lines_length(count: u64, bytes: &[u8]) -> Option<usize>
     ensures length { result ≡ lines_length count bytes.now }
     ensures within { IfSome result (λ n. n ≤ length bytes.now) }
@@ -37,14 +37,14 @@ fn lines_length(count: u64, bytes: &[u8]) -> Option<usize>
     Some(bytes.len() - rest.len())
 }
 
-/// What stands behind a beginning.
+/// The bytes after a prefix; `None` if they don't begin with it.
 pub(crate) fn behind<'a>(start: &[u8], bytes: &'a [u8]) -> Option<&'a [u8]>
     ensures { option_map (λ rest. rest.now) result ≡ behind start.now bytes.now }
 {
     bytes.strip_prefix(start)
 }
 
-/// The kind and the length of a file, of `KIND LENGTH`.
+/// The kind and the length of a file, from `KIND LENGTH`.
 fn kind_and_length(words: &[u8]) -> Option<(&[u8], u64)>
     ensures { option_map (λ told. (told.0.now, told.1)) result ≡ kind_and_length words.now }
 {
@@ -55,14 +55,14 @@ fn kind_and_length(words: &[u8]) -> Option<(&[u8], u64)>
     Some((kind, decimal_u64(length)?))
 }
 
-/// The kind and the length of the file that a line `text KIND LENGTH` tells of.
+/// The kind and the length of the file that a line `text KIND LENGTH` announces.
 pub(crate) fn told_file(line: &[u8]) -> Option<(&[u8], u64)>
     ensures { option_map (λ told. (told.0.now, told.1)) result ≡ told_file line.now }
 {
     kind_and_length(behind(b"text ", line)?)
 }
 
-/// How many bytes stand behind such a line.
+/// The number of bytes that such a line announces.
 fn told_bytes(line: &[u8]) -> u64
     ensures { result ≡ told_bytes (told_file line.now) }
 {
@@ -72,7 +72,7 @@ fn told_bytes(line: &[u8]) -> u64
     }
 }
 
-/// How many lines stand behind a line `owners COUNT`.
+/// The number of lines that a line `owners COUNT` announces.
 fn told_owners(line: &[u8]) -> u64
     ensures { result ≡ told_owners line.now }
 {
@@ -82,7 +82,7 @@ fn told_owners(line: &[u8]) -> u64
     }
 }
 
-/// A line, and the file that it tells of.
+/// The length of a line with the file that it announces.
 fn session_length(bytes: &[u8]) -> Option<usize>
     ensures length { result ≡ session_length bytes.now }
     ensures within { IfSome result (λ n. n ≤ length bytes.now) }
@@ -95,7 +95,7 @@ fn session_length(bytes: &[u8]) -> Option<usize>
     Some(line + told as usize)
 }
 
-/// A line, and the lines that it tells of.
+/// The length of a line with the lines that it announces.
 fn owners_length(bytes: &[u8]) -> Option<usize>
     ensures length { result ≡ owners_length bytes.now }
     ensures within { IfSome result (λ n. n ≤ length bytes.now) }
@@ -105,7 +105,7 @@ fn owners_length(bytes: &[u8]) -> Option<usize>
     Some(line + lines_length(count, &bytes[line..])?)
 }
 
-/// The reply of that form that the bytes begin with, while so many tenancies live.
+/// The length of the reply of that form at the start of the bytes, while `live` tenancies are live.
 pub(crate) fn reply_length(live: usize, form: ReplyForm, bytes: &[u8]) -> Option<usize>
     ensures length { result ≡ reply_length live form bytes.now }
     ensures within { IfSome result (λ n. n ≤ length bytes.now) }

@@ -30,20 +30,21 @@ impl From<AllocError> for ReadError {
     }
 }
 
-/// So many bytes were left where they don't fit.
+/// The number of bytes that remained when they didn't fit.
 #[derive(Clone, Copy)]
 pub(crate) struct Left {
     bytes: usize,
 }
 
-/// How many tenancies live, and the bytes that are left.
+/// The number of live tenancies, and the remaining bytes.
 #[derive(Clone, Copy)]
 pub(crate) struct Place<'p> {
     pub(crate) live: usize,
     pub(crate) rest: &'p [u8],
 }
 
-/// The lines with their replies, or the line of the printed text that fits none. The lines are gone through once for each name.
+/// Returns the lines with their replies. Goes through the lines once for each name. Fails with the
+/// line of the printed text that fits no reply, or if memory runs out.
 #[tactic(auto, unfolding(crate::specs::Replies::replies_in))]
 pub fn read_replies<'t, 'p>(
     alloc: Global,
@@ -70,7 +71,8 @@ pub fn read_replies<'t, 'p>(
     }
 }
 
-/// The names of the sessions, in the order of their first lines.
+/// Returns the names of the sessions, in the order of their first lines. Fails with [`AllocError`]
+/// if memory runs out.
 pub fn names_of<'t>(alloc: Global, asked: &[Asked<'t>]) -> Result<NameSet<'t>, AllocError>
     ensures { IfOk result (λ names. names ≡ names_of (map asked_line asked.now)) }
 {
@@ -101,7 +103,7 @@ fn add_unanswered<'t>(
     Ok(())
 }
 
-/// The operator's section, and those of the names, up to the end.
+/// Reads the operator's section, and those of the names, up to the end.
 fn read_sections<'p>(
     lines: &mut Vec<Answered<'_, 'p>>,
     names: &NameSet<'_>,
@@ -126,7 +128,7 @@ fn read_sections<'p>(
     }
 }
 
-/// The section of a speaker, whose lines take their replies, and what stands behind it.
+/// Reads the section of a speaker, whose lines take their replies, and returns the rest after it.
 fn read_section<'p>(
     speaker: Option<&[u8]>,
     lines: &mut Vec<Answered<'_, 'p>>,
@@ -151,7 +153,7 @@ fn read_section<'p>(
     Ok(place)
 }
 
-/// What stands behind the heading of a speaker.
+/// The rest after the heading of a speaker.
 fn behind_heading<'p>(speaker: Option<&[u8]>, printed: &'p [u8]) -> Result<Place<'p>, Left>
     ensures { IsRead rest_at (behind_heading (speaker_of speaker.entry) printed.now) result }
 {
@@ -163,7 +165,7 @@ fn behind_heading<'p>(speaker: Option<&[u8]>, printed: &'p [u8]) -> Result<Place
     }
 }
 
-/// What stands behind a line `== NAME`.
+/// The rest after a line `== NAME`.
 fn behind_words<'p>(name: &[u8], printed: &'p [u8]) -> Option<&'p [u8]>
     ensures { option_map (λ rest. rest.now) result
         ≡ behind (codes "== " ++ name.now ++ 10 ∷ []) printed.now }
@@ -171,7 +173,7 @@ fn behind_words<'p>(name: &[u8], printed: &'p [u8]) -> Option<&'p [u8]>
     behind(b"\n", behind(name, behind(b"== ", printed)?)?)
 }
 
-/// A line with its reply, if the speaker asked it, and what is left.
+/// Returns a line with its reply, if it is the speaker's, and what remains.
 fn read_line<'t, 'p>(
     speaker: Option<&[u8]>,
     place: Place<'p>,
@@ -203,7 +205,7 @@ fn read_line<'t, 'p>(
     ))
 }
 
-/// How many tenancies live once that reply was given.
+/// The number of live tenancies after that reply.
 fn live_after(live: usize, form: ReplyForm, reply: &[u8]) -> usize
     requires { live + 1 < 2 ^ 64 }
     ensures live { result ≡ live_after live form reply.now }
@@ -216,14 +218,14 @@ fn live_after(live: usize, form: ReplyForm, reply: &[u8]) -> usize
     }
 }
 
-/// Whether a reply begins with `ok`.
+/// Returns whether a reply begins with `ok`.
 fn is_ok(reply: &[u8]) -> bool
     ensures { result ≡ is_some (behind (codes "ok") reply.now) }
 {
     behind(b"ok", reply).is_some()
 }
 
-/// The line of the bytes, from 1, where so many bytes are left.
+/// The number of the line, from 1, at which that many bytes remain.
 fn line_at(bytes: &[u8], left: usize) -> usize
     ensures { result ≡ line_at bytes.now left }
 {

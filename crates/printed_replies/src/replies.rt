@@ -30,14 +30,15 @@ impl<'t, 'p> Replies<'t, 'p> {
         Replies { lines }
     }
 
-    /// The lines.
+    /// The lines with their replies, in the script's order.
     pub fn lines(&self) -> &[Answered<'t, 'p>]
         ensures { map answered_line result.now ≡ self.now }
     {
         self.lines.as_slice()
     }
 
-    /// The last file of that kind that the name's session was told.
+    /// Returns the last file of that kind in the replies to the name's session; `None` if there is
+    /// no such file.
     pub fn file_of(&self, name: &[u8], kind: &[u8]) -> Option<&'p [u8]>
         ensures { option_map (λ file. file.now) result ≡ file_of name.now kind.now self.now }
     {
@@ -45,7 +46,7 @@ impl<'t, 'p> Replies<'t, 'p> {
     }
 }
 
-/// The last file of that kind that the name's session was told.
+/// Returns the last file of that kind in the replies to the name's session.
 fn last_file<'p>(lines: &[Answered<'_, 'p>], name: &[u8], kind: &[u8]) -> Option<&'p [u8]>
     ensures { option_map (λ file. file.now) result
         ≡ file_of name.now kind.now (answered_lines lines.now) }

@@ -6,7 +6,8 @@ use text_parts::{Part, Pen};
 /// The sides of a block, in the order in which its pins take them.
 const SIDES: [&str; 4] = ["bottom", "left", "top", "right"];
 
-/// Writes the architecture: clusters with inputs and outputs on all sides in turn, whose pins meet every track.
+/// Writes the architecture: clusters with inputs and outputs on all sides in turn, whose pins meet
+/// each track.
 pub(crate) fn write_architecture<K: Sink>(pen: &mut Pen<'_, K>, plan: Plan) {
     pen.write(&[Part::Text(
         "io_rat 2\nchan_width_io 1\nchan_width_x uniform 1\nchan_width_y uniform 1\n",
@@ -24,7 +25,6 @@ pub(crate) fn write_architecture<K: Sink>(pen: &mut Pen<'_, K>, plan: Plan) {
     ]);
 }
 
-/// Writes so many pins.
 fn write_pins<K: Sink>(pen: &mut Pen<'_, K>, start: &str, count: u32) {
     for pin in 0..count {
         pen.write(&[

@@ -8,7 +8,7 @@ use rand_core::utils::NextWord;
 use rand_pcg::Pcg32;
 use text_parts::{Part, Pen};
 
-/// Of so many tables one has a latch behind it.
+/// One table in this number has a latch after it.
 const LATCHED: u32 = 16;
 
 /// Writes the netlist of a tenancy: tables of two inputs or more, one in 16 followed by a latch.
@@ -26,7 +26,7 @@ pub(crate) fn write_circuit<K: Sink>(pen: &mut Pen<'_, K>, plan: Plan, tenancy: 
     pen.text(".end\n");
 }
 
-/// Writes what stands before the tables: the inputs, the clock and the outputs.
+/// Writes the lines before the tables: the inputs, the clock and the outputs.
 fn write_ends<K: Sink>(pen: &mut Pen<'_, K>, square: Square) {
     pen.text(".model random\n.inputs");
     for input in 0..square.inputs {
@@ -40,7 +40,7 @@ fn write_ends<K: Sink>(pen: &mut Pen<'_, K>, square: Square) {
     pen.text("\n");
 }
 
-/// Writes a table, and the latch behind it.
+/// Writes a table, and the latch after it.
 fn write_table<K: Sink>(
     pen: &mut Pen<'_, K>,
     square: Square,
@@ -65,7 +65,7 @@ fn write_table<K: Sink>(
     write_latch(pen, table);
 }
 
-/// The distinct sources of so many draws, and their number.
+/// The distinct sources of `draws` draws, and their number.
 fn drawn(square: Square, words: &mut Pcg32, table: u32, draws: u32) -> ([Source; 8], usize)
     requires table { table < square.tables }
     requires draws { (1 ≤ draws) × (draws ≤ 8) }
@@ -83,7 +83,7 @@ fn drawn(square: Square, words: &mut Pcg32, table: u32, draws: u32) -> ([Source;
     (sources, count)
 }
 
-/// Writes the latch behind a table, if it has one.
+/// Writes the latch after a table, if it has one.
 fn write_latch<K: Sink>(pen: &mut Pen<'_, K>, table: u32) {
     if table % LATCHED != 0 {
         return;
@@ -97,7 +97,7 @@ fn write_latch<K: Sink>(pen: &mut Pen<'_, K>, table: u32) {
     ]);
 }
 
-/// Writes the name of a source behind a space.
+/// Writes the name of a source after a space.
 fn write_source<K: Sink>(pen: &mut Pen<'_, K>, source: Source) {
     let (start, number) = match source {
         Source::Input(input) => (" i", input),

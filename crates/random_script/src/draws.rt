@@ -4,32 +4,34 @@ ghost use Rattle.std.specs.Prelude.{◌+◌, ◌≤◌, ◌<◌};
 use rand_core::utils::NextWord;
 use rand_pcg::Pcg32;
 
-/// Where the tables of a circuit stand for the draws: in a square, row by row. Tables that are wired together stand near one another.
+/// The positions of a circuit's tables for the draws: in a square, row by row. Tables that are
+/// wired together are near one another.
 #[derive(Clone, Copy)]
 pub(crate) struct Square {
-    /// How many tables there are.
+    /// The number of tables.
     pub(crate) tables: u32,
-    /// How many stand side by side.
+    /// The number of tables side by side.
     pub(crate) side: u32,
-    /// How many inputs the circuit has.
+    /// The number of the circuit's inputs.
     pub(crate) inputs: u32,
     ghost tables_some: { (1 ≤ tables) × (tables ≤ 7_500) },
     ghost side_some: { (1 ≤ side) × (side ≤ 87) },
     ghost inputs_some: { (1 ≤ inputs) × (inputs ≤ 200) },
 }
 
-/// What a table reads.
+/// The source that a table reads.
 #[derive(Clone, Copy, PartialEq)]
 pub(crate) enum Source {
     /// The input of that number.
     Input(u32),
-    /// The table of that number, or the latch behind it.
+    /// The table of that number, or the latch after it.
     Table(u32),
 }
 
 impl Square {
-    /// Draws a source near a table: so far left or right and up or down, each by a power law. Where no other table stands there, it is an input of
-    /// the circuit, by the table's column.
+    /// Draws a source near a table, at distances to the left or right and up or down that follow a
+    /// power law. If no other table is there, the source is an input of the circuit, by the table's
+    /// column.
     pub(crate) fn draw(&self, words: &mut Pcg32, table: u32) -> Source
         requires { table < self.now.tables }
     {
@@ -42,7 +44,7 @@ impl Square {
         }
     }
 
-    /// The table in that column and row, if one stands there.
+    /// The table in that column and row, if there is one.
     fn table_at(&self, column: Option<u32>, row: Option<u32>) -> Option<u32> {
         let column = column?;
         let row = row?;
@@ -58,7 +60,8 @@ impl Square {
     }
 }
 
-/// A place so far from another: a distance of at least d comes once in d + 1 draws, either way as often.
+/// A position at a random distance from another: a distance of at least d has probability 1 / (d +
+/// 1), and both directions are equally likely.
 fn shifted(place: u32, word: u32) -> Option<u32>
     requires { place ≤ 7_500 }
 {

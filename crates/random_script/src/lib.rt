@@ -1,11 +1,13 @@
 //! Scripts with random circuits, to measure the service with.
 //!
-//! A [`Plan`] says how many tables a circuit has and how many tenancies have one each; it chooses a device that has room for
-//! them. [`write_script`] writes the whole script to a [`line_text::Sink`], in small pieces and without memory, so the sink should have a
-//! buffer: the architecture, and for each tenancy its admission, its netlist and its commands up to the route file. One plan always gives the same bytes.
+//! A [`Plan`] has the number of tables of a circuit and the number of tenancies with one each; it
+//! chooses a device on which they fit. [`write_script`] writes the whole script to a
+//! [`line_text::Sink`], in small pieces and without memory, so the sink should have a buffer: the
+//! architecture, and for each tenancy its admission, its netlist and its commands up to the route
+//! file. A plan always gives the same bytes.
 //!
-//! It is proved that both are safe and return, and that a plan keeps the service's limits. That a circuit has a placing and a
-//! routing on its device is only tested.
+//! It is proved that both are safe and return, and that a plan keeps the service's limits. That a
+//! circuit has a placing and a routing on its device is only tested.
 #![tactic(auto)]
 
 mod architecture;

@@ -1,7 +1,7 @@
-//! What a script is about, and the device that it wants.
+//! The contents of a script, and the device that it needs.
 ghost use Rattle.std.specs.Prelude.{◌≡◌, ◌+◌, ◌*◌, ◌/◌, ◌≤◌, ◌<◌, IfSome};
 
-/// The last thing that a script's tenants ask for.
+/// The last command of a script's tenants.
 #[derive(Clone, Copy, PartialEq, PartialOrd)]
 pub enum Phase {
     Reading,
@@ -10,7 +10,7 @@ pub enum Phase {
     Routing,
 }
 
-/// What somebody wants to measure.
+/// What a user wants to measure.
 #[derive(Clone, Copy)]
 pub struct Wishes {
     /// Tables of each circuit, 1 to 7,500.
@@ -21,9 +21,9 @@ pub struct Wishes {
     pub inputs: u32,
     /// Tables of a cluster, at most, 1 to 16.
     pub cluster: u32,
-    /// Where the random draws begin.
+    /// The start of the random draws.
     pub seed: u64,
-    /// Where the script ends.
+    /// The last phase of the script.
     pub until: Phase,
 }
 
@@ -58,9 +58,11 @@ pub struct Plan {
 }
 
 impl Plan {
-    /// A plan for these wishes. None where one is beyond its limits, or where no device has room for all strips.
+    /// Returns a plan for these wishes; `None` if a wish is beyond its limits, or if the strips
+    /// don't fit on any device.
     ///
-    /// The device has a fourth more logic places than there are full clusters; it is a square, as far as 64 rows and 256 columns allow.
+    /// The device has a quarter more places for logic blocks than there are full clusters; it is a
+    /// square, as far as 64 rows and 256 columns allow.
     pub fn new(wishes: Wishes) -> Option<Self>
         ensures { IfSome result (λ plan. plan.wishes ≡ wishes) }
     {
@@ -79,7 +81,8 @@ impl Plan {
         Plan::with_rows(checked, places, 64)
     }
 
-    /// A plan for strips with so many logic places in so many rows, if all strips have room.
+    /// A plan for strips with that number of places for logic blocks in that number of rows, if all
+    /// strips fit.
     fn with_rows(checked: Checked, places: u32, rows: u32) -> Option<Self>
         requires places { (1 ≤ places) × (places ≤ 10_000) }
         requires rows { (1 ≤ rows) × (rows ≤ 64) }
@@ -114,7 +117,7 @@ impl Plan {
         self.rows
     }
 
-    /// Tracks of each channel. That they are enough is only tested.
+    /// Tracks of each channel. That the number is large enough is only tested.
     pub fn tracks(&self) -> u32
         ensures value { result ≡ self.now.tracks }
         ensures few { (1 ≤ result) × (result ≤ 64) }
@@ -122,14 +125,15 @@ impl Plan {
         self.tracks
     }
 
-    /// How many inputs, and how many outputs, a circuit has at most: one for each column of its strip.
+    /// The largest number of inputs, and of outputs, of a circuit: one for each column of its
+    /// strip.
     pub(crate) fn ends(&self) -> u32
         ensures { (1 ≤ result) × (result ≤ 200) }
     {
         self.width.min(200)
     }
 
-    /// How many inputs a cluster has: those of all its tables, less what they share.
+    /// The number of inputs of a cluster: those of all its tables, less what they share.
     pub(crate) fn cluster_inputs(&self) -> u32
         ensures { (1 ≤ result) × (result ≤ 68) }
     {
@@ -137,7 +141,7 @@ impl Plan {
     }
 }
 
-/// The side of the least square with so many places, and at most the largest side.
+/// The side of the smallest square with that number of places, but not more than the largest side.
 pub(crate) fn side_of(places: u32, largest: u32) -> u32
     requires { (1 ≤ largest) × (largest ≤ 100) }
     ensures { (1 ≤ result) × (result ≤ largest) }
@@ -150,7 +154,8 @@ pub(crate) fn side_of(places: u32, largest: u32) -> u32
     largest
 }
 
-/// Tracks for circuits of that kind: more for larger circuits, for more inputs and for larger clusters.
+/// The number of tracks for circuits of that kind: more for larger circuits, for more inputs and
+/// for larger clusters.
 fn tracks_for(checked: Checked) -> u32
     ensures { (1 ≤ result) × (result ≤ 64) }
 {

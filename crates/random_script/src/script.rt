@@ -9,11 +9,13 @@ use text_parts::{Part, Pen};
 /// How hard the placing tries.
 const EFFORT: u32 = 20;
 
-/// Writes the script of a plan. Where the sink fails, it has taken a beginning of it.
+/// Writes the script of a plan. If the sink fails, it has taken a first part of it.
 ///
-/// - The first line is a comment with the service's options for the plan's device: `# fpgad --tracks W --columns NX --rows NY`.
-/// - The architecture follows, the admissions of tenancies by number, and for each its session: `upload` with its netlist, then `pack`, `wait`
-///   and `net`, `place`, `wait` and `placefile`, `route`, `wait` and `routefile`, and `status`, as far as the plan goes.
+/// - The first line is a comment with the service's options for the plan's device:
+///   `# fpgad --tracks W --columns NX --rows NY`.
+/// - After it come the architecture, the admissions of tenancies by number, and for each its
+///   session: `upload` with its netlist, then `pack`, `wait` and `net`, `place`, `wait` and
+///   `placefile`, `route`, `wait` and `routefile`, and `status`, up to the plan's last phase.
 /// - The last lines are `op list` and `op owners`.
 pub fn write_script<K: Sink>(sink: &mut K, plan: Plan) -> Result<(), Failed> {
     let mut pen = Pen::new(sink);
@@ -48,7 +50,6 @@ fn write_options<K: Sink>(pen: &mut Pen<'_, K>, plan: Plan) {
     ]);
 }
 
-/// Writes the admission of a tenancy.
 fn write_admission<K: Sink>(pen: &mut Pen<'_, K>, tenancy: u32, width: u32) {
     pen.write(&[
         Part::Text("op admit T"),
@@ -59,7 +60,6 @@ fn write_admission<K: Sink>(pen: &mut Pen<'_, K>, tenancy: u32, width: u32) {
     ]);
 }
 
-/// Writes the session of a tenancy.
 fn write_session<K: Sink>(pen: &mut Pen<'_, K>, plan: Plan, tenancy: u32) {
     write_command(pen, tenancy, "upload");
     write_circuit(pen, plan, tenancy);
@@ -78,14 +78,13 @@ fn write_session<K: Sink>(pen: &mut Pen<'_, K>, plan: Plan, tenancy: u32) {
     write_command(pen, tenancy, "status");
 }
 
-/// Writes commands of a tenancy, a line each.
+/// Writes commands of a tenancy, one a line.
 fn write_commands<K: Sink>(pen: &mut Pen<'_, K>, tenancy: u32, commands: &[&str]) {
     for command in commands {
         write_command(pen, tenancy, command);
     }
 }
 
-/// Writes a command of a tenancy.
 fn write_command<K: Sink>(pen: &mut Pen<'_, K>, tenancy: u32, command: &str) {
     pen.write(&[
         Part::Text("@T"),

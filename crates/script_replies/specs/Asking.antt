@@ -1,4 +1,4 @@
--- What the acts of a script were told, by the printed text.
+-- The replies to the acts of a script, from the printed text.
 use Rattle.std.specs.Prelude.{ℕ, List, map, Some, None}
 use Rattle.script_text.specs.declared.act.Act.{Act}
 use Rattle.script_text.specs.declared.act.Act.TheVariants.{Operator, Session}
@@ -10,7 +10,7 @@ use Rattle.printed_replies.specs.declared.asked.ReplyForm.{ReplyForm}
 use Rattle.printed_replies.specs.declared.asked.ReplyForm.TheVariants.{Silence, Line, Session as SessionReply, Admission, Eviction, Lines, Tenancies, Owners}
 use Rattle.printed_replies.specs.Replies.{AnsweredLine, AskedLine, Reading, replies_in as printed_replies_in}
 
--- what form the reply to a line of the operator has
+-- the form of the reply to a line of the operator
 abbrev pub operator_form : OperatorLine (List ℕ) → ReplyForm
 operator_form (Admit name width) = Admission
 operator_form (Evict name) = Eviction
@@ -30,6 +30,7 @@ abbrev pub asked_of : Act (List ℕ) → AskedLine
 asked_of (Operator line) = record { speaker = None; form = operator_form line }
 asked_of (Session name line) = record { speaker = Some name; form = session_form line }
 
--- each act with its reply, of what was printed for acts; or how many bytes are left where they don't fit
+-- each act with its reply, from what was printed for the acts; or the number of bytes that remained
+-- when they didn't fit
 abbrev pub replies_in : List (Act (List ℕ)) → List ℕ → Reading (List AnsweredLine)
 replies_in acts printed = printed_replies_in (map asked_of acts) printed

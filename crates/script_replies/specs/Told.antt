@@ -1,19 +1,32 @@
--- A script's lines beside what they were told, as a text.
-use Rattle.std.specs.Prelude.{ℕ, List, [], ◌∷◌, codes, decimal, Bool, is_some, if◌then◌else◌}
+-- A script's lines with their replies, as a text.
+use Rattle.std.specs.Prelude.{ℕ, List, [], ◌∷◌, ◌++◌, codes, decimal, Bool, is_some, if◌then◌else◌}
 use Rattle.std.specs.Option.{option_map_or}
 use Rattle.std.specs.List.{concat}
-use Rattle.script_replies.specs.declared.report.ToldLine.{ToldLine}
+use Rattle.script_replies.specs.declared.listing.ToldLine.{ToldLine}
 
--- what stands round a line below another, where there is one
-abbrev pub indent : Bool → List ℕ
-indent is_there = if is_there then codes "    " else []
+-- a text that is written only if something is there
+abbrev pub optional : Bool → List ℕ → List ℕ
+optional is_there text = if is_there then text else []
 
-abbrev pub line_end : Bool → List ℕ
-line_end is_there = if is_there then codes "\n" else []
-
--- a line of the script with its number, and below it the first line that it was told, and what may be done
-abbrev pub told_text : ToldLine → List ℕ
-told_text told = concat (
+-- a line of the script with its number, and below it the first line of its reply
+abbrev pub asked_text : ToldLine → List ℕ
+asked_text told = concat (
     decimal told.number ∷ codes ": " ∷ told.line.now ∷ codes "\n"
-    ∷ indent (is_some told.reply) ∷ option_map_or (λ r. r.now) told.reply [] ∷ line_end (is_some told.reply)
-    ∷ indent (is_some told.advice) ∷ option_map_or (λ a. a.now) told.advice [] ∷ line_end (is_some told.advice) ∷ [])
+    ∷ optional (is_some told.reply) (codes "    ") ∷ option_map_or (λ r. r.now) told.reply [] ∷ optional (is_some told.reply) (codes "\n") ∷ [])
+
+-- what a refusal means, with the script's line of a netlist's fault before it
+abbrev pub advice_text : ToldLine → List ℕ
+advice_text told = concat (
+    optional (is_some told.advice) (codes "    ")
+    ∷ optional (is_some told.fault) (codes "line ") ∷ option_map_or decimal told.fault [] ∷ optional (is_some told.fault) (codes " of the script: ")
+    ∷ option_map_or (λ a. a.now) told.advice [] ∷ [])
+
+-- the number of lines that are refused so
+abbrev pub count_text : ToldLine → List ℕ
+count_text told = concat (
+    optional (is_some told.alike) (codes " (") ∷ option_map_or decimal told.alike [] ∷ optional (is_some told.alike) (codes " lines are refused so)")
+    ∷ optional (is_some told.advice) (codes "\n") ∷ [])
+
+-- these three
+abbrev pub told_text : ToldLine → List ℕ
+told_text told = asked_text told ++ (advice_text told ++ count_text told)

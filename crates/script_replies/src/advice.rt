@@ -5,17 +5,19 @@
 pub enum Advice {
     Operator(OperatorAdvice),
     Tenant(TenantAdvice),
+    State(StateAdvice),
     Netlist(NetlistAdvice),
     Session(SessionAdvice),
     Routing(RoutingAdvice),
 }
 
 impl Advice {
-    /// The words.
+    /// The advice in words.
     pub fn words(self) -> &'static str {
         match self {
             Advice::Operator(advice) => advice.words(),
             Advice::Tenant(advice) => advice.words(),
+            Advice::State(advice) => advice.words(),
             Advice::Netlist(advice) => advice.words(),
             Advice::Session(advice) => advice.words(),
             Advice::Routing(advice) => advice.words(),
@@ -23,7 +25,7 @@ impl Advice {
     }
 }
 
-/// The operator's refusals 1 to 7, and what a step came to.
+/// The operator's refusals 1 to 7, and the outcomes of a step.
 #[derive(Clone, Copy)]
 pub enum OperatorAdvice {
     NoMemory,
@@ -38,7 +40,7 @@ pub enum OperatorAdvice {
 }
 
 impl OperatorAdvice {
-    /// The words.
+    /// The advice in words.
     pub fn words(self) -> &'static str {
         match self {
             OperatorAdvice::NoMemory => { "memory lacked, and nothing changed: ask again" }
@@ -66,12 +68,11 @@ impl OperatorAdvice {
     }
 }
 
-/// A tenant's refusals 1 to 7, but for the netlist's faults.
+/// A tenant's refusals 1 to 7, except the netlist's faults and the wrong states.
 #[derive(Clone, Copy)]
 pub enum TenantAdvice {
     NoMemory,
     JournalFull,
-    WrongState,
     CannotPack,
     TooFewBlocks,
     TooFewPads,
@@ -79,15 +80,12 @@ pub enum TenantAdvice {
 }
 
 impl TenantAdvice {
-    /// The words.
+    /// The advice in words.
     pub fn words(self) -> &'static str {
         match self {
             TenantAdvice::NoMemory => { "memory lacked, and nothing changed: ask again" }
             TenantAdvice::JournalFull => {
                 "the tenancy's journal has 65,536 entries, and nothing more is served: evict it, and admit it anew"
-            }
-            TenantAdvice::WrongState => {
-                "not lawful in that state: look for an earlier refusal, behind which the lines that follow are often refused so, too"
             }
             TenantAdvice::CannotPack => {
                 "that BLE reads more nets than a block has input pins: a smaller table in synthesis (abc -lut), or more pins of class 0"
@@ -103,6 +101,46 @@ impl TenantAdvice {
     }
 }
 
+/// The states in which a command is refused.
+#[derive(Clone, Copy)]
+pub enum StateAdvice {
+    Empty,
+    Loaded,
+    Packed,
+    Placed,
+    Routed,
+    Unrouted,
+    /// Packing, Placing or Routing.
+    Running,
+}
+
+impl StateAdvice {
+    /// The advice in words.
+    pub fn words(self) -> &'static str {
+        match self {
+            StateAdvice::Empty => {
+                "there is no netlist: `upload` one first; if that was refused, mend it"
+            }
+            StateAdvice::Loaded => {
+                "the netlist is not packed: `pack` first; for another netlist `change`"
+            }
+            StateAdvice::Packed => {
+                "the netlist is packed and not placed: `place` first; for another netlist `change`"
+            }
+            StateAdvice::Placed => {
+                "the netlist is placed and not routed: `route` first; for another netlist `change`"
+            }
+            StateAdvice::Routed => {
+                "the netlist is routed: `place` before another `route`; for another netlist `change`"
+            }
+            StateAdvice::Unrouted => {
+                "the netlist was left without routes: `place` again, and then `route`"
+            }
+            StateAdvice::Running => "a job runs: `wait` first, or `cancel`",
+        }
+    }
+}
+
 /// A session's refusals 1 to 4.
 #[derive(Clone, Copy)]
 pub enum SessionAdvice {
@@ -113,7 +151,7 @@ pub enum SessionAdvice {
 }
 
 impl SessionAdvice {
-    /// The words.
+    /// The advice in words.
     pub fn words(self) -> &'static str {
         match self {
             SessionAdvice::UnknownCommand => {
@@ -130,7 +168,7 @@ impl SessionAdvice {
     }
 }
 
-/// How a routing ended without routes.
+/// How a routing without routes ended.
 #[derive(Clone, Copy)]
 pub enum RoutingAdvice {
     GaveUp,
@@ -138,7 +176,7 @@ pub enum RoutingAdvice {
 }
 
 impl RoutingAdvice {
-    /// The words.
+    /// The advice in words.
     pub fn words(self) -> &'static str {
         match self {
             RoutingAdvice::GaveUp => {
@@ -151,7 +189,7 @@ impl RoutingAdvice {
     }
 }
 
-/// What a fault of a netlist, 1 to 12, comes from in most cases.
+/// The usual causes of a netlist's faults 1 to 12.
 #[derive(Clone, Copy)]
 pub enum NetlistAdvice {
     Unknown,
@@ -169,7 +207,7 @@ pub enum NetlistAdvice {
 }
 
 impl NetlistAdvice {
-    /// The words.
+    /// The advice in words.
     pub fn words(self) -> &'static str {
         match self {
             NetlistAdvice::Unknown => {

@@ -1,11 +1,12 @@
-//! From a reply to what may be done.
+//! From a reply to advice.
 
 use crate::advice::{
-    Advice, NetlistAdvice, OperatorAdvice, RoutingAdvice, SessionAdvice, TenantAdvice,
+    Advice, NetlistAdvice, OperatorAdvice, RoutingAdvice, SessionAdvice, StateAdvice, TenantAdvice,
 };
 use line_text::{decimal_u32, is_word, skip_blanks, split_word};
 
-/// What the first line of a reply means, and what may be done, where it refuses or tells that a routing failed.
+/// What the first line of a reply means, and what may be done, if it is a refusal or reports a
+/// failed routing.
 pub fn advice_for(is_operator: bool, reply: &[u8]) -> Option<Advice> {
     let (first, rest) = next_word(reply);
     if is_word(first, "refused") {
@@ -27,12 +28,33 @@ pub fn advice_for(is_operator: bool, reply: &[u8]) -> Option<Advice> {
     None
 }
 
-/// The next word and what stands behind it; no bytes where there is none.
+/// Returns whether a line of a reply is a refusal.
+pub(crate) fn is_refusal(reply: &[u8]) -> bool {
+    let (first, _) = next_word(reply);
+    is_word(first, "refused") || is_word(first, "line")
+}
+
+/// The line of a netlist that a reply refuses: `refused 4 BadBlif FAULT LINE`. `None` for another
+/// reply, and for a fault of the whole text.
+pub(crate) fn netlist_line(reply: &[u8]) -> Option<u32> {
+    let (first, rest) = next_word(reply);
+    let (_, rest) = next_word(rest);
+    let (name, rest) = next_word(rest);
+    let (_, rest) = next_word(rest);
+    let (line, _) = next_word(rest);
+    if !is_word(first, "refused") || !is_word(name, "BadBlif") {
+        return None;
+    }
+    let line = decimal_u32(line)?;
+    (line > 0).then_some(line)
+}
+
+/// The next word and the rest after it; empty at the end of the line.
 fn next_word(line: &[u8]) -> (&[u8], &[u8]) {
     split_word(skip_blanks(line))
 }
 
-/// Of `NUMBER NAME` for the operator.
+/// Advice for `NUMBER NAME` to the operator.
 fn operator_refusal(words: &[u8]) -> Option<Advice> {
     let (number, _) = next_word(words);
     match decimal_u32(number)? {
@@ -47,7 +69,7 @@ fn operator_refusal(words: &[u8]) -> Option<Advice> {
     }
 }
 
-/// Of `NUMBER NAME CAUSE..` for a tenant.
+/// Advice for `NUMBER NAME CAUSE..` to a tenant.
 fn tenant_refusal(words: &[u8]) -> Option<Advice> {
     let (number, rest) = next_word(words);
     let (_, cause) = next_word(rest);
@@ -55,7 +77,7 @@ fn tenant_refusal(words: &[u8]) -> Option<Advice> {
     match decimal_u32(number)? {
         1 => Some(Advice::Tenant(TenantAdvice::NoMemory)),
         2 => Some(Advice::Tenant(TenantAdvice::JournalFull)),
-        3 => Some(Advice::Tenant(TenantAdvice::WrongState)),
+        3 => Some(Advice::State(state_advice(first)?)),
         4 => Some(Advice::Netlist(netlist_fault(decimal_u32(first)?)?)),
         5 => Some(Advice::Tenant(TenantAdvice::CannotPack)),
         6 if is_word(first, "pads") => Some(Advice::Tenant(TenantAdvice::TooFewPads)),
@@ -65,7 +87,21 @@ fn tenant_refusal(words: &[u8]) -> Option<Advice> {
     }
 }
 
-/// Of the number of a netlist's fault.
+/// Advice for a command that is refused in that state.
+fn state_advice(state: &[u8]) -> Option<StateAdvice> {
+    match state {
+        b"Empty" => Some(StateAdvice::Empty),
+        b"Loaded" => Some(StateAdvice::Loaded),
+        b"Packed" => Some(StateAdvice::Packed),
+        b"Placed" => Some(StateAdvice::Placed),
+        b"Routed" => Some(StateAdvice::Routed),
+        b"Unrouted" => Some(StateAdvice::Unrouted),
+        b"Packing" | b"Placing" | b"Routing" => Some(StateAdvice::Running),
+        _ => None,
+    }
+}
+
+/// Advice for the number of a netlist's fault.
 fn netlist_fault(number: u32) -> Option<NetlistAdvice> {
     match number {
         1 => Some(NetlistAdvice::Unknown),
@@ -84,7 +120,7 @@ fn netlist_fault(number: u32) -> Option<NetlistAdvice> {
     }
 }
 
-/// Of `NUMBER NAME` for a session's line.
+/// Advice for `NUMBER NAME` to a session's line.
 fn session_refusal(words: &[u8]) -> Option<Advice> {
     let (number, _) = next_word(words);
     match decimal_u32(number)? {
@@ -96,7 +132,7 @@ fn session_refusal(words: &[u8]) -> Option<Advice> {
     }
 }
 
-/// Of `STATE STEPS ENDING` of a status.
+/// Advice for `STATE STEPS ENDING` of a status.
 fn routing_failure(words: &[u8]) -> Option<Advice> {
     let (_, rest) = next_word(words);
     let (_, ending) = next_word(rest);
@@ -110,7 +146,7 @@ fn routing_failure(words: &[u8]) -> Option<Advice> {
     }
 }
 
-/// Of what a step came to.
+/// Advice for the outcome of a step.
 fn step_failure(word: &[u8]) -> Option<Advice> {
     if is_word(word, "nomemory") {
         Some(Advice::Operator(OperatorAdvice::StepLacksMemory))

@@ -13,7 +13,7 @@ use sessions::SessionLine;
 use std::alloc::{AllocError, Global};
 use tenant_slot::FileKind;
 
-/// What form the reply to a line of the operator has.
+/// The form of the reply to a line of the operator.
 fn operator_form(line: &OperatorLine<&[u8]>) -> ReplyForm
     ensures { result ≡ operator_form (named_operator line.now) }
 {
@@ -27,7 +27,7 @@ fn operator_form(line: &OperatorLine<&[u8]>) -> ReplyForm
     }
 }
 
-/// What form the reply to a session's line has.
+/// The form of the reply to a session's line.
 fn session_form(line: &SessionLine) -> ReplyForm
     ensures { result ≡ session_form line.now }
 {
@@ -37,7 +37,7 @@ fn session_form(line: &SessionLine) -> ReplyForm
     }
 }
 
-/// Who asks, and what form the reply has.
+/// The speaker of an act, and the form of its reply.
 fn asked_of<'t>(act: &Act<&'t [u8]>) -> Asked<'t>
     ensures { asked_line result ≡ asked_of (named_act act.now) }
 {
@@ -53,7 +53,7 @@ fn asked_of<'t>(act: &Act<&'t [u8]>) -> Asked<'t>
     }
 }
 
-/// The acts as they were asked.
+/// The acts with the forms of their replies.
 fn asked_lines<'t>(alloc: Global, acts: &[Act<&'t [u8]>]) -> Result<Vec<Asked<'t>>, AllocError>
     ensures { IfOk result (λ asked.
         map asked_line asked.items ≡ map asked_of (map named_act acts.now)) }
@@ -65,7 +65,8 @@ fn asked_lines<'t>(alloc: Global, acts: &[Act<&'t [u8]>]) -> Result<Vec<Asked<'t
     Ok(asked)
 }
 
-/// The acts' replies in the acts' order, or the line of the printed text that fits none.
+/// Returns the acts' replies in the acts' order. Fails with the line of the printed text that fits
+/// no reply, or if memory runs out.
 pub fn read_replies<'t, 'p>(
     alloc: Global,
     acts: &[Act<&'t [u8]>],
@@ -77,7 +78,8 @@ pub fn read_replies<'t, 'p>(
     printed_replies::read_replies(alloc, &asked, printed)
 }
 
-/// The names of the acts' sessions, in the order of their first lines: the printed text has a section for each.
+/// Returns the names of the acts' sessions, in the order of their first lines: the printed text has
+/// a section for each. Fails with [`AllocError`] if memory runs out.
 pub fn session_names<'t>(alloc: Global, acts: &[Act<&'t [u8]>]) -> Result<NameSet<'t>, AllocError>
     ensures { IfOk result (λ names. names ≡ names_of (map asked_of (map named_act acts.now))) }
 {
@@ -85,7 +87,8 @@ pub fn session_names<'t>(alloc: Global, acts: &[Act<&'t [u8]>]) -> Result<NameSe
     printed_replies::names_of(alloc, &asked)
 }
 
-/// The last file of that kind that the name's session was told.
+/// Returns the last file of that kind in the replies to the name's session; `None` if there is no
+/// such file.
 pub fn file_of<'p>(replies: &Replies<'_, 'p>, name: &[u8], kind: FileKind) -> Option<&'p [u8]>
     ensures { option_map (λ file. file.now) result ≡ file_of name.now (file_text kind) replies.now }
 {

@@ -1,4 +1,4 @@
-//! The lines of a script that ask something.
+//! The lines of a script that are acts.
 ghost use Rattle.std.specs.Prelude.{◌≡◌, ◌+◌, ◌<◌, ◌≤◌, ◌^◌, length, IfSome};
 
 use line_text::{skip_blanks, split_line};
@@ -7,7 +7,7 @@ use sessions::{SessionLine, SessionRefusal, without_cr};
 use std::alloc::{AllocError, Global};
 use tenant_slot::Command;
 
-/// A line of a script that asks something, without its end. The text of an upload is none of it.
+/// A line of a script that is an act, without its line end. The text of an upload isn't part of it.
 #[derive(Clone, Copy)]
 pub struct ScriptLine<'t> {
     /// Its number, as the program counts it.
@@ -22,7 +22,8 @@ struct Place<'t> {
     rest: &'t [u8],
 }
 
-/// The lines of the acts of a script whose first line has that number, in order.
+/// Returns the lines of the acts of a script whose first line has that number, in order. Fails with
+/// [`AllocError`] if memory runs out.
 pub fn script_lines<'t>(
     alloc: Global,
     text: &'t [u8],
@@ -47,7 +48,7 @@ pub fn script_lines<'t>(
     Ok(lines)
 }
 
-/// The next line that asks something, and what stands behind it.
+/// The next line that is an act, and the rest after it.
 fn asking_line(place: Place<'_>) -> Option<(ScriptLine<'_>, Place<'_>)>
     requires { place.number + length place.rest.now < 2 ^ 64 }
     ensures { IfSome result (λ found. found.1.number + length found.1.rest.now < 2 ^ 64) }
@@ -74,12 +75,12 @@ fn asking_line(place: Place<'_>) -> Option<(ScriptLine<'_>, Place<'_>)>
     None
 }
 
-/// Whether a line asks nothing: it has no words, or is a comment.
+/// Returns whether a line is no act: it has no words, or is a comment.
 fn is_skipped(line: &[u8]) -> bool {
     matches!(skip_blanks(line).first(), None | Some(b'#'))
 }
 
-/// Whether a text stands behind the line of an act.
+/// Returns whether a text follows the line of an act.
 fn has_text(act: &Act<&[u8]>) -> bool {
     match act {
         Act::Operator(_) => false,
@@ -87,7 +88,7 @@ fn has_text(act: &Act<&[u8]>) -> bool {
     }
 }
 
-/// Whether a text stands behind a session's line.
+/// Returns whether a text follows a session's line.
 fn begins_text(line: &SessionLine) -> bool {
     matches!(
         line,
@@ -96,7 +97,7 @@ fn begins_text(line: &SessionLine) -> bool {
     )
 }
 
-/// What stands behind the text that the place begins with; nothing where no line ends the text.
+/// The rest after the text at the start; empty if no line ends the text.
 fn behind_text(place: Place<'_>) -> Place<'_>
     requires { place.number + length place.rest.now < 2 ^ 64 }
     ensures { result.number + length result.rest.now < 2 ^ 64 }

@@ -1,65 +1,16 @@
-//! A script's lines beside what they were told.
-ghost use Rattle.std.specs.Prelude.{◌≡◌, flat_map};
+//! Writes a script's lines with their replies.
+ghost use Rattle.std.specs.Prelude.{◌≡◌, [], flat_map, decimal};
+ghost use Rattle.std.specs.Option.{option_map_or};
 ghost use Rattle.line_text.specs.Writing.{Writes};
 ghost use Rattle.text_parts.specs.Parts.{bytes_of_part};
-ghost use Rattle.script_replies.specs.Told.{indent, line_end, told_text};
+ghost use Rattle.script_replies.specs.Told.{advice_text, asked_text, count_text, optional, told_text};
 
-use crate::advising::advice_for;
-use crate::lines::ScriptLine;
-use line_text::{Failed, Sink, split_line};
-use printed_replies::{Answered, Replies};
-use std::alloc::{AllocError, Global};
+use crate::listing::ToldLine;
+use line_text::{Failed, Sink};
 use text_parts::{Part, write_parts};
 
-/// A line of a script, and what it was told.
-#[derive(Clone, Copy)]
-pub struct ToldLine<'a> {
-    pub number: usize,
-    pub line: &'a [u8],
-    /// The first line of its reply, without its end. None where nothing is told.
-    pub reply: Option<&'a [u8]>,
-    /// What a refusal means, and what may be done.
-    pub advice: Option<&'a str>,
-}
-
-/// The lines of a script beside their replies.
-pub fn told_lines<'a>(
-    alloc: Global,
-    lines: &[ScriptLine<'a>],
-    replies: &Replies<'_, 'a>,
-) -> Result<Vec<ToldLine<'a>>, AllocError> {
-    let mut told = Vec::new(alloc);
-    for (line, answered) in lines.iter().zip(replies.lines().iter()) {
-        told.push(told_line(*line, *answered))?;
-    }
-    Ok(told)
-}
-
-/// A line beside its reply.
-fn told_line<'a>(line: ScriptLine<'a>, answered: Answered<'_, 'a>) -> ToldLine<'a> {
-    let first = if answered.reply.is_empty() {
-        None
-    } else {
-        Some(split_line(answered.reply).0)
-    };
-    ToldLine {
-        number: line.number,
-        line: line.text,
-        reply: first,
-        advice: match first {
-            Some(reply) => words_for(answered.asked.name.is_none(), reply),
-            None => None,
-        },
-    }
-}
-
-/// What a refusal means, in words.
-fn words_for<'a>(is_operator: bool, reply: &[u8]) -> Option<&'a str> {
-    Some(advice_for(is_operator, reply)?.words())
-}
-
-/// Writes the lines, each with its number and, below it, the first line of its reply and what may be done. Where the sink fails, it has
-/// taken a beginning of them.
+/// Writes the lines, each with its number and, below it, the first line of its reply and what may
+/// be done. If the sink fails, it has taken a first part of them.
 pub fn write_told<K: Sink>(sink: &mut K, told: &[ToldLine<'_>]) -> Result<(), Failed>
     ensures { Writes K.contents K.has_failed sink.old sink.new (flat_map told_text told.now)
         result }
@@ -70,9 +21,18 @@ pub fn write_told<K: Sink>(sink: &mut K, told: &[ToldLine<'_>]) -> Result<(), Fa
     Ok(())
 }
 
-/// Writes a line with what it was told.
+/// Writes a line with its reply.
 fn write_line<K: Sink>(sink: &mut K, told: &ToldLine<'_>) -> Result<(), Failed>
     ensures { Writes K.contents K.has_failed sink.old sink.new (told_text told.now) result }
+{
+    write_asked(sink, told)?;
+    write_advice(sink, told)?;
+    write_count(sink, told)
+}
+
+/// Writes a line and the first line of its reply.
+fn write_asked<K: Sink>(sink: &mut K, told: &ToldLine<'_>) -> Result<(), Failed>
+    ensures { Writes K.contents K.has_failed sink.old sink.new (asked_text told.now) result }
 {
     write_parts(
         sink,
@@ -81,26 +41,57 @@ fn write_line<K: Sink>(sink: &mut K, told: &ToldLine<'_>) -> Result<(), Failed>
             Part::Text(": "),
             Part::Bytes(told.line),
             Part::Text("\n"),
-            indent(told.reply.is_some()),
+            optional(told.reply.is_some(), "    "),
             Part::Bytes(told.reply.unwrap_or(b"")),
-            line_end(told.reply.is_some()),
-            indent(told.advice.is_some()),
-            Part::Text(told.advice.unwrap_or("")),
-            line_end(told.advice.is_some()),
+            optional(told.reply.is_some(), "\n"),
         ],
     )
 }
 
-/// What stands ahead of a line below another, where there is one.
-fn indent(is_there: bool) -> Part<'static>
-    ensures { bytes_of_part result ≡ indent is_there }
+/// Writes what a refusal means, with the script's line of a netlist's fault before it.
+fn write_advice<K: Sink>(sink: &mut K, told: &ToldLine<'_>) -> Result<(), Failed>
+    ensures { Writes K.contents K.has_failed sink.old sink.new (advice_text told.now) result }
 {
-    Part::Text(if is_there { "    " } else { "" })
+    write_parts(
+        sink,
+        &[
+            optional(told.advice.is_some(), "    "),
+            optional(told.fault.is_some(), "line "),
+            number(told.fault),
+            optional(told.fault.is_some(), " of the script: "),
+            Part::Text(told.advice.unwrap_or("")),
+        ],
+    )
 }
 
-/// Its end.
-fn line_end(is_there: bool) -> Part<'static>
-    ensures { bytes_of_part result ≡ line_end is_there }
+/// Writes how many lines are refused so, and ends the line.
+fn write_count<K: Sink>(sink: &mut K, told: &ToldLine<'_>) -> Result<(), Failed>
+    ensures { Writes K.contents K.has_failed sink.old sink.new (count_text told.now) result }
 {
-    Part::Text(if is_there { "\n" } else { "" })
+    write_parts(
+        sink,
+        &[
+            optional(told.alike.is_some(), " ("),
+            number(told.alike),
+            optional(told.alike.is_some(), " lines are refused so)"),
+            optional(told.advice.is_some(), "\n"),
+        ],
+    )
+}
+
+/// A text that is written only if something is there.
+fn optional(is_there: bool, text: &'static str) -> Part<'static>
+    ensures { bytes_of_part result ≡ optional is_there text.now }
+{
+    Part::Text(if is_there { text } else { "" })
+}
+
+/// A number that is written only if it is there.
+fn number(number: Option<usize>) -> Part<'static>
+    ensures { bytes_of_part result ≡ option_map_or decimal number [] }
+{
+    match number {
+        Some(number) => Part::Long(number as u64),
+        None => Part::Text(""),
+    }
 }

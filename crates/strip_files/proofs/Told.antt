@@ -9,7 +9,7 @@ step_as : (b : Bool) (line : List ℕ) (kept : List (List ℕ)) (old new more : 
 step_as true line kept old new more (read, same, told) h = (read ∷ more, (told, h), ap (λ (xs : List RouteNode). xs ++ more) same ∙ append_assoc old (read ∷ []) more)
 step_as false line kept old new more same h = (more, h, ap (λ (xs : List RouteNode). xs ++ more) same)
 
--- a line, and what the lines behind it tell
+-- a line, and the nodes of the lines after it
 pub told_step : (line : List ℕ) (lines : List (List ℕ)) (old new more : List RouteNode) → IsReadOn line old new → AreTold (filter is_node_line lines) more
     → (rest : List RouteNode) × AreTold (filter is_node_line (line ∷ lines)) rest × (new ++ more ≡ old ++ rest)
 told_step line lines old new more read h = step_as (is_node_line line) line (filter is_node_line lines) old new more read h
@@ -25,7 +25,7 @@ told_line line tail before after kind read begins text same is told =
 pub other_line : (line : List ℕ) (before after : List RouteNode) → is_node_line line ≡ false → after ≡ before → IsReadOn line before after
 other_line line before after none same = subst (λ (b : Bool). IsReadOnAs b line before after) (sym none) same
 
--- what is told of a success may say less
+-- a success implies any weaker fact
 pub on_ok : {A E : Type 0} (r : Result A E) (P Q : Type 0) → (P → Q) → OnOk r P → OnOk r Q
 on_ok (Ok a) P Q more h = more h
 on_ok (Err e) P Q more h = h

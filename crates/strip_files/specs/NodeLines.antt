@@ -1,4 +1,4 @@
--- The lines of nodes in a `.route` file, and the nodes that they tell.
+-- The lines of nodes in a `.route` file, and their nodes.
 use Rattle.std.specs.Prelude.{ℕ, ◌≡◌, Bool, true, false, List, [], ◌∷◌, ◌++◌, filter, codes, eqb, Some, ⊤}
 use Rattle.std.specs.List.{list_any, starts_with}
 use Rattle.line_text.specs.Decimal.{decimal_of}
@@ -10,7 +10,7 @@ use Rattle.strip_files.specs.declared.node_line.Counted.{Counted}
 use Rattle.strip_files.specs.declared.node_line.Counted.TheVariants.{Tracks, Pins, Pads, Classes}
 use Rattle.strip_files.specs.declared.route_node.RouteNode.{RouteNode}
 
--- how the line of a node of that kind begins
+-- the beginning of the line of a node of that kind
 abbrev pub kind_start : NodeKind → List ℕ
 kind_start Source = codes "SOURCE ("
 kind_start Sink = codes "SINK ("
@@ -22,18 +22,18 @@ kind_start ChanY = codes "CHANY ("
 abbrev pub kind_starts : List (List ℕ)
 kind_starts = kind_start Source ∷ kind_start Sink ∷ kind_start Opin ∷ kind_start Ipin ∷ kind_start ChanX ∷ kind_start ChanY ∷ []
 
--- whether a line begins as a node's does
+-- whether a line has the beginning of a node's
 abbrev pub is_node_line : List ℕ → Bool
 is_node_line line = list_any (λ start. starts_with eqb line start) kind_starts
 
--- what stands between the row and the number, by what the number counts
+-- the word between the row and the number, by what the number counts
 abbrev pub counted_word : Counted → List ℕ
 counted_word Tracks = codes ") Track: "
 counted_word Pins = codes ") Pin: "
 counted_word Pads = codes ") Pad: "
 counted_word Classes = codes ") Class: "
 
--- what follows the beginning tells the node's column, row and number, in decimal digits
+-- the rest after the beginning has the node's column, row and number, in decimal digits
 pub record IsTailOf (tail : List ℕ) (node : Node) : Type 0 where
   pub column : List ℕ
   pub row : List ℕ
@@ -44,24 +44,24 @@ pub record IsTailOf (tail : List ℕ) (node : Node) : Type 0 where
   pub y : decimal_of 32 row ≡ Some node.y
   pub n : decimal_of 32 number ≡ Some node.n
 
--- a line tells a node
+-- the line of a node
 pub record IsNodeLine (line : List ℕ) (node : Node) : Type 0 where
   pub tail : List ℕ
   pub text : line ≡ kind_start node.kind ++ tail
   pub told : IsTailOf tail node
 
--- the lines of a text that begin as a node's
+-- the lines of a text with the beginning of a node's
 abbrev pub node_lines : List ℕ → List (List ℕ)
 node_lines text = filter is_node_line (physical_lines text)
 
--- each of the lines tells one of the nodes, in order
+-- each of the lines is that of one of the nodes, in order
 abbrev pub AreTold : List (List ℕ) → List RouteNode → Type 0
 AreTold [] [] = ⊤
 AreTold [] (read ∷ others) = ⊥
 AreTold (line ∷ lines) [] = ⊥
 AreTold (line ∷ lines) (read ∷ others) = IsNodeLine line read.node × AreTold lines others
 
--- after a line there is the node that it tells, where it is a node's, else nothing new
+-- after a node's line there is its node, after another line nothing new
 abbrev pub IsReadOnAs : Bool → List ℕ → List RouteNode → List RouteNode → Type 0
 IsReadOnAs true line old new = (read : RouteNode) × (new ≡ old ++ read ∷ []) × IsNodeLine line read.node
 IsReadOnAs false line old new = new ≡ old

@@ -3,7 +3,7 @@ ghost use Rattle.std.specs.Prelude.{◌≤◌};
 
 use grid::Place;
 
-/// What a block is.
+/// The kind of a block.
 #[derive(Clone, Copy, PartialEq, Eq)]
 pub enum BlockKind {
     InputPad,
@@ -16,7 +16,7 @@ pub enum BlockKind {
 pub(crate) struct ListedBlock<'t> {
     pub(crate) kind: BlockKind,
     pub(crate) name: &'t [u8],
-    /// How many BLEs the file lists before this block's.
+    /// The number of BLEs that the file lists before this block's.
     pub(crate) first_element: usize,
 }
 
@@ -25,7 +25,8 @@ pub(crate) struct ListedBlock<'t> {
 pub struct Block<'t> {
     pub kind: BlockKind,
     pub name: &'t [u8],
-    /// The number, among the strip's, of its first BLE. Its others follow, up to the next block's first.
+    /// The index, among the strip's BLEs, of its first one. Its others follow, up to the next
+    /// block's first.
     pub first_element: usize,
     pub place: Place,
     ghost on_largest: { (place.x ≤ 256) × (place.y ≤ 65) × (place.subblock ≤ 7) },

@@ -12,32 +12,32 @@ pub enum File {
 /// What is wrong with a line.
 #[derive(Clone, Copy, PartialEq, Eq)]
 pub enum Fault {
-    /// None of the lines that may stand there.
+    /// The line isn't one of those that may be there.
     UnknownLine,
-    /// A size that is none, or that is above 256 columns or 64 rows.
+    /// A malformed size, or one above 256 columns or 64 rows.
     BadSize,
-    /// Another size than the `.place` file's.
+    /// A size different from the `.place` file's.
     OtherSize,
-    /// A block's line whose numbers are none.
+    /// A block's line with malformed numbers.
     BadBlock,
-    /// Another block than the `.net` file has at that number.
+    /// A block different from the `.net` file's with that number.
     OtherBlock,
-    /// A block, a net or a node that does not follow the one before it, by its number.
+    /// A block, a net or a node that does not follow the previous one, by its number.
     OutOfOrder,
-    /// A net's line whose number or name is none.
+    /// A net's line with a malformed number or name.
     BadNet,
-    /// A node's line whose words or numbers are none.
+    /// A node's line with malformed words or numbers.
     BadNode,
     /// A place, pin or wire that the strip does not have.
     NotThere,
     /// More blocks or nets than a tenancy may have.
     OverLimit,
-    /// The file ends before it says all.
+    /// The file ends before it is complete.
     Unfinished,
 }
 
 impl Fault {
-    /// It in words.
+    /// The fault in words.
     fn text(self) -> &'static str {
         match self {
             Fault::UnknownLine => "not a line that may stand here",
@@ -55,7 +55,7 @@ impl Fault {
     }
 }
 
-/// The least line of a file that is refused, counted from 1.
+/// The first line of a file that is refused, counted from 1.
 #[derive(Clone, Copy, PartialEq, Eq)]
 pub struct FileFault {
     pub file: File,

@@ -1,11 +1,13 @@
-//! One tenancy's strip, from the three files that the service wrote: its `.net`, its `.place` and its `.route`.
+//! One tenancy's strip, from the three files that the service wrote: its `.net`, its `.place` and
+//! its `.route`.
 //!
-//! [`read_strip`] tells the strip's size, its blocks with their kinds, names, places and BLEs, and its nets with their names and the nodes of
-//! their routes. Each file has to be as the service writes it, and the three have to fit one another; of a text that is not so the least
-//! line is told that does not go on as it should, and of which file. Numbers may have leading zeros.
+//! [`read_strip`] returns the strip's size, its blocks with their kinds, names, places and BLEs,
+//! and its nets with their names and the nodes of their routes. Each file must be as the service
+//! writes it, and the three must fit one another; otherwise it returns the first faulty line, and
+//! its file. Numbers may have leading zeros.
 //!
-//! It is proved that it is safe and returns, that what was read stands on the largest strip, and that the nodes that were read are those of
-//! the `.route` file's lines, one each and in order.
+//! It is proved that it is safe and returns, that what was read is on the largest strip, and that
+//! the nodes that were read are those of the `.route` file's lines, one each and in order.
 #![tactic(auto)]
 
 mod block;

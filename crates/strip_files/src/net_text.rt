@@ -1,4 +1,4 @@
-//! The `.net` file: which blocks there are, and the BLEs of each.
+//! The `.net` file: the blocks, and the BLEs of each.
 ghost use Rattle.std.specs.Prelude.{length};
 
 use crate::block::{BlockKind, ListedBlock};
@@ -7,10 +7,11 @@ use line_text::{TextError, split_line};
 use std::alloc::Global;
 use text_parts::Scanner;
 
-/// How many blocks a tenancy may have: a net of its own for each input and cluster, and an output for each net.
+/// The largest number of blocks of a tenancy: a net of its own for each input and cluster, and an
+/// output for each net.
 const MAX_BLOCKS: usize = 16_384;
 
-/// What a `.net` file lists.
+/// The contents of a `.net` file.
 #[derive(Drop)]
 pub(crate) struct Listed<'t> {
     pub(crate) blocks: Vec<ListedBlock<'t>>,
@@ -19,7 +20,7 @@ pub(crate) struct Listed<'t> {
 }
 
 impl<'t> Listed<'t> {
-    /// Nothing yet.
+    /// Returns empty contents.
     pub(crate) fn new(alloc: Global) -> Self {
         Listed {
             blocks: Vec::new(alloc),
@@ -27,7 +28,7 @@ impl<'t> Listed<'t> {
         }
     }
 
-    /// Takes the lines of a `.net` file. At a fault it holds what stands before the line.
+    /// Reads the lines of a `.net` file. At a fault it has the contents before that line.
     pub(crate) fn read(&mut self, text: &'t [u8]) -> Result<(), TextError<FileFault>> {
         let mut number = 0usize;
         let mut rest = text;
@@ -42,7 +43,6 @@ impl<'t> Listed<'t> {
         Ok(())
     }
 
-    /// Takes a line.
     fn line(&mut self, line: &'t [u8]) -> Result<(), TextError<Fault>> {
         let mut scanner = Scanner::new(line);
         if line.is_empty() || scanner.takes("pinlist:") || scanner.takes(".global ") {
@@ -63,7 +63,7 @@ impl<'t> Listed<'t> {
         self.block(kind, scanner.word())
     }
 
-    /// Takes a block of that kind and name.
+    /// Adds a block of that kind and name.
     fn block(&mut self, kind: BlockKind, name: &'t [u8]) -> Result<(), TextError<Fault>> {
         if self.blocks.len() >= MAX_BLOCKS {
             return Err(TextError::Fault(Fault::OverLimit));
@@ -76,7 +76,7 @@ impl<'t> Listed<'t> {
         Ok(())
     }
 
-    /// Takes a BLE of that name: one of the last block's, which is a cluster.
+    /// Adds a BLE of that name to the last block, which must be a cluster.
     fn element(&mut self, name: &'t [u8]) -> Result<(), TextError<Fault>> {
         match self.blocks.last() {
             Some(block) if block.kind == BlockKind::Cluster => {
@@ -88,7 +88,7 @@ impl<'t> Listed<'t> {
     }
 }
 
-/// The error of a line as that of a file.
+/// The error of a line as the error of a file.
 pub(crate) fn in_file(error: TextError<Fault>, file: File, line: usize) -> TextError<FileFault> {
     match error {
         TextError::NoMemory => TextError::NoMemory,

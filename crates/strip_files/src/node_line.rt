@@ -8,13 +8,13 @@ use crate::size::StripSize;
 use rr_graph::{Node, NodeKind};
 use text_parts::Scanner;
 
-/// How many pins a block has at most: 128 inputs, 16 outputs and a clock.
+/// The largest number of pins of a block: 128 inputs, 16 outputs and a clock.
 const MOST_PINS: u32 = 145;
 
-/// How many pads stand at an end of a column, at most.
+/// The largest number of pads at an end of a column.
 const MOST_PADS: u32 = 8;
 
-/// How many tracks a channel has at most.
+/// The largest number of tracks of a channel.
 const MOST_TRACKS: u32 = 64;
 
 /// What the number of a node counts.
@@ -26,7 +26,7 @@ pub(crate) enum Counted {
     Classes,
 }
 
-/// Takes the word for a kind off, up to the column. None where the line does not begin with one.
+/// Reads the word for a kind, up to the column; `None` if the line does not begin with one.
 pub(crate) fn take_kind(scanner: &mut Scanner<'_>) -> Option<NodeKind>
     ensures { MatchOption result ((is_node_line scanner.old ≡ false) × (scanner.new ≡ scanner.old))
         (λ kind. (is_node_line scanner.old ≡ true)
@@ -50,7 +50,8 @@ pub(crate) fn take_kind(scanner: &mut Scanner<'_>) -> Option<NodeKind>
     scanner.takes("CHANY (").then_some(NodeKind::ChanY)
 }
 
-/// The node of a strip of that size that a line tells: what follows the word for its kind is `COLUMN,ROW) WORD NUMBER`.
+/// Reads the node of a strip of that size from a line: the rest after the word for its kind is
+/// `COLUMN,ROW) WORD NUMBER`.
 pub(crate) fn read_node(
     size: StripSize,
     kind: NodeKind,
@@ -68,7 +69,7 @@ pub(crate) fn read_node(
     }
 }
 
-/// The node of that kind that the end of a line tells, and what its number counts.
+/// Reads a node of that kind from the end of a line, and what its number counts.
 fn read_tail(kind: NodeKind, scanner: &mut Scanner<'_>) -> Option<(Node, Counted)>
     ensures { IfSome result (λ read. (read.0.kind ≡ kind) × IsTailOf scanner.old read.0) }
 {
@@ -83,7 +84,7 @@ fn read_tail(kind: NodeKind, scanner: &mut Scanner<'_>) -> Option<(Node, Counted
     Some((Node { x, kind, y, n }, counted))
 }
 
-/// Takes off what stands between the row and the number.
+/// Reads the word between the row and the number.
 fn take_counted(scanner: &mut Scanner<'_>) -> Option<Counted>
     ensures { IfSome result (λ counted. scanner.old ≡ counted_word counted ++ scanner.new) }
 {
@@ -99,7 +100,7 @@ fn take_counted(scanner: &mut Scanner<'_>) -> Option<Counted>
     scanner.takes(") Class: ").then_some(Counted::Classes)
 }
 
-/// Whether a strip of that size has the node.
+/// Returns whether a strip of that size has the node.
 fn is_there(size: StripSize, node: Node, counted: Counted) -> bool
     ensures column { result ≡ true → node.x ≤ 256 }
     ensures row { result ≡ true → node.y ≤ 65 }

@@ -1,4 +1,4 @@
-//! The `.place` file: how large the strip is, and where its blocks stand.
+//! The `.place` file: the size of the strip, and the places of its blocks.
 ghost use Rattle.std.specs.Prelude.{◌≡◌, ◌≤◌, length, true};
 
 use crate::block::{Block, ListedBlock};
@@ -10,19 +10,19 @@ use line_text::{TextError, split_line};
 use std::alloc::Global;
 use text_parts::Scanner;
 
-/// How many pads stand at an end of a column, at most.
+/// The largest number of pads at an end of a column.
 const MOST_PADS: u32 = 8;
 
-/// What a `.place` file tells.
+/// The contents of a `.place` file.
 #[derive(Drop)]
 pub(crate) struct Placed<'t> {
-    /// The size that its second line tells.
+    /// The size in its second line.
     pub(crate) size: Option<StripSize>,
     pub(crate) blocks: Vec<Block<'t>>,
 }
 
 impl<'t> Placed<'t> {
-    /// Nothing yet.
+    /// Returns empty contents.
     pub(crate) fn new(alloc: Global) -> Self {
         Placed {
             size: None,
@@ -30,8 +30,8 @@ impl<'t> Placed<'t> {
         }
     }
 
-    /// Takes the lines of a `.place` file, whose blocks are those that are listed, and tells the strip's size. At a fault it holds what
-    /// stands before the line.
+    /// Reads the lines of a `.place` file, whose blocks must be the listed ones, and returns the
+    /// strip's size. At a fault it has the contents before that line.
     pub(crate) fn read(
         &mut self,
         text: &[u8],
@@ -53,7 +53,7 @@ impl<'t> Placed<'t> {
         }
     }
 
-    /// Takes the line of that number.
+    /// Reads the line of that number.
     fn line(
         &mut self,
         line: &[u8],
@@ -75,7 +75,7 @@ impl<'t> Placed<'t> {
         }
     }
 
-    /// Takes the line of a block on a strip of that size.
+    /// Reads the line of a block on a strip of that size.
     fn block(
         &mut self,
         size: StripSize,
@@ -105,7 +105,7 @@ impl<'t> Placed<'t> {
     }
 }
 
-/// Whether a strip of that size has the place.
+/// Returns whether a strip of that size has the place.
 fn is_there(size: StripSize, place: Place) -> bool
     ensures column { result ≡ true → place.x ≤ 256 }
     ensures row { result ≡ true → place.y ≤ 65 }
@@ -134,7 +134,7 @@ fn read_block(line: &[u8]) -> Option<(&[u8], Place, u32)> {
     Some((name, Place { x, y, subblock }, number))
 }
 
-/// The size of a line `Array size: COLUMNS x ROWS` that ends in these words.
+/// The size in a line `Array size: COLUMNS x ROWS` with these words at its end.
 pub(crate) fn read_size(line: &[u8], end: &str) -> Option<StripSize> {
     let mut scanner = Scanner::new(line);
     scanner.text("Array size: ")?;

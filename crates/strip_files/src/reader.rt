@@ -20,7 +20,8 @@ pub struct StripTexts<'t> {
     pub route: &'t [u8],
 }
 
-/// What the three files of a tenancy tell of its strip. Columns and rows count from 1; pads stand in row 0 and above the last row.
+/// What the three files of a tenancy say about its strip. Columns and rows count from 1; pads are
+/// in row 0 and above the last row.
 #[derive(Drop)]
 pub struct RoutedStrip<'t> {
     pub size: StripSize,
@@ -35,7 +36,7 @@ pub struct RoutedStrip<'t> {
 }
 
 impl<'t> RoutedStrip<'t> {
-    /// The number of the first net of that name.
+    /// Returns the number of the first net of that name; `None` if there is no such net.
     pub fn net_named(&self, name: &[u8]) -> Option<usize> {
         self.nets.iter().position(|net| net.name == name)
     }
@@ -54,7 +55,7 @@ impl<'t> RoutedStrip<'t> {
         stretch(&self.elements, start, end)
     }
 
-    /// Where the route of that net begins among the nodes.
+    /// The index at which the nodes of that net's route begin.
     fn first_node(&self, net: usize) -> usize {
         match self.nets.get(net) {
             Some(net) => net.first_node,
@@ -62,7 +63,7 @@ impl<'t> RoutedStrip<'t> {
         }
     }
 
-    /// Where the BLEs of that block begin among all.
+    /// The index at which the BLEs of that block begin.
     fn first_element(&self, block: usize) -> usize {
         match self.blocks.get(block) {
             Some(block) => block.first_element,
@@ -71,21 +72,25 @@ impl<'t> RoutedStrip<'t> {
     }
 }
 
-/// What stands from one place to another, as far as there is something.
+/// The elements from one index to another, as far as they exist.
 fn stretch<T>(all: &[T], start: usize, end: usize) -> &[T] {
     let (front, _) = all.split_at(end.min(all.len()));
     let (_, back) = front.split_at(start.min(front.len()));
     back
 }
 
-/// The strip that the three files of a tenancy tell.
+/// Reads a strip from the three files of a tenancy. Fails with a file's first faulty line, or if
+/// memory runs out.
 ///
-/// - The `.net` file lists the blocks, by `.input`, `.output` and `.clb`, and the BLEs of each cluster, by `subblock:`.
-/// - The `.place` file tells the size, and of each listed block, in their order, where it stands.
-/// - The `.route` file tells the same size, and the nets in order of their numbers, with the nodes of their routes.
+/// - The `.net` file lists the blocks, by `.input`, `.output` and `.clb`, and the BLEs of each
+///   cluster, by `subblock:`.
+/// - The `.place` file has the size, and the place of each listed block, in their order.
+/// - The `.route` file has that size too, and the nets in order of their numbers, with the nodes of
+///   their routes.
 ///
-/// Empty lines are passed over, as are what pins carry, global nets' blocks and headings. Of the files the first that is refused is told, as they stand
-/// here, with its least line that does not go on as it should; what only the end shows is told with the last line.
+/// Empty lines are skipped, as are what pins carry, global nets' blocks and headings. The fault is
+/// that of the first faulty file, in this order, at its first faulty line; a fault that only shows
+/// at the end has the last line.
 pub fn read_strip(
     alloc: Global,
     texts: StripTexts<'_>,
@@ -106,7 +111,7 @@ pub fn read_strip(
     }
 }
 
-/// Reads the three files, and tells the strip's size.
+/// Reads the three files, and returns the strip's size.
 fn read_all<'t>(
     texts: StripTexts<'t>,
     listed: &mut Listed<'t>,
@@ -123,7 +128,7 @@ fn read_all<'t>(
     Ok(size)
 }
 
-/// What was read, as one.
+/// What was read, as one strip.
 fn joined<'t>(
     size: StripSize,
     listed: Listed<'t>,

@@ -14,31 +14,32 @@ use rr_graph::NodeKind;
 use std::alloc::Global;
 use text_parts::Scanner;
 
-/// How many nets a netlist may have.
+/// The largest number of nets of a netlist.
 const MAX_NETS: usize = 8192;
 
-/// A net.
+/// A net of a `.route` file.
 #[derive(Clone, Copy)]
 pub struct Net<'t> {
     pub name: &'t [u8],
-    /// Whether it goes by the global network, and has no route.
+    /// Whether the net uses the global network, and has no route.
     pub is_global: bool,
-    /// The number, among the strip's, of its route's first node. The others follow, up to the next net's first.
+    /// The index, among the strip's nodes, of its route's first one. The others follow, up to the
+    /// next net's first.
     pub first_node: usize,
 }
 
-/// Where in the file a line stands.
+/// The part of the file that a line is in.
 #[derive(Clone, Copy, PartialEq, Eq)]
 pub(crate) enum Section {
-    /// The first line, which tells the size.
+    /// The first line, which has the size.
     Size,
     /// Before the line `Routing:`.
     Before,
-    /// Behind it.
+    /// After it.
     Nets,
 }
 
-/// What a `.route` file tells.
+/// The contents of a `.route` file.
 #[derive(Drop)]
 pub(crate) struct Routed<'t> {
     pub(crate) nets: Vec<Net<'t>>,
@@ -48,7 +49,7 @@ pub(crate) struct Routed<'t> {
 }
 
 impl<'t> Routed<'t> {
-    /// Nothing yet.
+    /// Returns empty contents.
     pub(crate) fn new(alloc: Global) -> Self
         ensures { length result.nodes.items ≡ 0 }
     {
@@ -59,7 +60,8 @@ impl<'t> Routed<'t> {
         }
     }
 
-    /// Takes the lines of the `.route` file of a strip of that size. At a fault it holds what stands before the line.
+    /// Reads the lines of the `.route` file of a strip of that size. At a fault it has the contents
+    /// before that line.
     pub(crate) fn read(
         &mut self,
         text: &'t [u8],
@@ -84,7 +86,6 @@ impl<'t> Routed<'t> {
         Ok(())
     }
 
-    /// Takes a line.
     fn line(&mut self, line: &'t [u8], size: StripSize) -> Result<(), TextError<Fault>>
         ensures { OnOk result (IsReadOn line.now self.old.nodes.items self.new.nodes.items) }
     {
@@ -95,7 +96,7 @@ impl<'t> Routed<'t> {
         }
     }
 
-    /// Takes the end of the line of a node of that kind.
+    /// Reads the end of the line of a node of that kind.
     fn node(
         &mut self,
         size: StripSize,
@@ -118,7 +119,7 @@ impl<'t> Routed<'t> {
         }
     }
 
-    /// Takes a line that is no node's.
+    /// Reads a line that isn't a node's.
     fn other(&mut self, line: &'t [u8], size: StripSize) -> Result<(), TextError<Fault>>
         ensures { self.new.nodes.items ≡ self.old.nodes.items }
     {
@@ -135,7 +136,7 @@ impl<'t> Routed<'t> {
         }
     }
 
-    /// Takes the first line, which tells the size.
+    /// Reads the first line, which has the size.
     fn heading(&mut self, line: &[u8], size: StripSize) -> Result<(), TextError<Fault>>
         ensures { self.new.nodes.items ≡ self.old.nodes.items }
     {
@@ -149,7 +150,7 @@ impl<'t> Routed<'t> {
         Ok(())
     }
 
-    /// Takes the first line of a net.
+    /// Reads the first line of a net.
     fn net(&mut self, line: &'t [u8]) -> Result<(), TextError<Fault>>
         ensures { self.new.nodes.items ≡ self.old.nodes.items }
     {
@@ -174,7 +175,8 @@ impl<'t> Routed<'t> {
     }
 }
 
-/// The number and the name of a net's line, and whether the net is global: `Net NUMBER (NAME)`, or that and `: global net connecting:`.
+/// Reads the number and the name from a net's line, and whether the net is global:
+/// `Net NUMBER (NAME)`, or that with `: global net connecting:`.
 fn read_net(line: &[u8]) -> Option<(u32, &[u8], bool)> {
     let mut scanner = Scanner::new(line);
     scanner.text("Net ")?;

@@ -15,7 +15,7 @@ pub struct StripSize {
 }
 
 impl StripSize {
-    /// This size, if it is within the limits.
+    /// Returns this size; `None` if it isn't within the limits.
     pub fn new(columns: u32, rows: u32) -> Option<Self> {
         if !(1..=256).contains(&columns) || !(1..=64).contains(&rows) {
             return None;
@@ -23,7 +23,7 @@ impl StripSize {
         Some(StripSize { columns, rows })
     }
 
-    /// Whether logic blocks stand there.
+    /// Returns whether logic blocks are there.
     pub fn has_block(&self, x: u32, y: u32) -> bool
         ensures column { result ≡ true → (1 ≤ x) × (x ≤ 256) }
         ensures row { result ≡ true → (1 ≤ y) × (y ≤ 64) }
@@ -31,7 +31,7 @@ impl StripSize {
         x >= 1 && x <= self.columns && y >= 1 && y <= self.rows
     }
 
-    /// Whether pads stand there: in row 0, and above the last row.
+    /// Returns whether pads are there: in row 0, and above the last row.
     pub fn has_pads(&self, x: u32, y: u32) -> bool
         ensures column { result ≡ true → (1 ≤ x) × (x ≤ 256) }
         ensures row { result ≡ true → y ≤ 65 }
@@ -39,7 +39,7 @@ impl StripSize {
         x >= 1 && x <= self.columns && (y == 0 || y == self.rows + 1)
     }
 
-    /// Whether a channel of wires of that kind is there.
+    /// Returns whether a channel of wires of that kind is there.
     pub fn has_channel(&self, kind: NodeKind, x: u32, y: u32) -> bool
         ensures column { result ≡ true → x ≤ 256 }
         ensures row { result ≡ true → y ≤ 64 }

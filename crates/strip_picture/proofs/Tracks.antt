@@ -27,11 +27,11 @@ and-false : (b : Bool) → (b && false) ≡ false
 and-false true = refl
 and-false false = refl
 
--- a test of the elements and of one more
+-- a test of the elements, and of one more
 any_last : (p : RouteNode → Bool) (nodes : List RouteNode) (read : RouteNode) → list_any p (nodes ++ read ∷ []) ≡ (list_any p nodes || p read)
 any_last p nodes read = list_any-append p nodes (read ∷ []) ∙ ap (λ b. list_any p nodes || b) (or-false (p read))
 
--- one bit more is set, or the same bits
+-- one more bit is set, or the bits stay
 set_bits : (used : List ℕ) (p q n t : ℕ) (b : Bool) → p < length used → n < 64 → bit_at (get_or used q 0) t ≡ cond {A = ℕ} b 1 0
     → bit_at (get_or (set used p (bit_or (get_or used p 0) (1 * 2 ^ n % 2 ^ 64))) q 0) t ≡ cond {A = ℕ} (b || (eqb p q && eqb n t)) 1 0
 set_bits used p q n t b within low h =
@@ -52,14 +52,15 @@ set_bits used p q n t b within low h =
           ∙ sym (ap (λ c. cond {A = ℕ} c 1 0) (ap (λ c. b || (c && eqb n t)) off.0 ∙ or-false b)))
     ]
 
--- two places of channels that go one way have one number where their columns and rows agree
+-- two places of channels of one direction have one number exactly if their columns and rows are
+-- equal
 same_cell : (a b c d : ℕ) → b ≤ 64 → d ≤ 64 → ((a == c) && (b == d)) ≡ eqb (2 * (65 * a + b)) (2 * (65 * c + d))
 same_cell a b c d lb ld = grind (arith, nat_tests)
 
 same_cell_up : (a b c d : ℕ) → b ≤ 64 → d ≤ 64 → ((a == c) && (b == d)) ≡ eqb (2 * (65 * a + b) + 1) (2 * (65 * c + d) + 1)
 same_cell_up a b c d lb ld = grind (arith, nat_tests)
 
--- those of channels that go two ways never have
+-- those of channels of different directions never have
 other_cell : (m n : ℕ) → eqb (2 * m) (2 * n + 1) ≡ false
 other_cell m n = grind (arith, nat_tests)
 
@@ -80,12 +81,12 @@ wire_up : (d : Direction) (a b n x y t : ℕ) → b ≤ 64 → y ≤ 64
 wire_up Up a b n x y t lb ly = ap (λ c. c && eqb n t) (same_cell_up a b x y lb ly)
 wire_up Across a b n x y t lb ly = sym (ap (λ c. c && eqb n t) (other_cell_up (65 * a + b) (65 * x + y)))
 
--- what a node is the wire of, by its kind
+-- the wire that a node is, by its kind
 wire_of : (k : NodeKind) (read : RouteNode) (d : Direction) (x y t : ℕ) → read.node.kind ≡ k
     → is_wire d x y t read ≡ (goes k d && (read.node.x == x) && (read.node.y == y) && (read.node.n == t))
 wire_of k read d x y t e = ap (λ (kind : NodeKind). goes kind d && (read.node.x == x) && (read.node.y == y) && (read.node.n == t)) e
 
--- the tracks are those of the nodes and of one more, that is no wire
+-- the tracks stay when one more node is read that isn't a wire
 pub marked_none : (nodes : List RouteNode) (read : RouteNode) (used : List ℕ) → IsNoWire read → HasTracks nodes used → HasTracks (nodes ++ read ∷ []) used
 marked_none nodes read used none h = record {
   long = h.long;
@@ -119,7 +120,7 @@ up_wire read e near low small = record {
   only = λ d x y t ly. wire_of ChanY read d x y t e ∙ wire_up d read.node.x read.node.y read.node.n x y t low ly;
 }
 
--- none that stands too far above, or whose number is too large, is one of these
+-- a node too far up, or with too large a number, is not such a wire
 pub far_wire : (read : RouteNode) → (read.node.y ≤ 64 → read.node.n < 64 → ⊥) → IsNoWire read
 far_wire read far d x y t ly lt =
     let a : Bool = goes read.node.kind d && (read.node.x == x) in
@@ -143,7 +144,7 @@ no_way Ipin across up d = refl
 pub no_wire : (read : RouteNode) → (read.node.kind ≡ ChanX → ⊥) → (read.node.kind ≡ ChanY → ⊥) → IsNoWire read
 no_wire read across up d x y t ly lt = ap (λ b. b && (read.node.x == x) && (read.node.y == y) && (read.node.n == t)) (no_way read.node.kind across up d)
 
--- tests that agree on numbers in order count as many
+-- tests that agree on a range of numbers count equally many
 same_count : (p q : ℕ → Bool) (a n : ℕ) → ((t : ℕ) → a ≤ t → t < a + n → p t ≡ q t) → count_by p (range_with_len a n) ≡ count_by q (range_with_len a n)
 same_count p q a zero h = refl
 same_count p q a (suc n) h =
@@ -157,7 +158,7 @@ one_bit : (b : Bool) (m : ℕ) → m ≡ cond {A = ℕ} b 1 0 → (m == 1) ≡ b
 one_bit true m e = ap (λ k. k == 1) e
 one_bit false m e = ap (λ k. k == 1) e
 
--- as many bits of a channel's number are set as tracks of it are used
+-- the number of set bits of a channel is the number of its used tracks
 pub counted : (nodes : List RouteNode) (used : List ℕ) (d : Direction) (x y : ℕ) → x ≤ 256 → y ≤ 64 → HasTracks nodes used
     → count_by (λ t. bit_and (get_or used (channel_number d x y) 0 / 2 ^ t) 1 == 1) (range_with_len 0 MOST_TRACKS) ≡ tracks_in d x y nodes
 unfolding tracks_in
@@ -165,7 +166,7 @@ counted nodes used d x y lx ly h =
     same_count (λ t. bit_and (get_or used (channel_number d x y) 0 / 2 ^ t) 1 == 1) (λ t. list_any (is_wire d x y t) nodes) 0 MOST_TRACKS
     (λ t least most. one_bit (list_any (is_wire d x y t) nodes) _ (shr_and_one (get_or used (channel_number d x y) 0) t ∙ h.bits d x y t lx ly most))
 
--- where no bit is set no node was seen
+-- before any node is read, no bit is set
 zeros : (channels : ℕ) (d : Direction) (x y : ℕ) → channels ≡ CHANNELS → x ≤ 256 → y ≤ 64 → ◌≡◌ {A = ℕ} (get_or (replicate channels 0) (channel_number d x y) 0) 0
 zeros channels Across x y long lx ly = get_or-replicate channels (channel_number Across x y) 0 0 (omega arith)
 zeros channels Up x y long lx ly = get_or-replicate channels (channel_number Up x y) 0 0 (omega arith)

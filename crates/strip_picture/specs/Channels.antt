@@ -11,7 +11,7 @@ use Rattle.strip_files.specs.declared.size.StripSize.{StripSize}
 use Rattle.strip_picture.specs.declared.channels.ChannelUse.{ChannelUse}
 use Rattle.strip_picture.specs.declared.channels.TheConstants.{CHANNELS, MOST_TRACKS}
 
--- whether it is a wire of a channel that goes that way
+-- whether it is a wire of a channel of that direction
 abbrev pub goes : NodeKind → Direction → Bool
 goes ChanX Across = true
 goes ChanX Up = false
@@ -26,7 +26,7 @@ goes Ipin direction = false
 abbrev pub is_wire : Direction → ℕ → ℕ → ℕ → RouteNode → Bool
 is_wire direction x y track read = goes read.node.kind direction && (read.node.x == x) && (read.node.y == y) && (read.node.n == track)
 
--- how many tracks of a channel the nodes use: of how many tracks one of them is the wire
+-- how many tracks of a channel the nodes use: the number of tracks with a node as their wire
 unfoldable pub tracks_in : Direction → ℕ → ℕ → List RouteNode → ℕ
 tracks_in direction x y nodes = count_by (λ track. list_any (is_wire direction x y track) nodes) (range_with_len 0 MOST_TRACKS)
 
@@ -34,12 +34,12 @@ tracks_in direction x y nodes = count_by (λ track. list_any (is_wire direction 
 abbrev pub use_of : List RouteNode → Direction → ℕ → ℕ → ChannelUse
 use_of nodes direction x y = record { direction = direction; x = x; y = y; tracks = tracks_in direction x y nodes }
 
--- the channels above rows, column by column from column 1 on, in each from row 0 on
+-- the channels above rows, column by column from column 1, in each from row 0
 abbrev pub across_uses : StripSize → List RouteNode → List ChannelUse
 across_uses size nodes =
     map (λ number. use_of nodes Across (number / (size.rows + 1) + 1) (number % (size.rows + 1))) (range_with_len 0 (size.columns * (size.rows + 1)))
 
--- the channels right of columns, column by column from column 0 on, in each from row 1 on
+-- the channels right of columns, column by column from column 0, in each from row 1
 abbrev pub up_uses : StripSize → List RouteNode → List ChannelUse
 up_uses size nodes =
     map (λ number. use_of nodes Up (number / size.rows) (number % size.rows + 1)) (range_with_len 0 ((size.columns + 1) * size.rows))
@@ -49,7 +49,7 @@ abbrev pub channel_number : Direction → ℕ → ℕ → ℕ
 channel_number Across x y = 2 * (65 * x + y)
 channel_number Up x y = 2 * (65 * x + y) + 1
 
--- private: a node is no wire
+-- private: a node isn't a wire
 abbrev pub IsNoWire : RouteNode → Type 0
 IsNoWire read = (direction : Direction) (x y track : ℕ) → y ≤ 64 → track < MOST_TRACKS → is_wire direction x y track read ≡ false
 
@@ -60,7 +60,7 @@ pub record IsWireOf (read : RouteNode) (number : ℕ) : Type 0 where
   pub only : (direction : Direction) (x y track : ℕ) → y ≤ 64
       → is_wire direction x y track read ≡ (eqb number (channel_number direction x y) && eqb read.node.n track)
 
--- private: in the numbers of all channels the bits of those tracks are set that the nodes use
+-- private: in the numbers of all channels exactly the bits of the used tracks are set
 pub record HasTracks (nodes : List RouteNode) (used : List ℕ) : Type 0 where
   pub long : length used ≡ CHANNELS
   pub bits : (direction : Direction) (x y track : ℕ) → x ≤ 256 → y ≤ 64 → track < MOST_TRACKS

@@ -1,7 +1,8 @@
 -- Bytes as the text of an XML element or attribute.
 use Rattle.std.specs.Prelude.{ℕ, ◌==◌, ◌&&◌, if◌then◌else◌, nat_le, List, [], ◌∷◌, codes}
 
--- a byte that XML would take for its own stands by its name, and one that is no printing ASCII character as the sign for a character that is not known
+-- a byte with a meaning in XML is written by its name, and one that isn't a printable ASCII
+-- character as the replacement character
 abbrev pub escaped : ℕ → List ℕ
 escaped byte =
     if byte == 38 then codes "&amp;"

@@ -9,7 +9,7 @@ use rr_graph::NodeKind;
 use strip_files::{Block, BlockKind, RouteNode, RoutedStrip};
 use text_parts::{Part, Pen};
 
-/// How many letters of a name a title tells.
+/// The largest number of letters of a name in a title.
 const TOLD_LETTERS: usize = 40;
 
 /// Writes a box for each place of a logic block.
@@ -114,7 +114,7 @@ pub(crate) fn write_cluster_names<K: Sink>(
     }
 }
 
-/// Writes the names of pads, in a group that is turned so that texts go upwards.
+/// Writes the names of pads, in a group that is turned so that texts run upwards.
 pub(crate) fn write_pad_names<K: Sink>(pen: &mut Pen<'_, K>, plan: Plan, strip: &RoutedStrip<'_>) {
     let letters = (100 * plan.lattice.block / (6 * plan.pad_font)).saturating_sub(1);
     for block in strip.blocks.iter() {
@@ -129,7 +129,7 @@ pub(crate) fn write_pad_names<K: Sink>(pen: &mut Pen<'_, K>, plan: Plan, strip: 
     }
 }
 
-/// Begins a text at a point, with what parts its coordinates and what follows them.
+/// Begins a text at a point, with the text between its coordinates and the text after them.
 fn begin_name<'p, K: Sink>(pen: &mut Pen<'_, K>, x: u32, between: &'p str, y: u32, end: &'p str) {
     pen.write(&[
         Part::Text("<text x=\""),
@@ -140,7 +140,8 @@ fn begin_name<'p, K: Sink>(pen: &mut Pen<'_, K>, x: u32, between: &'p str, y: u3
     ]);
 }
 
-/// Writes boxes round the blocks and pads that the pins of one kind among these nodes belong to, as a path of a class.
+/// Writes boxes around the blocks and pads to which the pins of one kind among these nodes belong,
+/// as a path of a class.
 pub(crate) fn write_ends<K: Sink>(
     pen: &mut Pen<'_, K>,
     plan: Plan,

@@ -9,13 +9,15 @@ use rr_graph::{Node, NodeKind};
 use std::alloc::{AllocError, Global};
 use strip_files::{RouteNode, RoutedStrip, StripSize};
 
-/// How many channels the largest strip has room for: two for each column, from 0 to 256, and each row, from 0 to 64.
+/// The number of channels of the largest strip: two for each column, from 0 to 256, and each row,
+/// from 0 to 64.
 const CHANNELS: usize = 33_410;
 
-/// How many tracks a channel has at most.
+/// The largest number of tracks of a channel.
 pub const MOST_TRACKS: u32 = 64;
 
-/// How many tracks of a channel are used. A channel is what lies above a row in a column, or right of a column in a row.
+/// The number of used tracks of a channel. A channel is above a row in one column, or right of a
+/// column in one row.
 #[derive(Clone, Copy, PartialEq, Eq)]
 pub struct ChannelUse {
     pub direction: Direction,
@@ -27,13 +29,14 @@ pub struct ChannelUse {
 /// The channels of a strip, column by column.
 #[derive(Drop)]
 pub struct Channels {
-    /// Those above rows, from row 0 on.
+    /// Those above rows, from row 0.
     pub across: Vec<ChannelUse>,
-    /// Those right of columns, from column 0 on.
+    /// Those right of columns, from column 0.
     pub up: Vec<ChannelUse>,
 }
 
-/// How many tracks of each channel of a strip the routes of its nets use. A track that is used twice, by one net or by two, is one.
+/// Returns how many tracks of each channel of a strip the routes of its nets use. A track that is
+/// used twice, by one net or by two, counts once. Fails with [`AllocError`] if memory runs out.
 pub fn channels_of(alloc: Global, strip: &RoutedStrip<'_>) -> Result<Channels, AllocError>
     ensures across { IfOk result (λ channels.
         channels.across.items ≡ across_uses strip.now.size strip.now.nodes.items) }
@@ -46,7 +49,7 @@ pub fn channels_of(alloc: Global, strip: &RoutedStrip<'_>) -> Result<Channels, A
     Ok(Channels { across, up })
 }
 
-/// Which tracks of each channel are used: a bit for each track.
+/// The used tracks of each channel: one bit for each track.
 fn used_tracks(alloc: Global, nodes: &[RouteNode]) -> Result<Vec<u64>, AllocError>
     ensures { IfOk result (λ used. HasTracks nodes.now used.items) }
 {
@@ -57,7 +60,7 @@ fn used_tracks(alloc: Global, nodes: &[RouteNode]) -> Result<Vec<u64>, AllocErro
     Ok(used)
 }
 
-/// No tracks of so many channels.
+/// No used tracks, for `channels` channels.
 fn no_tracks(alloc: Global, channels: usize) -> Result<Vec<u64>, AllocError>
     requires { channels ≡ CHANNELS }
     ensures { IfOk result (λ used. HasTracks [] used.items) }
@@ -65,7 +68,7 @@ fn no_tracks(alloc: Global, channels: usize) -> Result<Vec<u64>, AllocError>
     Vec::from_elem(alloc, 0, channels)
 }
 
-/// The used tracks with that of a node, if it is a wire.
+/// The used tracks with that of one more node, if it is a wire.
 fn marked(used: Vec<u64>, read: RouteNode) -> Vec<u64>
     requires { length used.items ≡ CHANNELS }
     ensures { (nodes : List RouteNode) → HasTracks nodes used.items →
@@ -77,7 +80,7 @@ fn marked(used: Vec<u64>, read: RouteNode) -> Vec<u64>
     }
 }
 
-/// The used tracks with one more of the channel of that number.
+/// The used tracks with one more in the channel of that number.
 fn with_track(mut used: Vec<u64>, number: usize, track: u32) -> Vec<u64>
     requires channel { number < length used.items }
     requires track { track < MOST_TRACKS }
@@ -88,7 +91,7 @@ fn with_track(mut used: Vec<u64>, number: usize, track: u32) -> Vec<u64>
     used
 }
 
-/// The number of the channel that a node is a wire of.
+/// The number of the channel to which a wire belongs; `None` if the node isn't one.
 fn channel_of(read: RouteNode) -> Option<usize>
     ensures { MatchOption result (IsNoWire read) (IsWireOf read) }
 {
@@ -103,7 +106,7 @@ fn channel_of(read: RouteNode) -> Option<usize>
     }
 }
 
-/// The number of a channel.
+/// The number of a channel among all channels of the largest strip.
 fn channel_number(direction: Direction, x: u32, y: u32) -> usize
     requires column { x ≤ 256 }
     requires row { y ≤ 64 }
@@ -116,7 +119,7 @@ fn channel_number(direction: Direction, x: u32, y: u32) -> usize
     }
 }
 
-/// How many tracks of a channel are used.
+/// The number of used tracks of a channel.
 fn tracks_in(used: &[u64], direction: Direction, x: u32, y: u32) -> usize
     requires used { length used.now ≡ CHANNELS }
     requires column { x ≤ 256 }
@@ -127,7 +130,7 @@ fn tracks_in(used: &[u64], direction: Direction, x: u32, y: u32) -> usize
     bits_set(used[channel_number(direction, x, y)], MOST_TRACKS)
 }
 
-/// A channel, and how many of its tracks are used.
+/// A channel with the number of its used tracks.
 fn use_of(used: &[u64], direction: Direction, x: u32, y: u32) -> ChannelUse
     requires used { length used.now ≡ CHANNELS }
     requires column { x ≤ 256 }
@@ -144,7 +147,7 @@ fn use_of(used: &[u64], direction: Direction, x: u32, y: u32) -> ChannelUse
     }
 }
 
-/// How many of the first so many bits are set.
+/// How many of the first `count` bits are set.
 fn bits_set(bits: u64, count: u32) -> usize
     requires { count ≤ 64 }
     ensures { result ≡ count_by (λ track. bit_and (bits / 2 ^ track) 1 == 1)

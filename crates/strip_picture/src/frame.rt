@@ -1,4 +1,5 @@
-//! The sheet that the picture stands on: its size, its styles, its headings, the numbers beside it, and its legend.
+//! The sheet of the picture: its size, its styles, its headings, the numbers beside the strip, and
+//! its legend.
 ghost use Rattle.std.specs.Prelude.{◌≤◌};
 
 use crate::plan::Plan;
@@ -6,8 +7,8 @@ use line_text::Sink;
 use picture_lines::{Sheet, begin_group, end_group, write_numbers, write_rows, write_swatch};
 use text_parts::{Part, Pen};
 
-/// The styles: letters, names, numbers of channels, empty places, clusters, input and output pads, wires and pins of nets, a picked net, its
-/// driver and its readers, the others, bars.
+/// The styles: letters, names, numbers of channels, empty places, clusters, input and output pads,
+/// wires and pins of nets, a picked net, its driver and its readers, the others, bars.
 const STYLES: &str = "<style>text{font-family:sans-serif;fill:#222}\
 .m text{font-family:monospace}.n text{text-anchor:middle}\
 .e{fill:#fafafa;stroke:#ddd;stroke-width:.15}\
@@ -22,17 +23,17 @@ const STYLES: &str = "<style>text{font-family:sans-serif;fill:#222}\
 .h{stroke:#d8d8d8;stroke-width:.15}.h0{fill:#f5f5f5}.h1{fill:#fff1dc}.h2{fill:#fedfb8}.h3{fill:#fdc68a}.h4{fill:#fdab67}\
 .h5{fill:#fb8a50}.h6{fill:#f3693f}.h7{fill:#e34a33}.h8{fill:#d93a2b}</style>\n";
 
-/// How things are laid out on the sheet.
+/// The layout of the sheet.
 #[derive(Clone, Copy)]
 pub(crate) struct Frame {
     pub(crate) plan: Plan,
-    /// How long the sheet is.
+    /// The width of the sheet.
     width: u32,
     ghost width_small: { (1 ≤ width) × (width ≤ 100_000) },
 }
 
 impl Frame {
-    /// That of a picture.
+    /// The layout for a picture.
     pub(crate) fn of(plan: Plan) -> Self {
         Frame {
             plan,
@@ -40,28 +41,28 @@ impl Frame {
         }
     }
 
-    /// How far the strip stands from the left.
+    /// The distance of the strip from the left.
     fn left(&self) -> u32
         ensures { result ≤ 4000 }
     {
         4 * self.plan.font
     }
 
-    /// How far the strip's lower end stands from above.
+    /// The distance of the strip's lower end from the top.
     fn ground(&self) -> u32
         ensures { result ≤ 40_000 }
     {
         6 * self.plan.font + self.plan.height()
     }
 
-    /// How high the sheet is.
+    /// The height of the sheet.
     fn height(&self) -> u32
         ensures { (1 ≤ result) × (result ≤ 60_000) }
     {
         self.ground() + 7 * self.plan.font
     }
 
-    /// How many dots of a screen the sheet is long.
+    /// The width of the sheet on a screen, in pixels.
     fn dots(&self) -> u32
         ensures { (1 ≤ result) × (result ≤ 8000) }
     {
@@ -72,7 +73,7 @@ impl Frame {
         }
     }
 
-    /// Writes the beginning: the size, the styles, and the ground.
+    /// Writes the beginning: the size, the styles, and the background.
     pub(crate) fn write_head<K: Sink>(&self, pen: &mut Pen<'_, K>) {
         let sheet = Sheet {
             width: self.width,
@@ -104,7 +105,8 @@ impl Frame {
         self.begin_group(pen, " scale(1 -1)\">\n");
     }
 
-    /// Begins a group of texts of a class, so many tenths large, in which heights count downwards from row 0.
+    /// Begins a group of texts of a class, with letters of that size in tenths, in which heights
+    /// count downwards from row 0.
     pub(crate) fn begin_texts<K: Sink>(
         &self,
         pen: &mut Pen<'_, K>,
@@ -124,7 +126,8 @@ impl Frame {
         ]);
     }
 
-    /// Begins a group with its point 0 where column 0 and row 0 begin, and what is done with it then.
+    /// Begins a group whose origin is the beginning of column 0 and row 0, with a transformation
+    /// for its contents.
     fn begin_group<K: Sink>(&self, pen: &mut Pen<'_, K>, turn: &str) {
         begin_group(pen, self.plan.lattice, self.left(), self.ground(), turn);
     }
@@ -156,7 +159,7 @@ impl Frame {
         );
     }
 
-    /// Of so many columns, or rows, one has its number beside it.
+    /// How many columns, or rows, go with one number beside them.
     fn step(&self) -> u32
         ensures { 1 ≤ result }
     {

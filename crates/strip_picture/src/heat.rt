@@ -1,4 +1,5 @@
-//! The channels by use: a bar in each, in a colour that tells how full it is, with the number of its used tracks.
+//! The channels by use: a bar in each, in a colour that shows how full it is, with the number of
+//! its used tracks.
 ghost use Rattle.std.specs.Prelude.{◌≡◌, ◌≤◌};
 ghost use Rattle.std.specs.List.{flat_map};
 ghost use Rattle.line_text.specs.Writing.{Writes};
@@ -10,7 +11,7 @@ use line_text::{Failed, Sink};
 use picture_lines::{Direction, Lattice, write_box};
 use text_parts::{Part, Pen, write_parts};
 
-/// How many colours bars have, but for that of an unused channel.
+/// The number of colours of bars, without that of an unused channel.
 const LEVELS: usize = 8;
 
 /// Writes the bars of all channels, the emptier ones first.
@@ -47,7 +48,8 @@ fn write_level<K: Sink>(
     }
 }
 
-/// The level of a channel with so many used tracks: 0 where none is, the highest where as many are as in the fullest channel.
+/// The level of a channel with that number of used tracks: 0 if no track is used, the highest if as
+/// many are used as in the fullest channel.
 fn level_of(tracks: usize, fullest: usize) -> usize {
     tracks
         .saturating_mul(LEVELS)
@@ -55,7 +57,6 @@ fn level_of(tracks: usize, fullest: usize) -> usize {
         .min(LEVELS)
 }
 
-/// Writes the bar of a channel.
 fn write_bar<K: Sink>(pen: &mut Pen<'_, K>, plan: Plan, channel: ChannelUse) {
     let lattice = plan.lattice;
     let x = lattice.start(channel.x.min(256));
@@ -67,7 +68,8 @@ fn write_bar<K: Sink>(pen: &mut Pen<'_, K>, plan: Plan, channel: ChannelUse) {
     }
 }
 
-/// Writes the numbers of all channels, as texts of a group in which heights count downwards from row 0.
+/// Writes the numbers of all channels, as texts of a group in which heights count downwards from
+/// row 0.
 pub(crate) fn write_numbers<K: Sink>(
     sink: &mut K,
     lattice: Lattice,
@@ -82,7 +84,8 @@ pub(crate) fn write_numbers<K: Sink>(
     Ok(())
 }
 
-/// Writes how many tracks of a channel are used, in its middle.
+/// Writes the number of a channel's used tracks, in its middle. If the sink fails, it has taken a
+/// first part of the text.
 pub fn write_number<K: Sink>(
     sink: &mut K,
     lattice: Lattice,
@@ -114,7 +117,7 @@ fn write_at<K: Sink>(sink: &mut K, x: u64, y: u64, number: u64) -> Result<(), Fa
     )
 }
 
-/// The middle of a column or row, or of the channel behind it.
+/// The middle of a column or row, or of the channel after it.
 fn middle(lattice: Lattice, number: u32, behind: bool) -> u64
     ensures { result ≡ middle lattice number behind }
 {
@@ -126,7 +129,7 @@ fn middle(lattice: Lattice, number: u32, behind: bool) -> u64
     }
 }
 
-/// Whether a channel goes upwards.
+/// Returns whether a channel is vertical.
 fn goes_up(direction: Direction) -> bool
     ensures { result ≡ goes_up direction }
 {
@@ -136,7 +139,7 @@ fn goes_up(direction: Direction) -> bool
     }
 }
 
-/// Whether a channel goes across.
+/// Returns whether a channel is horizontal.
 fn goes_across(direction: Direction) -> bool
     ensures { result ≡ goes_across direction }
 {

@@ -1,11 +1,14 @@
-//! A picture of one tenancy's strip, as an SVG: its blocks with their names, its pads, and its nets.
+//! A picture of one tenancy's strip, as an SVG: its blocks with their names, its pads, and its
+//! nets.
 //!
-//! [`draw`] writes it to a [`line_text::Sink`], in small pieces, so the sink should have a buffer. A [`View`] says what of the nets is
-//! drawn: each in a colour, one of them before the others, or how many tracks of each channel are used. Row 1 is the lowest.
+//! [`draw`] writes it to a [`line_text::Sink`], in small pieces, so the sink should have a buffer.
+//! A [`View`] says how the nets are drawn: each in a colour, one of them in front of the others, or
+//! as the number of used tracks of each channel. Row 1 is the lowest.
 //!
-//! It is proved that it is safe and returns; that what is told of a channel is the number of its distinct tracks among the nodes of all
-//! routes, and that just this number is written into the channel; and that a name is written with nothing in it that XML would take for
-//! its own. What else the picture shows is tested, and looked at.
+//! It is proved that it is safe and returns; that the number for a channel is the number of its
+//! distinct tracks among the nodes of all routes, and that exactly this number is written into the
+//! channel; and that a name is written without anything that has a meaning in XML. What else the
+//! picture shows is tested, and looked at.
 #![tactic(auto)]
 
 mod blocks;

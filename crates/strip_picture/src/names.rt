@@ -1,4 +1,4 @@
-//! Names, as XML writes them, and as much of them as there is room for.
+//! Names, as XML writes them, and as much of them as fits.
 ghost use Rattle.std.specs.Prelude.{◌≡◌, ◌≤◌};
 ghost use Rattle.std.specs.List.{flat_map};
 ghost use Rattle.line_text.specs.Writing.{Writes};
@@ -7,8 +7,9 @@ ghost use Rattle.strip_picture.specs.Escapes.{escaped};
 use line_text::{Failed, Sink, write_all};
 use text_parts::{Part, Pen};
 
-/// Writes bytes as the text of an element, or as an attribute's: what XML would take for its own stands by its name, and a byte that
-/// is no printing ASCII character as the sign for a character that is not known.
+/// Writes bytes as the text of an element, or of an attribute: a byte with a meaning in XML by its
+/// name, and one that isn't a printable ASCII character as the replacement character. If the sink
+/// fails, it has taken a first part of them.
 pub fn write_escaped<K: Sink>(sink: &mut K, bytes: &[u8]) -> Result<(), Failed>
     ensures { Writes K.contents K.has_failed sink.old sink.new (flat_map escaped bytes.now) result }
 {
@@ -18,7 +19,6 @@ pub fn write_escaped<K: Sink>(sink: &mut K, bytes: &[u8]) -> Result<(), Failed>
     Ok(())
 }
 
-/// Writes a byte.
 fn write_byte<K: Sink>(sink: &mut K, byte: u8) -> Result<(), Failed>
     ensures { Writes K.contents K.has_failed sink.old sink.new (escaped byte) result }
 {
@@ -38,7 +38,8 @@ fn escape<K: Sink>(pen: &mut Pen<'_, K>, bytes: &[u8]) {
     pen.lend(|sink| write_escaped(sink, bytes));
 }
 
-/// Writes a name, and of a longer one than so many letters its first ones and a sign that some are missing.
+/// Writes a name; if it has more than `letters` letters, its first ones and a sign that some are
+/// missing.
 pub(crate) fn write_beginning<K: Sink>(pen: &mut Pen<'_, K>, name: &[u8], letters: usize) {
     if name.len() <= letters {
         return escape(pen, name);
@@ -47,7 +48,8 @@ pub(crate) fn write_beginning<K: Sink>(pen: &mut Pen<'_, K>, name: &[u8], letter
     pen.text("…");
 }
 
-/// Writes a name in one line of so many letters: of a longer one the last ones, behind a sign that some are missing.
+/// Writes a name in one line of `letters` letters; if it is longer, its last ones, after a sign
+/// that some are missing.
 pub(crate) fn write_end<K: Sink>(pen: &mut Pen<'_, K>, name: &[u8], letters: usize) {
     if name.len() <= letters {
         return escape(pen, name);
@@ -56,8 +58,8 @@ pub(crate) fn write_end<K: Sink>(pen: &mut Pen<'_, K>, name: &[u8], letters: usi
     escape(pen, back(name, letters.saturating_sub(1)));
 }
 
-/// Writes a name in up to three lines of so many letters, as the inside of a `text` whose lines begin at that column. Of a name that is longer
-/// the first line and the last two are written.
+/// Writes a name in up to three lines of `letters` letters, as the inside of a `text` whose lines
+/// begin at that column. If it is longer, the first line and the last two are written.
 pub(crate) fn write_lines<K: Sink>(pen: &mut Pen<'_, K>, name: &[u8], letters: usize, x: u32) {
     escape(pen, front(name, letters));
     let rest = behind(name, letters);
@@ -91,19 +93,19 @@ fn begin_line<K: Sink>(pen: &mut Pen<'_, K>, x: u32) {
     ]);
 }
 
-/// The first so many bytes, or all.
+/// The first `count` bytes, or all.
 fn front(name: &[u8], count: usize) -> &[u8] {
     let (front, _) = name.split_at(count.min(name.len()));
     front
 }
 
-/// The bytes behind the first so many.
+/// The bytes after the first `count`.
 fn behind(name: &[u8], count: usize) -> &[u8] {
     let (_, back) = name.split_at(count.min(name.len()));
     back
 }
 
-/// The last so many bytes, or all.
+/// The last `count` bytes, or all.
 fn back(name: &[u8], count: usize) -> &[u8] {
     behind(name, name.len().saturating_sub(count))
 }

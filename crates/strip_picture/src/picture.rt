@@ -13,18 +13,18 @@ use std::alloc::Global;
 use strip_files::RoutedStrip;
 use text_parts::{Part, Pen};
 
-/// What of the nets is drawn.
+/// How the nets are drawn.
 #[derive(Clone, Copy, PartialEq, Eq)]
 pub enum View {
     /// Each net in a colour, by its number.
     Nets,
-    /// The net of that number before the others, which are pale.
+    /// The net of that number in front of the others, which are pale.
     Net(usize),
-    /// How many tracks of each channel are used.
+    /// The number of used tracks of each channel.
     Channels,
 }
 
-/// A strip, what is told of its channels, and what is drawn of it.
+/// A strip, the use of its channels, and how it is drawn.
 #[derive(Clone, Copy)]
 struct Sheet<'a, 't> {
     strip: &'a RoutedStrip<'t>,
@@ -32,21 +32,24 @@ struct Sheet<'a, 't> {
     frame: Frame,
     view: View,
     detail: Detail,
-    /// How many tracks of the fullest channel are used.
+    /// The number of used tracks of the fullest channel.
     fullest: usize,
 }
 
-/// Writes the picture of a strip as an SVG.
+/// Writes the picture of a strip as an SVG. Fails if memory runs out, before it writes anything, or
+/// if the sink fails, which then has a first part of the picture.
 ///
-/// - Each place of a logic block is a box; so is each pad that is used. Clusters and pads have their names in them, as far as there is room,
-///   and a title with the whole of it and the BLEs.
-/// - Wires of one net and track that adjoin are one line; a pin is a line between its block and the wire, with a dot at the wire. The side is told by
-///   the channel, and the place on the side by the pin's number.
-/// - For channels by use, each channel is a bar, the darker the fuller, with the number of its used tracks.
-/// - The heading tells the size, the nets, the wires and the fullest channel.
+/// - Each place of a logic block is a box, and so is each used pad. Clusters and pads have their
+///   names in them, as far as they fit, and a title with the whole name and the BLEs.
+/// - Adjoining wires of one net and track are one line. A pin is a line between its block and the
+///   wire, with a dot at the wire. Its side is that of the channel, and its place on the side
+///   follows from the pin's number.
+/// - For channels by use, each channel is a bar, darker if it is fuller, with the number of its
+///   used tracks.
+/// - The heading has the size, the nets, the wires and the fullest channel.
 ///
-/// Where the lines of all nets would make the picture too large, pins are left out, and if that is not enough the channels are drawn by
-/// use; the second heading says so.
+/// If the lines of all nets would make the picture too large, pins are left out, and if that is not
+/// enough the channels are drawn by use; the second heading says so.
 pub fn draw<K: Sink>(
     alloc: Global,
     strip: &RoutedStrip<'_>,
@@ -61,7 +64,7 @@ pub fn draw<K: Sink>(
 }
 
 impl<'a, 't> Sheet<'a, 't> {
-    /// That of a strip.
+    /// The sheet of a strip.
     fn of(strip: &'a RoutedStrip<'t>, channels: &'a Channels, view: View) -> Self {
         let tracks = Plan::of_tracks(strip);
         let detail = Detail::of(strip, tracks);
@@ -90,7 +93,7 @@ impl<'a, 't> Sheet<'a, 't> {
     }
 }
 
-/// How many tracks of the fullest of these channels are used.
+/// The number of used tracks of the fullest of these channels.
 fn fullest(channels: &[ChannelUse]) -> usize {
     let mut most = 0;
     for channel in channels {
@@ -99,7 +102,7 @@ fn fullest(channels: &[ChannelUse]) -> usize {
     most
 }
 
-/// How many tracks of these channels are used.
+/// The number of used tracks of these channels together.
 fn wires(channels: &[ChannelUse]) -> usize {
     let mut wires = 0usize;
     for channel in channels {
@@ -108,7 +111,6 @@ fn wires(channels: &[ChannelUse]) -> usize {
     wires
 }
 
-/// Writes a sheet.
 fn write_sheet<K: Sink>(pen: &mut Pen<'_, K>, sheet: Sheet<'_, '_>) {
     let frame = sheet.frame;
     frame.write_head(pen);
@@ -159,7 +161,7 @@ fn write_second_heading<K: Sink>(pen: &mut Pen<'_, K>, sheet: &Sheet<'_, '_>) {
     pen.write(&[Part::Text(missing), Part::Text("</text>\n")]);
 }
 
-/// Writes what is told of the net that is drawn before the others.
+/// Writes the facts about the net that is drawn in front of the others.
 fn write_picked<K: Sink>(pen: &mut Pen<'_, K>, strip: &RoutedStrip<'_>, number: usize) {
     let Some(net) = strip.nets.get(number) else {
         return pen.text("no such net");
@@ -176,7 +178,7 @@ fn write_picked<K: Sink>(pen: &mut Pen<'_, K>, strip: &RoutedStrip<'_>, number: 
     pen.text(way);
 }
 
-/// Writes what is no text.
+/// Writes everything except texts.
 fn write_shapes<K: Sink>(pen: &mut Pen<'_, K>, sheet: &Sheet<'_, '_>) {
     let plan = sheet.frame.plan;
     let strip = sheet.strip;
@@ -213,7 +215,6 @@ fn write_texts<K: Sink>(pen: &mut Pen<'_, K>, sheet: &Sheet<'_, '_>) {
     }
 }
 
-/// Writes the legend.
 fn write_legend<K: Sink>(pen: &mut Pen<'_, K>, sheet: &Sheet<'_, '_>) {
     let frame = sheet.frame;
     frame.write_entry(pen, 0, "k", "cluster");

@@ -1,4 +1,4 @@
-//! What the nodes of a route are drawn as: lines of wires that adjoin, and lines from pins to wires.
+//! The drawing of the nodes of a route: lines for adjoining wires, and lines from pins to wires.
 ghost use Rattle.std.specs.Prelude.{◌+◌, ◌≤◌};
 
 use crate::plan::Plan;
@@ -10,7 +10,7 @@ use strip_files::RouteNode;
 #[derive(Clone, Copy)]
 pub(crate) struct Run {
     pub(crate) direction: Direction,
-    /// The channel: its row if it goes across, else its column.
+    /// The channel: its row if it is horizontal, otherwise its column.
     pub(crate) channel: u32,
     pub(crate) track: u32,
     /// The least column, or row, of a wire.
@@ -24,7 +24,7 @@ pub(crate) struct Run {
 }
 
 impl Run {
-    /// The run of a wire alone. None where the node is no wire.
+    /// The run of one wire; `None` if the node isn't a wire.
     fn of(read: RouteNode) -> Option<Run> {
         let Node { x, kind, y, n } = read.node;
         let (direction, channel, along) = match kind {
@@ -41,7 +41,7 @@ impl Run {
         })
     }
 
-    /// These wires and that one. None where it adjoins neither end, and is none of them.
+    /// These wires and that one; `None` if it adjoins neither end and isn't one of them.
     fn with(self, wire: Run) -> Option<Run> {
         let adjoins = wire.first <= self.last + 1 && self.first <= wire.last + 1;
         let same = self.direction == wire.direction && self.channel == wire.channel;
@@ -57,7 +57,7 @@ impl Run {
         })
     }
 
-    /// How many wires they are.
+    /// The number of wires.
     pub(crate) fn count(self) -> u32
         ensures { result ≤ 257 }
     {
@@ -75,12 +75,13 @@ pub(crate) struct Stub {
     pub(crate) length: u32,
 }
 
-/// What a node brings to an end.
+/// What ends at a node.
 #[derive(Clone, Copy)]
 pub(crate) struct Step {
     /// The run that grows no more.
     pub(crate) run: Option<Run>,
-    /// The line between this node and the one before, where one is a pin and the other a wire beside it.
+    /// The line between this node and the previous one, if one is a pin and the other a wire beside
+    /// it.
     pub(crate) stub: Option<Stub>,
 }
 
@@ -102,7 +103,7 @@ impl Walk {
         }
     }
 
-    /// Goes on to a node.
+    /// Moves on to a node.
     pub(crate) fn step(&mut self, read: RouteNode) -> Step {
         let stub = match self.before {
             Some(before) => stub_between(self.plan, before, read),
@@ -113,7 +114,7 @@ impl Walk {
         Step { run, stub }
     }
 
-    /// Goes on to a wire, or to a node that is none, and gives back the run that grows no more.
+    /// Moves on to a wire, or to a node that isn't one, and returns the run that grows no more.
     fn wire(&mut self, wire: Option<Run>) -> Option<Run> {
         if let (Some(run), Some(wire)) = (self.run, wire)
             && let Some(longer) = run.with(wire)
@@ -132,7 +133,7 @@ impl Walk {
     }
 }
 
-/// The line between two nodes of a route, where one is a pin and the other a wire.
+/// The line between two nodes of a route, if one is a pin and the other a wire.
 fn stub_between(plan: Plan, before: RouteNode, read: RouteNode) -> Option<Stub> {
     match (before.node.kind, read.node.kind) {
         (NodeKind::Opin, NodeKind::ChanX | NodeKind::ChanY) => stub_of(plan, before, read),
@@ -141,7 +142,7 @@ fn stub_between(plan: Plan, before: RouteNode, read: RouteNode) -> Option<Stub> 
     }
 }
 
-/// The line from a wire to a pin. None where the wire's channel is not beside the pin's block.
+/// The line from a wire to a pin; `None` if the wire's channel is not beside the pin's block.
 fn stub_of(plan: Plan, pin: RouteNode, wire: RouteNode) -> Option<Stub> {
     if pin.node.y == 0 || pin.node.y > plan.size.rows {
         return pad_stub(plan, pin, wire);
@@ -177,7 +178,7 @@ fn pad_stub(plan: Plan, pin: RouteNode, wire: RouteNode) -> Option<Stub> {
     upright(plan, middle, pin.node.y, wire)
 }
 
-/// The upright line at that column from a wire of a horizontal channel to the block in that row.
+/// The vertical line at that column from a wire of a horizontal channel to the block in that row.
 fn upright(plan: Plan, x: u32, row: u32, wire: RouteNode) -> Option<Stub> {
     let (command, length) = reach(plan, row, wire.node.y, wire.node.n, "v-", "v")?;
     Some(Stub {
@@ -188,7 +189,8 @@ fn upright(plan: Plan, x: u32, row: u32, wire: RouteNode) -> Option<Stub> {
     })
 }
 
-/// The level line at that height from a wire of a vertical channel to the block in that column.
+/// The horizontal line at that height from a wire of a vertical channel to the block in that
+/// column.
 fn level(plan: Plan, y: u32, column: u32, wire: RouteNode) -> Option<Stub> {
     let (command, length) = reach(plan, column, wire.node.x, wire.node.n, "h-", "h")?;
     Some(Stub {
@@ -199,7 +201,9 @@ fn level(plan: Plan, y: u32, column: u32, wire: RouteNode) -> Option<Stub> {
     })
 }
 
-/// The way from a track of a channel to the block `place`: back where the channel lies behind it, on where it lies before it.
+/// The direction and length from a track of a channel to the block `place`: back if the channel is
+/// right of or above the block, on if it is left of or below it; `None` if it isn't beside the
+/// block.
 fn reach(
     plan: Plan,
     place: u32,

@@ -1,33 +1,33 @@
-//! Where things stand in the picture of a strip.
+//! The positions in the picture of a strip.
 //!
-//! Letters of clusters, and those of pads, are as large as the longest name lets them be in one line, but for ten letters a line at most. Pads
-//! are as high as a block.
+//! The letters of clusters, and those of pads, are as large as the longest name allows in one line,
+//! but a line counts as at most ten letters. Pads are as high as a block.
 ghost use Rattle.std.specs.Prelude.{◌+◌, ◌*◌, ◌≤◌};
 
 use picture_lines::Lattice;
 use rr_graph::NodeKind;
 use strip_files::{BlockKind, RoutedStrip, StripSize};
 
-/// The letters of a line in a block, at most.
+/// The largest number of letters of a line in a block.
 const MOST_LETTERS: u32 = 10;
 
-/// The tracks of a channel that has room for a number.
+/// The number of tracks of a channel in which a number fits.
 const NUMBER_TRACKS: u32 = 9;
 
-/// Where things stand. Heights count upwards.
+/// The positions in the picture. Heights count upwards.
 #[derive(Clone, Copy)]
 pub(crate) struct Plan {
     pub(crate) lattice: Lattice,
     pub(crate) size: StripSize,
-    /// How far the pads of an end of a column stand apart.
+    /// The distance of two neighbouring pads at an end of a column.
     pub(crate) pad: u32,
-    /// How many letters stand side by side in a block.
+    /// The number of letters side by side in a block.
     pub(crate) letters: u32,
-    /// How large the letters of blocks are, in tenths.
+    /// The size of the letters of blocks, in tenths.
     pub(crate) name_font: u32,
-    /// How large the letters of pads are, in tenths.
+    /// The size of the letters of pads, in tenths.
     pub(crate) pad_font: u32,
-    /// How large other letters are.
+    /// The size of other letters.
     pub(crate) font: u32,
     ghost pad_small: { (1 ≤ pad) × (pad ≤ 65) },
     ghost letters_small: { (3 ≤ letters) × (letters ≤ 10) },
@@ -36,18 +36,18 @@ pub(crate) struct Plan {
     ghost font_small: { (1 ≤ font) × (font ≤ 1000) },
 }
 
-/// What a strip has most of.
+/// The largest numbers in a strip.
 #[derive(Clone, Copy)]
 struct Most {
-    /// The least number of tracks of a channel, by those that are used.
+    /// The number of tracks of a channel, as far as the used ones show it.
     tracks: u32,
     /// The largest number of a pin.
     pin: u32,
-    /// The pads of an end of a column, by those that are used.
+    /// The number of pads of an end of a column, as far as the used ones show it.
     pads: u32,
-    /// The letters of a cluster's name.
+    /// The letters of the longest name of a cluster, from 3 to 10.
     letters: u32,
-    /// The letters of a pad's name.
+    /// The letters of the longest name of a pad, from 3 to 10.
     pad_letters: u32,
     ghost tracks_small: { (1 ≤ tracks) × (tracks ≤ 64) },
     ghost pin_small: { pin ≤ 144 },
@@ -57,18 +57,18 @@ struct Most {
 }
 
 impl Plan {
-    /// That of a strip whose tracks are drawn.
+    /// The plan of a strip whose tracks are drawn.
     pub(crate) fn of_tracks(strip: &RoutedStrip<'_>) -> Self {
         let most = Most::of(strip);
         Plan::new(strip.size, most, most.tracks)
     }
 
-    /// That of a strip with a number in each channel.
+    /// The plan of a strip with a number in each channel.
     pub(crate) fn of_numbers(strip: &RoutedStrip<'_>) -> Self {
         Plan::new(strip.size, Most::of(strip), NUMBER_TRACKS)
     }
 
-    /// That of a strip with so many tracks.
+    /// The plan of a strip with that number of tracks.
     fn new(size: StripSize, most: Most, tracks: u32) -> Self
         requires { (1 ≤ tracks) × (tracks ≤ 64) }
     {
@@ -90,12 +90,11 @@ impl Plan {
         }
     }
 
-    /// How wide a pad is.
     pub(crate) fn pad_width(&self) -> u32 {
         self.pad - self.pad / 4
     }
 
-    /// Where a pad begins in its column.
+    /// The position at which a pad begins in its column.
     pub(crate) fn pad_start(&self, column: u32, pad: u32) -> u32
         requires column { column ≤ 257 }
         requires pad { pad ≤ 144 }
@@ -104,14 +103,14 @@ impl Plan {
         self.lattice.start(column) + pad * self.pad
     }
 
-    /// How long the strip is, from its first channel to its last one.
+    /// The length of the strip, from its first channel to its last one.
     pub(crate) fn length(&self) -> u32
         ensures { (1 ≤ result) × (result ≤ 33_500) }
     {
         self.lattice.span(self.size.columns) + self.lattice.channel
     }
 
-    /// How high the strip is, from the lower pads to the upper ones.
+    /// The height of the strip, from the lower pads to the upper ones.
     pub(crate) fn height(&self) -> u32
         ensures { (1 ≤ result) × (result ≤ 33_700) }
     {
@@ -120,7 +119,7 @@ impl Plan {
 }
 
 impl Most {
-    /// That of a strip.
+    /// The largest numbers in a strip.
     fn of(strip: &RoutedStrip<'_>) -> Self {
         let mut most = Most {
             tracks: 1,
@@ -134,7 +133,7 @@ impl Most {
         most
     }
 
-    /// Looks at the nodes.
+    /// Includes the nodes.
     fn see_nodes(&mut self, strip: &RoutedStrip<'_>) {
         for read in strip.nodes.iter() {
             let n = read.node.n;
@@ -146,7 +145,7 @@ impl Most {
         }
     }
 
-    /// Looks at the blocks.
+    /// Includes the blocks.
     fn see_blocks(&mut self, strip: &RoutedStrip<'_>) {
         for block in strip.blocks.iter() {
             self.pads = self.pads.max(block.place.subblock + 1);

@@ -9,13 +9,13 @@ use picture_lines::{Direction, write_line};
 use strip_files::{RouteNode, RoutedStrip};
 use text_parts::{Part, Pen};
 
-/// How many letters of a net's name are told.
+/// The largest number of letters of a net's name that are written.
 pub(crate) const TOLD_LETTERS: usize = 60;
 
-/// How many colours nets have.
+/// The number of colours of nets.
 const COLOURS: usize = 12;
 
-/// How many lines are drawn, at most. More would make a picture of more than 10 MB.
+/// The largest number of lines that are drawn. More would make a picture of more than 10 MB.
 const MOST_LINES: u64 = 300_000;
 
 /// How much of the routes is drawn.
@@ -30,7 +30,7 @@ pub(crate) enum Detail {
 }
 
 impl Detail {
-    /// As much as there is room for.
+    /// As much as stays within the limit of lines.
     pub(crate) fn of(strip: &RoutedStrip<'_>, plan: Plan) -> Self {
         let mut walk = Walk::new(plan);
         let mut runs = 0u64;
@@ -55,13 +55,13 @@ impl Detail {
 pub(crate) enum Ink {
     /// In the colour of its number.
     Coloured,
-    /// Pale, behind another one.
+    /// Pale, in the background of another one.
     Pale,
-    /// Before the others.
+    /// In front of the others.
     Strong,
 }
 
-/// Writes the routes of all nets, as pale ones but for that net where one is told.
+/// Writes the routes of all nets; if a net is given, all others as pale ones.
 pub(crate) fn write_routes<K: Sink>(
     pen: &mut Pen<'_, K>,
     plan: Plan,
@@ -130,7 +130,7 @@ fn write_title<K: Sink>(pen: &mut Pen<'_, K>, strip: &RoutedStrip<'_>, net: usiz
     pen.text("</title>");
 }
 
-/// Writes the wires of a route, and the lines to its pins where they are wanted.
+/// Writes the wires of a route, and the lines to its pins if `pins` is set.
 fn write_lines<K: Sink>(pen: &mut Pen<'_, K>, plan: Plan, nodes: &[RouteNode], pins: bool) {
     let mut walk = Walk::new(plan);
     for read in nodes {
@@ -153,7 +153,7 @@ fn write_dots<K: Sink>(pen: &mut Pen<'_, K>, plan: Plan, nodes: &[RouteNode]) {
     }
 }
 
-/// Writes wires that adjoin, if there are some.
+/// Writes adjoining wires, if there are any.
 fn write_run<K: Sink>(pen: &mut Pen<'_, K>, plan: Plan, run: Option<Run>) {
     let Some(run) = run else {
         return;

@@ -1,4 +1,4 @@
--- The first line that an upload can't tell, line by line.
+-- The first line that can't be uploaded, line by line.
 use Rattle.std.proofs.Common.{◌≡◌, ℕ, ◌+◌, ◌-◌, ◌<◌, ◌≤◌, List, [], ◌∷◌, ◌++◌, true, false, cond, length, Some, None, refl, arith, length-append}
 use Rattle.std.specs.Prelude.{⊤, nat_le}
 use Rattle.std.specs.List.{flat_map}
@@ -16,7 +16,7 @@ abbrev pub HaveNoPoint : List (List ℕ) → Type 0
 HaveNoPoint [] = ⊤
 HaveNoPoint (line ∷ lines) = (ends_text line ≡ false) × HaveNoPoint lines
 
--- the lines can be told in an upload
+-- the lines can be uploaded
 abbrev pub AreTold : ℕ → List (List ℕ) → Type 0
 AreTold room lines = HaveNoPoint lines × (length (flat_map ended_line lines) ≤ room)
 

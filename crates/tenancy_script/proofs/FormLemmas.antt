@@ -1,4 +1,4 @@
--- What the lines of a tenancy's script are by themselves.
+-- The forms of the lines of a tenancy's script.
 use Rattle.std.proofs.Common.{◌≡◌, ℕ, ◌+◌, ◌-◌, ◌*◌, ◌/◌, ◌%◌, ◌^◌, ◌<◌, ◌≤◌, List, [], ◌∷◌, ◌++◌, Bool, true, false, not, cond, eqb, length, take, drop, codes, decimal, Some, None, refl, sym, ap, ◌∙◌, arith, length-append}
 use Rattle.std.specs.Prelude.{◌||◌, ◌&&◌, nat_lt, nat_le, filter, option_map}
 use Rattle.std.specs.List.{All, list_all, position_or_len, before_first, after_first}
@@ -19,7 +19,7 @@ use Rattle.script_text.specs.declared.operator_line.OperatorLine.TheVariants.{Ad
 use Rattle.script_text.specs.Script.{form_by, form_in, form_of, is_name, is_name_byte, operator_form, operator_line, session_form}
 use Rattle.tenancy_script.proofs.TextLemmas.{is_plain, is_not, take-front, drop-front, without_cr-plain}
 
--- a byte that passes a test is no byte that fails it
+-- a byte that passes a test differs from one that fails it
 differs : (p : ℕ → Bool) (b x : ℕ) → p b ≡ true → p x ≡ false → eqb b x ≡ false
 differs p b x passes fails =
     elim (eqb b x) as (λ v. eqb b x ≡ v → v ≡ false) [
@@ -27,14 +27,14 @@ differs p b x passes fails =
       | false ↦ λ e. refl
     ] refl
 
--- bytes that pass a test which LF and CR fail
+-- bytes that pass a test, if LF and CR fail it
 plain_from : (p : ℕ → Bool) → p 10 ≡ false → p 13 ≡ false → (bytes : List ℕ) → list_all p bytes ≡ true → list_all is_plain bytes ≡ true
 plain_from p lf cr [] all = refl
 plain_from p lf cr (b ∷ bytes) all =
     let parts = and_parts (p b) (list_all p bytes) all in
     and_from _ _ (and_from _ _ (ap not (differs p b 10 parts.0 lf)) (ap not (differs p b 13 parts.0 cr))) (plain_from p lf cr bytes parts.1)
 
--- no blank
+-- a byte that isn't a blank
 abbrev pub is_solid : ℕ → Bool
 is_solid b = not (is_blank b)
 
@@ -107,7 +107,7 @@ two_words x y first second some more =
     ap (filter is_filled) (slice_split_at is_blank x 32 y (all_solid x first) refl ∙ ap (λ parts. x ∷ parts) (slice_split_none is_blank y (all_solid y second)))
     ∙ filled x y some more
 
--- the first word of a line, and what stands behind it
+-- the first word of a line, and the rest after it
 first_blank : (word rest : List ℕ) → list_all is_solid word ≡ true → position_or_len is_blank (word ++ 32 ∷ rest) ≡ length word
 first_blank [] rest all = refl
 first_blank (b ∷ word) rest all =

@@ -1,4 +1,4 @@
--- What a tenancy's script says, line by line.
+-- The acts of a tenancy's script, line by line.
 use Rattle.std.proofs.Common.{◌≡◌, ℕ, ◌+◌, ◌<◌, ◌≤◌, ◌^◌, List, [], ◌∷◌, ◌++◌, Bool, true, false, not, cond, eqb, length, codes, decimal, Option, Some, None, Ok, Err, refl, sym, ap, subst, ◌∙◌, arith, append_assoc, length-append}
 use Rattle.std.specs.Prelude.{map, option_map, IfSome}
 use Rattle.std.specs.List.{after_first, before_first, flat_map, list_all}
@@ -28,7 +28,7 @@ use Rattle.tenancy_script.proofs.FaultLemmas.{AreTold, HaveNoPoint, ended_line, 
 use Rattle.tenancy_script.proofs.FormLemmas.{admission_is, admission_line, admission_plain, placing_is, placing_plain, placing_words, session_is, session_plain}
 use Rattle.tenancy_script.proofs.TextLemmas.{ended-append, is_plain, line_first, lines-append, lines-closing}
 
--- the text says these acts, whatever the number of its first line, and leaves no upload under way
+-- the text has these acts, whatever the number of its first line, and leaves no upload open
 pub record Says (text : List ℕ) (acts : List (Act (List ℕ))) : Type 0 where
   pub said : (number : ℕ) → script_of number text ≡ Ok acts
   pub outside : is_within false (physical_lines text) ≡ false
@@ -36,7 +36,7 @@ pub record Says (text : List ℕ) (acts : List (Act (List ℕ))) : Type 0 where
 nothing_says : Says [] []
 nothing_says = record { said = λ number. refl; outside = refl }
 
--- a line that asks something by itself
+-- a line that is an act by itself
 abbrev pub IsAsked : List ℕ → Act (List ℕ) → Type 0
 IsAsked line act = (number : ℕ) (lines : List (List ℕ)) → (acts_from number false (line ∷ lines) ≡ with_act act (acts_from (number + 1) false lines)) × (is_within false (line ∷ lines) ≡ is_within false lines)
 
@@ -77,7 +77,7 @@ within_told : (lines more : List (List ℕ)) → HaveNoPoint lines → is_within
 within_told [] more none = refl
 within_told (line ∷ lines) more none = ap (λ v. is_within (not v) (lines ++ (46 ∷ []) ∷ more)) none.0 ∙ within_told lines more none.1
 
--- an upload says exactly its text
+-- an upload has exactly its text
 upload_says : (name text more : List ℕ) (acts : List (Act (List ℕ))) → is_name name ≡ true → AreTold 1048576 (physical_lines text) → Says more acts →
     Says (session_line name (codes "upload") (text ++ (closing text ++ 46 ∷ 10 ∷ more))) (Session name (Command (UploadText (uploaded text))) ∷ acts)
 upload_says name text more acts is told h =
@@ -137,7 +137,7 @@ session_is_said name text seed effort is told s e =
     subst (λ t. Says t (map (Session name) (asked (uploaded text) seed effort))) (sym outer)
     (upload_says name text commands (map (Session name) (commands_asked seed effort)) is told (commands_say name seed effort is s e))
 
--- and the admission ahead of it
+-- and the admission before it
 admission_asked : (name : List ℕ) (width : ℕ) → is_name name ≡ true → width < 2 ^ 32 → IsAsked (admission_line name width) (Operator (Admit name width))
 admission_asked name width is w number lines =
     let formed = admission_is name width is w in
@@ -161,7 +161,7 @@ printed_says script is none w s e =
     (map (Session script.name.now) (asked (uploaded script.text.now) script.seed script.effort)) is w
     (session_is_said script.name.now script.text.now script.seed script.effort is (told_from 1 1048576 (physical_lines script.text.now) none) s e)
 
--- behind the lines of a whole script
+-- after the lines of a whole script
 
 ahead_stays : (lines more : List (List ℕ)) → is_within true lines ≡ false → text_ahead (lines ++ more) ≡ text_ahead lines
 ahead_stays [] more whole = absurd (true≢false whole)
@@ -175,17 +175,17 @@ act_followed : (act : Act (List ℕ)) (meant : Acts) (acts : List (Act (List ℕ
 act_followed act (Ok said) acts = refl
 act_followed act (Err fault) acts = refl
 
--- what a line is by itself
+-- the form of a line
 abbrev Domain : {A B : Type 0} → (A → B) → Type 0
 Domain {A} f = A
 
--- behind a line of that form and these lines, the acts are said
+-- after a line of that form and these lines, the acts are appended
 abbrev Follows : ℕ → List (List ℕ) → List (List ℕ) → List (Act (List ℕ)) → Domain begins_text → Type 0
 Follows number lines more acts form =
     is_within (begins_text form) lines ≡ false →
     with_line number form (lines ++ more) (acts_from (number + 1) (begins_text form) (lines ++ more)) ≡ followed_by (with_line number form lines (acts_from (number + 1) (begins_text form) lines)) acts
 
--- they are said behind the lines after that line
+-- they are appended after the lines that follow that line
 abbrev FollowRest : ℕ → List (List ℕ) → List (List ℕ) → List (Act (List ℕ)) → Type 0
 FollowRest number lines more acts = (within : Bool) → is_within within lines ≡ false → acts_from (number + 1) within (lines ++ more) ≡ followed_by (acts_from (number + 1) within lines) acts
 
@@ -250,7 +250,7 @@ whole_behind text before acts h ended some whole = record {
   outside = ap (is_within false) (lines-append before text whole.ended) ∙ within-append false (physical_lines before) (physical_lines text) whole.outside ∙ h.outside;
 }
 
--- each line of the script is ended
+-- each line of the script ends with LF
 some_first : (b : ℕ) (text : List ℕ) → 0 < length (b ∷ text)
 some_first b text = omega arith
 

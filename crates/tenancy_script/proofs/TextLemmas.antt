@@ -1,4 +1,4 @@
--- Lines of a text, and of texts behind one another.
+-- Lines of a text, and of texts one after the other.
 use Rattle.std.proofs.Common.{◌≡◌, ℕ, suc, ◌+◌, ◌-◌, ◌<◌, List, [], ◌∷◌, ◌++◌, Bool, true, false, not, cond, eqb, length, take, drop, refl, sym, ap, ◌∙◌, arith, append_assoc}
 use Rattle.std.specs.Prelude.{slice_index, ◌&&◌}
 use Rattle.std.specs.List.{list_all, onto_first}
@@ -57,7 +57,7 @@ onto_first-append : (b : ℕ) (lines more : List (List ℕ)) → 0 < length line
 onto_first-append b [] more some = absurd (omega arith)
 onto_first-append b (line ∷ lines) more some = refl
 
--- the lines of a text that is ended, and those of the text behind it
+-- the lines of a text that ends with LF, and those of the text after it
 pub lines-append : (text more : List ℕ) → is_ended text ≡ true → physical_lines (text ++ more) ≡ physical_lines text ++ physical_lines more
 lines-append [] more e = refl
 lines-append (b ∷ []) more e =
@@ -96,7 +96,7 @@ lines-closing text more =
           ∙ lines-append (text ++ 10 ∷ []) more (ended-closed text) ∙ ap (λ lines. lines ++ physical_lines more) (lines-closed text e)
     ] refl
 
--- whether a text is ended is seen at its last byte
+-- whether a text ends with LF follows from its last byte
 pub ended_at : (text : List ℕ) → 0 < length text → eqb (slice_index text (length text - 1)) 10 ≡ is_ended text
 ended_at [] some = absurd (omega arith)
 ended_at (b ∷ []) some = refl
@@ -105,14 +105,14 @@ ended_at (b ∷ c ∷ text) some =
     let m : length (c ∷ text) - 1 ≡ length text = omega arith in
     ap (λ k. eqb (slice_index (b ∷ c ∷ text) k) 10) n ∙ sym (ap (λ k. eqb (slice_index (c ∷ text) k) 10) m) ∙ ended_at (c ∷ text) (omega arith)
 
--- a text whose end is ended is so
+-- a text whose last part ends with LF ends with LF
 pub ended-append : (text more : List ℕ) → 0 < length more → is_ended (text ++ more) ≡ is_ended more
 ended-append [] more some = refl
 ended-append (b ∷ []) [] some = absurd (omega arith)
 ended-append (b ∷ []) (c ∷ more) some = refl
 ended-append (b ∷ c ∷ text) more some = ended-append (c ∷ text) more some
 
--- what stands ahead of an element, and behind it
+-- the elements before an element, and after it
 pub take-front : {X : Type 0} (xs ys : List X) → take (length xs) (xs ++ ys) ≡ xs
 take-front [] ys = refl
 take-front (x ∷ xs) ys = ap (λ l. x ∷ l) (take-front xs ys)

@@ -1,4 +1,4 @@
--- Which names and texts no script can tell.
+-- The names and texts that can't be written in a script.
 use Rattle.std.specs.Prelude.{ℕ, ◌+◌, ◌-◌, List, [], ◌∷◌, ◌++◌, length, nat_le, Option, Some, None, if◌then◌else◌}
 use Rattle.std.specs.List.{flat_map}
 use Rattle.line_text.specs.Lines.{physical_lines}
@@ -7,11 +7,12 @@ use Rattle.script_text.specs.Script.{is_name}
 use Rattle.tenancy_script.specs.declared.fault.Fault.{Fault}
 use Rattle.tenancy_script.specs.declared.fault.Fault.TheVariants.{BadName, PointAlone, TextTooLong}
 
--- the text as it is uploaded: its lines, each ended by LF, the CR before it dropped
+-- the text as it is uploaded: its lines, each ended by LF, without the CR before it
 abbrev pub uploaded : List ℕ → List ℕ
 uploaded text = flat_map (λ line. without_cr line ++ 10 ∷ []) (physical_lines text)
 
--- the first line that no upload can tell, where so many bytes may still come: it is `.` alone, or too many bytes have come with it
+-- the first line that can't be uploaded, if that number of bytes may still come: it is only `.`, or
+-- with it the text has too many bytes
 abbrev pub fault_from : ℕ → ℕ → List (List ℕ) → Option Fault
 fault_from number room [] = None
 fault_from number room (line ∷ lines) =

@@ -1,4 +1,4 @@
--- What a tenancy's script says, by the words of scripts.
+-- The acts of a tenancy's script, by the definitions for scripts.
 use Rattle.std.specs.Prelude.{ℕ, ◌≡◌, List, [], ◌∷◌, ◌++◌, map, Bool, true, false, not, Option, Some, None, Ok, Err}
 use Rattle.line_text.specs.Lines.{physical_lines}
 use Rattle.sessions.specs.Items.{ends_text}
@@ -14,7 +14,7 @@ use Rattle.tenancy_script.specs.declared.script.Wishes.{Wishes}
 use Rattle.tenancy_script.specs.Faults.{uploaded}
 use Rattle.tenancy_script.specs.Printed.{is_ended}
 
--- the script is of these wishes and this netlist
+-- the script is for these wishes and this netlist
 pub record IsOf (wishes : Wishes) (netlist : List ℕ) (script : TenancyScript) : Type 0 where
   pub name : script.name.now ≡ wishes.name.now
   pub width : script.width ≡ wishes.width
@@ -22,32 +22,32 @@ pub record IsOf (wishes : Wishes) (netlist : List ℕ) (script : TenancyScript) 
   pub effort : script.effort ≡ wishes.effort
   pub text : script.text.now ≡ netlist
 
--- what the tenancy's own lines ask, in order
+-- the acts of the tenancy's own lines, in order
 abbrev pub asked : List ℕ → ℕ → ℕ → List SessionLine
 asked text seed effort =
     Command (Upload text) ∷ Command Pack ∷ Wait ∷ Command (Place seed effort) ∷ Wait ∷ Command Route ∷ Wait ∷ Command Net ∷ Command PlaceFile ∷ Command RouteFile ∷ []
 
--- the admission comes first, where there is a width
+-- the admission comes first, if there is a width
 abbrev pub admitted : Option ℕ → List ℕ → List (Act (List ℕ)) → List (Act (List ℕ))
 admitted (Some width) name acts = Operator (Admit name width) ∷ acts
 admitted None name acts = acts
 
--- what the script of a tenancy says
+-- the acts of a tenancy's script
 abbrev pub acts_of : TenancyScript → List (Act (List ℕ))
 acts_of script = admitted script.width script.name.now (map (Session script.name.now) (asked (uploaded script.text.now) script.seed script.effort))
 
--- what a script says, and then these acts; behind a fault nothing is said
+-- a script's acts, and these after them; a fault stays a fault
 abbrev pub followed_by : Acts → List (Act (List ℕ)) → Acts
 followed_by (Ok acts) more = Ok (acts ++ more)
 followed_by (Err fault) more = Err fault
 
--- whether a text is under way behind these lines, where it is or isn't ahead of them
+-- whether a text is open after these lines, given whether one is open before them
 abbrev pub is_within : Bool → List (List ℕ) → Bool
 is_within within [] = within
 is_within true (line ∷ lines) = is_within (not (ends_text line)) lines
 is_within false (line ∷ lines) = is_within (begins_text (form_of line)) lines
 
--- the last line of the script is ended, and each upload in it too
+-- the last line of the script ends with LF, and each upload in it ends
 pub record IsWhole (script : List ℕ) : Type 0 where
   pub ended : is_ended script ≡ true
   pub outside : is_within false (physical_lines script) ≡ false

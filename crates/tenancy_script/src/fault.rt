@@ -1,4 +1,4 @@
-//! Names and texts that no script can tell.
+//! Names and texts that can't be written in a script.
 ghost use Rattle.std.specs.Prelude.{◌≡◌, ◌<◌, ◌^◌, length};
 ghost use Rattle.tenancy_script.specs.Faults.{text_fault};
 
@@ -11,9 +11,9 @@ use std::fmt;
 pub enum Fault {
     /// The name isn't 1 to 32 letters, digits and `_`.
     BadName,
-    /// That line is `.` alone, which would end the upload.
+    /// That line is only `.`, which would end the upload.
     PointAlone(usize),
-    /// With that line the text has more bytes than the service takes.
+    /// With that line the text has more bytes than the service takes: 1,048,576.
     TextTooLong(usize),
 }
 
@@ -32,7 +32,7 @@ impl fmt::Display for Fault {
     }
 }
 
-/// The first line of a text that an upload can't tell, with what is wrong with it.
+/// The first line of a text that can't be uploaded, with its fault.
 pub(crate) fn text_fault(text: &[u8]) -> Option<Fault>
     requires { length text.now < 2 ^ 63 }
     ensures { result ≡ text_fault text.now }

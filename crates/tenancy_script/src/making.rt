@@ -1,4 +1,4 @@
-//! Scripts that are made, where they can be.
+//! Making a tenancy's script.
 ghost use Rattle.std.specs.Prelude.{◌≡◌, ◌<◌, ◌^◌, Some, None, length, IfErr, IfOk};
 ghost use Rattle.tenancy_script.specs.Faults.{refusal_of};
 ghost use Rattle.tenancy_script.specs.Says.{IsOf};
@@ -8,7 +8,7 @@ use crate::script::{TenancyScript, Wishes};
 use script_text::is_name;
 
 impl<'a> TenancyScript<'a> {
-    /// The script of a tenancy of that name with that text, or why there is none.
+    /// Returns the script of a tenancy of that name with that text, or why it has no script.
     pub fn new(wishes: Wishes<'a>, text: &'a [u8]) -> Result<Self, Fault>
         requires { length text.now < 2 ^ 63 }
         ensures refused { IfErr result (λ fault.

@@ -1,4 +1,4 @@
-//! Scripts that are printed.
+//! Printing a tenancy's script.
 ghost use Rattle.std.specs.Prelude.{◌≡◌, ◌++◌, ◌<◌, ◌^◌, ℕ, List};
 ghost use Rattle.line_text.specs.Writing.{Writes};
 ghost use Rattle.script_text.specs.Script.{script_of};
@@ -10,8 +10,9 @@ use line_text::{Failed, Sink};
 use text_parts::{Part, write_parts};
 
 impl TenancyScript<'_> {
-    /// Prints it. Put behind any script that is whole, it adds to what that says just the tenancy's own: its admission if it has a
-    /// width, one upload of the text, and the commands.
+    /// Prints the script. After any whole script, it adds exactly the tenancy's own acts: its
+    /// admission if it has a width, one upload of the text, and the commands. If the sink fails, it
+    /// has taken a first part of the script.
     pub fn write<K: Sink>(&self, sink: &mut K) -> Result<(), Failed>
         ensures written { Writes K.contents K.has_failed sink.old sink.new (printed self.now)
             result }
@@ -26,7 +27,7 @@ impl TenancyScript<'_> {
         self.write_commands(sink)
     }
 
-    /// What it says, behind whatever script.
+    /// The script's acts, after any script.
     fn laws(&self)
         ensures says { (number : ℕ) (before : List ℕ) → IsWhole before →
             script_of number (before ++ printed self.now)
@@ -77,7 +78,7 @@ impl TenancyScript<'_> {
         )
     }
 
-    /// Prints the commands behind it.
+    /// Prints the commands after the upload.
     fn write_commands<K: Sink>(&self, sink: &mut K) -> Result<(), Failed>
         ensures { Writes K.contents K.has_failed sink.old sink.new
             (printed_commands self.now.name.now self.now.seed self.now.effort) result }
@@ -114,21 +115,21 @@ impl TenancyScript<'_> {
     }
 }
 
-/// What ends the last line of a text where it isn't ended.
+/// The LF that is added to a text whose last line has none.
 fn closing(text: &[u8]) -> &'static str
     ensures { result.now ≡ closing text.now }
 {
     if is_ended(text) { "" } else { "\n" }
 }
 
-/// Whether the last line of a text is ended.
+/// Returns whether the last line of a text ends with LF.
 fn is_ended(text: &[u8]) -> bool
     ensures { result ≡ is_ended text.now }
 {
     text.is_empty() || text[text.len() - 1] == b'\n'
 }
 
-/// How many bits the numbers have.
+/// The numbers fit in their bits.
 fn bits(width: u32, seed: u64, effort: u32)
     ensures width { width < 2 ^ 32 }
     ensures seed { seed < 2 ^ 64 }

@@ -3,17 +3,17 @@ ghost use Rattle.std.specs.Prelude.{◌≡◌, true, None};
 ghost use Rattle.script_text.specs.Script.{is_name};
 ghost use Rattle.tenancy_script.specs.Faults.{text_fault};
 
-/// What is wanted of a tenancy.
+/// The parameters of a tenancy's script.
 #[derive(Clone, Copy)]
 pub struct Wishes<'a> {
     pub name: &'a [u8],
-    /// The columns that it is admitted with. None where it is admitted before.
+    /// The columns with which it is admitted; `None` if it is admitted already.
     pub width: Option<u32>,
     pub seed: u64,
     pub effort: u32,
 }
 
-/// The script of one tenancy round a netlist.
+/// The script of one tenancy, with its netlist.
 #[derive(Clone, Copy)]
 pub struct TenancyScript<'a> {
     pub(crate) name: &'a [u8],

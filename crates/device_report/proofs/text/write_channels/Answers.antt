@@ -5,7 +5,7 @@ use Rattle.device_report.specs.declared.channels.ChannelUse.{ChannelUse}
 use Rattle.device_report.specs.Text.{channel_line}
 use Rattle.device_report.proofs.text.write_channels.Goals as goal
 
--- a channel, where a list has none
+-- the channel for an index beyond the list
 abbrev none : ChannelUse
 none = record { x = 0; direction = Across; y = 0; wires = 0 }
 

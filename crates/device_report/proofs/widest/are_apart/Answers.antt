@@ -6,7 +6,7 @@ use Rattle.strips.specs.declared.placed_strip.PlacedStrip.{PlacedStrip}
 use Rattle.strips.specs.Plan.{AreApart}
 use Rattle.device_report.proofs.widest.are_apart.Goals as goal
 
--- the strips before a place are apart from the one there
+-- the strips before an index are apart from the one at it
 before_at : (strips front : List PlacedStrip) (place j : ℕ) (d e : PlacedStrip) → front ≡ take place strips → place < length strips → j < place
     → All (λ s. AreApart s (get_or strips place e)) front → AreApart (get_or strips j d) (get_or strips place d)
 before_at strips front place j d e is within lt all =
@@ -16,7 +16,7 @@ before_at strips front place j d e is within lt all =
     let left : AreApart (get_or strips j d) (get_or strips place e) = subst (λ (s : PlacedStrip). AreApart s (get_or strips place e)) (get_or-take place strips j d lt) here in
     subst (λ (s : PlacedStrip). AreApart (get_or strips j d) s) (get_or_default strips place e d within) left
 
--- where all are apart, they are
+-- if all are apart, these are
 before_all : (strips front : List PlacedStrip) (place : ℕ) (e : PlacedStrip) → front ≡ take place strips → place < length strips
     → AllPairs AreApart strips → All (λ s. AreApart s (get_or strips place e)) front
 before_all strips front place e is within pairs =

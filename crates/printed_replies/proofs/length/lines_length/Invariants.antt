@@ -2,7 +2,7 @@ use Rattle.std.proofs.Common.{◌≡◌, ◌+◌, ◌-◌, ◌≤◌, length, op
 use Rattle.printed_replies.specs.Lengths.{lines_length}
 use Rattle.printed_replies.proofs.length.lines_length.Given as goal
 
--- the lines so far, and those that are left, are all
+-- the lines so far and the remaining ones are all lines
 abbrev pub invariant-loop-left : goal.invariant-loop-left
 invariant-loop-left l = record {
   within : length l.rest ≤ length l.bytes;

@@ -4,7 +4,7 @@ use Rattle.printed_replies.specs.Replies.{lines_read, section_read}
 use Rattle.printed_replies.proofs.ReadLemmas.{behind_lines}
 use Rattle.printed_replies.proofs.reading.read_section.Given as goal
 
--- the lines so far, and the reading of those that are left
+-- the lines so far, and the reading of the remaining ones
 abbrev pub invariant-loop-number : goal.invariant-loop-number
 invariant-loop-number l = record {
   within : l.number ≤ length l.lines.items;

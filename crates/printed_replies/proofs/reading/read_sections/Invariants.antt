@@ -3,7 +3,7 @@ use Rattle.printed_replies.specs.Parts.{answered_lines}
 use Rattle.printed_replies.specs.Replies.{read_from, sections_read}
 use Rattle.printed_replies.proofs.reading.read_sections.Given as goal
 
--- the sections that are left are read to what all come to
+-- reading the remaining sections gives the result of reading all
 abbrev pub invariant-loop-number : goal.invariant-loop-number
 invariant-loop-number l = record {
   within : l.number ≤ length l.names;

@@ -5,7 +5,7 @@ use Rattle.strip_picture.specs.declared.channels.ChannelUse.{ChannelUse}
 use Rattle.strip_picture.specs.Numbers.{number_text}
 use Rattle.strip_picture.proofs.heat.write_numbers.Goals as goal
 
--- a channel, where a list has none
+-- the channel for an index beyond the list
 abbrev none : ChannelUse
 none = record { direction = Across; x = 0; y = 0; tracks = 0 }
 

@@ -3,7 +3,8 @@ use Rattle.line_text.specs.Lines.{physical_lines}
 use Rattle.tenancy_script.specs.Faults.{fault_from, text_fault}
 use Rattle.tenancy_script.proofs.fault.text_fault.Given as goal
 
--- no line so far is at fault, and the others are looked at with the room that is left
+-- no line so far has a fault, and the others are checked against the number of bytes that may still
+-- come
 abbrev pub invariant-loop-rest : goal.invariant-loop-rest
 invariant-loop-rest l = record {
   same : fault_from l.number l.room (physical_lines l.rest) ≡ text_fault l.text;

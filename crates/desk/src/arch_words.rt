@@ -1,0 +1,94 @@
+//! The faults of an architecture file in words.
+
+use arch_file::{ArchFault, ArchFaultKind, Keyword};
+use line_text::{Failed, Sink};
+use text_parts::{Part, write_parts};
+
+/// Writes what is wrong with the architecture file of that path, in one line: the path, the fault's
+/// line if it has one, and the fault.
+pub(crate) fn write_arch_fault<E: Sink>(
+    teller: &mut E,
+    path: &str,
+    fault: ArchFault,
+) -> Result<(), Failed> {
+    let keyword = keyword_in(fault.kind).map_or("", text_of);
+    let line = [
+        Part::Text(path),
+        Part::Text(if fault.line > 0 { ": line " } else { ": " }),
+    ];
+    write_parts(teller, line.as_slice())?;
+    if fault.line > 0 {
+        write_parts(teller, &[Part::Number(fault.line), Part::Text(": ")])?;
+    }
+    let words = [
+        Part::Text(words_of(fault.kind)),
+        Part::Text(keyword),
+        Part::Text(profile_of(fault.kind)),
+        Part::Text("\n"),
+    ];
+    write_parts(teller, words.as_slice())
+}
+
+/// The keyword that a fault names.
+fn keyword_in(kind: ArchFaultKind) -> Option<Keyword> {
+    match kind {
+        ArchFaultKind::Missing(keyword) | ArchFaultKind::NotProfile(keyword) => Some(keyword),
+        _ => None,
+    }
+}
+
+/// A fault in words, up to the keyword that it names.
+fn words_of(kind: ArchFaultKind) -> &'static str {
+    match kind {
+        ArchFaultKind::Unknown => {
+            "the first word is no keyword of an architecture file, or a pin has no `class:`"
+        }
+        ArchFaultKind::Repeated => "an earlier line has this keyword",
+        ArchFaultKind::Missing(_) => "no line has the keyword ",
+        ArchFaultKind::BadNumber => {
+            "too few words, too many, or a word that is not a number of the kind that is wanted"
+        }
+        ArchFaultKind::NotProfile(_) => "a value that the devices here do not have: ",
+        ArchFaultKind::BadClass => {
+            "the pins: class 0 for inputs, class 1 for one output a subblock, class 2 for one clock"
+        }
+        ArchFaultKind::BadSide => "a pin's sides are one to four of top, bottom, left and right",
+        ArchFaultKind::OverLimit => "a number or the text is above its limit",
+        ArchFaultKind::NotAscii => "a letter with an accent, or another byte that is no ASCII",
+        ArchFaultKind::LineTooLong => "a joined line is above 262,144 bytes",
+    }
+}
+
+/// What a line with a keyword must say, if a fault says that it has another value.
+fn profile_of(kind: ArchFaultKind) -> &'static str {
+    let ArchFaultKind::NotProfile(keyword) = kind else {
+        return "";
+    };
+    match keyword {
+        Keyword::ChanWidthIo => " is 1",
+        Keyword::ChanWidthX | Keyword::ChanWidthY => " is uniform 1",
+        Keyword::FcType => " is absolute or fractional",
+        Keyword::SwitchBlockType => " is subset",
+        Keyword::Segment => { " is one line, with frequency: 1 length: 1 Frac_cb: 1 Frac_sb: 1" }
+        _ => "",
+    }
+}
+
+fn text_of(keyword: Keyword) -> &'static str {
+    match keyword {
+        Keyword::IoRat => "io_rat",
+        Keyword::ChanWidthIo => "chan_width_io",
+        Keyword::ChanWidthX => "chan_width_x",
+        Keyword::ChanWidthY => "chan_width_y",
+        Keyword::Inpin => "inpin",
+        Keyword::Outpin => "outpin",
+        Keyword::SubblocksPerClb => "subblocks_per_clb",
+        Keyword::SubblockLutSize => "subblock_lut_size",
+        Keyword::FcType => "Fc_type",
+        Keyword::FcOutput => "Fc_output",
+        Keyword::FcInput => "Fc_input",
+        Keyword::FcPad => "Fc_pad",
+        Keyword::SwitchBlockType => "switch_block_type",
+        Keyword::Segment => "segment",
+    }
+}
