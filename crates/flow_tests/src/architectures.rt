@@ -1,4 +1,4 @@
-//! The fault of each text that is no architecture, and how many tracks pins reach.
+//! The fault of each text that isn't an architecture, and the number of tracks that pins reach.
 ghost use Rattle.std.specs.Prelude.{◌≤◌};
 
 use arch_file::{ArchError, ArchFault, ArchFaultKind, Keyword, read_arch};
@@ -6,7 +6,7 @@ use fixtures::ARCHITECTURE;
 use line_text::{LineError, LineFault};
 use std::alloc::{AllocError, Global};
 
-/// The smallest architecture's text with other lines in the place of those with these numbers.
+/// The smallest architecture's text, with the lines of these numbers replaced.
 fn changed(alloc: Global, changes: &[(usize, &str)]) -> Result<String, AllocError> {
     let mut text = String::new(alloc);
     for (place, own) in ARCHITECTURE.lines().enumerate() {
@@ -22,7 +22,7 @@ fn changed(alloc: Global, changes: &[(usize, &str)]) -> Result<String, AllocErro
     Ok(text)
 }
 
-/// What the reader tells of a text: its fault, or `ok`.
+/// The reader's result for a text: its fault, or `ok`.
 fn told_of(alloc: Global, text: &[u8]) -> Result<String, AllocError> {
     match read_arch(alloc, text, 2) {
         Ok(_) => String::from_str(alloc, "ok"),
@@ -30,12 +30,12 @@ fn told_of(alloc: Global, text: &[u8]) -> Result<String, AllocError> {
     }
 }
 
-/// The same of characters.
+/// The reader's result for characters.
 fn told(alloc: Global, text: &str) -> Result<String, AllocError> {
     told_of(alloc, text.as_bytes())
 }
 
-/// Lines in the place of one, and what is told then.
+/// The number of a line, lines in its place, and the result.
 const ROWS: [(usize, &str, &str); 35] = [
     (1, "io_rat 0", "4 BadNumber 1"),
     (1, "io_rat 9", "8 OverLimit 1"),
@@ -98,13 +98,13 @@ const ROWS: [(usize, &str, &str); 35] = [
     ),
 ];
 
-/// What is told of the smallest architecture with one line changed.
+/// The result for the smallest architecture with one line changed.
 fn told_with(alloc: Global, number: usize, line: &str) -> Result<String, AllocError> {
     let text = changed(alloc, &[(number, line)])?;
     told(alloc, text.as_str())
 }
 
-/// Whether that is told, and there was memory.
+/// Returns whether the result is that one, and memory sufficed.
 fn is(told: Result<String, AllocError>, want: &str) -> bool {
     match told {
         Ok(told) => told.as_str() == want,
@@ -112,7 +112,7 @@ fn is(told: Result<String, AllocError>, want: &str) -> bool {
     }
 }
 
-/// The number of the first row of which something else is told.
+/// The number of the first row with another result.
 fn first_wrong(alloc: Global) -> Option<usize> {
     for (place, (number, line, want)) in ROWS.iter().enumerate() {
         if !is(told_with(alloc, *number, line), want) {
@@ -122,13 +122,14 @@ fn first_wrong(alloc: Global) -> Option<usize> {
     None
 }
 
-/// What is told of a text with two faults.
+/// The result for a text with two faults.
 fn told_of_two(alloc: Global) -> Result<String, AllocError> {
     let text = changed(alloc, &[(1, "io_rat 9"), (17, "switch \u{e9}")])?;
     told(alloc, text.as_str())
 }
 
-/// What the reader tells of the text's beginnings, each row from the row before up to so many bytes.
+/// The reader's results for the text's prefixes: each row is for the lengths after the previous
+/// row's, up to its own.
 const BEGINNINGS: [(usize, &str); 78] = [
     (0, "3 Missing 0"),
     (5, "1 Unknown 1"),
@@ -210,7 +211,7 @@ const BEGINNINGS: [(usize, &str); 78] = [
     (466, "ok"),
 ];
 
-/// What is told of a text's first bytes.
+/// The result for a text's first `length` bytes.
 fn told_of_beginning(alloc: Global, text: &[u8], length: usize) -> Result<String, AllocError> {
     match text.get(..length) {
         Some(beginning) => told_of(alloc, beginning),
@@ -218,7 +219,7 @@ fn told_of_beginning(alloc: Global, text: &[u8], length: usize) -> Result<String
     }
 }
 
-/// The length of the first beginning of a text of which something else is told.
+/// The length of the text's first prefix with another result.
 fn first_wrong_beginning(alloc: Global, text: &[u8]) -> Option<usize> {
     let mut length = 0usize;
     for (last, want) in BEGINNINGS.iter() {
@@ -232,7 +233,7 @@ fn first_wrong_beginning(alloc: Global, text: &[u8]) -> Option<usize> {
     None
 }
 
-/// Whether each beginning of the smallest architecture is answered so.
+/// Returns whether each prefix of the smallest architecture has its result.
 fn answers_beginnings(alloc: Global) -> bool {
     match changed(alloc, &[]) {
         Ok(text) => first_wrong_beginning(alloc, text.as_bytes()).is_none(),
@@ -240,7 +241,7 @@ fn answers_beginnings(alloc: Global) -> bool {
     }
 }
 
-/// What is told at the limits of a text.
+/// Returns whether the results are right at the limits of a text.
 fn tells_limits(alloc: Global) -> bool {
     is(told(alloc, ""), "3 Missing 0")
         && is(told_of_two(alloc), "9 NotAscii 17")
@@ -251,7 +252,7 @@ fn tells_limits(alloc: Global) -> bool {
         && is(told_of_blanks(alloc, 1_048_577), "8 OverLimit 0")
 }
 
-/// So many lines of pins.
+/// `count` lines of pins.
 fn pins(alloc: Global, count: u32, line: &str) -> Result<String, AllocError> {
     let mut pins = String::new(alloc);
     for _ in 0..count {
@@ -260,26 +261,27 @@ fn pins(alloc: Global, count: u32, line: &str) -> Result<String, AllocError> {
     Ok(pins)
 }
 
-/// What is told of so many inputs more.
+/// The result with `count` more inputs.
 fn told_with_inputs(alloc: Global, count: u32) -> Result<String, AllocError> {
     let inputs = pins(alloc, count, "inpin class: 0 left\n")?;
     told_with(alloc, 6, inputs.as_str())
 }
 
-/// What is told of so many outputs and the largest clusters.
+/// The result with `count` outputs and the largest clusters.
 fn told_with_outputs(alloc: Global, count: u32) -> Result<String, AllocError> {
     let outputs = pins(alloc, count, "outpin class: 1 top\n")?;
     let text = changed(alloc, &[(7, outputs.as_str()), (9, "subblocks_per_clb 16")])?;
     told(alloc, text.as_str())
 }
 
-/// What is told of so many blanks.
+/// The result for `count` blanks.
 fn told_of_blanks(alloc: Global, count: usize) -> Result<String, AllocError> {
     let text = vec![in alloc; b' '; count]?;
     told_of(alloc, text.as_slice())
 }
 
-/// How many tracks outputs, inputs and pads reach, of an architecture whose pins reach so many by kind.
+/// The numbers of tracks that outputs, inputs and pads reach, for an architecture with that
+/// `fc_type`.
 fn reached(alloc: Global, fc_type: &str, tracks: u32) -> Result<[u32; 3], ArchError>
     requires few { 1 ≤ tracks }
     requires many { tracks ≤ 64 }
@@ -297,7 +299,7 @@ fn reached(alloc: Global, fc_type: &str, tracks: u32) -> Result<[u32; 3], ArchEr
     Ok([arch.fc_output, arch.fc_input, arch.fc_pad])
 }
 
-/// Whether outputs, inputs and pads reach so many tracks.
+/// Returns whether outputs, inputs and pads reach these numbers of tracks.
 fn reach(found: Result<[u32; 3], ArchError>, want: [u32; 3]) -> bool {
     match found {
         Ok(found) => found == want,
@@ -305,14 +307,14 @@ fn reach(found: Result<[u32; 3], ArchError>, want: [u32; 3]) -> bool {
     }
 }
 
-/// Whether tracks are counted down.
+/// Returns whether tracks are counted down.
 fn counts_tracks_down(alloc: Global) -> bool {
     reach(reached(alloc, "Fc_type fractional", 5), [2, 5, 1])
         && reach(reached(alloc, "Fc_type absolute", 64), [1, 3, 1])
         && reach(reached(alloc, "Fc_type absolute", 1), [1, 1, 1])
 }
 
-/// Whether faults are told by number, name and line.
+/// Returns whether faults are shown with number, name and line.
 fn tells_faults(alloc: Global) -> bool {
     let missing = ArchFault {
         line: 0,

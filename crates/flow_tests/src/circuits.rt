@@ -1,4 +1,4 @@
-//! How a test packs a netlist, and places it.
+//! How a test packs a netlist and places it.
 ghost use Rattle.std.specs.Prelude.{◌≡◌, ◌≤◌, IfSome};
 ghost use Rattle.grid.specs.Sizes.{IsStripSize};
 ghost use Rattle.strip_place.specs.Keeping.{AreKeptOn};
@@ -60,7 +60,7 @@ pub(crate) fn started(alloc: Global, netlist: &str) -> Option<Packing> {
     }
 }
 
-/// What a packing leads to, where it takes less than 100 steps.
+/// The result of a packing, if it takes less than 100 steps.
 fn finished(packing: Packing) -> Option<Packed> {
     let mut packing = packing;
     for _ in 0..100 {
@@ -88,7 +88,7 @@ pub(crate) fn packed(alloc: Global, netlist: &str) -> Option<SharedPacked> {
     }
 }
 
-/// The placing of a packed circuit before its first pass, where it fits.
+/// The placing of a packed circuit before its first pass, if it fits.
 pub(crate) fn placed(
     alloc: Global,
     packed: &SharedPacked,
@@ -109,7 +109,7 @@ pub(crate) fn placed(
     Placing::start(alloc, packed, strip, kept, seed, effort).ok()
 }
 
-/// The same where no places are kept.
+/// The placing of a packed circuit before its first pass, without kept places.
 pub(crate) fn placed_anew(
     alloc: Global,
     packed: &SharedPacked,

@@ -1,4 +1,4 @@
-//! Routing over a window, whose reads are counted.
+//! Routing over a window whose reads are counted.
 ghost use Rattle.std.specs.Prelude.{◌≡◌, ◌<◌, ◌≤◌, length};
 ghost use Rattle.block_places.specs.Placed.{ArePlaced};
 ghost use Rattle.pathfinder.specs.Negotiation.{More};
@@ -18,8 +18,8 @@ use std::cell::Cell;
 use strip_place::Placing;
 use strips::{DeviceGraph, Window};
 
-/// A window, and how often the edges of its nodes were read: by `ends`, `ends_towards` and `edge` together, since a router asks for
-/// many at once.
+/// A window, and the number of reads of its nodes' edges: by `ends`, `ends_towards` and `edge`
+/// together, since a router asks for many at once.
 #[derive(Drop)]
 struct Counted<'a> {
     window: &'a Window<'a>,
@@ -92,7 +92,7 @@ impl StripGraph for Counted<'_> {
     }
 }
 
-/// What a routing leads to, where it takes less than 40 iterations.
+/// The result of a routing, if it takes less than 40 iterations.
 fn finished<G: StripGraph>(alloc: Global, graph: &G, routing: Routing) -> Option<Routes>
     requires { IsAfter (wiring_of (G.basis graph.now)) routing More }
 {
@@ -142,7 +142,7 @@ fn routed<G: StripGraph>(alloc: Global, graph: &G, placing: &Placing) -> Option<
     }
 }
 
-/// Whether a net has the same paths in both.
+/// Returns whether a net has equal paths in both.
 fn has_same_paths(routes: &Routes, others: &Routes, net: usize) -> bool
     requires one { net < length routes.now }
     requires other { net < length others.now }
@@ -159,7 +159,7 @@ fn has_same_paths(routes: &Routes, others: &Routes, net: usize) -> bool
     true
 }
 
-/// Whether both are the same routes of three nets.
+/// Returns whether both are equal routes of three nets.
 fn are_same(routes: &Routes, others: &Routes) -> bool {
     if routes.len() != 3 || others.len() != 3 {
         return false;
@@ -172,7 +172,7 @@ fn are_same(routes: &Routes, others: &Routes) -> bool {
     true
 }
 
-/// Whether placed blocks have the same routes on a graph.
+/// Returns whether placed blocks get these routes on a graph.
 fn routes_again<G: StripGraph>(alloc: Global, graph: &G, placing: &Placing, routes: &Routes) -> bool
     requires arch { placing.now.packed.arch ≡ (G.basis graph.now).arch }
     requires strip { placing.now.strip ≡ (G.basis graph.now).strip }
@@ -187,7 +187,8 @@ fn routes_again<G: StripGraph>(alloc: Global, graph: &G, placing: &Placing, rout
     }
 }
 
-/// Whether a routing over a window reads the window's edges, and finds what a routing over the window finds.
+/// Returns whether a routing over a counted window reads the window's edges, and finds what a
+/// routing over the window itself finds.
 fn reads_the_window(alloc: Global, window: &Window<'_>, placing: &Placing) -> bool
     requires arch { placing.now.packed.arch ≡ window.now.arch }
     requires strip { placing.now.strip ≡ window.now.strip }
@@ -207,7 +208,7 @@ fn reads_the_window(alloc: Global, window: &Window<'_>, placing: &Placing) -> bo
     }
 }
 
-/// The same on the third of five columns, for a circuit that is placed.
+/// Returns whether this holds on the third of five columns, for a placed circuit.
 fn reads_a_window(alloc: Global, placing: &Placing) -> bool {
     match DeviceGraph::new(alloc, placing.packed().arch(), 5, 1) {
         Ok(graph) => {
@@ -222,7 +223,7 @@ fn reads_a_window(alloc: Global, placing: &Placing) -> bool {
     }
 }
 
-/// The same for a packed circuit.
+/// Returns whether this holds for a packed circuit.
 fn reads_when_placed(alloc: Global, packed: &SharedPacked) -> bool {
     match placed_anew(alloc, packed, NARROW, 7, 0) {
         Some(placing) => {

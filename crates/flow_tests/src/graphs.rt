@@ -26,7 +26,7 @@ pub(crate) fn node(kind: NodeKind, x: u32, y: u32, n: u32) -> Node {
     Node { x, kind, y, n }
 }
 
-/// The routing graph of a strip on a device of that architecture and so many tracks.
+/// The routing graph of a strip on a device of that architecture with `tracks` tracks.
 pub(crate) fn fabric_of(alloc: Global, text: &str, tracks: u32, strip: Strip) -> Option<Fabric>
     requires few { 1 ≤ tracks }
     requires many { tracks ≤ 64 }
@@ -42,7 +42,7 @@ pub(crate) fn fabric_of(alloc: Global, text: &str, tracks: u32, strip: Strip) ->
     }
 }
 
-/// How many pairs there are.
+/// The number of pairs.
 pub(crate) fn pair_count<G: StripGraph>(graph: &G) -> usize {
     let mut pairs = 0usize;
     for i in 0..graph.count() {
@@ -51,7 +51,7 @@ pub(crate) fn pair_count<G: StripGraph>(graph: &G) -> usize {
     pairs
 }
 
-/// The wire below the block, and where edges lead from it, in order.
+/// The wire below the block, and the ends of its edges, in order.
 const WIRE: Node = Node {
     x: 1,
     kind: NodeKind::ChanX,
@@ -92,7 +92,7 @@ const FROM_WIRE: [Node; 5] = [
     },
 ];
 
-/// Whether edges lead from the wire to just these nodes.
+/// Returns whether the wire's edges lead to exactly these nodes.
 fn leads_on(fabric: &Fabric) -> bool {
     if fabric.number(WIRE).is_none() {
         return false;
@@ -106,7 +106,7 @@ fn leads_on(fabric: &Fabric) -> bool {
     edges.next().is_none()
 }
 
-/// Whether a wire carries one net, and the block's sink two.
+/// Returns whether a wire carries one net, and the block's sink two.
 fn has_capacities(fabric: &Fabric) -> bool {
     let sink = node(NodeKind::Sink, 1, 1, 0);
     fabric.number(WIRE).is_some()
@@ -115,7 +115,7 @@ fn has_capacities(fabric: &Fabric) -> bool {
         && fabric.capacity(sink) == 2
 }
 
-/// Whether the smallest graph has 29 nodes and 49 pairs, and its wire leads on.
+/// Returns whether the smallest graph has 29 nodes and 49 pairs, and the wire its edges.
 fn is_smallest(fabric: &Fabric) -> bool {
     fabric.count() == 29 && pair_count(fabric) == 49 && leads_on(fabric) && has_capacities(fabric)
 }
@@ -139,9 +139,10 @@ const SINK: Node = Node {
     n: 0,
 };
 
-/// Nodes, how many nodes at least follow each on ways to the sink, and how many of its edges matter on these.
+/// Nodes, the least number of nodes after each on a way to the sink, and the number of its edges
+/// that matter on such ways.
 const TOWARDS: [(Node, u64, usize); 3] = [
-    // Three wires, a pin and the sink; and of seven ends the wires.
+    // Three wires, a pin and the sink; of seven ends only the wires matter.
     (
         Node {
             x: 2,
@@ -152,7 +153,7 @@ const TOWARDS: [(Node, u64, usize); 3] = [
         5,
         4,
     ),
-    // A pin and the sink; and all ends, since it lies beside the block.
+    // A pin and the sink; all ends matter, since the wire lies beside the block.
     (
         Node {
             x: 5,
@@ -175,7 +176,7 @@ const TOWARDS: [(Node, u64, usize); 3] = [
     ),
 ];
 
-/// Whether so many nodes follow a node, and so many of its edges matter.
+/// Returns whether a node has these numbers of nodes after it and of edges that matter.
 fn leads_so<G: StripGraph>(graph: &G, from: Node, further: u64, edges: usize) -> bool {
     match (graph.number(from), graph.number(SINK)) {
         (Some(number), Some(_)) => {
@@ -186,7 +187,7 @@ fn leads_so<G: StripGraph>(graph: &G, from: Node, further: u64, edges: usize) ->
     }
 }
 
-/// The number of the first row that is not so.
+/// The number of the first row that is wrong.
 fn first_wrong<G: StripGraph>(graph: &G) -> Option<usize> {
     for (number, (from, further, edges)) in TOWARDS.iter().enumerate() {
         if !leads_so(graph, *from, *further, *edges) {
@@ -196,7 +197,7 @@ fn first_wrong<G: StripGraph>(graph: &G) -> Option<usize> {
     None
 }
 
-/// Whether the wires below the last block are numbered one after the other.
+/// Returns whether the wires below the last block are numbered one after the other.
 fn numbers_wires<G: StripGraph>(graph: &G) -> bool {
     let wires = graph.numbers_at(NodeKind::ChanX, 5, 0);
     graph.number(node(NodeKind::ChanX, 5, 0, 0)) == Some(wires.first)

@@ -1,4 +1,4 @@
-//! Where blocks stand at the start, where places are kept from another netlist.
+//! The starting places of blocks, if places are kept from another netlist.
 ghost use Rattle.std.specs.Prelude.{IfSome};
 ghost use Rattle.grid.specs.Sizes.{IsStripSize};
 ghost use Rattle.strip_place.specs.Keeping.{AreKeptOn};
@@ -16,10 +16,12 @@ const STRIP: Strip = Strip {
     io_rat: 2,
 };
 
-/// Where blocks stand, by column, row and number, in their order: pads of inputs, pads of outputs, clusters.
+/// The places of blocks, by column, row and number, in their order: pads of inputs, pads of
+/// outputs, clusters.
 type Places = &'static [(u32, u32, u32)];
 
-/// A netlist whose places are kept, if there is one, a netlist in its place, and where its blocks stand.
+/// A netlist whose places are kept, if there is one, a netlist in its place, and the places of its
+/// blocks.
 struct Change {
     before: Option<&'static str>,
     after: &'static str,
@@ -35,7 +37,8 @@ const CHANGES: [Change; 5] = [
         after: AND_OF_B_AND_C,
         places: &[(1, 0, 0), (1, 0, 1), (1, 2, 0), (1, 2, 1), (1, 1, 0)],
     },
-    // Blocks of old names keep their places, in whatever order they stand; the new one takes the least that is free.
+    // Blocks with old names keep their places, in whatever order they come; the new one takes the
+    // least that is free.
     Change {
         before: Some(".model t\n.inputs a b\n.outputs f\n.names a b f\n11 1\n"),
         after: AND_OF_B_AND_C,
@@ -60,7 +63,8 @@ const CHANGES: [Change; 5] = [
         after: ".model k\n.inputs a\n.outputs f\n.names a h\n1 1\n.names h f\n1 1\n",
         places: &[(1, 0, 0), (1, 0, 1), (2, 1, 0), (1, 1, 0)],
     },
-    // The input f stood above the column; the output f is another block, and takes the least pad that is free.
+    // The input f was above the column; the output f is another block, and takes the least free
+    // pad.
     Change {
         before: Some(".model p\n.inputs a g f\n"),
         after: ".model p\n.inputs a\n.outputs f\n.names a f\n1 1\n",
@@ -83,7 +87,7 @@ fn kept_of(alloc: Global, packed: &SharedPacked, strip: Strip) -> Option<Kept>
     }
 }
 
-/// The places that are kept from a netlist, or none.
+/// The places kept from a netlist, if there is one.
 fn kept_from(alloc: Global, before: Option<&str>, strip: Strip) -> Option<Kept>
     requires { IsStripSize strip }
     ensures { IfSome result (λ kept. AreKeptOn strip kept) }
@@ -102,7 +106,7 @@ fn kept_from(alloc: Global, before: Option<&str>, strip: Strip) -> Option<Kept>
     }
 }
 
-/// Whether the blocks stand on these places.
+/// Returns whether the blocks are on these places.
 fn stand_on(placing: &Placing, places: &[(u32, u32, u32)]) -> bool {
     let count = placing.packed().block_count();
     if count != places.len() {
@@ -117,7 +121,8 @@ fn stand_on(placing: &Placing, places: &[(u32, u32, u32)]) -> bool {
     true
 }
 
-/// Whether a packed circuit's blocks stand so at the start, over the kept places.
+/// Returns whether a packed circuit's blocks are on these places at the start, with the kept
+/// places.
 fn start_on(alloc: Global, packed: &SharedPacked, strip: Strip, kept: &Kept, places: Places) -> bool
     requires size { IsStripSize strip }
     requires kept { AreKeptOn strip kept.now }
@@ -132,7 +137,7 @@ fn start_on(alloc: Global, packed: &SharedPacked, strip: Strip, kept: &Kept, pla
     }
 }
 
-/// Whether a netlist's blocks stand so at the start, over the kept places.
+/// Returns whether a netlist's blocks are on these places at the start, with the kept places.
 fn keeps(alloc: Global, change: &Change, strip: Strip, kept: &Kept) -> bool
     requires size { IsStripSize strip }
     requires kept { AreKeptOn strip kept.now }
@@ -147,7 +152,7 @@ fn keeps(alloc: Global, change: &Change, strip: Strip, kept: &Kept) -> bool
     }
 }
 
-/// Whether the blocks stand so after the change.
+/// Returns whether the blocks are on these places after the change.
 fn is_so(alloc: Global, change: &Change) -> bool {
     match kept_from(alloc, change.before, STRIP) {
         Some(kept) => {
@@ -159,7 +164,7 @@ fn is_so(alloc: Global, change: &Change) -> bool {
     }
 }
 
-/// The number of the first change after which they stand elsewhere.
+/// The number of the first change after which they are elsewhere.
 fn first_wrong(alloc: Global) -> Option<usize> {
     for (number, change) in CHANGES.iter().enumerate() {
         if !is_so(alloc, change) {

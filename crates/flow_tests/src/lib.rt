@@ -1,12 +1,12 @@
 //! Tests of the readers of texts, and of the flow from a netlist to its routes.
 //!
-//! - `texts`, `devices`, `architectures`, `netlists`: what the readers answer, and how devices fail.
-//! - `circuits`: how a test packs a netlist, and places it.
-//! - `packings`, `places`, `kept`: BLEs, and where blocks stand, also where places are kept.
+//! - `texts`, `devices`, `architectures`, `netlists`: the readers' results, and how devices fail.
+//! - `circuits`: how a test packs a netlist and places it.
+//! - `packings`, `places`, `kept`: BLEs, and the places of blocks, also if places are kept.
 //! - `graphs`, `windows`: nodes and pairs of strips, and what windows show of a device.
 //! - `tables`, `unit_roads`: least paths over graphs of a few nodes, and over a strip's.
 //! - `counted`: routing over a window whose reads are counted.
-//! - `sinks`: how a sink that fails is told.
+//! - `sinks`: how a sink's failure is reported.
 #![tactic(auto)]
 
 #[cfg(test)]

@@ -1,13 +1,14 @@
-//! The fault of each text that is no netlist, and of each beginning of one that is, and a circuit with latches and clocks.
+//! The fault of each text that isn't a netlist, and of each prefix of one that is, and a circuit
+//! with latches and clocks.
 use blif::{BlifError, Latch, read_blif};
 use std::alloc::{AllocError, Global};
 
-/// What the reader tells of a text whose tables have at most two inputs: its fault, or `ok`.
+/// The reader's result for a text whose tables have at most two inputs: its fault, or `ok`.
 fn answer(alloc: Global, text: &str) -> Result<String, AllocError> {
     answer_to(alloc, text.as_bytes())
 }
 
-/// The same of bytes.
+/// The reader's result for bytes.
 fn answer_to(alloc: Global, text: &[u8]) -> Result<String, AllocError> {
     match read_blif(alloc, text, 2) {
         Ok(_circuit) => String::from_str(alloc, "ok"),
@@ -15,7 +16,7 @@ fn answer_to(alloc: Global, text: &[u8]) -> Result<String, AllocError> {
     }
 }
 
-/// Texts, and what is told of them.
+/// Texts, and their results.
 const ROWS: [(&str, &str); 27] = [
     ("", "9 NoModel 0"),
     (".inputs a\n.model m\n", "9 NoModel 1"),
@@ -73,7 +74,7 @@ const ROWS: [(&str, &str); 27] = [
     ),
 ];
 
-/// Whether that is told, and there was memory.
+/// Returns whether the result is that one, and memory sufficed.
 fn is(told: Result<String, AllocError>, want: &str) -> bool {
     match told {
         Ok(told) => told.as_str() == want,
@@ -81,7 +82,7 @@ fn is(told: Result<String, AllocError>, want: &str) -> bool {
     }
 }
 
-/// The number of the first row of which something else is told.
+/// The number of the first row with another result.
 fn first_wrong(alloc: Global) -> Option<usize> {
     for (number, (text, want)) in ROWS.iter().enumerate() {
         if !is(answer(alloc, text), want) {
@@ -94,7 +95,8 @@ fn first_wrong(alloc: Global) -> Option<usize> {
 /// A small netlist.
 const SMALL: &[u8] = b".model t\n.inputs a b\n.outputs f\n.names a b f\n11 1\n.end\n";
 
-/// What the reader tells of its beginnings, each row from the row before up to so many bytes.
+/// The reader's results for its prefixes: each row is for the lengths after the previous row's, up
+/// to its own.
 const BEGINNINGS: [(usize, &str); 17] = [
     (0, "9 NoModel 0"),
     (5, "1 Unknown 1"),
@@ -115,7 +117,7 @@ const BEGINNINGS: [(usize, &str); 17] = [
     (55, "ok"),
 ];
 
-/// The length of the first beginning of the small netlist of which something else is told.
+/// The length of the first prefix of the small netlist with another result.
 fn first_wrong_beginning(alloc: Global) -> Option<usize> {
     let mut length = 0usize;
     for (last, want) in BEGINNINGS.iter() {
@@ -161,7 +163,7 @@ fn latches_and_clocks(alloc: Global) -> Result<bool, BlifError> {
     Ok(is_so)
 }
 
-/// A text of so many bytes.
+/// A text of `count` bytes.
 fn long_text(alloc: Global, count: usize) -> Result<Vec<u8>, AllocError> {
     let mut text = b".model m\n".to_vec(alloc)?;
     for _ in 9..count {
@@ -170,7 +172,7 @@ fn long_text(alloc: Global, count: usize) -> Result<Vec<u8>, AllocError> {
     Ok(text)
 }
 
-/// What is told of such a text.
+/// The result for such a text.
 fn long_told(alloc: Global, count: usize) -> Result<String, AllocError> {
     let text = long_text(alloc, count)?;
     match read_blif(alloc, text.as_slice(), 2) {
@@ -179,7 +181,7 @@ fn long_told(alloc: Global, count: usize) -> Result<String, AllocError> {
     }
 }
 
-/// A text with so many nets.
+/// A text with `count` nets.
 fn wide_text(alloc: Global, count: u32) -> Result<String, AllocError> {
     let mut text = String::from_str(alloc, ".model m\n.inputs")?;
     for net in 0..count {
@@ -189,14 +191,14 @@ fn wide_text(alloc: Global, count: u32) -> Result<String, AllocError> {
     Ok(text)
 }
 
-/// What is told of so many nets, and more lines.
+/// The result for `count` nets, and more lines.
 fn wide_told(alloc: Global, lines: &str) -> Result<String, AllocError> {
     let mut text = wide_text(alloc, 8192)?;
     text.push_str(lines)?;
     answer(alloc, text.as_str())
 }
 
-/// Whether the limits of a text are told.
+/// Returns whether the results are right at the limits of a text.
 fn tells_limits(alloc: Global) -> bool {
     is(long_told(alloc, 1_048_576), "ok")
         && is(long_told(alloc, 1_048_577), "10 OverLimit 0")

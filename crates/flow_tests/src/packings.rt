@@ -4,7 +4,7 @@ use blif::SharedCircuit;
 use cluster::{Bles, Packing};
 use std::alloc::Global;
 
-/// A table and a latch behind it, which an output shows.
+/// A table and a latch after it, shown by an output.
 const STORED: &str = "\
 .model r
 .inputs a c
@@ -14,7 +14,7 @@ const STORED: &str = "\
 .latch f q re c 0
 ";
 
-/// Whether the table and the latch that alone reads it are one BLE.
+/// Returns whether a table and the latch that alone reads it are one BLE.
 fn is_one_ble(alloc: Global, circuit: &SharedCircuit) -> bool {
     match Bles::new(alloc, circuit.circuit()) {
         Ok(bles) => {
@@ -26,7 +26,7 @@ fn is_one_ble(alloc: Global, circuit: &SharedCircuit) -> bool {
     }
 }
 
-/// Whether there is one BLE, from net 0 to net 2, with a latch that net 1 clocks.
+/// Returns whether there is one BLE, from net 0 to net 2, with a latch that net 1 clocks.
 fn has_one_ble(bles: &Bles) -> bool {
     if bles.len() != 1 {
         return false;
@@ -35,12 +35,12 @@ fn has_one_ble(bles: &Bles) -> bool {
     ble.inputs == [0].as_slice() && ble.output == 2 && ble.clock == Some(1)
 }
 
-/// Whether these are the circuit's inputs.
+/// Returns whether these are the circuit's inputs.
 fn has_inputs(circuit: &SharedCircuit, inputs: &[u32]) -> bool {
     circuit.circuit().inputs.as_slice() == inputs
 }
 
-/// Whether a packing that is given up leaves its circuit.
+/// Returns whether a packing that is given up leaves its circuit.
 fn leaves_its_circuit(alloc: Global, packing: Packing) -> bool {
     let was_there = has_inputs(packing.circuit(), &[0, 1]);
     let circuit = packing.into_circuit();
@@ -49,7 +49,7 @@ fn leaves_its_circuit(alloc: Global, packing: Packing) -> bool {
     was_there && is_so
 }
 
-/// Whether the circuit is there when its packing is given up.
+/// Returns whether the circuit is there when its packing is given up.
 fn packing_is_given_up(alloc: Global) -> bool {
     match started(alloc, STORED) {
         Some(packing) => leaves_its_circuit(alloc, packing),
@@ -57,7 +57,7 @@ fn packing_is_given_up(alloc: Global) -> bool {
     }
 }
 
-/// Whether what is packed has one BLE.
+/// Returns whether what is packed has one BLE.
 fn packs_one_ble(alloc: Global) -> bool {
     match packed(alloc, STORED) {
         Some(packed) => {

@@ -1,4 +1,4 @@
-//! Where blocks stand after a pass, and how many passes there are; and the words that draws take.
+//! The places of blocks after a pass, the number of passes, and the words that draws take.
 ghost use Rattle.std.specs.Prelude.{◌≤◌};
 ghost use Rattle.grid.specs.Sizes.{IsStripSize};
 
@@ -10,8 +10,8 @@ use rand_pcg::Pcg32;
 use std::alloc::Global;
 use strip_place::{PassEnd, Placing};
 
-/// A netlist of two blocks in one row, where the second stands after the first pass (the first stays on the least place), and
-/// how many passes there are.
+/// A netlist of two blocks in one row, the place of the second after the first pass (the first
+/// stays on the least place), and the number of passes.
 struct Row {
     netlist: &'static str,
     width: u32,
@@ -27,8 +27,8 @@ const TWO_TABLES: &str = ".model m\n.names f\n1\n.names g\n1\n";
 const TWO_PADS: &str = ".model m\n.inputs a\n.outputs a\n";
 
 const ROWS: [Row; 3] = [
-    // The first draw is of a block's own place; the second moves it, since that costs nothing. At temperatures 5, 4, 3, 2, 1
-    // and 0.
+    // The first draw is of a block's own place; the second moves it, since that costs nothing. At
+    // temperatures 5, 4, 3, 2, 1 and 0.
     Row {
         netlist: TWO_TABLES,
         width: 4,
@@ -46,7 +46,7 @@ const ROWS: [Row; 3] = [
         },
         passes: 6,
     },
-    // The second draw would cost 2, and the word is too great for it. At temperatures 2, 1 and 0.
+    // The second draw would cost 2, and the word is too large for it. At temperatures 2, 1 and 0.
     Row {
         netlist: TWO_PADS,
         width: 1,
@@ -84,7 +84,7 @@ const ROWS: [Row; 3] = [
     },
 ];
 
-/// How many passes there are, where the first answered that; 0 where there are more than 100.
+/// The number of passes, given the result of the first; 0 if there are 100 or more.
 fn passes_from(placing: &mut Placing, first: PassEnd) -> u32 {
     let mut end = first;
     for count in 1..100 {
@@ -96,7 +96,8 @@ fn passes_from(placing: &mut Placing, first: PassEnd) -> u32 {
     0
 }
 
-/// Whether the two blocks stand so after a pass, and there are so many.
+/// Returns whether the two blocks are on the row's places after a pass, and the number of passes is
+/// the row's.
 fn passes_so(placing: &mut Placing, row: &Row) -> bool {
     if placing.packed().block_count() != 2 {
         return false;
@@ -107,7 +108,7 @@ fn passes_so(placing: &mut Placing, row: &Row) -> bool {
         && passes_from(placing, end) == row.passes
 }
 
-/// Whether a packed circuit is placed so.
+/// Returns whether a packed circuit is placed as the row says.
 fn is_placed_so(alloc: Global, packed: &SharedPacked, strip: Strip, row: &Row) -> bool
     requires size { IsStripSize strip }
     requires effort { row.now.effort ≤ 100 }
@@ -122,7 +123,7 @@ fn is_placed_so(alloc: Global, packed: &SharedPacked, strip: Strip, row: &Row) -
     }
 }
 
-/// Whether the row says where its netlist's blocks stand.
+/// Returns whether the row's netlist is placed as the row says.
 fn is_so(alloc: Global, row: &Row) -> bool {
     if row.width == 0 || 256 < row.width || 100 < row.effort {
         return false;
@@ -142,7 +143,7 @@ fn is_so(alloc: Global, row: &Row) -> bool {
     }
 }
 
-/// The number of the first row that is not so.
+/// The number of the first row that is wrong.
 fn first_wrong(alloc: Global) -> Option<usize> {
     for (number, row) in ROWS.iter().enumerate() {
         if !is_so(alloc, row) {
@@ -157,7 +158,7 @@ const WORDS: [u32; 6] = [
     0xa15c02b7, 0x7b47f409, 0xba1d3330, 0x83d2f293, 0xbfa4784b, 0xcbed606e,
 ];
 
-/// Whether the generator gives these words.
+/// Returns whether the generator gives these words.
 fn gives_words() -> bool {
     let mut words = Pcg32::new(42, 54);
     for word in WORDS.iter() {

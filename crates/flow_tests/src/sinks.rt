@@ -1,4 +1,4 @@
-//! How a sink that fails is told.
+//! How a sink's failure is reported.
 use crate::circuits::{packed, placed_anew};
 use crate::graphs::NARROW;
 use cluster::SharedPacked;
@@ -7,19 +7,19 @@ use std::alloc::Global;
 use strip_place::Placing;
 use vpr_files::{net_text, place_text};
 
-/// Room for so many bytes, and whether a file goes in whole.
+/// The size of a sink in bytes, and whether a file goes in whole.
 const NET_ROOMS: [(usize, bool); 4] = [(0, false), (60, false), (118, false), (119, true)];
 
 const PLACE_ROOMS: [(usize, bool); 4] = [(0, false), (100, false), (202, false), (203, true)];
 
-/// Whether a sink took so much of a file, and failed where it has no room for all.
+/// Returns whether a sink took as much of a file as fits, and failed if not all fits.
 fn took(sink: &ShortSink, file: &str, room: usize, whole: bool) -> bool {
     sink.as_bytes().len() == room
         && file.as_bytes().starts_with(sink.as_bytes())
         && sink.has_failed() != whole
 }
 
-/// Whether the `.net` file goes so far.
+/// Returns whether the `.net` file is written as far as it fits.
 fn net_goes(alloc: Global, placing: &Placing, room: usize, whole: bool) -> bool {
     let mut sink = ShortSink::new(alloc, room);
     let is_written = net_text(placing.packed(), &mut sink).is_ok();
@@ -28,7 +28,7 @@ fn net_goes(alloc: Global, placing: &Placing, room: usize, whole: bool) -> bool 
     is_so
 }
 
-/// Whether the `.place` file goes so far.
+/// Returns whether the `.place` file is written as far as it fits.
 fn places_go(alloc: Global, placing: &Placing, room: usize, whole: bool) -> bool {
     let mut sink = ShortSink::new(alloc, room);
     let is_written = place_text(placing, &mut sink).is_ok();
@@ -37,7 +37,7 @@ fn places_go(alloc: Global, placing: &Placing, room: usize, whole: bool) -> bool
     is_so
 }
 
-/// The first room of which the `.net` file is told otherwise.
+/// The first size for which the result of the `.net` file is wrong.
 fn first_wrong_net(alloc: Global, placing: &Placing) -> Option<usize> {
     for (room, whole) in NET_ROOMS.iter() {
         if !net_goes(alloc, placing, *room, *whole) {
@@ -47,7 +47,7 @@ fn first_wrong_net(alloc: Global, placing: &Placing) -> Option<usize> {
     None
 }
 
-/// The first room of which the `.place` file is told otherwise.
+/// The first size for which the result of the `.place` file is wrong.
 fn first_wrong_place(alloc: Global, placing: &Placing) -> Option<usize> {
     for (room, whole) in PLACE_ROOMS.iter() {
         if !places_go(alloc, placing, *room, *whole) {
@@ -57,7 +57,7 @@ fn first_wrong_place(alloc: Global, placing: &Placing) -> Option<usize> {
     None
 }
 
-/// Whether the files of a packed circuit go so far.
+/// Returns whether the files of a packed circuit are written as far as they fit.
 fn files_go(alloc: Global, packed: &SharedPacked) -> bool {
     match placed_anew(alloc, packed, NARROW, 7, 0) {
         Some(placing) => {

@@ -1,10 +1,10 @@
-//! Least paths over graphs of a few nodes, which a table or a rule gives.
+//! Least paths over graphs of a few nodes, given by a table or a rule.
 ghost use Rattle.std.specs.Prelude.{◌≡◌, ◌+◌, ◌*◌, ◌^◌, ◌<◌, ◌≤◌, [], ◌∷◌, All, IfOk, length, map, take, drop, slice_index, nat_lt, if◌then◌else◌};
 
 use least_path::{Ends, Path, Roads, Search};
 use std::alloc::{AllocError, Global};
 
-/// A graph whose edges stand in a table: two from each node.
+/// A graph whose edges are in a table: two from each node.
 #[derive(Drop)]
 struct Pairs {
     ends: Vec<u32>,
@@ -39,7 +39,8 @@ impl Roads for Pairs {
     }
 }
 
-/// A street of houses one way, whose bound says how many are left, and that no way leads back.
+/// A one-way street of houses. Its bound knows how many houses are left, and that no way leads
+/// back.
 #[derive(Drop)]
 struct Street {
     step: Vec<u32>,
@@ -88,7 +89,7 @@ impl Roads for Street {
     }
 }
 
-/// Whether a search found a path of that cost over these nodes.
+/// Returns whether a search found a path of that cost over these nodes.
 fn is(found: Result<Option<Path>, AllocError>, cost: u64, nodes: &[usize]) -> bool {
     match found {
         Ok(Some(path)) => {
@@ -100,8 +101,8 @@ fn is(found: Result<Option<Path>, AllocError>, cost: u64, nodes: &[usize]) -> bo
     }
 }
 
-/// Of ways that cost the same the least by its nodes, whatever was sought before; and the least start of those that are as
-/// near, which may be the goal.
+/// Of ways with equal cost, the least by its nodes, whatever was searched before; and of equally
+/// near starts the least, which may be the goal.
 fn finds_the_least_of_ties(alloc: Global, pairs: &Pairs, search: &mut Search) -> bool
     requires { length pairs.now.costs.items ≡ 7 }
 {
@@ -111,7 +112,7 @@ fn finds_the_least_of_ties(alloc: Global, pairs: &Pairs, search: &mut Search) ->
         && is(search.least(alloc, pairs, &[4, 3], 3), 0, &[3])
 }
 
-/// A goal that no path reaches, and no starts.
+/// A goal that no path reaches, and a search without starts.
 fn finds_none(alloc: Global, pairs: &Pairs, search: &mut Search) -> bool
     requires { length pairs.now.costs.items ≡ 7 }
 {
@@ -119,14 +120,14 @@ fn finds_none(alloc: Global, pairs: &Pairs, search: &mut Search) -> bool
         && matches!(search.least(alloc, pairs, &[], 3), Ok(None))
 }
 
-/// Whether edges are told one by one.
+/// Returns whether edges are returned one by one.
 fn tells_edges(pairs: &Pairs) -> bool
     requires { length pairs.now.costs.items ≡ 7 }
 {
     pairs.edge(0, 1) == Some(1) && pairs.edge(0, 2).is_none()
 }
 
-/// 0 to 2 or 1, 1 and 2 to 3 (1 by two edges), 3 to 5 or 4, 4 and 5 to 6, which ends there.
+/// 0 to 2 or 1, 1 and 2 to 3 (1 by two edges), 3 to 5 or 4, 4 and 5 to 6, which has no edges.
 fn seven_nodes(alloc: Global) -> Result<Pairs, AllocError>
     ensures { IfOk result (λ pairs. length pairs.costs.items ≡ 7) }
 {
@@ -151,7 +152,7 @@ fn ties(alloc: Global) -> bool {
     }
 }
 
-/// A street of nine houses, of which it is guessed what a path costs.
+/// A street of nine houses, with a guess of what a path costs.
 fn nine_houses(alloc: Global, guess: Option<u64>) -> Result<Street, AllocError>
     ensures { IfOk result (λ street. street.len ≡ 9) }
 {
@@ -162,7 +163,8 @@ fn nine_houses(alloc: Global, guess: Option<u64>) -> Result<Street, AllocError>
     })
 }
 
-/// Whether the path is the way from the nearest house on, and stays where none leads on.
+/// Returns whether the path is the way from the nearest house, and stays unchanged if there is no
+/// way.
 fn goes_along(street: &Street, search: &mut Search, path: &mut Path) -> bool
     requires { street.now.len ≡ 9 }
 {
@@ -192,7 +194,7 @@ fn along_the_street(alloc: Global, guess: Option<u64>) -> bool {
     }
 }
 
-/// Less than a path costs, just that, more, and more than a search can count.
+/// A guess below the cost of a path, equal to it, above it, and above what a search can count.
 fn whatever_is_guessed(alloc: Global) -> bool {
     along_the_street(alloc, None)
         && along_the_street(alloc, Some(3))

@@ -1,4 +1,4 @@
-//! Least paths over the routing graph of a strip, where each node costs one.
+//! Least paths over the routing graph of a strip, if each node costs one.
 ghost use Rattle.rr_graph.specs.Graph.{graph_of};
 
 use crate::graphs::{NARROW, fabric_of, node};
@@ -7,7 +7,7 @@ use least_path::{Ends, Path, Roads, Search};
 use rr_graph::{Fabric, Node, NodeKind, StripGraph};
 use std::alloc::Global;
 
-/// The roads of a strip's routing graph, where each node costs one.
+/// The roads of a strip's routing graph, if each node costs one.
 #[derive(Drop)]
 struct UnitRoads<'a> {
     fabric: &'a Fabric,
@@ -37,12 +37,12 @@ impl Roads for UnitRoads<'_> {
     }
 }
 
-/// Whether there is a least path between two nodes of the graph, and which.
+/// The least path between two nodes of the graph, if there is one.
 #[derive(Drop)]
 enum Found {
     Path(Path),
     NoPath,
-    /// A node is not there, or memory lacked.
+    /// A node does not exist, or memory ran out.
     Unknown,
 }
 
@@ -92,7 +92,7 @@ const ACROSS: [Node; 5] = [
     },
 ];
 
-/// Whether a path goes over these nodes, and costs one for each but the first.
+/// Returns whether a path goes over these nodes, and costs one for each except the first.
 fn goes_across(fabric: &Fabric, path: &Path) -> bool {
     if path.cost != 4 || path.nodes.len() != ACROSS.len() {
         return false;
@@ -105,7 +105,7 @@ fn goes_across(fabric: &Fabric, path: &Path) -> bool {
     true
 }
 
-/// Whether the least path across is that one.
+/// Returns whether the least path across is that one.
 fn is_least_across(alloc: Global, fabric: &Fabric) -> bool {
     match path_between(alloc, fabric, ACROSS[0], ACROSS[4]) {
         Found::Path(path) => {
@@ -117,7 +117,7 @@ fn is_least_across(alloc: Global, fabric: &Fabric) -> bool {
     }
 }
 
-/// Whether no path leads from the block to the first pad above it.
+/// Returns whether no path leads from the block to the first pad above it.
 fn has_no_path(alloc: Global, fabric: &Fabric) -> bool {
     let output = node(NodeKind::Source, 1, 1, 1);
     let pad = node(NodeKind::Sink, 1, 2, 0);
@@ -136,7 +136,8 @@ fn least_path_across(alloc: Global) -> bool {
     }
 }
 
-/// The block's output meets track 2 alone, the pad above it track 0 alone, and no wire leaves its track.
+/// The block's output meets track 2 alone, the pad above it track 0 alone, and no wire leaves its
+/// track.
 fn no_path(alloc: Global) -> bool {
     match fabric_of(alloc, ONE_TRACK_A_PIN, 4, NARROW) {
         Some(fabric) => {

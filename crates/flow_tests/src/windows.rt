@@ -8,7 +8,7 @@ use rr_graph::{Node, NodeKind, StripGraph};
 use std::alloc::Global;
 use strips::{DeviceGraph, Window, shift, unshift};
 
-/// Whether the window shows a node of the device, where so many columns lie left of it.
+/// Returns whether the window at that offset shows a node of the device.
 fn shows(window: &Window<'_>, offset: u32, node: Node) -> bool {
     match unshift(offset, node) {
         Some(node) => window.number(node).is_some(),
@@ -41,7 +41,8 @@ fn leaving_pairs(device: &Window<'_>, window: &Window<'_>, offset: u32) -> usize
     leaving
 }
 
-/// Whether a window of one column shows 29 nodes and 49 pairs, and so many of the device's pairs leave it.
+/// Returns whether a window of one column shows 29 nodes and 49 pairs, and `leaving` of the
+/// device's pairs leave it.
 fn counts_so(graph: &DeviceGraph, offset: u32, leaving: usize) -> bool {
     match (
         Window::new(graph, 0, WIDE),
@@ -57,7 +58,8 @@ fn counts_so(graph: &DeviceGraph, offset: u32, leaving: usize) -> bool {
     }
 }
 
-/// Whether the windows at the first, an inner and the last column show what is right, and there is none behind.
+/// Returns whether the windows at the first, an inner and the last column show what is right, and
+/// there is no window after the last.
 fn window_counts(graph: &DeviceGraph) -> bool {
     counts_so(graph, 0, 10)
         && counts_so(graph, 2, 18)
@@ -65,7 +67,7 @@ fn window_counts(graph: &DeviceGraph) -> bool {
         && Window::new(graph, 5, NARROW).is_none()
 }
 
-/// Whether a node is moved to where a strip stands, and back.
+/// Returns whether a node is moved to a strip's offset, and back.
 fn moves_nodes() -> bool {
     let own = Node {
         x: 1,

@@ -1,11 +1,11 @@
-//! What is asked again where memory lacked.
+//! Repeated attempts after memory ran out.
 use sessions::SessionLine;
 use std::alloc::AllocError;
 
-/// How often something is asked.
+/// The number of attempts.
 pub(crate) const TIMES: usize = 3;
 
-/// The same line.
+/// Copies a line.
 pub(crate) fn same_line(line: &SessionLine) -> Result<SessionLine, AllocError> {
     match line {
         SessionLine::Blank => Ok(SessionLine::Blank),

@@ -1,11 +1,11 @@
-//! A job that is stepped and put again where memory lacked.
+//! A job that is stepped and put again if memory runs out.
 use crate::again::TIMES;
 use job_state::AnyJob;
 use service_core::{PutReply, Service};
 use sessions::step_word;
 use strips::DeviceGraph;
 
-/// A job that was taken, and where the strip stood.
+/// A job that was taken, and its strip's offset.
 pub(crate) struct Held {
     job: AnyJob,
     offset: u32,
@@ -18,7 +18,7 @@ pub(crate) fn take(core: &mut Service, id: u32) -> Option<Held> {
     Some(Held { job, offset })
 }
 
-/// Makes the step and puts it, and tells what it came to, if memory sufficed at last.
+/// Makes the step and puts it, and returns the outcome, if memory sufficed in the end.
 pub(crate) fn put(core: &mut Service, graph: &DeviceGraph, held: Held) -> Option<&'static [u8]> {
     let Held { mut job, offset } = held;
     for _ in 0..TIMES {

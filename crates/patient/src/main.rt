@@ -1,8 +1,10 @@
-//! The program: serves the script on standard input by the calls that the service's program makes, and makes each line and each step
-//! again for which memory lacked. So it writes the same whichever allocation is refused.
+//! The program: serves the script on standard input with the calls that the service's program
+//! makes, and repeats each line and each step for which memory ran out. So its output doesn't
+//! depend on which allocation is refused.
 //!
-//! The device has one column, one row and two tracks. Of the operator's lines `admit`, `evict`, `owners`, `step`, `take` and `put` are
-//! served. Where anything else is in the way, nothing is written and the status is 1.
+//! The device has one column, one row and two tracks. The operator's lines `admit`, `evict`,
+//! `owners`, `step`, `take` and `put` are served. If anything else goes wrong, nothing is written
+//! and the status is 1.
 #![tactic(auto)]
 
 ghost use Rattle.std.specs.Prelude.{◌<◌, IfSome};
@@ -18,7 +20,7 @@ use line_text::{Source, StdSink, StdSource, write_all};
 use std::io;
 use std::process::ExitCode;
 
-/// The most bytes of a script.
+/// A script has fewer bytes than this.
 const MOST: usize = 4096;
 
 fn main(rt: HostRuntime) -> ExitCode {
@@ -37,7 +39,7 @@ fn main(rt: HostRuntime) -> ExitCode {
     }
 }
 
-/// Reads a script into the room, and tells its length, if it is shorter than the room.
+/// Reads a script into the buffer, and returns its length, if it is shorter than the buffer.
 fn read_script<S: Source>(source: &mut S, room: &mut [u8; MOST]) -> Option<usize>
     ensures { IfSome result (λ count. count < 4096) }
 {

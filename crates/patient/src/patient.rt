@@ -15,7 +15,7 @@ use std::alloc::Global;
 use std::mem::replace;
 use strips::DeviceGraph;
 
-/// What the script's sections hold in the end, if each of its lines was served at last.
+/// The contents of the script's sections at the end, if each of its lines was served in the end.
 pub(crate) fn told_by(alloc: Global, script: &[u8]) -> Option<Vec<u8>>
     requires { length script.now < 2 ^ 32 }
 {
@@ -24,7 +24,7 @@ pub(crate) fn told_by(alloc: Global, script: &[u8]) -> Option<Vec<u8>>
     told_on(alloc, start, cut.rest, cut.number)
 }
 
-/// The same on a device.
+/// The contents of the script's sections at the end, on a given device.
 fn told_on(alloc: Global, start: Start, text: &[u8], number: usize) -> Option<Vec<u8>>
     requires { number + length text.now < 2 ^ 64 }
 {
@@ -41,7 +41,7 @@ fn told_on(alloc: Global, start: Start, text: &[u8], number: usize) -> Option<Ve
     told
 }
 
-/// A service that is asked again.
+/// A service whose calls are repeated.
 #[derive(Drop)]
 struct Patient<'t, 'g> {
     alloc: Global,
@@ -51,7 +51,7 @@ struct Patient<'t, 'g> {
 }
 
 impl<'t> Patient<'t, '_> {
-    /// What the sections of a script hold in the end.
+    /// The contents of a script's sections at the end.
     fn told(&mut self, text: &'t [u8], number: usize) -> Option<Vec<u8>>
         requires { number + length text.now < 2 ^ 64 }
     {
@@ -116,7 +116,7 @@ impl<'t> Patient<'t, '_> {
         None
     }
 
-    /// Does what a line of the operator asks.
+    /// Executes a line of the operator.
     fn operate(
         &mut self,
         line: OperatorLine<&'t [u8]>,
@@ -135,7 +135,7 @@ impl<'t> Patient<'t, '_> {
         }
     }
 
-    /// Makes so many steps of a tenancy's job, and tells what each comes to.
+    /// Makes `count` steps of a tenancy's job, and writes the outcome of each.
     fn step(&mut self, name: &[u8], count: u32, section: &mut Section<'t>) -> Option<()> {
         let id = self.operator.last_id(name);
         for _ in 0..count {
@@ -145,7 +145,7 @@ impl<'t> Patient<'t, '_> {
         Some(())
     }
 
-    /// What the next step of that tenancy's job comes to.
+    /// The outcome of the next step of that tenancy's job.
     fn stepped(&mut self, id: u32) -> Option<&'static [u8]> {
         match take(&mut self.core, id) {
             Some(taken) => put(&mut self.core, self.graph, taken),
@@ -153,7 +153,7 @@ impl<'t> Patient<'t, '_> {
         }
     }
 
-    /// Holds a tenancy's job in place of the one that is held.
+    /// Takes a tenancy's job to be held, in place of the one that is held.
     fn take_job(
         &mut self,
         name: &[u8],
@@ -165,7 +165,7 @@ impl<'t> Patient<'t, '_> {
         write_parts(section, &[b"ok job 1\n"]).ok()
     }
 
-    /// Steps the job that is held, puts it, and tells what that comes to.
+    /// Steps the held job, puts it, and writes the outcome.
     fn put_job(&mut self, held: &mut Option<Held>, section: &mut Section<'t>) -> Option<()> {
         let word = put(&mut self.core, self.graph, held.take()?)?;
         write_parts(section, &[word, b"\n"]).ok()
@@ -177,7 +177,7 @@ impl<'t> Patient<'t, '_> {
         write_parts(section, &[b"ok\n"]).ok()
     }
 
-    /// Admits a tenancy, and tells its id and its offset.
+    /// Admits a tenancy, and writes its id and its offset.
     fn admit(&mut self, name: &'t [u8], width: u32, section: &mut Section<'t>) -> Option<()> {
         for _ in 0..TIMES {
             drop(self.ask(OperatorLine::Admit(name, width)));
@@ -192,7 +192,7 @@ impl<'t> Patient<'t, '_> {
         None
     }
 
-    /// Tells who owns what.
+    /// Writes who owns what.
     fn tell_owners(&mut self, section: &mut Section<'t>) -> Option<()> {
         for _ in 0..TIMES {
             if let Some(reply) = self.ask(OperatorLine::Owners) {
@@ -204,7 +204,7 @@ impl<'t> Patient<'t, '_> {
         None
     }
 
-    /// What the operator is answered, unless memory lacks.
+    /// The reply to a line of the operator, unless memory runs out.
     fn ask(&mut self, line: OperatorLine<&'t [u8]>) -> Option<MemorySink> {
         if !self.operator.is_of(&self.core) {
             return None;

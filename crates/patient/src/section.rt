@@ -1,15 +1,15 @@
-//! What the operator or a session was told.
+//! The replies to the operator or a session.
 use crate::again::TIMES;
 use line_text::{Failed, Sink};
 use std::alloc::{AllocError, Global};
 
-/// The room of a section, in bytes.
+/// The size of a section, in bytes.
 const ROOM: usize = 4096;
 
-/// For how many sections there is room from the first.
+/// The number of sections for which memory is reserved at the start.
 const MOST: usize = 8;
 
-/// A name's section: a sink with room of a fixed size, so that no allocation is refused while it is written.
+/// A name's section: a sink of a fixed size, so that no allocation is refused while it is written.
 #[derive(Drop)]
 pub(crate) struct Section<'t> {
     pub name: &'t [u8],
@@ -66,7 +66,7 @@ impl<'t> Sections<'t> {
         Some(all)
     }
 
-    /// The section of that name; one that has none gets the last.
+    /// The section of that name; a new name gets the next free one.
     pub(crate) fn of(&mut self, name: &'t [u8]) -> Option<&mut Section<'t>> {
         let place = match self.sections.iter().position(|it| it.name == name) {
             Some(place) => place,
@@ -79,7 +79,7 @@ impl<'t> Sections<'t> {
         self.sections.get_mut(place)
     }
 
-    /// All sections, each under its name.
+    /// All sections, each after its name.
     pub(crate) fn whole(&self) -> Option<Vec<u8>> {
         for _ in 0..TIMES {
             if let Ok(whole) = self.whole_once() {

@@ -1,4 +1,4 @@
-//! What a script begins with, read and made again where memory lacked.
+//! The start of a script, read again if memory ran out.
 ghost use Rattle.std.specs.Prelude.{◌+◌, ◌<◌, ◌^◌, length};
 
 use crate::again::TIMES;
@@ -22,7 +22,7 @@ pub(crate) struct Start {
     pub core: Service,
 }
 
-/// A start, if the architecture is lawful and memory suffices at last.
+/// Returns a start, if the architecture is lawful and memory suffices in the end.
 pub(crate) fn make_start(alloc: Global, text: &[u8]) -> Option<Start> {
     for _ in 0..TIMES {
         if let Some(start) = make_start_once(alloc, text) {
@@ -44,7 +44,7 @@ fn make_start_once(alloc: Global, text: &[u8]) -> Option<Start> {
     Some(Start { graph, core })
 }
 
-/// What the script asks, if its lines have their forms and memory suffices at last.
+/// Returns the script's acts, if its lines have their forms and memory suffices in the end.
 pub(crate) fn script_of(alloc: Global, text: &[u8], number: usize) -> Option<Script<'_>>
     requires { number + length text.now < 2 ^ 64 }
 {

@@ -6,7 +6,8 @@ use crate::numbers::{gives, push_numbers, push_own_numbers};
 use job_queue::{Popped, Ready, Seat};
 use std::sync::Wait;
 
-/// Whether numbers that were pushed before the queue was closed are popped after, and then numbers that were pushed later.
+/// Returns whether numbers that were pushed before the queue was closed are popped afterwards, and
+/// then numbers that were pushed later.
 fn is_drained<R: Wait>(rt: &R, crew: Crew) -> bool {
     let Crew {
         ready,
@@ -25,7 +26,7 @@ fn is_drained<R: Wait>(rt: &R, crew: Crew) -> bool {
     early && late
 }
 
-/// Whether the numbers below that one are popped in order, and then that the queue is closed.
+/// Returns whether the numbers below `end` are popped in order, and then that the queue is closed.
 fn drains<R: Wait>(rt: &R, ready: &Ready, seat: &mut Seat, end: u32) -> bool
     requires { seat.old.of ≡ ready.now }
     ensures { seat.new.of ≡ seat.old.of }
@@ -33,7 +34,8 @@ fn drains<R: Wait>(rt: &R, ready: &Ready, seat: &mut Seat, end: u32) -> bool
     gives(rt, ready, seat, (0, end)) && ready.pop(rt, seat) == Popped::Closed
 }
 
-/// Whether the injector and a deque each take many numbers, and give them in order: its own to the worker, and then the session's.
+/// Returns whether the injector and a deque each take many numbers, and return them in order: first
+/// the worker's own, and then the session's.
 fn is_roomy<R: Wait>(rt: &R, crew: Crew) -> bool {
     let Crew {
         ready,
@@ -50,7 +52,8 @@ fn is_roomy<R: Wait>(rt: &R, crew: Crew) -> bool {
     are_pushed && are_popped
 }
 
-/// How many numbers one worker serves who begins when the queue is closed, and pushes the number below after each but 0.
+/// The number of numbers that one worker serves if it begins when the queue is closed, and pushes
+/// the number below after each except 0.
 fn served_alone<R: Wait>(rt: &R, crew: Crew) -> u32 {
     let Crew {
         ready,
@@ -66,7 +69,8 @@ fn served_alone<R: Wait>(rt: &R, crew: Crew) -> u32 {
     served
 }
 
-/// Serves the queue until it is closed and empty: each number but 0 is followed by the number below it. Tells how many were served.
+/// Serves the queue until it is closed and empty: each number except 0 is followed by the number
+/// below it. Returns how many were served.
 fn serve<R: Wait>(rt: &R, ready: &Ready, seat: &mut Seat) -> u32
     requires { seat.old.of ≡ ready.now }
 {

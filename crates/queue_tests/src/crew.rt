@@ -5,7 +5,7 @@ use job_queue::{Pass, Ready, Seat};
 use std::alloc::Global;
 use std::marker::Model;
 
-/// An open queue, the seats of its three workers, in rising number, and the pass of its session.
+/// An open queue, the seats of its three workers, by rising index, and the pass of its session.
 #[derive(Drop)]
 pub(crate) struct Crew {
     pub(crate) ready: Ready,
@@ -28,7 +28,7 @@ impl Model for Crew {
 }
 
 impl Crew {
-    /// A new one, if there is memory for it.
+    /// A new queue with its seats and its pass, if memory suffices.
     pub(crate) fn new(alloc: Global) -> Option<Crew> {
         match Ready::new(alloc, 3, 1) {
             Ok((ready, seats, passes)) => crew_of(ready, seats, passes),

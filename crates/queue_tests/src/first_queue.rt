@@ -1,4 +1,4 @@
-//! The queue that was first: one line of 64 places, for all sessions and workers, first in, first out.
+//! The former queue: one line of 64 places, for all sessions and workers, first in, first out.
 ghost use Rattle.std.specs.Prelude.{◌≡◌};
 
 use crate::crew::Crew;
@@ -8,10 +8,10 @@ use job_queue::{Pass, Ready, Seat};
 use std::alloc::Global;
 use std::sync::Wait;
 
-/// The places of the first queue.
+/// The number of places of the former queue.
 const PLACES: usize = 64;
 
-/// Whether the first queue gives the older number first.
+/// Returns whether the former queue returns the older number first.
 fn gives_oldest<R: Wait>(rt: &R, queue: ArrayQueue<u32>) -> bool {
     let are_pushed = queue.push(rt, 1).is_ok() && queue.push(rt, 2).is_ok();
     let popped = (queue.pop(rt), queue.pop(rt));
@@ -19,11 +19,11 @@ fn gives_oldest<R: Wait>(rt: &R, queue: ArrayQueue<u32>) -> bool {
     are_pushed && popped == (Some(1), Some(2))
 }
 
-/// Rounds of pushes and pops: in each a session and two workers push twenty numbers each, some of them twice or thrice, and three workers
-/// pop a third each.
+/// Rounds of pushes and pops: in each a session and two workers push twenty numbers each, some of
+/// them twice or three times, and three workers pop a third each.
 const ROUNDS: u32 = 50;
 
-/// How often each number is popped of the ready queue.
+/// How often each number is popped from the ready queue.
 fn popped<R: Wait>(rt: &R, crew: Crew) -> Counts {
     let Crew {
         ready,
@@ -46,7 +46,7 @@ fn popped<R: Wait>(rt: &R, crew: Crew) -> Counts {
     counts
 }
 
-/// How often each number is popped of the first queue, by the same pushes and pops.
+/// How often each number is popped from the former queue, by equal pushes and pops.
 fn popped_first<R: Wait>(rt: &R, queue: ArrayQueue<u32>) -> Counts {
     let mut counts = [0; NUMBERS];
     for round in 0..ROUNDS {
@@ -60,14 +60,14 @@ fn popped_first<R: Wait>(rt: &R, queue: ArrayQueue<u32>) -> Counts {
     counts
 }
 
-/// Pushes the numbers from the first to below the second, where there is a place.
+/// Pushes the numbers from the first to below the second, if there is a place.
 fn push_each<R: Wait>(rt: &R, queue: &ArrayQueue<u32>, numbers: (u32, u32)) {
     for number in numbers.0..numbers.1 {
         let _is_pushed = queue.push(rt, number).is_ok();
     }
 }
 
-/// Pops so many numbers, and counts them.
+/// Pops `pops` numbers, and counts them.
 fn pop_each<R: Wait>(rt: &R, queue: &ArrayQueue<u32>, pops: u32, counts: &mut Counts) {
     for _ in 0..pops {
         if let Some(number) = queue.pop(rt) {
@@ -76,12 +76,12 @@ fn pop_each<R: Wait>(rt: &R, queue: &ArrayQueue<u32>, pops: u32, counts: &mut Co
     }
 }
 
-/// The first queue, if there is memory for it.
+/// The former queue, if memory suffices.
 fn first_queue(alloc: Global) -> Option<ArrayQueue<u32>> {
     ArrayQueue::new(alloc, PLACES).ok()
 }
 
-/// How often each number is popped of a new ready queue; never without memory for it.
+/// How often each number is popped from a new ready queue; 0 if memory runs out.
 fn told_of_ready<R: Wait>(rt: &R, alloc: Global) -> Counts {
     match Crew::new(alloc) {
         Some(crew) => popped(rt, crew),
@@ -89,7 +89,7 @@ fn told_of_ready<R: Wait>(rt: &R, alloc: Global) -> Counts {
     }
 }
 
-/// The same of a new first queue.
+/// How often each number is popped from a new former queue; 0 if memory runs out.
 fn told_of_first<R: Wait>(rt: &R, alloc: Global) -> Counts {
     match first_queue(alloc) {
         Some(queue) => popped_first(rt, queue),
@@ -97,7 +97,7 @@ fn told_of_first<R: Wait>(rt: &R, alloc: Global) -> Counts {
     }
 }
 
-/// Whether both queues give each number as often, and all that was pushed.
+/// Returns whether both queues return each number equally often, and all that was pushed.
 fn is_same(ready: &Counts, first: &Counts) -> bool {
     let popped = ready
         .iter()

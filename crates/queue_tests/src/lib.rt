@@ -3,7 +3,7 @@
 //! - `closing`: a queue that is closed.
 //! - `order`: which number is popped first.
 //! - `meeting`: seats that push and pop on threads of their own.
-//! - `first_queue`: the same pushes and pops in a queue of one line.
+//! - `first_queue`: equal pushes and pops in a queue of one line.
 //! - `crew`, `numbers`: a queue with three seats and a pass, and many pushes and pops.
 #![tactic(auto)]
 

@@ -8,7 +8,8 @@ use std::sync::Wait;
 use std::thread;
 use std::thread::Threads;
 
-/// Pushes the numbers from the first to below the second, and then pops so many. Tells how often each was popped.
+/// Pushes the numbers from the first to below the second, and then pops the given number of times.
+/// Returns how often each was popped.
 fn push_and_pop<R: Wait>(
     rt: &R,
     ready: &Ready,
@@ -26,7 +27,7 @@ fn push_and_pop<R: Wait>(
     counts
 }
 
-/// Three seats push and pop 1,000 numbers, and as many pops as pushes: the third pushes none, and has to steal.
+/// Three seats push 1,000 numbers, and pop as often: the third pushes none, and must steal.
 fn by_three<R: Threads + Wait + Sync>(
     rt: &R,
     ready: &Ready,
@@ -71,7 +72,7 @@ fn by_two<R: Threads + Wait + Sync>(
     )
 }
 
-/// Whether each of the 1,000 numbers was popped once.
+/// Returns whether each of the 1,000 numbers was popped once.
 fn is_each_popped_once<R: Threads + Wait + Sync>(rt: &R, crew: Crew) -> bool {
     let Crew {
         ready,
@@ -85,7 +86,7 @@ fn is_each_popped_once<R: Threads + Wait + Sync>(rt: &R, crew: Crew) -> bool {
     is_each_once(&one, &two, &three)
 }
 
-/// Whether each number was counted once.
+/// Returns whether each number was counted once.
 fn is_each_once(one: &Counts, two: &Counts, three: &Counts) -> bool {
     let mut once = true;
     for number in 0..NUMBERS {
@@ -109,7 +110,8 @@ fn idle(turns: u32) {
     }
 }
 
-/// What two pops are answered that begin while the queue is empty: a number is pushed later, and the queue is closed later still.
+/// The results of two pops that begin while the queue is empty: a number is pushed later, and the
+/// queue is closed later still.
 fn two_pops<R: Threads + Wait + Sync>(
     rt: &R,
     ready: &Ready,
@@ -151,7 +153,8 @@ fn push_and_close<R: Wait>(rt: &R, ready: &Ready, seat: Seat)
     drop(seat);
 }
 
-/// Whether a pop waits for a number that another worker pushes, and the next one for the closing.
+/// Returns whether a pop waits for a number that another worker pushes, and the next one for the
+/// closing.
 fn waits<R: Threads + Wait + Sync>(rt: &R, crew: Crew) -> bool {
     let Crew {
         ready,

@@ -4,7 +4,7 @@ ghost use Rattle.std.specs.Prelude.{◌≡◌};
 use job_queue::{Pass, Popped, Ready, Seat};
 use std::sync::Wait;
 
-/// The numbers that are pushed are below that one.
+/// The numbers that are pushed are below this one.
 pub(crate) const NUMBERS: usize = 1000;
 
 /// How often each number was popped.
@@ -17,7 +17,8 @@ pub(crate) fn count(counts: &mut Counts, number: u32) {
     }
 }
 
-/// Pushes the numbers from the first to below the second, as a session. Tells whether all were pushed.
+/// Pushes the numbers from the first to below the second, as a session. Returns whether all were
+/// pushed.
 pub(crate) fn push_numbers<R: Wait>(
     rt: &R,
     ready: &Ready,
@@ -34,7 +35,8 @@ pub(crate) fn push_numbers<R: Wait>(
     are_pushed
 }
 
-/// The same, as a worker.
+/// Pushes the numbers from the first to below the second, as a worker. Returns whether all were
+/// pushed.
 pub(crate) fn push_own_numbers<R: Wait>(
     rt: &R,
     ready: &Ready,
@@ -51,7 +53,7 @@ pub(crate) fn push_own_numbers<R: Wait>(
     are_pushed
 }
 
-/// Whether the numbers from the first to below the second are popped in order.
+/// Returns whether the numbers from the first to below the second are popped in order.
 pub(crate) fn gives<R: Wait>(rt: &R, ready: &Ready, seat: &mut Seat, numbers: (u32, u32)) -> bool
     requires { seat.old.of ≡ ready.now }
     ensures { seat.new.of ≡ seat.old.of }
@@ -63,7 +65,7 @@ pub(crate) fn gives<R: Wait>(rt: &R, ready: &Ready, seat: &mut Seat, numbers: (u
     are_popped
 }
 
-/// Pops so many numbers, and counts them.
+/// Pops `pops` numbers, and counts them.
 pub(crate) fn pop_numbers<R: Wait>(
     rt: &R,
     ready: &Ready,

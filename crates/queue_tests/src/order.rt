@@ -5,7 +5,7 @@ use crate::numbers::{gives, push_numbers, push_own_numbers};
 use job_queue::Popped;
 use std::sync::Wait;
 
-/// Whether a worker's own number is popped before a session's that was pushed earlier.
+/// Returns whether a worker's own number is popped before a session's that was pushed earlier.
 fn serves_own_first<R: Wait>(rt: &R, crew: Crew) -> bool {
     let Crew {
         ready,
@@ -21,7 +21,8 @@ fn serves_own_first<R: Wait>(rt: &R, crew: Crew) -> bool {
     are_pushed && popped == (Popped::Number(2), Popped::Number(1))
 }
 
-/// Whether a worker without numbers takes a session's, and then those of the others in rising number. They were pushed in falling order.
+/// Returns whether a worker without numbers takes a session's, and then those of the others by
+/// rising index. They were pushed in falling order.
 fn steals_in_rising_number<R: Wait>(rt: &R, crew: Crew) -> bool {
     let Crew {
         ready,
@@ -38,7 +39,8 @@ fn steals_in_rising_number<R: Wait>(rt: &R, crew: Crew) -> bool {
     are_pushed && are_popped
 }
 
-/// Whether another worker takes the older of a worker's two numbers, and leaves the other one to it.
+/// Returns whether another worker takes the older of a worker's two numbers, and leaves the other
+/// one to it.
 fn leaves_the_younger<R: Wait>(rt: &R, crew: Crew) -> bool {
     let Crew {
         ready,

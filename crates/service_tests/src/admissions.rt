@@ -1,4 +1,4 @@
-//! Tenancies that come and go, and what a tenant's command is told.
+//! Tenancies that come and go, and answers to a tenant's command.
 use crate::cores::{new_core, text};
 use fixtures::AND;
 use service_core::{NotServed, NoteCause, OpRefusal, Receipt, Service};
@@ -19,7 +19,7 @@ fn come_and_go(core: &mut Service) -> bool {
         && core.admit(2) == Ok((3, 0))
 }
 
-/// Whether a receipt tells the second tenancy's first command.
+/// Whether a receipt reports the second tenancy's first command.
 fn is_told(alloc: Global, core: &mut Service) -> bool {
     match text(alloc, AND) {
         Some(text) => is_told_of(core, text),
@@ -80,7 +80,8 @@ fn a_tenancy_comes_and_goes(rt: HostRuntime) {
     assert!(rt; all_is_so(rt.alloc()));
 }
 
-/// Whether each id but 0 that 16 bits hold is given once, to tenancies that come and go, and then none: also where there is no room.
+/// Whether each id of 16 bits except 0 is given once, to tenancies that come and go, and no id
+/// after these, whether or not a strip would fit.
 fn spends_all_ids(core: &mut Service) -> bool {
     for id in 1..65_536 {
         if core.admit(1) != Ok((id, 0)) || (id < 65_535 && core.evict(id) != Ok(())) {

@@ -1,4 +1,4 @@
-//! Commands and replies, with their copies.
+//! Commands and replies are compared with their copies.
 use crate::cores::text;
 use fixtures::AND;
 use std::alloc::Global;
@@ -13,7 +13,7 @@ const THREE_INPUTS: &str = "\
 111 1
 ";
 
-/// Whether a text is the same for each of its owners.
+/// Whether a text is equal for each of its owners.
 fn is_shared(shared: &SharedText) -> bool {
     match shared.clone() {
         Ok(copy) => copy.as_bytes() == AND.as_bytes(),
@@ -21,7 +21,7 @@ fn is_shared(shared: &SharedText) -> bool {
     }
 }
 
-/// Whether an upload is the same as its copy alone.
+/// Whether an upload equals its copy and nothing else.
 fn compares_commands(one: SharedText, other: SharedText, changed: SharedText) -> bool {
     let upload = Command::Upload(one);
     let another = Command::Upload(other);
@@ -57,7 +57,7 @@ fn compares_texts(alloc: Global) -> bool {
     }
 }
 
-/// Whether a refusal is the same as its copy alone.
+/// Whether a refusal equals its copy and nothing else.
 fn compares_replies() -> bool {
     let reply = Reply::Refused(Refusal::WrongState(StateName::Packed));
     let other = Reply::Refused(Refusal::WrongState(StateName::Empty));

@@ -1,5 +1,5 @@
-//! A core to be tested, and what it is asked. No function holds a core where it can end early: one that may is lent the core, and
-//! its caller drops it by a call.
+//! A core to be tested, and calls of it. A function that can end early doesn't hold a core: it
+//! borrows the core, and its caller drops the core by a call.
 ghost use Rattle.std.specs.Prelude.{◌≡◌, ◌≤◌, IfSome};
 ghost use Rattle.arch_file.specs.Arch.{IsArch};
 ghost use Rattle.job_state.specs.JobValue.{basis_in};
@@ -23,7 +23,7 @@ pub(crate) fn architecture(alloc: Global) -> Option<Arch>
     }
 }
 
-/// The core of a device of so many columns and one row.
+/// The core of a device with this number of columns and one row.
 pub(crate) fn new_core(alloc: Global, columns: u32) -> Option<Service>
     requires some { 1 ≤ columns }
     requires few { columns ≤ 256 }
@@ -89,8 +89,8 @@ pub(crate) fn begins_packing(alloc: Global, core: &mut Service, id: u32, netlist
     }
 }
 
-/// Takes the next step of the tenancy's job, makes it through the window at that offset, and puts it. A job whose step isn't made
-/// or put is given back.
+/// Takes the next step of the tenancy's job, makes it through the window at that offset, and puts
+/// it. A job whose step isn't made or put is given back.
 pub(crate) fn step(
     core: &mut Service,
     graph: &DeviceGraph,
@@ -103,7 +103,8 @@ pub(crate) fn step(
     }
 }
 
-/// The same of a job that was taken.
+/// Makes the step of a job that was taken, through the window at that offset, and puts it. A job
+/// whose step isn't made or put is given back.
 pub(crate) fn step_at(
     core: &mut Service,
     graph: &DeviceGraph,
@@ -141,7 +142,8 @@ fn put(core: &mut Service, done: Done) -> Option<PutReply> {
     }
 }
 
-/// Whether the tenancy's job is finished by just so many steps, made through the window at that offset.
+/// Whether the tenancy's job is finished by exactly this number of steps, made through the window
+/// at that offset.
 pub(crate) fn finishes(
     core: &mut Service,
     graph: &DeviceGraph,

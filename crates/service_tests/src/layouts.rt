@@ -1,11 +1,11 @@
-//! Where strips stand, and who owns what.
+//! The offsets of strips, and who owns what.
 use crate::cores::architecture;
 use device_book::Book;
 use rr_graph::{Resource, ResourceKind};
 use std::alloc::Global;
 use strips::{Layout, NoRoom, PlacedStrip};
 
-/// Places a strip of that width at the least offset where it fits, and tells the offset.
+/// Places a strip of that width at the least offset at which it fits, and returns the offset.
 fn placed(layout: &mut Layout, id: u32, width: u32) -> Option<u32> {
     if layout.is_full() || layout.offset(id).is_some() {
         return None;
@@ -15,7 +15,7 @@ fn placed(layout: &mut Layout, id: u32, width: u32) -> Option<u32> {
     Some(offset)
 }
 
-/// Whether a strip that there is moves to that offset, or finds no room there.
+/// Whether a strip that is there moves to that offset, or doesn't fit there.
 fn moves(layout: &mut Layout, id: u32, offset: u32) -> Option<Result<(), NoRoom>> {
     if layout.offset(id).is_some() {
         Some(layout.move_to(id, offset))

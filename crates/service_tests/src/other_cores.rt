@@ -1,4 +1,4 @@
-//! Jobs of another core: what counts is what they are.
+//! Jobs of another core count by their contents.
 use crate::cores::{begins_packing, finishes, leads_to, new_core, new_graph, step, step_at, text};
 use fixtures::AND;
 use service_core::{PutReply, Service};
@@ -6,7 +6,7 @@ use std::alloc::Global;
 use strips::DeviceGraph;
 use tenant_slot::{Command, SharedText, StateName, StepReply};
 
-/// Two tables without inputs, which no cluster of one element holds: two steps pack it.
+/// Two tables without inputs, which don't fit one cluster of one BLE: two steps pack them.
 const TWO_TABLES: &str = "\
 .model b
 .names f
@@ -18,11 +18,13 @@ const TWO_TABLES: &str = "\
 /// The job that a core's only tenancy has begun.
 #[derive(Clone, Copy)]
 enum Begun {
-    /// A packing.
+    /// The first packing of a netlist.
     Packing,
-    /// The second placing of a netlist that was changed once it was placed: its blocks' places are kept.
+    /// The second placing of a netlist that was changed after it was placed: its blocks keep their
+    /// places.
     PlacingKept,
-    /// The same, but that the change came before the first placing was over: no place is kept.
+    /// The second placing of a netlist that was changed before its first placing was over: no place
+    /// is kept.
     PlacingAnew,
 }
 
@@ -70,8 +72,8 @@ fn packs(core: &mut Service, graph: &DeviceGraph) -> bool {
     finishes(core, graph, 1, 0, 1) && leads_to(core, 1, PLACE, StateName::Placing)
 }
 
-/// The job that a step is taken from, the job of the core where it is put, what it is answered, and what the next step of that core's
-/// own is.
+/// The job from which a step is taken, the job of the core in which it is put, the answer to the
+/// put, and the answer to the next step of that core's own job.
 const ROWS: [(Begun, Begun, StepReply, StepReply); 4] = [
     (
         Begun::Packing,
@@ -99,7 +101,8 @@ const ROWS: [(Begun, Begun, StepReply, StepReply); 4] = [
     ),
 ];
 
-/// What a step of one core is answered in the other, and then a step of its own.
+/// The answers to a step of one core that is put in the other, and then to a step of that core's
+/// own.
 fn put_elsewhere(
     core: &mut Service,
     other: &mut Service,
@@ -112,7 +115,8 @@ fn put_elsewhere(
     (foreign, step(other, graph, 1, 0))
 }
 
-/// Whether that is answered.
+/// Whether a step that is put in the other core, and then that core's own step, are answered as the
+/// row says.
 fn is_answered(
     alloc: Global,
     graph: &DeviceGraph,
@@ -130,7 +134,7 @@ fn is_answered(
         && put_elsewhere(core, other, graph) == answers
 }
 
-/// The same with another core of its own.
+/// Whether the answers are those of the row, with the second core made here.
 fn is_answered_elsewhere(
     alloc: Global,
     graph: &DeviceGraph,
@@ -147,7 +151,7 @@ fn is_answered_elsewhere(
     }
 }
 
-/// The same with both cores of its own.
+/// Whether the answers of a row are right, with both cores made here.
 fn is_row(alloc: Global, graph: &DeviceGraph, row: &(Begun, Begun, StepReply, StepReply)) -> bool {
     match new_core(alloc, 1) {
         Some(mut core) => {
@@ -159,7 +163,7 @@ fn is_row(alloc: Global, graph: &DeviceGraph, row: &(Begun, Begun, StepReply, St
     }
 }
 
-/// The first row where something else is answered.
+/// The first row with a wrong answer.
 fn first_wrong(alloc: Global, graph: &DeviceGraph) -> Option<usize> {
     for (number, row) in ROWS.iter().enumerate() {
         if !is_row(alloc, graph, row) {
@@ -169,7 +173,7 @@ fn first_wrong(alloc: Global, graph: &DeviceGraph) -> Option<usize> {
     None
 }
 
-/// The same with a graph of its own.
+/// The first row with a wrong answer, on a graph made here.
 fn first_wrong_row(alloc: Global) -> Option<usize> {
     match new_graph(alloc, 1) {
         Some(graph) => {

@@ -1,5 +1,5 @@
-//! A slot to be tested, and a job that leaves it and comes back. No function holds a slot where it can end early: one that may is
-//! lent the slot, and its caller drops it by a call.
+//! A slot to be tested, and a job that leaves it and comes back. A function that can end early
+//! doesn't hold a slot: it borrows the slot, and its caller drops the slot by a call.
 ghost use Rattle.std.specs.Prelude.{◌≡◌, ◌<◌};
 ghost use Rattle.grid.specs.Sizes.{IsStripSize};
 ghost use Rattle.job_state.specs.JobValue.{basis_in};
@@ -43,7 +43,7 @@ fn slot(alloc: Global) -> Option<Slot> {
     }
 }
 
-/// Whether the status is told when its answer is accepted.
+/// Whether the answer to a status command is the status once it is accepted.
 fn accepts_later(slot: &mut Slot) -> bool {
     match slot.answer(&Command::Status) {
         Ok(answer) => is_status(slot.accept(answer)),
@@ -92,7 +92,7 @@ fn is_first(id: u32, generation: u32, number: u32, sources: &Sources) -> bool {
         && sources.text.as_bytes() == AND.as_bytes()
 }
 
-/// Whether a job tells its step before it is made, after it, and given back.
+/// Whether a job reports its step before it is made, after it, and when given back.
 #[tactic(auto, using(crate::proofs::Taken::out_so))]
 fn tells_its_step(slot: &mut Slot, graph: &DeviceGraph) -> bool {
     match slot.take() {
@@ -179,7 +179,7 @@ fn puts_through(slot: &mut Slot, window: &Window<'_>, job: AnyJob) -> bool
     }
 }
 
-/// How the first step of the first job is written down.
+/// The record of the first step of the first job.
 const FIRST: Advance = Advance {
     generation: 1,
     number: 1,
@@ -225,7 +225,7 @@ fn a_job_tells_its_step(rt: HostRuntime) {
     assert!(rt; is_so_of(rt.alloc()));
 }
 
-/// Whether sources are the same as their copy, and not as one with another effort.
+/// Whether sources equal their copy, and not sources with another effort.
 fn are_compared(sources: &Sources) -> bool {
     match sources.clone() {
         Ok(copy) => is_other(sources, copy),

@@ -1,4 +1,4 @@
-//! Steps through windows that stand elsewhere.
+//! Steps through windows at other offsets.
 use crate::cores::{begins_packing, finishes, leads_to, new_core, new_graph};
 use fixtures::{AND, ROUTED_AND};
 use rr_graph::{Resource, ResourceKind};
@@ -12,7 +12,7 @@ fn admits_three(core: &mut Service) -> bool {
     core.admit(1) == Ok((1, 0)) && core.admit(1) == Ok((2, 2)) && core.admit(1) == Ok((3, 4))
 }
 
-/// Whether the second has a job to be taken, which is given back.
+/// Whether the second tenancy has a job to take, which is given back.
 fn goes_back(core: &mut Service) -> bool {
     match core.take(2) {
         Some(job) => {
@@ -23,8 +23,8 @@ fn goes_back(core: &mut Service) -> bool {
     }
 }
 
-/// Whether the second packs, places and routes its netlist, each step made through the window at that offset. The first job goes back
-/// once before it is stepped.
+/// Whether the second tenancy packs, places and routes its netlist, each step made through the
+/// window at that offset. The first job is given back once before it is stepped.
 fn routes(alloc: Global, core: &mut Service, graph: &DeviceGraph, offset: u32) -> bool {
     begins_packing(alloc, core, 2, AND)
         && goes_back(core)
@@ -63,8 +63,9 @@ fn tells_file(receipt: Receipt, file: &str) -> bool {
     is_so
 }
 
-/// What the nets of the routed netlist hold where its strip stands, at offset 2, in node order: `a` goes from the first pad over a
-/// horizontal and a vertical wire, `b` from the second over one wire, and `f` over one above to a third pad.
+/// What the nets of the routed netlist occupy with their strip at offset 2, in node order: `a` goes
+/// from the first pad over a horizontal and a vertical wire, `b` from the second over one wire, and
+/// `f` over one above to a third pad.
 const HELD: [(u32, ResourceKind, u32, u32); 13] = [
     (2, ResourceKind::ChanY, 1, 1),
     (3, ResourceKind::Opin, 0, 0),
@@ -81,7 +82,7 @@ const HELD: [(u32, ResourceKind, u32, u32); 13] = [
     (3, ResourceKind::Pad, 2, 0),
 ];
 
-/// Whether just that is owned, by the second tenancy.
+/// Whether exactly that is owned, by the second tenancy.
 fn owns(core: &Service) -> bool {
     match core.owners() {
         Ok(owners) => are_held(owners.as_slice()),
@@ -104,10 +105,10 @@ fn are_held(owners: &[Owned]) -> bool {
     owners.len() == HELD.len()
 }
 
-/// Where a window of one column stands: elsewhere, and where the second strip stands.
+/// Offsets of a window of one column: two others, and that of the second strip.
 const OFFSETS: [u32; 3] = [0, 4, 2];
 
-/// Whether all comes out as it does alone, through the window at that offset.
+/// Whether all results through the window at that offset are those of the tenancy alone.
 fn is_alike(alloc: Global, graph: &DeviceGraph, offset: u32) -> bool {
     match new_core(alloc, 5) {
         Some(mut core) => {
@@ -122,7 +123,7 @@ fn is_alike(alloc: Global, graph: &DeviceGraph, offset: u32) -> bool {
     }
 }
 
-/// The first offset through which something else comes out.
+/// The first offset with another result.
 fn first_other(alloc: Global, graph: &DeviceGraph) -> Option<u32> {
     for offset in OFFSETS.iter() {
         if !is_alike(alloc, graph, *offset) {
@@ -132,7 +133,7 @@ fn first_other(alloc: Global, graph: &DeviceGraph) -> Option<u32> {
     None
 }
 
-/// The same with a graph of its own.
+/// The first offset with another result, on a graph made here.
 fn first_other_offset(alloc: Global) -> Option<u32> {
     match new_graph(alloc, 5) {
         Some(graph) => {

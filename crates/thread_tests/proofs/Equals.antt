@@ -1,4 +1,4 @@
--- The last of a list, each of which is of the same.
+-- If all elements of a list are of one id, so are the last of them and the others.
 use Rattle.std.proofs.Common.{◌≡◌, ◌++◌, List, Option}
 use Rattle.std.specs.Prelude.{All, IfSome, option_to_list}
 use Rattle.std.proofs.lemmas.List.Elements.{All-pop}

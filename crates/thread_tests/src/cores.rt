@@ -16,13 +16,13 @@ use std::sync::ledger::{Blank, Ledger};
 use strips::{DeviceGraph, Window};
 use tenant_slot::{Command, SharedText};
 
-/// The device has so many columns, and one row.
+/// The columns of the device, which has one row.
 const COLUMNS: u32 = 8;
 
-/// And so many tracks.
+/// The tracks of each channel.
 const TRACKS: u32 = 2;
 
-/// The smallest architecture, with so many tracks.
+/// The smallest architecture, with this number of tracks.
 fn architecture(alloc: Global, tracks: u32) -> Option<Arch>
     requires few { 1 ≤ tracks }
     requires many { tracks ≤ 64 }
@@ -34,7 +34,7 @@ fn architecture(alloc: Global, tracks: u32) -> Option<Arch>
     }
 }
 
-/// The device.
+/// The device of the tests: the smallest architecture, eight columns and one row.
 pub(crate) fn new_device(alloc: Global) -> Option<Device>
     ensures { IfSome result IsSmall }
 {
@@ -74,7 +74,7 @@ pub(crate) fn other_graph(alloc: Global) -> Option<DeviceGraph> {
     graph_with(alloc, TRACKS + 2)
 }
 
-/// The graph of a device with so many tracks.
+/// The graph of a device with this number of tracks.
 fn graph_with(alloc: Global, tracks: u32) -> Option<DeviceGraph>
     requires few { 1 ≤ tracks }
     requires many { tracks ≤ 64 }
@@ -96,7 +96,8 @@ pub(crate) fn text(alloc: Global) -> Option<SharedText> {
     }
 }
 
-/// Admits a tenancy, uploads a netlist, packs it by one step and begins to place it. Tells the slot's number, which is marked.
+/// Admits a tenancy, uploads a netlist, packs it by one step and begins to place it. Returns the
+/// slot's number, which is marked.
 pub(crate) fn begin_placing<C: Begun, P: Ledger>(
     alloc: Global,
     core: &mut Core<C, P>,
@@ -118,23 +119,47 @@ pub(crate) fn begin_placing<C: Begun, P: Ledger>(
     }
 }
 
+/// Admits a tenancy, uploads a netlist, packs it by one step, places it by three, and begins to
+/// route it. Returns the slot's number, which is marked.
+pub(crate) fn begin_routing<C: Begun, P: Ledger>(
+    alloc: Global,
+    core: &mut Core<C, P>,
+    graph: &DeviceGraph,
+    id: u32,
+) -> Option<u32>
+    requires { C.stay ≡ false }
+{
+    let slot = begin_placing(alloc, core, graph, id);
+    let begins = is_stepped(core, graph, id)
+        && is_stepped(core, graph, id)
+        && is_stepped(core, graph, id)
+        && is_served(core, id, Command::Route);
+    if begins { slot } else { None }
+}
+
 pub(crate) fn is_served<C: Begun, P: Ledger>(
     core: &mut Core<C, P>,
     id: u32,
     command: Command,
-) -> bool {
+) -> bool
+    requires { C.stay ≡ false }
+{
     core.tenant(id, command).is_ok()
 }
 
 /// Makes the next step, which the core counts as its own.
-fn is_stepped<C: Begun, P: Ledger>(core: &mut Core<C, P>, graph: &DeviceGraph, id: u32) -> bool {
+fn is_stepped<C: Begun, P: Ledger>(core: &mut Core<C, P>, graph: &DeviceGraph, id: u32) -> bool
+    requires { C.stay ≡ false }
+{
     match core.take(id) {
         Some(job) => is_made(core, graph, job),
         None => false,
     }
 }
 
-fn is_made<C: Begun, P: Ledger>(core: &mut Core<C, P>, graph: &DeviceGraph, job: AnyJob) -> bool {
+fn is_made<C: Begun, P: Ledger>(core: &mut Core<C, P>, graph: &DeviceGraph, job: AnyJob) -> bool
+    requires { C.stay ≡ false }
+{
     match job.window(graph, 0) {
         Some(window) => is_made_through(core, &window, job),
         None => {
@@ -149,7 +174,8 @@ fn is_made_through<C: Begun, P: Ledger>(
     window: &Window<'_>,
     job: AnyJob,
 ) -> bool
-    requires { window.now ≡ basis_in job.step.sources }
+    requires window { window.now ≡ basis_in job.step.sources }
+    requires stay { C.stay ≡ false }
 {
     match job.step(window) {
         Ok(done) => is_put(core, done),
@@ -160,7 +186,9 @@ fn is_made_through<C: Begun, P: Ledger>(
     }
 }
 
-fn is_put<C: Begun, P: Ledger>(core: &mut Core<C, P>, done: Done) -> bool {
+fn is_put<C: Begun, P: Ledger>(core: &mut Core<C, P>, done: Done) -> bool
+    requires { C.stay ≡ false }
+{
     match core.put(done) {
         Ok(_) => true,
         Err((done, _)) => {

@@ -1,13 +1,14 @@
-//! What is told of steps, and looks for what other threads do meanwhile.
+//! Gates, which are called before and after steps, and which wait for what other threads do
+//! meanwhile.
 use job_state::{AnyJob, Back, Done};
 use std::sync::atomic::AtomicU64;
 use std::sync::atomic::Ordering::SeqCst;
 use worker_pool::Gate;
 
-/// So many turns a thread looks for another at most.
+/// The most turns that a thread waits for another.
 const TURNS: u64 = 1_000_000_000;
 
-/// Waits until the flag is raised. Tells whether it was.
+/// Waits until the flag is raised. Returns whether it was.
 pub(crate) fn is_raised(flag: &AtomicU64) -> bool {
     for _ in 0..TURNS {
         if flag.load(SeqCst) == 1 {
@@ -17,7 +18,7 @@ pub(crate) fn is_raised(flag: &AtomicU64) -> bool {
     false
 }
 
-/// The first steps of two tenancies, each of which raises its flag and looks for the other's.
+/// The first steps of two tenancies, each of which raises its flag and waits for the other's.
 #[derive(Drop)]
 pub(crate) struct Meeting {
     first: AtomicU64,
@@ -34,7 +35,7 @@ impl Meeting {
         }
     }
 
-    /// Whether each found the other.
+    /// Whether each step found the other's flag raised.
     pub(crate) fn took_place(&self) -> bool {
         self.missed.load(SeqCst) == 0
             && self.first.load(SeqCst) == 1
@@ -57,7 +58,8 @@ impl Gate for Meeting {
     fn after(&self, _stepped: &Result<Done, Back>) {}
 }
 
-/// A step that waits for the lock to be taken by another thread, which holds it until the step was made.
+/// A step that waits for the lock to be taken by another thread, which holds it until the step was
+/// made.
 #[derive(Drop)]
 pub(crate) struct Watched {
     pub(crate) begins: AtomicU64,
@@ -92,6 +94,90 @@ impl Gate for Watched {
 
     fn after(&self, _stepped: &Result<Done, Back>) {
         self.is_made.store(1, SeqCst);
+    }
+}
+
+/// The point at which a step is held.
+#[derive(Clone, Copy, PartialEq, Eq)]
+pub(crate) enum Point {
+    /// After it was taken, before it is made.
+    BeforeStep,
+    /// After it was made, before it is put.
+    AfterStep,
+}
+
+/// A step that is held at a point until another thread lets it go on.
+#[derive(Drop)]
+pub(crate) struct Held {
+    at: Point,
+    pub(crate) begins: AtomicU64,
+    pub(crate) goes_on: AtomicU64,
+    missed: AtomicU64,
+}
+
+impl Held {
+    pub(crate) fn new(at: Point) -> Self {
+        Held {
+            at,
+            begins: AtomicU64::new(0),
+            goes_on: AtomicU64::new(0),
+            missed: AtomicU64::new(0),
+        }
+    }
+
+    /// Whether a step was held until then.
+    pub(crate) fn was_held(&self) -> bool {
+        self.missed.load(SeqCst) == 0 && self.begins.load(SeqCst) == 1
+    }
+
+    /// Holds a step at that point.
+    fn hold(&self, at: Point) {
+        if self.at != at {
+            return;
+        }
+        self.begins.store(1, SeqCst);
+        if !is_raised(&self.goes_on) {
+            self.missed.store(1, SeqCst);
+        }
+    }
+}
+
+impl Gate for Held {
+    fn before(&self, _job: &AnyJob) {
+        self.hold(Point::BeforeStep);
+    }
+
+    fn after(&self, _stepped: &Result<Done, Back>) {
+        self.hold(Point::AfterStep);
+    }
+}
+
+/// Counts the steps that are made.
+#[derive(Drop)]
+pub(crate) struct Counting {
+    made: AtomicU64,
+}
+
+impl Counting {
+    pub(crate) fn new() -> Self {
+        Counting {
+            made: AtomicU64::new(0),
+        }
+    }
+
+    /// The number of steps that were made.
+    pub(crate) fn made(&self) -> u64 {
+        self.made.load(SeqCst)
+    }
+}
+
+impl Gate for Counting {
+    fn before(&self, _job: &AnyJob) {}
+
+    fn after(&self, stepped: &Result<Done, Back>) {
+        if stepped.is_ok() {
+            self.made.fetch_add(1, SeqCst);
+        }
     }
 }
 

@@ -5,7 +5,7 @@ use job_queue::{Pass, Ready, Seat};
 use shared_core::{Begun, Core, Lease, Share};
 use std::sync::ledger::Ledger;
 
-/// One of the seats.
+/// Takes one of the seats. None if there are no more.
 fn a_seat(seats: &mut Vec<Seat>, ready: &Ready) -> Option<Seat>
     requires { All (λ s. s.of ≡ ready.now) seats.old.items }
     ensures rest { All (λ s. s.of ≡ ready.now) seats.new.items }
@@ -14,7 +14,7 @@ fn a_seat(seats: &mut Vec<Seat>, ready: &Ready) -> Option<Seat>
     seats.pop()
 }
 
-/// One of the passes.
+/// Takes one of the passes. None if there are no more.
 pub(crate) fn a_pass(passes: &mut Vec<Pass>, ready: &Ready) -> Option<Pass>
     requires { All (λ p. p.of ≡ ready.now) passes.old.items }
     ensures rest { All (λ p. p.of ≡ ready.now) passes.new.items }
@@ -30,7 +30,7 @@ pub(crate) struct Worker<P: Ledger> {
     pub(crate) share: Share<P>,
 }
 
-/// A worker.
+/// A worker with a seat and a share. None if there are no more.
 pub(crate) fn a_worker<C: Begun, P: Ledger>(
     core: &mut Core<C, P>,
     ready: &Ready,
@@ -51,7 +51,7 @@ pub(crate) fn a_worker<C: Begun, P: Ledger>(
 pub(crate) struct Speaker<C: Begun> {
     pub(crate) pass: Pass,
     pub(crate) lease: Lease<C>,
-    pub(crate) input: String,
+    pub(crate) input: &'static str,
 }
 
 /// The session of a tenancy, which says that.
@@ -60,7 +60,7 @@ pub(crate) fn a_speaker<C: Begun, P: Ledger>(
     ready: &Ready,
     passes: &mut Vec<Pass>,
     id: u32,
-    input: String,
+    input: &'static str,
 ) -> Option<Speaker<C>>
     requires { All (λ p. p.of ≡ ready.now) passes.old.items }
     ensures rest { All (λ p. p.of ≡ ready.now) passes.new.items }
@@ -68,9 +68,6 @@ pub(crate) fn a_speaker<C: Begun, P: Ledger>(
 {
     match (a_pass(passes, ready), core.lease(id)) {
         (Some(pass), Some(lease)) => Some(Speaker { pass, lease, input }),
-        _ => {
-            drop(input);
-            None
-        }
+        _ => None,
     }
 }

@@ -4,6 +4,10 @@ ghost use Rattle.service_core.specs.Service.{empty};
 ghost use Rattle.thread_tests.specs.Devices.{IsSmall};
 
 use crate::cores::{new_core, new_device, new_graph};
+use crate::failing::all_end_so;
+use crate::gates::Point;
+use crate::meanwhile::{ACTS, Act, acts_under_a_held_job};
+use crate::same_told::tells_the_same;
 use crate::waiting::{Work, waits_are_told};
 use crate::workers::is_worked;
 use service_core::Device;
@@ -16,10 +20,13 @@ use std::thread::Threads;
 use std::time::Clock;
 use strips::DeviceGraph;
 
-/// What is shown.
+/// What a core is to show.
 #[derive(Clone, Copy)]
 enum Shown {
     Worked(Worked),
+    Meanwhile(Act, Point),
+    FailingDevices,
+    FourSessions(usize),
     Waits(Work),
 }
 
@@ -32,7 +39,7 @@ pub(crate) enum Worked {
     StepWithoutTheLock,
 }
 
-/// Whether that is so of a core without tenancies.
+/// Whether that is shown by a core without tenancies.
 fn is_shown<
     C: Begun + Send + Sync,
     P: Ledger + Send + Sync,
@@ -42,11 +49,14 @@ fn is_shown<
 {
     match shown {
         Shown::Worked(worked) => is_worked(rt, core, graph, worked),
+        Shown::Meanwhile(act, at) => acts_under_a_held_job(rt, core, graph, act, at),
+        Shown::FailingDevices => all_end_so(rt, core),
+        Shown::FourSessions(workers) => tells_the_same(rt, core, graph, workers),
         Shown::Waits(work) => waits_are_told(rt, core, graph, work),
     }
 }
 
-/// The same, with a graph of its own.
+/// Whether that is shown by a core without tenancies, with a graph made here.
 fn is_shown_on_graph<
     C: Begun + Send + Sync,
     P: Ledger + Send + Sync,
@@ -67,7 +77,7 @@ fn is_shown_on_graph<
     }
 }
 
-/// The same, of a core with two ledgers.
+/// Whether that is shown by a core with these two ledgers.
 fn shows_on<
     C: Begun + Send + Sync,
     P: Ledger + Send + Sync,
@@ -86,7 +96,7 @@ fn shows_on<
     }
 }
 
-/// The same, of a core of its own.
+/// Whether that is shown by a core made here.
 fn shows<R: Threads + Wait + Clock + AllocGlobal + Sync>(rt: &R, shown: Shown) -> bool {
     match new_device(rt.alloc()) {
         Some(device) => {
@@ -116,6 +126,34 @@ fn a_step_is_stolen(rt: HostRuntime) {
 #[test]
 fn a_step_is_made_without_the_lock(rt: HostRuntime) {
     assert!(rt; shows(&rt, Shown::Worked(Worked::StepWithoutTheLock)));
+}
+
+/// Whether each act is done while a worker waits at that point, and leaves what it should.
+fn each_act_is_shown<R: Threads + Wait + Clock + AllocGlobal + Sync>(rt: &R, at: Point) -> bool {
+    let mut are_shown = true;
+    for act in ACTS.iter() {
+        are_shown &= shows(rt, Shown::Meanwhile(*act, at));
+    }
+    are_shown
+}
+
+#[test]
+fn acts_under_a_held_step_leave_what_they_should(rt: HostRuntime) {
+    assert!(rt; each_act_is_shown(&rt, Point::BeforeStep));
+    assert!(rt; each_act_is_shown(&rt, Point::AfterStep));
+}
+
+#[test]
+fn a_session_ends_where_its_device_fails(rt: HostRuntime) {
+    assert!(rt; shows(&rt, Shown::FailingDevices));
+}
+
+#[test]
+fn sessions_beside_workers_are_told_the_same(rt: HostRuntime) {
+    let with_one = shows(&rt, Shown::FourSessions(1));
+    let with_three = shows(&rt, Shown::FourSessions(3));
+    let with_sixteen = shows(&rt, Shown::FourSessions(16));
+    assert!(rt; with_one && with_three && with_sixteen);
 }
 
 #[test]

@@ -1,12 +1,12 @@
-//! A session that waits twice beside a worker, which holds the step that is waited for, or gives each number up, since its graph has no
-//! window for the job. Each `wait` is told how the step ended, which is so only if it waits, or that memory lacks, and the run ends.
+//! A session that waits twice beside a worker. The worker holds the step, or gives each number up,
+//! since its graph has no window for the job. Each `wait` is answered how the step ended, which is
+//! so only if it waits, or that memory ran out, and the run ends.
 ghost use Rattle.std.specs.Prelude.{◌≡◌, All, IfSome, false};
 
 use crate::cores::other_graph;
 use crate::gates::Holding;
 use crate::seats::{Speaker, Worker, a_speaker, a_worker};
 use crate::telling::{Told, run_over};
-use fixtures::AND;
 use job_queue::{Pass, Ready, Seat};
 use shared_core::{Begun, Core, Share, Shared};
 use std::alloc::{AllocGlobal, Global};
@@ -30,7 +30,7 @@ pub(crate) enum Work {
 }
 
 impl Work {
-    /// What the session is told.
+    /// What the session is answered.
     fn told(self) -> &'static [u8] {
         match self {
             Work::Held => b"ok Loaded\nok Packing\nstatus Packed 0\nstatus Packed 0\n",
@@ -38,7 +38,7 @@ impl Work {
         }
     }
 
-    /// How often it is told that memory lacks.
+    /// The number of answers that memory ran out.
     fn lacks(self) -> u64 {
         match self {
             Work::Held => 0,
@@ -46,7 +46,8 @@ impl Work {
         }
     }
 
-    /// Whether the first tenancy stands as it does in the end: packed, or with no step made and its number nobody's.
+    /// Whether the first tenancy is as it should be in the end: packed, or with no step made and
+    /// its number nobody's.
     fn is_left<C: Begun, P: Ledger>(self, core: &mut Core<C, P>) -> bool {
         match self {
             Work::Held => core.state(1) == Some(StateName::Packed),
@@ -59,11 +60,19 @@ impl Work {
     }
 }
 
-/// What it says.
-fn input(alloc: Global) -> Option<String> {
-    let netlist = AND;
-    format!(in alloc; "upload\n{netlist}.\npack\nwait\nwait\n").ok()
-}
+/// What the session says.
+const SAID: &str = "\
+upload
+.model t
+.inputs a b
+.outputs f
+.names a b f
+11 1
+.
+pack
+wait
+wait
+";
 
 /// What the threads hold before they start.
 #[derive(Drop)]
@@ -74,7 +83,6 @@ struct Pair<C: Begun, P: Ledger> {
 
 /// The session of the first tenancy, and a worker.
 fn a_pair<C: Begun, P: Ledger>(
-    alloc: Global,
     core: &mut Core<C, P>,
     ready: &Ready,
     seats: &mut Vec<Seat>,
@@ -90,17 +98,16 @@ fn a_pair<C: Begun, P: Ledger>(
     if core.admit(1) != Ok((1, 0)) {
         return None;
     }
-    let speaker = a_speaker(core, ready, passes, 1, input(alloc)?)?;
-    match a_worker(core, ready, seats) {
-        Some(worker) => Some(Pair { speaker, worker }),
-        None => {
-            drop(speaker);
-            None
-        }
+    match (
+        a_speaker(core, ready, passes, 1, SAID),
+        a_worker(core, ready, seats),
+    ) {
+        (Some(speaker), Some(worker)) => Some(Pair { speaker, worker }),
+        _ => None,
     }
 }
 
-/// An open queue, and that pair in front of it.
+/// An open queue, and a session and a worker beside it.
 fn prepared<C: Begun, P: Ledger>(
     alloc: Global,
     core: &mut Core<C, P>,
@@ -111,7 +118,7 @@ fn prepared<C: Begun, P: Ledger>(
     ensures worker { IfSome result (λ all. all.1.worker.seat.of ≡ all.0) }
 {
     let (ready, mut seats, mut passes) = Ready::new(alloc, 1, 1).ok()?;
-    let pair = a_pair(alloc, core, &ready, &mut seats, &mut passes);
+    let pair = a_pair(core, &ready, &mut seats, &mut passes);
     drop(seats);
     drop(passes);
     match pair {
@@ -123,7 +130,7 @@ fn prepared<C: Begun, P: Ledger>(
     }
 }
 
-/// Whether each `wait` is told what it should, of a core without tenancies.
+/// Whether each `wait` is answered as it should be, by a core without tenancies.
 pub(crate) fn waits_are_told<
     C: Begun + Send + Sync,
     P: Ledger + Send + Sync,
@@ -137,7 +144,7 @@ pub(crate) fn waits_are_told<
     }
 }
 
-/// The same with the graph of another device.
+/// Whether each `wait` is answered as it should be, with the graph of another device.
 fn are_told_elsewhere<
     C: Begun + Send + Sync,
     P: Ledger + Send + Sync,
@@ -158,7 +165,7 @@ fn are_told_elsewhere<
     }
 }
 
-/// The same with a graph.
+/// Whether each `wait` is answered as it should be, with this graph.
 fn are_told_on<
     C: Begun + Send + Sync,
     P: Ledger + Send + Sync,
@@ -176,7 +183,7 @@ fn are_told_on<
     }
 }
 
-/// Whether each `wait` is told, and the tenancy is left as it should be.
+/// Whether each `wait` is answered, and the tenancy is left as it should be.
 fn are_told_in_turn<
     C: Begun + Send + Sync,
     P: Ledger + Send + Sync,
@@ -200,7 +207,7 @@ fn are_told_in_turn<
     is_told && is_left
 }
 
-/// Whether the session is told it beside the worker.
+/// Whether the session has its answers beside the worker.
 fn is_told_beside<
     C: Begun + Send + Sync,
     P: Ledger + Send + Sync,
@@ -232,7 +239,7 @@ fn is_told_beside<
     is_told
 }
 
-/// Runs the session, and closes the queue. Tells whether it is told so.
+/// Runs the session, and closes the queue. Returns whether the session has its answers.
 fn speaks<C: Begun, P: Ledger, R: Wait + AllocGlobal>(
     rt: &R,
     shared: &Shared<C, P>,

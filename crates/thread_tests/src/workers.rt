@@ -1,8 +1,9 @@
-//! Workers in front of a closed queue with the numbers of two tenancies, each of which has begun to place.
+//! Workers that serve a closed queue with the numbers of two tenancies, each of which has begun to
+//! place.
 ghost use Rattle.std.specs.Prelude.{◌≡◌, All, IfSome, false};
 
 use crate::cores::begin_placing;
-use crate::gates::{Meeting, Watched, is_raised};
+use crate::gates::{Counting, Meeting, Watched, is_raised};
 use crate::seats::{Worker, a_pass, a_worker};
 use crate::showing::Worked;
 use job_queue::{Pass, Popped, Ready, Seat};
@@ -16,7 +17,7 @@ use std::thread::Threads;
 use std::time::Clock;
 use strips::DeviceGraph;
 use tenant_slot::StateName;
-use worker_pool::{Open, run_worker};
+use worker_pool::run_worker;
 
 /// Whether a tenancy begins to place, and its number is pushed.
 fn is_pushed<C: Begun, P: Ledger, R: Wait + AllocGlobal>(
@@ -60,7 +61,6 @@ fn both_begin<C: Begun, P: Ledger, R: Wait + AllocGlobal>(
     }
 }
 
-/// Two workers.
 fn two_workers<C: Begun, P: Ledger>(
     core: &mut Core<C, P>,
     ready: &Ready,
@@ -75,7 +75,8 @@ fn two_workers<C: Begun, P: Ledger>(
     }
 }
 
-/// A closed queue with the numbers of two tenancies, which begin to place, and two workers in front of it.
+/// A closed queue with the numbers of two tenancies, which begin to place, and two workers that
+/// serve it.
 fn prepared<C: Begun, P: Ledger, R: Wait + AllocGlobal>(
     rt: &R,
     core: &mut Core<C, P>,
@@ -101,7 +102,7 @@ fn prepared<C: Begun, P: Ledger, R: Wait + AllocGlobal>(
     }
 }
 
-/// Whether that is so of a core without tenancies.
+/// Whether that is shown by a core without tenancies.
 pub(crate) fn is_worked<
     C: Begun + Send + Sync,
     P: Ledger + Send + Sync,
@@ -119,7 +120,7 @@ pub(crate) fn is_worked<
     }
 }
 
-/// Whether that is so, and both tenancies are placed in the end.
+/// Whether that is shown, and both tenancies are placed in the end.
 fn works<C: Begun + Send + Sync, P: Ledger + Send + Sync, R: Threads + Wait + Clock + Sync>(
     rt: &R,
     core: Core<C, P>,
@@ -153,7 +154,9 @@ fn is_placed<C: Begun, P: Ledger>(core: &Core<C, P>, id: u32) -> bool {
         && core.entry(id, 7).is_none()
 }
 
-/// One worker alone. It ends only if it finds the queue closed.
+/// Whether one worker alone makes six steps. It ends only if it finds the queue closed. The count
+/// of its share exists only in proofs, so the steps are counted here, and their six entries are
+/// looked up in the journals.
 fn drains<C: Begun, P: Ledger, R: Wait + Clock>(
     rt: &R,
     shared: &Shared<C, P>,
@@ -165,9 +168,10 @@ fn drains<C: Begun, P: Ledger, R: Wait + Clock>(
     requires { one.seat.of ≡ ready.now }
 {
     drop(other);
-    let share = run_worker(rt, shared, ready, graph, one.seat, one.share, &Open);
+    let counting = Counting::new();
+    let share = run_worker(rt, shared, ready, graph, one.seat, one.share, &counting);
     drop(share);
-    true
+    counting.made() == 6
 }
 
 /// Whether two workers step two tenancies at once.

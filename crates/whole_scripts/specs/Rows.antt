@@ -4,15 +4,15 @@ use Rattle.std.specs.List.{before_first, after_first}
 use Rattle.line_text.specs.Decimal.{decimal_of}
 use Rattle.whole_scripts.specs.declared.row.Row.{Row}
 
--- what stands ahead of a text's first blank
+-- the text before its first blank
 abbrev pub ahead : List ℕ → List ℕ
 ahead text = before_first (λ byte. byte == 32) text
 
--- what stands behind it
+-- the text after it
 abbrev pub behind : List ℕ → List ℕ
 behind text = after_first (λ byte. byte == 32) text
 
--- a name, a status and words, with a blank behind the first and one behind the second
+-- a name, a status and words, with one blank after the first and one after the second
 abbrev pub IsRow : List ℕ → Row → Type 0
 IsRow line row = (row.name.now ≡ ahead line) × (decimal_of 32 (ahead (behind line)) ≡ Some row.status)
     × (row.words.now ≡ behind (behind line))

@@ -1,6 +1,6 @@
 ghost use Rattle.std.specs.Prelude.{◌≡◌, ◌≢◌, slice_get, take, IfNone, IfSome};
 
-/// The first place at which two texts differ: another byte, or an end.
+/// The first index at which two texts differ: by a byte, or because one ends there.
 pub(crate) fn first_difference(left: &[u8], right: &[u8]) -> Option<usize>
     ensures none { IfNone result (left.now ≡ right.now) }
     ensures same { IfSome result (λ n. take n left.now ≡ take n right.now) }

@@ -4,17 +4,17 @@ use line_text::{MemorySink, write_all};
 use std::alloc::{AllocError, Global};
 use std::fmt::Display;
 
-/// What a run writes, tells and ends with.
+/// The output of a run, its messages, and its status.
 #[derive(Drop)]
 pub(crate) struct Ended {
     pub written: Vec<u8>,
-    /// What it tells on standard error.
+    /// Its messages on standard error.
     pub told: Vec<u8>,
     pub status: u8,
 }
 
 impl Ended {
-    /// The end of what writes and tells nothing: its status is 0 or 1.
+    /// The end of a run without output and messages: its status is 0 or 1.
     pub(crate) fn silent(alloc: Global, is_done: bool) -> Self {
         Ended {
             written: Vec::new(alloc),
@@ -24,7 +24,8 @@ impl Ended {
     }
 }
 
-/// The end of a program that wrote and told that, and ends with that status and its message.
+/// The end of a program with that output and those messages, which ends with that status and its
+/// last message.
 pub(crate) fn ended_by<O: Display + Drop>(
     alloc: Global,
     writer: MemorySink,
@@ -46,7 +47,7 @@ pub(crate) fn ended_by<O: Display + Drop>(
     }
 }
 
-/// What was told, and the message behind it.
+/// The messages, and the last message after them.
 fn told_with<O: Display + Drop>(
     alloc: Global,
     teller: MemorySink,
@@ -72,7 +73,7 @@ fn told_with<O: Display + Drop>(
     }
 }
 
-/// What a program tells last: a line where it ends with a status, or why its words are refused.
+/// The last message of a program: a line if it ends with a status, or why its words are refused.
 fn message_of<O: Display + Drop>(
     alloc: Global,
     status: u8,

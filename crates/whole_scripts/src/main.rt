@@ -1,9 +1,12 @@
-//! The program: runs the worked scripts as the service's program and the desk do, and compares what each writes, tells and ends with.
+//! The program: runs the worked scripts as the service's program and the desk do, and compares the
+//! output, the messages and the status of each.
 //!
-//! Standard input lists the runs, one a line: `NAME STATUS WORDS`, the words being those of a command line: `fpgad WORDS`, `fpgad_desk WORDS`, or
-//! `cmp FILE FILE`, which ends with 0 where the files hold the same bytes. A run reads NAME.script; it is to end with that status, to write
-//! NAME.stdout and to tell NAME.stderr, byte for byte. A file that is not there has no bytes.
-//! Each line is printed with what came of it. The status is 0 where all agree, and 1 where one does not, or input or output failed.
+//! Standard input lists the runs, one a line: `NAME STATUS WORDS`. The words are those of a command
+//! line: `fpgad WORDS`, `fpgad_desk WORDS`, or `cmp FILE FILE`, which ends with 0 if the files have
+//! equal bytes. A run reads NAME.script; it must end with that status, write NAME.stdout to
+//! standard output and NAME.stderr to standard error, byte for byte. A file that does not exist
+//! counts as empty. Each line is printed with its result. The status is 0 if all agree, and 1 if
+//! one does not, or if input or output failed.
 #![tactic(auto)]
 
 mod difference;
@@ -31,7 +34,7 @@ fn main(rt: HostRuntime) -> ExitCode {
     }
 }
 
-/// Runs what standard input lists. Gives whether all agree.
+/// Runs the lines of standard input, and returns whether all agree.
 fn run_all<H: Input + Print + Files + Threads + Wait + Clock + AllocGlobal + Sync>(
     rt: &H,
 ) -> io::Result<bool> {
@@ -47,7 +50,7 @@ fn run_all<H: Input + Print + Files + Threads + Wait + Clock + AllocGlobal + Syn
     Ok(agreeing == runs)
 }
 
-/// Runs one line of the list, and prints it with what came of it. Gives whether that agrees.
+/// Runs one line of the list, prints it with its result, and returns whether it agrees.
 fn tell<H: Print + Files + Threads + Wait + Clock + AllocGlobal + Sync>(
     rt: &H,
     line: &str,

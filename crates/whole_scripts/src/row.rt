@@ -7,15 +7,15 @@ use line_text::decimal_u32;
 /// A line of the list.
 #[derive(Clone, Copy)]
 pub(crate) struct Row<'a> {
-    /// What its files are named after.
+    /// The name of its files.
     pub name: &'a str,
-    /// The status that the run is to end with.
+    /// The status that the run must end with.
     pub status: u32,
     /// The words of its command line, with blanks between.
     pub words: &'a str,
 }
 
-/// The row of a line: a name, a status and words. The words may be none.
+/// Reads the row of a line: a name, a status and words. There may be no words.
 pub(crate) fn row_in(line: &str) -> Option<Row<'_>>
     ensures { MatchOption result (decimal_of 32 (ahead (behind line.now)) ≡ None)
         (λ row. IsRow line.now row) }
@@ -30,7 +30,7 @@ pub(crate) fn row_in(line: &str) -> Option<Row<'_>>
     })
 }
 
-/// What stands ahead of a text's first blank, and behind it.
+/// The text before its first blank, and after it.
 fn cut(text: &str) -> (&str, &str)
     ensures ahead { result.0.now ≡ ahead text.now }
     ensures behind { result.1.now ≡ behind text.now }

@@ -13,7 +13,7 @@ use std::sync::Wait;
 use std::thread::Threads;
 use std::time::Clock;
 
-/// Runs a row as the program does that it names, and compares what comes of it with its files.
+/// Runs a row as the program that it names does, and compares the result with the row's files.
 pub(crate) fn verdict_on<H: Files + Threads + Wait + Clock + AllocGlobal + Sync>(
     rt: &H,
     row: Row<'_>,
@@ -54,7 +54,7 @@ fn run_script<H: Files + Threads + Wait + Clock + AllocGlobal + Sync>(
 ) -> Result<Ended, AllocError> {
     let mut reader = MemorySource::new(script);
     let mut writer = MemorySink::new(rt.alloc());
-    let outcome = fpgad_run::run_words(rt, words, &mut reader, &mut writer);
+    let outcome = promises::run_words(rt, words, &mut reader, &mut writer);
     let status = match &outcome {
         Ok(outcome) => outcome.status(),
         Err(_) => 2,
@@ -68,7 +68,7 @@ fn run_script<H: Files + Threads + Wait + Clock + AllocGlobal + Sync>(
     )
 }
 
-/// Does what these words ask of the desk.
+/// Runs the desk with these words.
 fn run_tool<H: Files + AllocGlobal>(
     rt: &H,
     words: &[&str],
@@ -91,7 +91,7 @@ fn run_tool<H: Files + AllocGlobal>(
     ended_by(rt.alloc(), writer, teller, status, outcome)
 }
 
-/// Compares two files: the status is 0 where they hold the same bytes.
+/// Compares two files: the status is 0 if they have equal bytes.
 fn compare_files<H: Files + AllocGlobal>(
     rt: &H,
     left: &str,
@@ -112,7 +112,7 @@ fn words<'a>(alloc: Global, text: &'a str) -> Result<Vec<&'a str>, AllocError> {
     Ok(words)
 }
 
-/// What is to come of a row beside what came of it.
+/// Compares the result of a row with what it must be.
 fn compared<H: Files + AllocGlobal>(
     rt: &H,
     row: Row<'_>,
@@ -132,7 +132,7 @@ fn compared<H: Files + AllocGlobal>(
     Ok(Verdict::Agrees)
 }
 
-/// Where bytes differ from those that are expected.
+/// The index at which bytes differ from the expected ones.
 fn difference_from(
     bytes: &[u8],
     expected: Result<Vec<u8>, AllocError>,
@@ -151,7 +151,7 @@ fn row_file<H: Files + AllocGlobal>(rt: &H, name: &str, kind: &str) -> Result<Ve
     bytes
 }
 
-/// The bytes of a file; none where there is no such file.
+/// The bytes of a file; empty if there is no such file.
 fn bytes_of<H: Files + AllocGlobal>(rt: &H, path: &str) -> Result<Vec<u8>, AllocError> {
     match File::open(rt, path) {
         Ok(file) => bytes_in(rt.alloc(), file),
@@ -159,7 +159,7 @@ fn bytes_of<H: Files + AllocGlobal>(rt: &H, path: &str) -> Result<Vec<u8>, Alloc
     }
 }
 
-/// The bytes of a file; none where it can't be read.
+/// The bytes of a file; empty if it can't be read.
 fn bytes_in<F: Read + Drop>(alloc: Global, file: F) -> Result<Vec<u8>, AllocError> {
     match read_all(alloc, &mut StdSource::new(file)) {
         Ok(bytes) => Ok(bytes),

@@ -1,22 +1,22 @@
 use std::fmt;
 
-/// What came of a line of the list.
+/// The result of a line of the list.
 #[derive(Clone, Copy)]
 pub(crate) enum Verdict {
-    /// The run ends, writes and tells what it is to.
+    /// The status, the output and the messages of the run are right.
     Agrees,
     /// The line names no run.
     NoRow,
-    /// The run ends with this status in place of its own.
+    /// The run ends with this status, which isn't the right one.
     EndsWith(u8),
-    /// What it writes differs from this byte on, counted from 0.
+    /// Its output differs from this byte on, counted from 0.
     WritesOther(usize),
-    /// What it tells on standard error differs from this byte on, counted from 0.
+    /// Its messages on standard error differ from this byte on, counted from 0.
     TellsOther(usize),
 }
 
 impl Verdict {
-    /// Whether the run agrees.
+    /// Returns whether the run agrees.
     pub(crate) fn agrees(&self) -> bool {
         matches!(self, Verdict::Agrees)
     }
