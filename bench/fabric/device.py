@@ -1,5 +1,5 @@
 # The device of `fpgad_desk random` with one table a cluster, for nextpnr-generic: blocks of one logic element with four inputs, a pin on each side, the
-# output at the bottom; pads below and above; switch blocks that join wires of one track; a clock that isn't routed. Its size stands in the environment.
+# output at the bottom; pads below and above; switch blocks that join wires of one track; a clock that isn't routed. Its size comes from the environment.
 import os
 
 TRACKS, COLUMNS, ROWS = (int(os.environ[name]) for name in ("TRACKS", "COLUMNS", "ROWS"))
