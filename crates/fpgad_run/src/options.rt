@@ -18,7 +18,7 @@ Lines of a script, in any order; NAME is 1 to 32 letters, digits and `_`:
   # a comment
 
 Status: 0 served, 1 the architecture or a device failed, 2 the options are refused,
-  3 the script has a fault, 4 memory lacks, 5 sessions and journals disagree
+  3 the script has a fault, 4 memory ran out, 5 sessions and journals disagree
 
 Example: fpgad --arch my.arch --tracks 8 --columns 20 --rows 10 < my.script
 All of it: docs/SERVICE.md, the files docs/FORMATS.md, a first circuit docs/TUTORIAL.md";

@@ -6,8 +6,8 @@ use Rattle.std.proofs.lemmas.List.Elements.{All-append, All-cons, All-nil, All-p
 use Rattle.service_core.specs.Service.{ServiceState, journal_of}
 use Rattle.settling.specs.Settling.{IsFullIfTold}
 use Rattle.transcripts.specs.Transcripts.{AreOfLive, TranscriptState}
-use Rattle.script_threads.specs.Parts.{Adds, AreParts}
-use Rattle.script_threads.specs.Served.{AreFullNotes, Told, told_in}
+use Rattle.script_threads.specs.Parts.{Adds, AreFullNotes, AreParts, part_told}
+use Rattle.script_threads.specs.Served.{Told}
 use Rattle.script_threads.specs.Sessions.{IsTold, PartState, transcripts_of}
 
 one_live : (part : PartState) → IfSome part.transcript (λ t. AreOfLive t.items) → All (λ (t : TranscriptState). AreOfLive t.items) (transcripts_of (part ∷ []))
@@ -28,6 +28,6 @@ pub parts_more : (live : Type 0) (parts : List PartState) (part : PartState) (se
 parts_more live parts part sections ts new_sections new_ts are adds = record {
   each = All-push IsTold parts part are.each adds.is_part.told;
   of_live = λ is. rw adds.transcripts_are (All-append (λ (t : TranscriptState). AreOfLive t.items) ts (transcripts_of (part ∷ [])) (are.of_live is) (one_live part (adds.is_part.of_live is)));
-  sections_are = adds.sections_are ∙ ap (λ s. s ++ told_in part ∷ []) are.sections_are ∙ sym (map_push told_in parts part);
+  sections_are = adds.sections_are ∙ ap (λ s. s ++ part_told part ∷ []) are.sections_are ∙ sym (map_push part_told parts part);
   transcripts_are = adds.transcripts_are ∙ ap (λ t. t ++ transcripts_of (part ∷ [])) are.transcripts_are ∙ sym (filter_map-append (λ (p : PartState). p.transcript) parts (part ∷ []));
 }

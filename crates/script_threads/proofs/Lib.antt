@@ -2,7 +2,10 @@ mod CrowdLemmas
 mod FinishLemmas
 mod LineLemmas
 mod OneOfList
+mod LeftLemmas
 mod PartLemmas
+mod RanLemmas
+mod RefusalLemmas
 mod SeatLemmas
 mod ServeLemmas
 pub mod OneRunLemmas

@@ -1,28 +1,31 @@
 -- A script on threads is one run of the core.
-use Rattle.std.proofs.Common.{◌≡◌, ℕ, List, [], ◌∷◌, ◌++◌, get_or, ap, sym, subst}
-use Rattle.std.specs.Prelude.{All}
+use Rattle.std.proofs.Common.{◌≡◌, ℕ, List, [], ◌∷◌, ◌++◌, Option, Some, None, ap, sym, ◌∙◌, subst}
+use Rattle.std.specs.Prelude.{All, IfSome}
+use Rattle.std.proofs.lemmas.List.Elements.{All-weaker}
 use Rattle.rr_graph.specs.Graph.{Basis}
 use Rattle.service_core.specs.declared.device.Device.{Device}
 use Rattle.service_core.specs.Run.{Call, Run}
 use Rattle.service_core.specs.Service.{ServiceState, empty}
 use Rattle.service_core.proofs.Alone.{each_alone, is_book, own_journals}
+use Rattle.service_core.proofs.Effects.{run_device}
 use Rattle.service_core.proofs.Owning.{one_owner}
 use Rattle.service_core.proofs.Parted.{are_parted}
 use Rattle.sessions.specs.Fitting.{own_graph}
 use Rattle.sessions.proofs.StepLemmas.{Run-append}
 use Rattle.shared_core.specs.Following.{Follows, Stays}
+use Rattle.shared_core.specs.Reaching.{own_receipts}
 use Rattle.shared_core.proofs.Reaching.{run_goes_on}
 use Rattle.settling.proofs.AllCalls.{Stands, own_stand}
-use Rattle.transcripts.specs.Transcripts.{receipts_of}
-use Rattle.script_threads.specs.Sessions.{transcripts_of}
+use Rattle.transcripts.specs.declared.item.Place.{Place}
 use Rattle.operator.specs.HeldJobs.{give_backs}
-use Rattle.operator.specs.Serving.{IsServed, Stage}
+use Rattle.operator.specs.Serving.{Stage}
 use Rattle.operator.proofs.Served.{served_runs}
 use Rattle.script_text.specs.declared.operator_line.OperatorLine.{OperatorLine}
 use Rattle.script_text.specs.Threaded.{Parts as Script}
 use Rattle.script_threads.specs.Lines.{AreServed, Serves, stage, with_give_backs}
 use Rattle.script_threads.specs.OneRun.{IsOneRun, calls_of}
-use Rattle.script_threads.specs.Served.{IsServedFrom, Told}
+use Rattle.script_threads.specs.Left.{IsEnded}
+use Rattle.script_threads.specs.Served.{Conversation, IsAnswered, IsServedFrom, Told, receipts_told}
 
 lines_run : (old : Stage) (lines : List (OperatorLine (List ℕ))) (calls : List Call) (text : List ℕ) (new : Stage) → AreServed old lines calls text new → Run old.service calls new.service
 lines_run old [] calls text new is =
@@ -33,7 +36,7 @@ lines_run old (line ∷ lines) calls text new is =
     let P : List Call → Type 0 = λ cs. Run old.service cs new.service in
     subst P (sym is.7) (Run-append old.service is.0 (is.2).service is.3 new.service first rest)
 
-serves_run : (graph : Basis) (names : List (List ℕ)) (service : ServiceState) (lines : List (OperatorLine (List ℕ))) (text : List ℕ) (new_names : List (List ℕ)) (new : ServiceState) →
+pub serves_run : (graph : Basis) (names : List (List ℕ)) (service : ServiceState) (lines : List (OperatorLine (List ℕ))) (text : List ℕ) (new_names : List (List ℕ)) (new : ServiceState) →
     (is : Serves graph names service lines text new_names new) → Run service (with_give_backs is.calls is.last) new
 serves_run graph names service lines text new_names new is =
     Run-append service is.calls is.last.service (give_backs is.last.jobs) new (lines_run (stage graph names [] service) lines is.calls text is.last is.served) is.given_back
@@ -41,11 +44,13 @@ serves_run graph names service lines text new_names new is =
 pub is_one_run : (device : Device) (script : Script) (sections : List Told) (text : List ℕ) (is : IsServedFrom (own_graph device) (empty device) script sections text) → IsOneRun device (calls_of is) is.last
 is_one_run device script sections text is =
     let ahead : List Call = with_give_backs is.ahead.calls is.ahead.last in
-    let threads : List Call = is.ran.calls.calls in
+    let threads : List Call = is.ran.calls in
     let rest : List Call = with_give_backs is.rest.calls is.rest.last in
-    let later : Run is.settled rest is.last = serves_run _ _ _ _ _ _ _ is.rest in
-    let ran : Run is.service (threads ++ rest) is.last = Run-append is.service threads is.settled rest is.last is.ran.calls.run later in
-    let run : Run (empty device) (calls_of is) is.last = Run-append (empty device) ahead is.service (threads ++ rest) is.last (serves_run _ _ _ _ _ _ _ is.ahead) ran in
+    let left : List Call = is.left.calls in
+    let later : Run is.rested rest is.last = serves_run _ _ _ _ _ _ _ is.rest in
+    let ended : Run is.settled (left ++ rest) is.last = Run-append is.settled left is.rested rest is.last is.left.run later in
+    let ran : Run is.service (threads ++ (left ++ rest)) is.last = Run-append is.service threads is.settled (left ++ rest) is.last is.ran.run ended in
+    let run : Run (empty device) (calls_of is) is.last = Run-append (empty device) ahead is.service (threads ++ (left ++ rest)) is.last (serves_run _ _ _ _ _ _ _ is.ahead) ran in
     let parted = are_parted device (calls_of is) is.last run in
     record {
       run = run;
@@ -57,9 +62,22 @@ is_one_run device script sections text is =
     }
 
 pub goes_on : (graph : Basis) (start : ServiceState) (script : Script) (sections : List Told) (text : List ℕ) (is : IsServedFrom graph start script sections text) → Follows is.service is.settled × Stays is.service is.settled
-goes_on graph start script sections text is = run_goes_on is.service is.ran.calls.calls is.settled is.ran.calls.kinds is.ran.calls.run
+goes_on graph start script sections text is = run_goes_on is.service is.ran.calls is.settled is.ran.kinds is.ran.run
 
-pub stand : (graph : Basis) (start : ServiceState) (script : Script) (sections : List Told) (text : List ℕ) (is : IsServedFrom graph start script sections text) → All (λ t. All (Stands is.settled t.id) (receipts_of t.items)) (transcripts_of is.ran.parts)
-stand graph start script sections text is = λ k d within.
-    let id : ℕ = (get_or (transcripts_of is.ran.parts) k d).id in
-    subst (All (Stands is.settled id)) (is.ran.calls.told k d within) (own_stand is.service is.ran.calls.calls is.settled id is.ran.calls.kinds is.ran.calls.run)
+abbrev Confirmed : ServiceState → ℕ → Option (List (Option Place)) → Type 0
+Confirmed s id told = IfSome told (λ answers. All (Stands s id) (receipts_told answers))
+
+one_stands : (calls : List Call) (s : ServiceState) (c : Conversation) (told : Option (List (Option Place))) → All (Stands s c.id) (own_receipts c.id calls) → IfSome told (IsAnswered calls s c) → Confirmed s c.id told
+one_stands calls s c None own is = tt
+one_stands calls s c (Some answers) own is = subst (All (Stands s c.id)) is.served own
+
+pub stand : (graph : Basis) (start : ServiceState) (script : Script) (sections : List Told) (text : List ℕ) (is : IsServedFrom graph start script sections text) → All (λ (c : Conversation). Confirmed is.settled c.id c.told) is.ran.conversations
+stand graph start script sections text is =
+    All-weaker (λ (c : Conversation). IfSome c.told (IsAnswered is.ran.calls is.settled c)) (λ (c : Conversation). Confirmed is.settled c.id c.told)
+    (λ c answered. one_stands is.ran.calls is.settled c c.told (own_stand is.service is.ran.calls is.settled c.id is.ran.kinds is.ran.run) answered) is.ran.conversations is.ran.answered
+
+pub none_left : (device : Device) (script : Script) (sections : List Told) (text : List ℕ) (is : IsServedFrom (own_graph device) (empty device) script sections text) (id : ℕ) → IsEnded is.rested is.left.calls id
+none_left device script sections text is id =
+    let ahead : is.service.device ≡ device = run_device (empty device) (with_give_backs is.ahead.calls is.ahead.last) is.service (serves_run _ _ _ _ _ _ _ is.ahead) in
+    let same : is.settled.device ≡ device = (goes_on _ _ script sections text is).0.device ∙ ahead in
+    is.left.ended (ap own_graph (sym same)) id

@@ -29,6 +29,8 @@ served_from graph start mid operator names script sections before middle after u
   ahead = subst (λ given. Serves graph given start script.ahead ahead.text names mid) unnamed ahead.serves;
   settled = runs.settled;
   ran = runs.ran;
+  rested = runs.ends.rested;
+  left = runs.ends.left;
   last_names = runs.ends.last_names;
   last = runs.ends.last;
   rest_text = runs.ends.replies.text;

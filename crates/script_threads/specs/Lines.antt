@@ -7,6 +7,7 @@ use Rattle.script_text.specs.declared.operator_line.OperatorLine.{OperatorLine}
 use Rattle.operator.specs.HeldJobs.{HeldList, give_backs}
 use Rattle.operator.specs.Serving.{IsServed, Stage}
 
+-- private: a stage from its parts
 abbrev pub stage : Basis → List (List ℕ) → HeldList → ServiceState → Stage
 stage graph names jobs service = record { names = names; jobs = jobs; service = service; graph = graph }
 
@@ -25,7 +26,7 @@ with_give_backs calls last = calls ++ give_backs last.jobs
 pub record Serves (graph : Basis) (names : List (List ℕ)) (service : ServiceState) (lines : List (OperatorLine (List ℕ))) (text : List ℕ) (new_names : List (List ℕ)) (new_service : ServiceState) : Type 0 where
   pub calls : List Call
   pub last : Stage
-  pub served : AreServed (stage graph names [] service) lines calls text last
+  pub served : AreServed (record { names = names; jobs = []; service = service; graph = graph }) lines calls text last
   pub names_are : last.names ≡ new_names
   pub given_back : Run last.service (give_backs last.jobs) new_service
 

@@ -10,10 +10,10 @@ use Rattle.script_text.specs.Threaded.{Parts as Script}
 use Rattle.script_threads.specs.Lines.{with_give_backs}
 use Rattle.script_threads.specs.Served.{IsServedFrom, Told}
 
--- the calls of the lines before the sessions, then those of the threads, then those of the other
--- lines
+-- the calls of the lines before the sessions, then those of the threads, then those of the jobs
+-- that are left, and then those of the other lines
 abbrev pub calls_of : {graph : Basis} {start : ServiceState} {script : Script} {sections : List Told} {text : List ℕ} → IsServedFrom graph start script sections text → List Call
-calls_of is = with_give_backs is.ahead.calls is.ahead.last ++ (is.ran.calls.calls ++ with_give_backs is.rest.calls is.rest.last)
+calls_of is = with_give_backs is.ahead.calls is.ahead.last ++ (is.ran.calls ++ (is.left.calls ++ with_give_backs is.rest.calls is.rest.last))
 
 -- calls are one run from the empty device, and what holds for the calls that one thread makes holds
 -- for them: each tenancy is answered what it is answered alone for its own events, its journal is

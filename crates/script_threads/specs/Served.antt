@@ -1,52 +1,77 @@
 -- The answers to a script whose sessions run on threads.
-use Rattle.std.specs.Prelude.{ℕ, ◌≡◌, ◌≢◌, List, [], ◌++◌, length, map, All, AllPairs}
+use Rattle.std.specs.Prelude.{ℕ, ◌≡◌, ◌≢◌, List, [], ◌∷◌, ◌++◌, length, map, All, AllPairs, true, Option, Some, IfSome, is_some, option_and_then}
+use Rattle.std.specs.List.{AllZip, filter_map}
+use Rattle.std.specs.Option.{option_map_or}
 use Rattle.rr_graph.specs.Graph.{Basis}
 use Rattle.service_core.specs.declared.device.Device.{Device}
 use Rattle.service_core.specs.declared.not_served.NoteCause.TheVariants.{JournalFull}
-use Rattle.service_core.specs.Receipt.{Noted}
-use Rattle.service_core.specs.Service.{ServiceState, empty, journal_of}
+use Rattle.service_core.specs.Receipt.{Noted, Receipted}
+use Rattle.service_core.specs.Run.{Call, Run}
+use Rattle.service_core.specs.Service.{ServiceState, empty, journal_of, live_of}
 use Rattle.sessions.specs.Fitting.{own_graph}
-use Rattle.settling.specs.Settling.{AreAllCalls}
+use Rattle.sessions.specs.Items.{items_of}
+use Rattle.shared_core.specs.Reaching.{is_of_threads, own_receipts}
+use Rattle.session_threads.specs.Told.{IsTold, told_texts}
+use Rattle.transcripts.specs.declared.item.Place.{Place}
 use Rattle.transcripts.specs.declared.item.Place.TheVariants.{Note}
-use Rattle.transcripts.specs.Transcripts.{TranscriptState}
+use Rattle.transcripts.specs.Transcripts.{receipt_in}
+use Rattle.operator.specs.OperatorText.{last_id}
 use Rattle.script_text.specs.declared.operator_line.OperatorLine.{OperatorLine}
 use Rattle.script_text.specs.Threaded.{Parts as Script, Said}
 use Rattle.script_threads.specs.declared.answered.Answered.{Answered}
 use Rattle.script_threads.specs.declared.answered.Section.{Section}
+use Rattle.script_threads.specs.Left.{MakesSteps}
 use Rattle.script_threads.specs.Lines.{Replies, Serves}
-use Rattle.script_threads.specs.Sessions.{IsTold, PartState, asked_in, asked_of, transcripts_of}
+use Rattle.script_threads.specs.Sessions.{evicted_text}
 
 -- a name and the answers to its session
 pub record Told : Type 0 where
   pub name : List ℕ
   pub text : List ℕ
 
-abbrev pub told_in : PartState → Told
-told_in part = record { name = part.name; text = part.text }
-
 abbrev pub section_told : Section → Told
 section_told section = record { name = section.name.now; text = section.text.items }
 
--- if a command is not served, then the journal is full, and the answer says so
-abbrev pub AreFullNotes : ServiceState → TranscriptState → Type 0
-AreFullNotes service t = All (λ i. (n : Noted) → i.place ≡ Note n → (n.cause ≡ JournalFull) × (length (journal_of service t.id) ≡ 65536)) t.items
+-- a name's session, the name's last tenancy, and the answers to the session's items if that tenancy
+-- is live
+pub record Conversation : Type 0 where
+  pub said : Said
+  pub id : ℕ
+  pub told : Option (List (Option Place))
 
--- each name's session has these answers; exactly the sessions of live tenancies ran, each of
--- another tenancy. Calls of threads led from the service that they began with to the one that they
--- left, and exactly the commands of their receipts are served in these calls, in order. If a
--- command is not served, its journal is full
+-- the answers as a text. If the tenancy isn't live, the core isn't asked
+abbrev pub told_in : Conversation → Told
+told_in c = record { name = c.said.name; text = option_map_or told_texts c.told (evicted_text c.said.input) }
+
+-- the receipts among answers
+abbrev pub receipts_told : List (Option Place) → List Receipted
+receipts_told told = filter_map (option_and_then receipt_in) told
+
+-- each item has its answer; the commands that are served in the tenancy's name are exactly those of
+-- the receipts, in order; and if a command is not served, then the answer says that the journal is
+-- full, it is full, and no later command is served
+pub record IsAnswered (calls : List Call) (service : ServiceState) (c : Conversation) (told : List (Option Place)) : Type 0 where
+  pub each : AllZip (IsTold c.id) (items_of c.said.input) told
+  pub served : own_receipts c.id calls ≡ receipts_told told
+  pub full : (before after : List (Option Place)) (n : Noted) → told ≡ before ++ Some (Note n) ∷ after → (n.cause ≡ JournalFull) × (length (journal_of service c.id) ≡ 65536) × (receipts_told after ≡ [])
+
+-- the sessions of live tenancies, each of another tenancy, ran on threads, whose calls led from one
+-- service to the other. In these calls no other tenancy's command is served
 pub record Ran (names : List (List ℕ)) (begun : ServiceState) (sessions : List Said) (sections : List Told) (service : ServiceState) : Type 0 where
-  pub parts : List PartState
-  pub asked : map asked_in parts ≡ map (asked_of names begun.histories) sessions
-  pub each : All IsTold parts
-  pub sections_are : sections ≡ map told_in parts
-  pub apart : AllPairs (λ t u. t.id ≢ u.id) (transcripts_of parts)
-  pub notes : All (AreFullNotes service) (transcripts_of parts)
-  pub calls : AreAllCalls begun service (transcripts_of parts)
+  pub conversations : List Conversation
+  pub calls : List Call
+  pub run : Run begun calls service
+  pub kinds : All (λ call. is_of_threads call ≡ true) calls
+  pub said : map (λ c. c.said) conversations ≡ sessions
+  pub live : All (λ c. (c.id ≡ last_id names c.said.name) × (is_some c.told ≡ is_some (live_of begun.histories c.id))) conversations
+  pub answered : All (λ c. IfSome c.told (IsAnswered calls service c)) conversations
+  pub apart : AllPairs (λ c d. is_some c.told ≡ true → is_some d.told ≡ true → c.id ≢ d.id) conversations
+  pub no_other : (id : ℕ) → All (λ c. is_some c.told ≡ true → c.id ≢ id) conversations → own_receipts id calls ≡ []
+  pub sections_are : sections ≡ map told_in conversations
 
 -- the operator's lines before the sessions are served from that state of the core, over that graph;
--- then the sessions run; and then the operator's other lines are served by the settled service. The
--- operator's text is that of all these lines
+-- then the sessions run; then the jobs that they left make their steps; and then the operator's
+-- other lines are served. The operator's text is that of all these lines
 pub record IsServedFrom (graph : Basis) (start : ServiceState) (script : Script) (sections : List Told) (text : List ℕ) : Type 0 where
   pub names : List (List ℕ)
   pub service : ServiceState
@@ -54,22 +79,26 @@ pub record IsServedFrom (graph : Basis) (start : ServiceState) (script : Script)
   pub ahead : Serves graph [] start script.ahead ahead_text names service
   pub settled : ServiceState
   pub ran : Ran names service script.sessions sections settled
+  pub rested : ServiceState
+  pub left : MakesSteps graph settled rested
   pub last_names : List (List ℕ)
   pub last : ServiceState
   pub rest_text : List ℕ
-  pub rest : Serves graph names settled script.rest rest_text last_names last
+  pub rest : Serves graph names rested script.rest rest_text last_names last
   pub text_is : text ≡ ahead_text ++ rest_text
 
 -- a script is served so from the empty device, over the device's own graph
 abbrev pub IsServedOnThreads : Device → Script → Answered → Type 0
 IsServedOnThreads device script answered = IsServedFrom (own_graph device) (empty device) script (map section_told answered.sections.items) answered.operator.items
 
--- private: the operator's other lines are served by the settled service, and their text follows the
--- reply so far
+-- private: the jobs that are left make their steps, the operator's other lines are served by the
+-- service after that, and their text follows the reply so far
 pub record Ends (graph : Basis) (names : List (List ℕ)) (settled : ServiceState) (rest : List (OperatorLine (List ℕ))) (before after : List ℕ) : Type 0 where
+  pub rested : ServiceState
+  pub left : MakesSteps graph settled rested
   pub last_names : List (List ℕ)
   pub last : ServiceState
-  pub replies : Replies graph names settled rest before after last_names last
+  pub replies : Replies graph names rested rest before after last_names last
 
 -- private: the sessions run before that
 pub record RunsOn (graph : Basis) (names : List (List ℕ)) (begun : ServiceState) (sessions : List Said) (rest : List (OperatorLine (List ℕ))) (sections : List Told) (before after : List ℕ) : Type 0 where

@@ -4,7 +4,7 @@ use Rattle.std.specs.List.{filter_map, flat_map}
 use Rattle.service_core.specs.History.{History}
 use Rattle.service_core.specs.Service.{live_of}
 use Rattle.sessions.specs.declared.line.SessionLine.{SessionLine}
-use Rattle.sessions.specs.declared.line.SessionLine.TheVariants.{Blank, Command, Wait, Refused}
+use Rattle.sessions.specs.declared.line.SessionLine.TheVariants.{Refused}
 use Rattle.sessions.specs.declared.refusal.SessionRefusal.{SessionRefusal}
 use Rattle.sessions.specs.declared.refusal.SessionRefusal.TheVariants.{Evicted}
 use Rattle.sessions.specs.Items.{items_of}
@@ -17,7 +17,7 @@ use Rattle.transcripts.specs.Transcripts.{AreOfLive, TranscriptState}
 use Rattle.script_text.specs.Threaded.{Said}
 use Rattle.operator.specs.OperatorText.{last_id}
 
--- what a name's session says, the name's last tenancy, and whether that is live
+-- private: what a name's session says, the name's last tenancy, and whether that is live
 pub record Asked : Type 0 where
   pub name : List ℕ
   pub input : List ℕ
@@ -32,7 +32,7 @@ asked_of names histories said = record {
   live = is_some (live_of histories (last_id names said.name));
 }
 
--- the answers to a name's session, and the transcript of a session that ran
+-- private: the answers to a name's session, and the transcript of a session that ran
 pub record PartState : Type 0 where
   pub name : List ℕ
   pub input : List ℕ
@@ -40,25 +40,24 @@ pub record PartState : Type 0 where
   pub text : List ℕ
   pub transcript : Option TranscriptState
 
--- exactly the sessions of live tenancies ran
+-- private: exactly the sessions of live tenancies ran
 abbrev pub asked_in : PartState → Asked
 asked_in part = record { name = part.name; input = part.input; id = part.id; live = is_some part.transcript }
 
 -- the core isn't asked what the session of a name asks that isn't live
 abbrev pub evicted_refusal : SessionLine → SessionRefusal
-evicted_refusal Blank = Evicted
-evicted_refusal (Command command) = Evicted
-evicted_refusal Wait = Evicted
 evicted_refusal (Refused refusal) = refusal
-
-abbrev pub evicted_line : SessionLine → List ℕ
-evicted_line item = session_refusal_text (evicted_refusal item)
+evicted_refusal line = Evicted
 
 -- each item of such a session is answered its own refusal, or that the tenancy is evicted
 abbrev pub evicted_text : List ℕ → List ℕ
-evicted_text input = flat_map evicted_line (items_of input)
+evicted_text input = flat_map (λ item. session_refusal_text (evicted_refusal item)) (items_of input)
 
--- the session ended with its input: each item of the input is answered, in order, what the
+-- private: the answer to one
+abbrev pub evicted_line : SessionLine → List ℕ
+evicted_line item = session_refusal_text (evicted_refusal item)
+
+-- private: the session ended with its input: each item of the input is answered, in order, what the
 -- transcript has, or is counted there as one that ran out of memory; and nothing else is written
 pub record IsWhole (id : ℕ) (input text : List ℕ) (t : TranscriptState) : Type 0 where
   pub told : List (Option Place)
@@ -78,6 +77,6 @@ pub record IsPart (live : Type 0) (part : PartState) : Type 0 where
   pub told : IsTold part
   pub of_live : live → IfSome part.transcript (λ t. AreOfLive t.items)
 
--- the transcripts of the sessions that ran
+-- private: the transcripts of the sessions that ran
 abbrev pub transcripts_of : List PartState → List TranscriptState
 transcripts_of parts = filter_map (λ p. p.transcript) parts

@@ -6,9 +6,10 @@ ghost use Rattle.script_threads.specs.Sessions.{PartState};
 
 use crate::answered::{Section, Unserved};
 use crate::part::Part;
+use crate::refusals::first_served_late;
 use script_text::SessionInput;
 use service_core::Service;
-use settling::settle;
+use settling::{Cause, settle};
 use shared_core::{Begun, Core, Share};
 use std::alloc::{AllocError, Global};
 use std::sync::ledger::Ledger;
@@ -44,7 +45,7 @@ pub(crate) fn finish<'t, C: Begun, P: Ledger>(
 }
 
 /// Settles the answers by the transcripts. Returns the service, and the answers to each name's
-/// session.
+/// session. They aren't settled if a command is served after one that found its journal full.
 fn settled<'t, C: Begun, P: Ledger>(
     core: Core<C, P>,
     parted: Parted<'t, C>,
@@ -61,6 +62,10 @@ fn settled<'t, C: Begun, P: Ledger>(
         sections,
         transcripts,
     } = parted;
+    if let Some(id) = first_served_late(&transcripts) {
+        drop((core, transcripts, shares, sections));
+        return Err(Unserved::NotSettled(Cause::NotFull { id }));
+    }
     match settle(core, transcripts, shares) {
         Ok(settled) => Ok((settled.into_service(), sections)),
         Err(not_settled) => {

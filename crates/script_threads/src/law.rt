@@ -1,13 +1,15 @@
-ghost use Rattle.std.specs.Prelude.{◌≡◌, All, Some, slice_get};
+ghost use Rattle.std.specs.Prelude.{◌≡◌, ◌⊎◌, ℕ, false, All, IfSome, Some, slice_get};
+ghost use Rattle.std.specs.List.{Contains};
+ghost use Rattle.job_state.specs.Job.{JobState};
+ghost use Rattle.service_core.specs.Calls.{takeable_in};
+ghost use Rattle.service_core.specs.Run.Call.{GiveBack};
 ghost use Rattle.service_core.specs.declared.device.Device.{Device};
-ghost use Rattle.service_core.specs.Service.{journal_of};
+ghost use Rattle.service_core.specs.Service.{journal_of, live_of};
 ghost use Rattle.settling.specs.Settling.{entry_of};
-ghost use Rattle.transcripts.specs.Transcripts.{receipts_of};
-ghost use Rattle.script_threads.specs.Sessions.{transcripts_of};
 ghost use Rattle.script_text.specs.Threaded.{Parts as Script};
 ghost use Rattle.script_threads.specs.declared.answered.Answered.{Answered};
 ghost use Rattle.script_threads.specs.OneRun.{IsOneRun, calls_of};
-ghost use Rattle.script_threads.specs.Served.{IsServedOnThreads};
+ghost use Rattle.script_threads.specs.Served.{IsServedOnThreads, receipts_told};
 ghost use Rattle.shared_core.specs.Following.{Follows, Stays};
 
 /// With workers as without, all calls of a script are one run of the core from the empty device on.
@@ -33,7 +35,16 @@ pub fn threads_go_on()
 pub fn receipts_stand()
     ensures { (device : Device) (script : Script) (answered : Answered)
         (is : IsServedOnThreads device script answered) →
-        All (λ t. All (λ r. (r.id ≡ t.id)
-        × (slice_get (journal_of is.settled t.id) r.place ≡ Some (entry_of r)))
-        (receipts_of t.items)) (transcripts_of is.ran.parts) }
+        All (λ c. IfSome c.told (λ told. All (λ r. (r.id ≡ c.id)
+        × (slice_get (journal_of is.settled c.id) r.place ≡ Some (entry_of r)))
+        (receipts_told told))) is.ran.conversations }
+{}
+
+/// When the operator's other lines are served, no tenancy has a step to take, unless memory ran out
+/// for its job.
+pub fn none_is_left()
+    ensures { (device : Device) (script : Script) (answered : Answered)
+        (is : IsServedOnThreads device script answered) (id : ℕ) →
+        (takeable_in (live_of (is.rested).histories id) ≡ false)
+        ⊎ ((job : JobState) × (job.step.id ≡ id) × Contains (is.left).calls (GiveBack job)) }
 {}

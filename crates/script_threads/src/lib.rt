@@ -2,16 +2,19 @@
 //!
 //! [`serve_on_threads`] serves the operator's lines before all sessions; then each name's session,
 //! the sessions of names that aren't live at once and the others on a thread each, beside the
-//! workers. After all of them have ended and their answers are settled, the operator's other lines
-//! are served. In `specs/`, `Served` says what is answered.
+//! workers. After all of them have ended and their answers are settled, jobs that are left make
+//! their steps, and the operator's other lines are served. In `specs/`, `Served` says what is
+//! answered.
 #![tactic(auto)]
 
 mod answered;
 mod crowd;
 mod finish;
 mod law;
+mod left_jobs;
 mod operator_lines;
 mod part;
+mod refusals;
 mod running;
 mod seated;
 mod seats;
@@ -19,5 +22,5 @@ mod serving;
 mod workers;
 
 pub use answered::{Answered, Section, Unserved};
-pub use law::{one_run, receipts_stand, threads_go_on};
+pub use law::{none_is_left, one_run, receipts_stand, threads_go_on};
 pub use serving::serve_on_threads;

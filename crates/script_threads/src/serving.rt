@@ -8,6 +8,7 @@ ghost use Rattle.sessions.specs.Fitting.{own_graph};
 ghost use Rattle.script_threads.specs.Served.{Ends, IsServedFrom, IsServedOnThreads, RunsOn, section_told};
 
 use crate::answered::{Answered, Section, Unserved};
+use crate::left_jobs::end_jobs;
 use crate::operator_lines::serve_lines;
 use crate::running::run_sessions;
 use line_text::MemorySink;
@@ -209,7 +210,8 @@ fn serve_sessions<
     }
 }
 
-/// Serves the operator's other lines by the settled service. Returns the answers to the sessions.
+/// Ends the jobs that are left, and serves the operator's other lines. Returns the answers to the
+/// sessions.
 fn serve_rest<'t>(
     alloc: Global,
     graph: &DeviceGraph,
@@ -225,6 +227,7 @@ fn serve_rest<'t>(
         (held reply.new)) }
 {
     let mut service = service;
+    end_jobs(graph, &mut service);
     let served = serve_lines(alloc, graph, operator, &mut service, rest, reply);
     drop(service);
     match served {

@@ -27,3 +27,6 @@ returns-clause-untouched g c = c.no_switch_joins.ensures
 
 pub returns-clause-as_one_run : goal.returns-clause-as_one_run
 returns-clause-as_one_run g c = c.one_run.ensures
+
+pub returns-clause-same_with_workers : goal.returns-clause-same_with_workers
+returns-clause-same_with_workers g c = c.same_with_workers.ensures

@@ -2,7 +2,8 @@ use Rattle.std.proofs.Common.{◌≢◌, ap, length, subst, sym, ◌∙◌}
 use Rattle.std.specs.Prelude.{All, AllPairs}
 use Rattle.service_core.specs.Service.{ServiceState}
 use Rattle.settling.specs.Settling.{AreAllCalls, SettledState}
-use Rattle.script_threads.specs.Served.{AreFullNotes}
+use Rattle.script_threads.specs.Parts.{AreFullNotes}
+use Rattle.script_threads.specs.Refusals.{NoneLate}
 use Rattle.script_threads.proofs.FinishLemmas.{full_notes}
 use Rattle.script_threads.proofs.finish.settled.Goals as goal
 
@@ -11,6 +12,7 @@ returns-in-Ok g c =
     let service = c.into_service.result in
     let settled = c.in-Ok.ensures.settled in
     let given = c.into_service.ensures in
+    let late : All NoneLate c.args.parted.transcripts.items = rw c.deref.ensures.value at c.in_default.ensures in
     let left = sym (given ∙ ap (λ (s : SettledState). s.service) c.in-Ok.ensures.service) in
     record {
       ok = λ parts are. record {
@@ -18,6 +20,7 @@ returns-in-Ok g c =
         sections_are = are.sections_are;
         apart = subst (λ ts. AllPairs (λ t u. t.id ≢ u.id) ts) are.transcripts_are settled.apart;
         notes = subst (λ ts. All (AreFullNotes service) ts) are.transcripts_are (full_notes _ service _ left (are.of_live c.requires) settled.full);
+        none_late = subst (λ ts. All NoneLate ts) are.transcripts_are late;
         calls = subst (λ ts. AreAllCalls g.C.Begun.begun service ts) are.transcripts_are (rw given (c.in-Ok.ensures.calls c.requires));
       };
       even = ap (λ (s : ServiceState). length s.histories) given ∙ (c.in-Ok.ensures.stays c.requires).count;

@@ -1,0 +1,179 @@
+-- Without workers, the text of a session that waits is the same function of its items.
+use Rattle.std.proofs.Common.{◌≡◌, ◌≢◌, ℕ, List, [], ◌∷◌, ◌++◌, map, Bool, true, false, eqb, Option, Some, None, Result, Ok, Err, refl, sym, ap, ◌∙◌, subst, append_assoc, arith}
+use Rattle.std.specs.Prelude.{All, if◌then◌else◌}
+use Rattle.std.specs.List.{flat_map}
+use Rattle.std.proofs.lemmas.Bool.Decides.{nat_tests}
+use Rattle.std.proofs.lemmas.Grind.{flat_map-append}
+use Rattle.std.proofs.lemmas.List.Elements.{All-append, All-head, All-nil, All-same, All-tail}
+use Rattle.tenant_slot.specs.declared.command.Command.{Command as TenantCommand}
+use Rattle.tenant_slot.specs.declared.command.Command.TheVariants.{Status}
+use Rattle.tenant_slot.specs.declared.event.Advance.{Advance}
+use Rattle.tenant_slot.specs.declared.event.Event.{Event}
+use Rattle.tenant_slot.specs.declared.event.Event.TheVariants.{Command as Asked, Advance as Stepped}
+use Rattle.tenant_slot.specs.declared.reply.Reply.{Reply}
+use Rattle.tenant_slot.specs.declared.reply.Reply.TheVariants.{Step}
+use Rattle.tenant_slot.specs.SingleUser.{State, answer_to, running, start, state_after, step}
+use Rattle.service_core.specs.declared.device.Device.{Device}
+use Rattle.service_core.specs.declared.not_served.NotServed.{NotServed}
+use Rattle.service_core.specs.declared.not_served.NotServed.TheVariants.{NoMemory, JournalFull, NoSuchTenancy}
+use Rattle.service_core.specs.declared.put_reply.PutReply.TheVariants.{Recorded, Full, Gone}
+use Rattle.service_core.specs.OwnEvents.{own_events, own_exchange, own_exchanges}
+use Rattle.service_core.specs.Receipt.{Receipted}
+use Rattle.service_core.specs.Run.{Call, Run}
+use Rattle.service_core.specs.Run.Call.{Admit, Evict, Move, Tenant, Take, Put, GiveBack, Owners}
+use Rattle.service_core.specs.Service.{ServiceState, empty, live_width, strip_on}
+use Rattle.sessions.specs.declared.line.SessionLine.{SessionLine}
+use Rattle.sessions.specs.declared.line.SessionLine.TheVariants.{Blank, Command, Wait, Refused}
+use Rattle.sessions.specs.declared.steps.StepOutcome.{StepOutcome}
+use Rattle.sessions.specs.declared.steps.StepOutcome.TheVariants.{Recorded as StepRecorded, Full as StepFull, Gone as StepGone, NoMemory as StepNoMemory, Nothing, Unfit}
+use Rattle.sessions.specs.declared.told.Answer.{Answer}
+use Rattle.sessions.specs.declared.told.Answer.TheVariants.{Served}
+use Rattle.sessions.specs.SessionAnswer.{AsksCommand, EndsWait}
+use Rattle.sessions.specs.SessionText.{answer_text, reply_text, session_refusal_text}
+use Rattle.sessions.specs.Steps.{MadeStep, MakesStep, Waits}
+use Rattle.sessions.specs.WholeSession.{IsOthers, Turn, Turns, Item, Meanwhile, written}
+use Rattle.sessions.proofs.StepLemmas.{Run-append}
+use Rattle.workers_law.specs.Waited.{after_command, begins_job, ended, waited_text, waits_for_each}
+use Rattle.workers_law.specs.Workers.{AreReplied, IsReplied, items_in}
+use Rattle.workers_law.proofs.Ahead.{NoneAsked, NotAsked, step_none}
+use Rattle.workers_law.proofs.States.{AreAlike, alike-name, ended-rests, status_rests}
+use Rattle.workers_law.proofs.Waiting.{Agree, Exchanges, Shows, agree_steps, agree_stepped, answered, both_hold, free_alike, none_asked_steps, shows_rest}
+use Rattle.workers_law.proofs.WithWorkers.{shows_after}
+
+-- all calls of the turns
+abbrev calls_in : List Turn → List Call
+calls_in [] = []
+calls_in (Item line calls answer ∷ turns) = calls ++ calls_in turns
+calls_in (Meanwhile call ∷ turns) = call ∷ calls_in turns
+
+turns_run : (id : ℕ) (old : ServiceState) (turns : List Turn) (new : ServiceState) → Turns id old turns new → Run old (calls_in turns) new
+turns_run id old [] new is = is
+turns_run id old (Item line calls answer ∷ turns) new is = Run-append old calls is.0 (calls_in turns) new is.2 (turns_run id is.0 turns new is.3)
+turns_run id old (Meanwhile call ∷ turns) new is = (is.0, is.2, turns_run id is.0 turns new is.3)
+
+-- the state after a call that others make, and what follows
+abbrev Goes : Bool → State → Exchanges → Type 0
+Goes begun t rest = (s : State) × Agree begun s t × Shows s rest
+
+stays : (begun : Bool) (s t : State) (rest : Exchanges) → Agree begun s t → Shows s rest → Goes begun t rest
+stays begun s t rest agree shows = (s, agree, shows)
+
+not_own : (b : Bool) (begun : Bool) (s t : State) (event : Event) (reply : Option Reply) (rest : Exchanges) → b ≡ false → Agree begun s t → Shows s ((if b then (event, reply) ∷ [] else []) ++ rest) → Goes begun t rest
+not_own true begun s t event reply rest other agree shows = cc
+not_own false begun s t event reply rest other agree shows = stays begun s t rest agree shows
+
+a_step : (b : Bool) (begun : Bool) (s t : State) (made : Advance) (reply : Option Reply) (rest : Exchanges) → Agree begun s t → Shows s ((if b then (Stepped made, reply) ∷ [] else []) ++ rest) → Goes begun t rest
+a_step true begun s t made reply rest agree shows = stays begun (step s (Stepped made)).0 t rest (agree_stepped begun s t made agree) shows.1
+a_step false begun s t made reply rest agree shows = stays begun s t rest agree shows
+
+differ : (t id : ℕ) → t ≢ id → eqb t id ≡ false
+differ t id apart = grind (arith, nat_tests)
+
+meanwhile : (id : ℕ) (begun : Bool) (call : Call) (s t : State) (rest : Exchanges) → IsOthers id call → Agree begun s t → Shows s (own_exchange id call ++ rest) → Goes begun t rest
+meanwhile id begun (Admit width answer) s t rest others agree shows = stays begun s t rest agree shows
+meanwhile id begun (Evict u answer) s t rest others agree shows = stays begun s t rest agree shows
+meanwhile id begun (Move u offset answer) s t rest others agree shows = stays begun s t rest agree shows
+meanwhile id begun (Tenant u command (Ok r)) s t rest others agree shows = not_own (eqb u id) begun s t (Asked command) (Some r.reply) rest (differ u id others) agree shows
+meanwhile id begun (Tenant u command (Err (JournalFull note))) s t rest others agree shows = not_own (eqb u id) begun s t (Asked command) None rest (differ u id others) agree shows
+meanwhile id begun (Tenant u command (Err (NoSuchTenancy note))) s t rest others agree shows = stays begun s t rest agree shows
+meanwhile id begun (Tenant u command (Err NoMemory)) s t rest others agree shows = stays begun s t rest agree shows
+meanwhile id begun (Take u answer) s t rest others agree shows = stays begun s t rest agree shows
+meanwhile id begun (Put done foreign (Ok (Recorded reply))) s t rest others agree shows = a_step (eqb done.id id) begun s t _ (Some (Step reply)) rest agree shows
+meanwhile id begun (Put done foreign (Ok Full)) s t rest others agree shows = a_step (eqb done.id id) begun s t _ None rest agree shows
+meanwhile id begun (Put done foreign (Ok Gone)) s t rest others agree shows = stays begun s t rest agree shows
+meanwhile id begun (Put done foreign (Err back)) s t rest others agree shows = stays begun s t rest agree shows
+meanwhile id begun (GiveBack job) s t rest others agree shows = stays begun s t rest agree shows
+meanwhile id begun (Owners list) s t rest others agree shows = stays begun s t rest agree shows
+
+-- the steps of a wait ask no command
+made_none : (id : ℕ) (made : List MadeStep) → All (λ (m : MadeStep). MakesStep id m.0 (StepRecorded m.1)) made → NoneAsked (flat_map (λ (m : MadeStep). m.0) made)
+made_none id [] all = All-nil NotAsked
+made_none id (m ∷ made) all =
+    All-append NotAsked m.0 (flat_map (λ (m : MadeStep). m.0) made) (step_none id m.0 (StepRecorded m.1) (All-head (λ (m : MadeStep). MakesStep id m.0 (StepRecorded m.1)) m made all))
+    (made_none id made (All-tail (λ (m : MadeStep). MakesStep id m.0 (StepRecorded m.1)) m made all))
+
+wait_none : (id : ℕ) (calls : List Call) (last : StepOutcome) → Waits id calls last → NoneAsked calls
+wait_none id calls last is = All-same NotAsked calls _ is.5 (All-append NotAsked (flat_map (λ (m : MadeStep). m.0) is.0) is.1 (made_none id is.0 is.2) (step_none id is.1 last is.3))
+
+-- a command that was asked
+abbrev Line : ℕ → SessionLine → TenantCommand → List Call → Answer → State → Exchanges → Type 0
+Line id line command calls answer s rest = (r : Receipted) × (answer ≡ Served (Ok r)) × ((step s (Asked command)).1 ≡ Some r.reply) × Shows (step s (Asked command)).0 rest × IsReplied line (Served (Ok r))
+
+own_one : (id : ℕ) (command : TenantCommand) (r : Receipted) → own_exchanges id (Tenant id command (Ok r) ∷ []) ≡ (Asked command, Some r.reply) ∷ []
+own_one id command r = let e : eqb id id ≡ true = grind (arith, nat_tests) in ap (λ b. (if b then (Asked command, Some r.reply) ∷ [] else []) ++ []) e
+
+served_line : (id : ℕ) (line : SessionLine) (command : TenantCommand) (served : Result Receipted NotServed) (s : State) (rest : Exchanges) → ((e : NotServed) → IsReplied line (Served (Err e)) → ⊥) → IsReplied line (Served served) →
+    Shows s (own_exchanges id (Tenant id command served ∷ []) ++ rest) → Line id line command (Tenant id command served ∷ []) (Served served) s rest
+served_line id line command (Err e) s rest never replied shows = absurd (never e replied)
+served_line id line command (Ok r) s rest never replied shows =
+    let here : Shows s ((Asked command, Some r.reply) ∷ rest) = subst (λ xs. Shows s (xs ++ rest)) (own_one id command r) shows in
+    (r, refl, sym here.0, here.1, replied)
+
+asked_line : (id : ℕ) (line : SessionLine) (command : TenantCommand) (calls : List Call) (answer : Answer) (s : State) (rest : Exchanges) → ((e : NotServed) → IsReplied line (Served (Err e)) → ⊥) → AsksCommand id command calls answer → IsReplied line answer →
+    Shows s (own_exchanges id calls ++ rest) → Line id line command calls answer s rest
+asked_line id line command calls answer s rest never asks replied shows =
+    let one = served_line id line command asks.0 s rest never (subst (IsReplied line) asks.2 replied) (subst (λ cs. Shows s (own_exchanges id cs ++ rest)) asks.1 shows) in
+    (one.0, asks.2 ∙ one.1, one.2, one.3, one.4)
+
+status_line : (id : ℕ) (last : StepOutcome) (calls : List Call) (answer : Answer) → EndsWait id last calls answer → IsReplied Wait answer → AsksCommand id Status calls answer
+status_line id (StepRecorded reply) calls answer is replied = is
+status_line id StepFull calls answer is replied = is
+status_line id StepGone calls answer is replied = is
+status_line id StepNoMemory calls answer is replied = absurd (subst (IsReplied Wait) is.1 replied)
+status_line id Nothing calls answer is replied = is
+status_line id Unfit calls answer is replied = is
+
+split_shows : (id : ℕ) (s : State) (calls more : List Call) → Shows s (own_exchanges id (calls ++ more)) → Shows s (own_exchanges id calls ++ own_exchanges id more)
+split_shows id s calls more shows = subst (Shows s) (flat_map-append (own_exchange id) calls more) shows
+
+no_calls : (id : ℕ) (s : State) (calls more : List Call) → calls ≡ [] → Shows s (own_exchanges id (calls ++ more)) → Shows s (own_exchanges id more)
+no_calls id s calls more none shows = subst (λ cs. Shows s (own_exchanges id (cs ++ more))) none shows
+
+-- a receipt of that command
+abbrev receipt_of : TenantCommand → Receipted → Receipted
+receipt_of command r = record r { command = command }
+
+pub turns_text : (id : ℕ) (turns : List Turn) (s t : State) (begun : Bool) (old new : ServiceState) → Turns id old turns new → AreReplied turns → waits_for_each begun (items_in turns) ≡ true → Agree begun s t →
+    Shows s (own_exchanges id (calls_in turns)) → written turns ≡ waited_text t (items_in turns)
+turns_text id [] s t begun old new is replied waits agree shows = refl
+turns_text id (Meanwhile call ∷ turns) s t begun old new is replied waits agree shows =
+    let goes = meanwhile id begun call s t (own_exchanges id (calls_in turns)) is.1 agree shows in
+    turns_text id turns goes.0 t begun is.0 new is.3 replied waits goes.1 goes.2
+turns_text id (Item Blank calls answer ∷ turns) s t begun old new is replied waits agree shows =
+    ap (λ a. answer_text a ++ written turns) is.1.1 ∙ turns_text id turns s t begun is.0 new is.3 replied.1 waits agree (no_calls id s calls (calls_in turns) is.1.0 shows)
+turns_text id (Item (Refused f) calls answer ∷ turns) s t begun old new is replied waits agree shows =
+    ap (λ a. answer_text a ++ written turns) is.1.1 ∙ ap (λ text. session_refusal_text f ++ text) (turns_text id turns s t begun is.0 new is.3 replied.1 waits agree (no_calls id s calls (calls_in turns) is.1.0 shows))
+turns_text id (Item (Command command) calls answer ∷ turns) s t begun old new is replied waits agree shows =
+    let goes = both_hold begun (waits_for_each (begins_job command) (items_in turns)) waits in
+    let free : Agree false s t = subst (λ b. Agree b s t) goes.0 agree in
+    let rest : Exchanges = own_exchanges id (calls_in turns) in
+    let line = asked_line id (Command command) command calls answer s rest (λ e never. never) is.1 replied.0 (split_shows id s calls (calls_in turns) shows) in
+    let one = answered s t command (receipt_of command line.0) refl (free_alike s t free) (free.rest refl).1 line.2 in
+    ap (λ a. answer_text a ++ written turns) line.1 ∙ (ap (λ text. text ++ written turns) one.text ∙ ap (λ text. reply_text (answer_to t (Asked command)).1 ++ text)
+    (turns_text id turns (step s (Asked command)).0 (after_command t command) (begins_job command) is.0 new is.3 replied.1 goes.1 one.agree line.3))
+turns_text id (Item Wait calls answer ∷ turns) s t begun old new is replied waits agree shows =
+    let asks = is.1 in
+    let steps : List Call = asks.1 in
+    let rest : Exchanges = own_exchanges id (calls_in turns) in
+    let all : Shows s (own_exchanges id calls ++ rest) = split_shows id s calls (calls_in turns) shows in
+    let cut : Shows s (own_exchanges id (steps ++ asks.2) ++ rest) = subst (λ cs. Shows s (own_exchanges id cs ++ rest)) asks.5 all in
+    let parts : Shows s ((own_exchanges id steps ++ own_exchanges id asks.2) ++ rest) = subst (λ xs. Shows s (xs ++ rest)) (flat_map-append (own_exchange id) steps asks.2) cut in
+    let whole : Shows s (own_exchanges id steps ++ (own_exchanges id asks.2 ++ rest)) = subst (Shows s) (append_assoc (own_exchanges id steps) (own_exchanges id asks.2) rest) parts in
+    let s1 : State = state_after s (map (λ (x : Event × Option Reply). x.0) (own_exchanges id steps)) in
+    let later : Shows s1 (own_exchanges id asks.2 ++ rest) = shows_rest s (own_exchanges id steps) (own_exchanges id asks.2 ++ rest) whole in
+    let agree1 : Agree begun s1 t = agree_steps begun s t (own_exchanges id steps) (none_asked_steps id steps (wait_none id steps asks.0 asks.3)) agree in
+    let line = asked_line id Wait Status asks.2 answer s1 rest (λ e never. never) (status_line id asks.0 asks.2 answer asks.4 replied.0) replied.0 later in
+    let rests : running s1.name ≡ None = status_rests s1 line.0.reply line.2 line.4 in
+    let alike : AreAlike s1 (ended t) = subst (λ x. AreAlike x (ended t)) (ended-rests s1 rests) agree1.alike in
+    let over : running (ended t).name ≡ None = ap running (sym (alike-name s1 (ended t) alike)) ∙ rests in
+    let one = answered s1 (ended t) Status (receipt_of Status line.0) refl alike over line.2 in
+    ap (λ a. answer_text a ++ written turns) line.1 ∙ (ap (λ text. text ++ written turns) one.text ∙ ap (λ text. reply_text (answer_to (ended t) (Asked Status)).1 ++ text)
+    (turns_text id turns (step s1 (Asked Status)).0 (after_command (ended t) Status) false is.0 new is.3 replied.1 waits one.agree line.3))
+
+-- the whole session
+pub same_text : (device : Device) (before : List Call) (old new : ServiceState) (id width : ℕ) (turns : List Turn) → Run (empty device) before old → own_events id before ≡ [] → live_width old.histories id ≡ Some width → Turns id old turns new →
+    waits_for_each false (items_in turns) ≡ true → AreReplied turns → written turns ≡ waited_text (start device.arch (strip_on device width)) (items_in turns)
+same_text device before old new id width turns first nothing live is waits replied =
+    let begin : State = start device.arch (strip_on device width) in
+    let shows : Shows (state_after begin (own_events id before)) (own_exchanges id (calls_in turns)) = shows_after device before (calls_in turns) old new id width first (turns_run id old turns new is) live in
+    turns_text id turns begin begin false old new is replied waits (record { alike = refl; rest = λ free. (refl, refl) }) (subst (λ events. Shows (state_after begin events) (own_exchanges id (calls_in turns))) nothing shows)

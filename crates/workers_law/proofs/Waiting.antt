@@ -1,0 +1,268 @@
+-- The text of a session that waits for each of its jobs.
+use Rattle.std.proofs.Common.{◌≡◌, ℕ, List, [], ◌∷◌, ◌++◌, map, Bool, true, false, eqb, Option, Some, None, Ok, Err, refl, sym, ap, ◌∙◌, subst}
+use Rattle.std.specs.Prelude.{All, ⊤, not, ◌&&◌, if◌then◌else◌}
+use Rattle.std.specs.List.{AllZip}
+use Rattle.std.proofs.lemmas.List.Elements.{All-cons, All-head, All-nil, All-tail}
+use Rattle.tenant_slot.specs.declared.command.Command.{Command as TenantCommand}
+use Rattle.tenant_slot.specs.declared.command.Command.TheVariants.{Status}
+use Rattle.tenant_slot.specs.declared.event.Advance.{Advance}
+use Rattle.tenant_slot.specs.declared.event.Event.{Event}
+use Rattle.tenant_slot.specs.declared.event.Event.TheVariants.{Command as Asked, Advance as Stepped}
+use Rattle.tenant_slot.specs.declared.reply.Reply.{Reply}
+use Rattle.tenant_slot.specs.declared.reply.Reply.TheVariants.{Step}
+use Rattle.tenant_slot.specs.SingleUser.{State, answer_to, replies_to, running, state_after, step}
+use Rattle.service_core.specs.declared.put_reply.PutReply.TheVariants.{Recorded, Full, Gone}
+use Rattle.service_core.specs.declared.not_served.NoteCause.TheVariants.{JournalFull}
+use Rattle.service_core.specs.History.{History}
+use Rattle.service_core.specs.OwnEvents.{own_exchanges}
+use Rattle.service_core.specs.Receipt.{Noted, Receipted}
+use Rattle.service_core.specs.Run.{Call, Happens, IsReceipt, Run}
+use Rattle.service_core.specs.Run.Call.{Admit, Evict, Move, Tenant, Take, Put, GiveBack, Owners}
+use Rattle.service_core.specs.Service.{ServiceState, live_of}
+use Rattle.sessions.specs.declared.line.SessionLine.{SessionLine}
+use Rattle.sessions.specs.declared.line.SessionLine.TheVariants.{Blank, Command, Wait, Refused}
+use Rattle.sessions.specs.SessionText.{reply_text}
+use Rattle.shared_core.specs.Reaching.{own_receipts}
+use Rattle.shared_core.proofs.Reaching.{IsOfThreads}
+use Rattle.transcripts.specs.declared.item.Place.{Place}
+use Rattle.transcripts.specs.declared.item.Place.TheVariants.{Receipt, Note, Refused as RefusedPlace}
+use Rattle.session_threads.specs.Told.{IsTold, note_text, place_text, told_text, told_texts}
+use Rattle.script_threads.specs.Served.{receipts_told}
+use Rattle.workers_law.specs.Waited.{IsReply, after_command, begins_job, ended, waited_text, waits_for_each}
+use Rattle.workers_law.proofs.Ahead.{NoneAsked, NotAsked}
+use Rattle.workers_law.proofs.States.{AreAlike, alike-ended, alike-name, alike-trans, asked_alike, command_rests, ended-rests, status_rests, stepped_alike, stepped_rests}
+
+abbrev pub Exchanges : Type 0
+Exchanges = List (Event × Option Reply)
+
+abbrev head_or : {A : Type 0} → A → List A → A
+head_or d [] = d
+head_or d (x ∷ xs) = x
+
+abbrev tail_of : {A : Type 0} → List A → List A
+tail_of [] = []
+tail_of (x ∷ xs) = xs
+
+-- each exchange has the reply that its event gets
+abbrev pub Shows : State → Exchanges → Type 0
+Shows s [] = ⊤
+Shows s (x ∷ xs) = (x.1 ≡ (step s x.0).1) × Shows (step s x.0).0 xs
+
+pub shows_of : (s : State) (xs : Exchanges) → map (λ (x : Event × Option Reply). x.1) xs ≡ replies_to s (map (λ (x : Event × Option Reply). x.0) xs) → Shows s xs
+shows_of s [] is = tt
+shows_of s (x ∷ xs) is = (ap (head_or x.1) is, shows_of (step s x.0).0 xs (ap tail_of is))
+
+pub shows_rest : (s : State) (xs ys : Exchanges) → Shows s (xs ++ ys) → Shows (state_after s (map (λ (x : Event × Option Reply). x.0) xs)) ys
+shows_rest s [] ys is = is
+shows_rest s (x ∷ xs) ys is = shows_rest (step s x.0).0 xs ys is.1
+
+-- the tenancy's state, and the one that the definition has; `begun` says whether a command that may
+-- begin a job came, and no `wait` since
+pub record Agree (begun : Bool) (s t : State) : Type 0 where
+  pub alike : AreAlike (ended s) (ended t)
+  pub rest : begun ≡ false → (running s.name ≡ None) × (running t.name ≡ None)
+
+pub agree_stepped : (begun : Bool) (s t : State) (made : Advance) → Agree begun s t → Agree begun (step s (Stepped made)).0 t
+agree_stepped begun s t made agree = record {
+  alike = alike-trans (ended (step s (Stepped made)).0) (ended s) (ended t) (stepped_alike s made) agree.alike;
+  rest = λ free. (stepped_rests s made (agree.rest free).0, (agree.rest free).1);
+}
+
+-- events that are no commands
+abbrev pub AreSteps : Exchanges → Type 0
+AreSteps [] = ⊤
+AreSteps (x ∷ xs) = ((made : Advance) × (x.0 ≡ Stepped made)) × AreSteps xs
+
+pub agree_steps : (begun : Bool) (s t : State) (xs : Exchanges) → AreSteps xs → Agree begun s t → Agree begun (state_after s (map (λ (x : Event × Option Reply). x.0) xs)) t
+agree_steps begun s t [] are agree = agree
+agree_steps begun s t (x ∷ xs) are agree =
+    let P : Event → Type 0 = λ e. Agree begun (step s e).0 t in
+    agree_steps begun (step s x.0).0 t xs are.1 (subst P (sym are.0.1) (agree_stepped begun s t are.0.0 agree))
+
+steps_if : (b : Bool) (made : Advance) (reply : Option Reply) (xs : Exchanges) → AreSteps xs → AreSteps ((if b then (Stepped made, reply) ∷ [] else []) ++ xs)
+steps_if true made reply xs are = ((made, refl), are)
+steps_if false made reply xs are = are
+
+pub none_asked_steps : (id : ℕ) (calls : List Call) → NoneAsked calls → AreSteps (own_exchanges id calls)
+none_asked_steps id [] none = tt
+none_asked_steps id (Admit width answer ∷ calls) none = none_asked_steps id calls (All-tail NotAsked (Admit width answer) calls none)
+none_asked_steps id (Evict t answer ∷ calls) none = none_asked_steps id calls (All-tail NotAsked (Evict t answer) calls none)
+none_asked_steps id (Move t offset answer ∷ calls) none = none_asked_steps id calls (All-tail NotAsked (Move t offset answer) calls none)
+none_asked_steps id (Tenant t command served ∷ calls) none = absurd (All-head NotAsked (Tenant t command served) calls none)
+none_asked_steps id (Take t answer ∷ calls) none = none_asked_steps id calls (All-tail NotAsked (Take t answer) calls none)
+none_asked_steps id (Put done foreign (Ok (Recorded reply)) ∷ calls) none =
+    steps_if (eqb done.id id) _ (Some (Step reply)) (own_exchanges id calls) (none_asked_steps id calls (All-tail NotAsked (Put done foreign (Ok (Recorded reply))) calls none))
+none_asked_steps id (Put done foreign (Ok Full) ∷ calls) none =
+    steps_if (eqb done.id id) _ None (own_exchanges id calls) (none_asked_steps id calls (All-tail NotAsked (Put done foreign (Ok Full)) calls none))
+none_asked_steps id (Put done foreign (Ok Gone) ∷ calls) none = none_asked_steps id calls (All-tail NotAsked (Put done foreign (Ok Gone)) calls none)
+none_asked_steps id (Put done foreign (Err back) ∷ calls) none = none_asked_steps id calls (All-tail NotAsked (Put done foreign (Err back)) calls none)
+none_asked_steps id (GiveBack job ∷ calls) none = none_asked_steps id calls (All-tail NotAsked (GiveBack job) calls none)
+none_asked_steps id (Owners list ∷ calls) none = none_asked_steps id calls (All-tail NotAsked (Owners list) calls none)
+
+-- a call of threads; a receipt has the command that was asked
+abbrev pub IsFair : Call → Type 0
+IsFair (Tenant t command (Ok r)) = r.command ≡ command
+IsFair (Take t answer) = ⊤
+IsFair (Put done foreign answer) = ⊤
+IsFair (GiveBack job) = ⊤
+IsFair call = ⊥
+
+fair_call : (a b : ServiceState) (call : Call) → IsOfThreads call → Happens a call b → IsFair call
+fair_call a b (Admit width answer) never is = cc
+fair_call a b (Evict t answer) never is = cc
+fair_call a b (Move t offset answer) never is = cc
+fair_call a b (Tenant t command (Err refusal)) never is = cc
+fair_call a b (Tenant t command (Ok r)) kind is = by_live (live_of a.histories t) is.0
+  where
+    by_live : (o : Option History) → IsReceipt o t command r → r.command ≡ command
+    by_live None never = absurd never
+    by_live (Some h) said = said.2
+fair_call a b (Take t answer) kind is = tt
+fair_call a b (Put done foreign answer) kind is = tt
+fair_call a b (GiveBack job) kind is = tt
+fair_call a b (Owners list) never is = cc
+
+pub fair_calls : (a : ServiceState) (calls : List Call) (b : ServiceState) → All IsOfThreads calls → Run a calls b → All IsFair calls
+fair_calls a [] b kinds run = All-nil IsFair
+fair_calls a (call ∷ calls) b kinds run =
+    All-cons IsFair call calls (fair_call a run.0 call (All-head IsOfThreads call calls kinds) run.1) (fair_calls run.0 calls b (All-tail IsOfThreads call calls kinds) run.2)
+
+-- the state in which the next command is asked, and what follows
+pub record Next (id : ℕ) (begun : Bool) (t : State) (r : Receipted) (rs : List Receipted) : Type 0 where
+  pub s : State
+  pub agree : Agree begun s t
+  pub told : (step s (Asked r.command)).1 ≡ Some r.reply
+  pub calls : List Call
+  pub fair : All IsFair calls
+  pub shows : Shows (step s (Asked r.command)).0 (own_exchanges id calls)
+  pub rest : own_receipts id calls ≡ rs
+
+-- the same for later calls, from any state
+abbrev Later : ℕ → Bool → State → Receipted → List Receipted → List Call → Type 0
+Later id begun t r rs calls = (s : State) → Shows s (own_exchanges id calls) → own_receipts id calls ≡ r ∷ rs → Agree begun s t → Next id begun t r rs
+
+at_command : (b : Bool) (id : ℕ) (begun : Bool) (s t : State) (command : TenantCommand) (q r : Receipted) (rs : List Receipted) (calls : List Call) → q.command ≡ command → All IsFair calls →
+    Shows s ((if b then (Asked command, Some q.reply) ∷ [] else []) ++ own_exchanges id calls) → (if b then q ∷ [] else []) ++ own_receipts id calls ≡ r ∷ rs → Agree begun s t → Later id begun t r rs calls → Next id begun t r rs
+at_command false id begun s t command q r rs calls same fair shows is agree later = later s shows is agree
+at_command true id begun s t command q r rs calls same fair shows is agree later =
+    let first : q ≡ r = ap (head_or q) is in
+    let here : Next id begun t q rs = record {
+      s = s;
+      agree = agree;
+      told = ap (λ c. (step s (Asked c)).1) same ∙ sym shows.0;
+      calls = calls;
+      fair = fair;
+      shows = subst (λ c. Shows (step s (Asked c)).0 (own_exchanges id calls)) (sym same) shows.1;
+      rest = ap tail_of is;
+    } in
+    subst (λ x. Next id begun t x rs) first here
+
+at_put : (b : Bool) (id : ℕ) (begun : Bool) (s t : State) (made : Advance) (reply : Option Reply) (r : Receipted) (rs : List Receipted) (calls : List Call) →
+    Shows s ((if b then (Stepped made, reply) ∷ [] else []) ++ own_exchanges id calls) → own_receipts id calls ≡ r ∷ rs → Agree begun s t → Later id begun t r rs calls → Next id begun t r rs
+at_put false id begun s t made reply r rs calls shows is agree later = later s shows is agree
+at_put true id begun s t made reply r rs calls shows is agree later = later (step s (Stepped made)).0 shows.1 is (agree_stepped begun s t made agree)
+
+next_receipt : (id : ℕ) (begun : Bool) (calls : List Call) (s t : State) (r : Receipted) (rs : List Receipted) → All IsFair calls → Shows s (own_exchanges id calls) → own_receipts id calls ≡ r ∷ rs → Agree begun s t → Next id begun t r rs
+next_receipt id begun [] s t r rs fair shows is agree = cc
+next_receipt id begun (Admit width answer ∷ calls) s t r rs fair shows is agree = absurd (All-head IsFair (Admit width answer) calls fair)
+next_receipt id begun (Evict u answer ∷ calls) s t r rs fair shows is agree = absurd (All-head IsFair (Evict u answer) calls fair)
+next_receipt id begun (Move u offset answer ∷ calls) s t r rs fair shows is agree = absurd (All-head IsFair (Move u offset answer) calls fair)
+next_receipt id begun (Tenant u command (Err refusal) ∷ calls) s t r rs fair shows is agree = absurd (All-head IsFair (Tenant u command (Err refusal)) calls fair)
+next_receipt id begun (Tenant u command (Ok q) ∷ calls) s t r rs fair shows is agree =
+    let more : All IsFair calls = All-tail IsFair (Tenant u command (Ok q)) calls fair in
+    at_command (eqb u id) id begun s t command q r rs calls (All-head IsFair (Tenant u command (Ok q)) calls fair) more shows is agree (λ s' shows' is' agree'. next_receipt id begun calls s' t r rs more shows' is' agree')
+next_receipt id begun (Take u answer ∷ calls) s t r rs fair shows is agree = next_receipt id begun calls s t r rs (All-tail IsFair (Take u answer) calls fair) shows is agree
+next_receipt id begun (Put done foreign (Ok (Recorded reply)) ∷ calls) s t r rs fair shows is agree =
+    let more : All IsFair calls = All-tail IsFair (Put done foreign (Ok (Recorded reply))) calls fair in
+    at_put (eqb done.id id) id begun s t _ (Some (Step reply)) r rs calls shows is agree (λ s' shows' is' agree'. next_receipt id begun calls s' t r rs more shows' is' agree')
+next_receipt id begun (Put done foreign (Ok Full) ∷ calls) s t r rs fair shows is agree =
+    let more : All IsFair calls = All-tail IsFair (Put done foreign (Ok Full)) calls fair in
+    at_put (eqb done.id id) id begun s t _ None r rs calls shows is agree (λ s' shows' is' agree'. next_receipt id begun calls s' t r rs more shows' is' agree')
+next_receipt id begun (Put done foreign (Ok Gone) ∷ calls) s t r rs fair shows is agree = next_receipt id begun calls s t r rs (All-tail IsFair (Put done foreign (Ok Gone)) calls fair) shows is agree
+next_receipt id begun (Put done foreign (Err back) ∷ calls) s t r rs fair shows is agree = next_receipt id begun calls s t r rs (All-tail IsFair (Put done foreign (Err back)) calls fair) shows is agree
+next_receipt id begun (GiveBack job ∷ calls) s t r rs fair shows is agree = next_receipt id begun calls s t r rs (All-tail IsFair (GiveBack job) calls fair) shows is agree
+next_receipt id begun (Owners list ∷ calls) s t r rs fair shows is agree = absurd (All-head IsFair (Owners list) calls fair)
+
+-- an answer of the core, or a refusal of the line itself
+abbrev IsGiven : Option Place → Type 0
+IsGiven None = ⊥
+IsGiven (Some (Receipt r)) = ⊤
+IsGiven (Some (Note n)) = ⊥
+IsGiven (Some (RefusedPlace refusal)) = ⊤
+
+abbrev pub AreGiven : List (Option Place) → Type 0
+AreGiven [] = ⊤
+AreGiven (x ∷ told) = IsGiven x × AreGiven told
+
+abbrev pub TellsOnlyFull : Option Place → Type 0
+TellsOnlyFull x = (n : Noted) → x ≡ Some (Note n) → n.cause ≡ JournalFull
+
+given_one : (x : Option Place) → TellsOnlyFull x → IsReply (told_text x) → IsGiven x
+given_one None full reply = reply.0 refl
+given_one (Some (Receipt r)) full reply = tt
+given_one (Some (Note n)) full reply = reply.1 (ap note_text (full n refl))
+given_one (Some (RefusedPlace refusal)) full reply = tt
+
+pub are_given : (told : List (Option Place)) → All TellsOnlyFull told → All (λ (x : Option Place). IsReply (told_text x)) told → AreGiven told
+are_given [] full replies = tt
+are_given (x ∷ told) full replies =
+    (given_one x (All-head TellsOnlyFull x told full) (All-head (λ (x : Option Place). IsReply (told_text x)) x told replies), are_given told (All-tail TellsOnlyFull x told full) (All-tail (λ (x : Option Place). IsReply (told_text x)) x told replies))
+
+-- the answer to a command while no job runs
+pub both_hold : (b other : Bool) → (not b && other) ≡ true → (b ≡ false) × (other ≡ true)
+both_hold true other is = cc
+both_hold false other is = (refl, is)
+
+-- a state, the one that the definition has, and the reply to a command in both
+pub record Answered (s t : State) (command : TenantCommand) (r : Receipted) : Type 0 where
+  pub text : reply_text r.reply ≡ reply_text (answer_to t (Asked command)).1
+  pub agree : Agree (begins_job command) (step s (Asked r.command)).0 (after_command t command)
+
+pub answered : (s t : State) (command : TenantCommand) (r : Receipted) → r.command ≡ command → AreAlike s t → running t.name ≡ None → (step s (Asked r.command)).1 ≡ Some r.reply → Answered s t command r
+answered s t command r same alike rests told =
+    let both = asked_alike s t command r.reply alike (ap (λ c. (step s (Asked c)).1) (sym same) ∙ told) in
+    let left : AreAlike (step s (Asked command)).0 (after_command t command) = both.1 in
+    let agree : Agree (begins_job command) (step s (Asked command)).0 (after_command t command) = record {
+      alike = alike-ended (step s (Asked command)).0 (after_command t command) left;
+      rest = λ none.
+          let rest : running (after_command t command).name ≡ None = command_rests t command rests none in
+          (ap running (alike-name (step s (Asked command)).0 (after_command t command) left) ∙ rest, rest);
+    } in
+    record { text = ap reply_text both.0; agree = subst (λ c. Agree (begins_job command) (step s (Asked c)).0 (after_command t command)) (sym same) agree }
+
+pub free_alike : (s t : State) → Agree false s t → AreAlike s t
+free_alike s t agree =
+    let rest = agree.rest refl in
+    subst (λ x. AreAlike x t) (ended-rests s rest.0) (subst (λ x. AreAlike (ended s) x) (ended-rests t rest.1) agree.alike)
+
+-- the whole text
+pub whole_text : (id : ℕ) (items : List SessionLine) (told : List (Option Place)) (calls : List Call) (s t : State) (begun : Bool) → AllZip (IsTold id) items told → AreGiven told → waits_for_each begun items ≡ true → Agree begun s t →
+    All IsFair calls → Shows s (own_exchanges id calls) → own_receipts id calls ≡ receipts_told told → told_texts told ≡ waited_text t items
+whole_text id [] [] calls s t begun zip given waits agree fair shows is = refl
+whole_text id [] (x ∷ told) calls s t begun zip given waits agree fair shows is = absurd zip
+whole_text id (item ∷ items) [] calls s t begun zip given waits agree fair shows is = absurd zip
+whole_text id (item ∷ items) (None ∷ told) calls s t begun zip given waits agree fair shows is = absurd given.0
+whole_text id (item ∷ items) (Some (Note n) ∷ told) calls s t begun zip given waits agree fair shows is = absurd given.0
+whole_text id (Blank ∷ items) (Some (Receipt r) ∷ told) calls s t begun zip given waits agree fair shows is = absurd zip.0
+whole_text id (Blank ∷ items) (Some (RefusedPlace f) ∷ told) calls s t begun zip given waits agree fair shows is = absurd zip.0
+whole_text id (Refused refusal ∷ items) (Some (Receipt r) ∷ told) calls s t begun zip given waits agree fair shows is = let never : Receipt r ≡ RefusedPlace refusal = zip.0 in cc
+whole_text id (Refused refusal ∷ items) (Some (RefusedPlace f) ∷ told) calls s t begun zip given waits agree fair shows is =
+    ap (λ p. place_text p ++ told_texts told) zip.0 ∙ ap (λ text. place_text (RefusedPlace refusal) ++ text) (whole_text id items told calls s t begun zip.1 given.1 waits agree fair shows is)
+whole_text id (Command command ∷ items) (Some (RefusedPlace f) ∷ told) calls s t begun zip given waits agree fair shows is = absurd zip.0
+whole_text id (Command command ∷ items) (Some (Receipt r) ∷ told) calls s t begun zip given waits agree fair shows is =
+    let goes = both_hold begun (waits_for_each (begins_job command) items) waits in
+    let free : Agree false s t = subst (λ b. Agree b s t) goes.0 agree in
+    let next = next_receipt id false calls s t r (receipts_told told) fair shows is free in
+    let one = answered next.s t command r zip.0.1 (free_alike next.s t next.agree) (next.agree.rest refl).1 next.told in
+    ap (λ text. text ++ told_texts told) one.text ∙ ap (λ text. reply_text (answer_to t (Asked command)).1 ++ text)
+    (whole_text id items told next.calls (step next.s (Asked r.command)).0 (after_command t command) (begins_job command) zip.1 given.1 goes.1 one.agree next.fair next.shows next.rest)
+whole_text id (Wait ∷ items) (Some (RefusedPlace f) ∷ told) calls s t begun zip given waits agree fair shows is = absurd zip.0
+whole_text id (Wait ∷ items) (Some (Receipt r) ∷ told) calls s t begun zip given waits agree fair shows is =
+    let next = next_receipt id begun calls s t r (receipts_told told) fair shows is agree in
+    let status : r.command ≡ Status = zip.0.0.1 in
+    let rests : running next.s.name ≡ None = status_rests next.s r.reply (ap (λ c. (step next.s (Asked c)).1) (sym status) ∙ next.told) zip.0.1 in
+    let alike : AreAlike next.s (ended t) = subst (λ x. AreAlike x (ended t)) (ended-rests next.s rests) next.agree.alike in
+    let over : running (ended t).name ≡ None = ap running (sym (alike-name next.s (ended t) alike)) ∙ rests in
+    let one = answered next.s (ended t) Status r status alike over next.told in
+    ap (λ text. text ++ told_texts told) one.text ∙ ap (λ text. reply_text (answer_to (ended t) (Asked Status)).1 ++ text)
+    (whole_text id items told next.calls (step next.s (Asked r.command)).0 (after_command (ended t) Status) false zip.1 given.1 waits one.agree next.fair next.shows next.rest)

@@ -1,0 +1,56 @@
+-- What a session is answered doesn't depend on the number of workers.
+use Rattle.std.specs.Prelude.{ℕ, ◌≡◌, ⊤, List, [], ◌∷◌, All, IfSome, Some, Ok, false, true}
+use Rattle.tenant_slot.specs.SingleUser.{start}
+use Rattle.service_core.specs.declared.device.Device.{Device}
+use Rattle.service_core.specs.OwnEvents.{own_events}
+use Rattle.service_core.specs.Run.{Call, Run}
+use Rattle.service_core.specs.Service.{ServiceState, empty, live_width, strip_on}
+use Rattle.sessions.specs.declared.line.SessionLine.{SessionLine}
+use Rattle.sessions.specs.declared.line.SessionLine.TheVariants.{Command, Wait}
+use Rattle.sessions.specs.declared.told.Answer.{Answer}
+use Rattle.sessions.specs.declared.told.Answer.TheVariants.{Served}
+use Rattle.sessions.specs.Items.{items_of}
+use Rattle.sessions.specs.WholeSession.{Turn, Turns, Item, Meanwhile, written}
+use Rattle.session_threads.specs.Told.{IsAtRest, told_text}
+use Rattle.script_text.specs.Threaded.{Parts as Script}
+use Rattle.script_threads.specs.declared.answered.Answered.{Answered}
+use Rattle.script_threads.specs.Served.{Conversation, IsServedOnThreads, told_in}
+use Rattle.workers_law.specs.Waited.{IsReply, waits_for_each, waited_text}
+
+-- the session waits for each of its jobs, and no answer to it says that memory ran out or that the
+-- journal is full
+pub record Waits (c : Conversation) : Type 0 where
+  pub for_each : waits_for_each false (items_of c.said.input) ≡ true
+  pub replies : IfSome c.told (All (λ t. IsReply (told_text t)))
+
+-- With any number of workers, the text of such a session is one function of its input, on a device
+-- of the size of its strip.
+abbrev pub HasWaitedText : Type 0
+HasWaitedText = (device : Device) (script : Script) (answered : Answered) (is : IsServedOnThreads device script answered) →
+    All (λ c. (width : ℕ) → live_width is.service.histories c.id ≡ Some width → Waits c → (told_in c).text ≡ waited_text (start device.arch (strip_on device width)) (items_of c.said.input)) is.ran.conversations
+
+-- the items of a session without workers
+abbrev pub items_in : List Turn → List SessionLine
+items_in [] = []
+items_in (Item line calls answer ∷ turns) = line ∷ items_in turns
+items_in (Meanwhile call ∷ turns) = items_in turns
+
+-- an item has a reply of the tenancy, or a refusal of its own; a wait is answered with a state in
+-- which no job runs
+abbrev pub IsReplied : SessionLine → Answer → Type 0
+IsReplied (Command command) (Served (Ok receipt)) = ⊤
+IsReplied Wait (Served (Ok receipt)) = IsAtRest receipt.reply
+IsReplied line (Served answer) = ⊥
+IsReplied line answer = ⊤
+
+abbrev pub AreReplied : List Turn → Type 0
+AreReplied [] = ⊤
+AreReplied (Item line calls answer ∷ turns) = IsReplied line answer × AreReplied turns
+AreReplied (Meanwhile call ∷ turns) = AreReplied turns
+
+-- Without workers it is the same function: whatever others do meanwhile, if they don't ask in the
+-- tenancy's name or evict it, and if nothing happened to the tenancy before its session.
+abbrev pub HasSameText : Type 0
+HasSameText = (device : Device) (before : List Call) (old new : ServiceState) (id width : ℕ) (turns : List Turn) →
+    Run (empty device) before old → own_events id before ≡ [] → live_width old.histories id ≡ Some width → Turns id old turns new → waits_for_each false (items_in turns) ≡ true → AreReplied turns →
+    written turns ≡ waited_text (start device.arch (strip_on device width)) (items_in turns)

@@ -1,0 +1,13 @@
+//! The laws.
+ghost use Rattle.workers_law.specs.Workers.{HasSameText, HasWaitedText};
+
+/// The text of a session that waits for each of its jobs is one function of its input and of the
+/// width of its strip, the same with any number of workers.
+pub fn same_with_workers()
+    ensures { HasWaitedText }
+{}
+
+/// Without workers the text of such a session is the same function.
+pub fn same_without_workers()
+    ensures { HasSameText }
+{}
