@@ -1,8 +1,9 @@
 //! The sheet of the picture: its size, its styles, its heading and the numbers beside the device.
 ghost use Rattle.std.specs.Prelude.{◌≤◌};
 
-use crate::device::Device;
 use crate::geometry::Geometry;
+use crate::view::longest_name;
+use device_lines::Device;
 use line_text::Sink;
 use picture_lines::{Sheet, begin_group, end_group, write_numbers, write_rows};
 use text_parts::{Part, Pen};
@@ -45,7 +46,7 @@ impl Frame {
     pub(crate) fn of(device: &Device<'_>) -> Self {
         let geometry = Geometry::of(device);
         let font = (geometry.length() / 90).max(1);
-        let entry = (device.longest_name() + 34) * font * 3 / 5 + 2 * font;
+        let entry = (longest_name(device) + 34) * font * 3 / 5 + 2 * font;
         let width = (geometry.length() + 5 * font).max(entry + 2 * font);
         let side = (width / entry).clamp(1, 100);
         let entries = device.tenancies.len().min(256) as u32 + 4;

@@ -2,7 +2,8 @@
 //! The pads of row 0 are at its upper end, those above the last row at the lower end of theirs.
 ghost use Rattle.std.specs.Prelude.{◌+◌, ◌*◌, ◌≤◌};
 
-use crate::device::Device;
+use crate::view::last_pin;
+use device_lines::Device;
 use picture_lines::Lattice;
 
 /// The positions in the picture. Heights count upwards.
@@ -37,7 +38,7 @@ impl Geometry {
     /// The positions for a device: pins are as large as the largest pin number allows.
     pub(crate) fn of(device: &Device<'_>) -> Self {
         let size = device.size;
-        let side = side_of(device.last_pin());
+        let side = side_of(last_pin(device));
         let channel = size.tracks + 1;
         let block = channel.max(side + 2).max(2 * size.pads).max(4);
         let pin = (block - 2) / side;

@@ -2,9 +2,9 @@
 ghost use Rattle.std.specs.Prelude.{◌≤◌};
 
 use crate::colours::write_colour;
-use crate::device::Device;
 use crate::geometry::Geometry;
-use crate::tenancy::Tenancy;
+use crate::view::is_guard;
+use device_lines::{Device, Tenancy};
 use line_text::Sink;
 use picture_lines::{write_box, write_line};
 use text_parts::{Part, Pen};
@@ -125,7 +125,7 @@ fn write_strip<K: Sink>(pen: &mut Pen<'_, K>, geometry: Geometry, tenancy: Tenan
 fn write_guards<K: Sink>(pen: &mut Pen<'_, K>, geometry: Geometry, device: &Device<'_>) {
     pen.text("<path class=\"g\" d=\"");
     for column in 1..=geometry.columns {
-        if device.is_guard(column) {
+        if is_guard(device, column) {
             let x = geometry.lattice.start(column);
             write_box(
                 pen,

@@ -1,9 +1,8 @@
 //! The legend: the tenancies with their names, and what the marks mean.
 
 use crate::colours::write_colour;
-use crate::device::Device;
 use crate::frame::Frame;
-use crate::tenancy::Tenancy;
+use device_lines::{Device, Tenancy};
 use line_text::Sink;
 use picture_lines::write_swatch;
 use text_parts::{Part, Pen};

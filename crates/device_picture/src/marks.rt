@@ -1,8 +1,8 @@
 //! Pins and pads as rectangles.
 ghost use Rattle.std.specs.Prelude.{◌≤◌};
 
-use crate::device::Owned;
 use crate::geometry::Geometry;
+use device_lines::Owned;
 use line_text::Sink;
 use rr_graph::ResourceKind;
 use text_parts::{Part, Pen};

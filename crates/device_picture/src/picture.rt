@@ -1,14 +1,14 @@
 //! The picture, from its first byte to its last.
 use crate::colours::write_colour;
-use crate::device::{Device, Owned};
 use crate::frame::Frame;
 use crate::geometry::Geometry;
 use crate::ground::{write_column, write_ground};
 use crate::legend::write_legend;
 use crate::marks::write_marks;
 use crate::runs::Runs;
-use crate::tenancy::Tenancy;
+use crate::view::owned_by;
 use crate::wires::write_wires;
+use device_lines::{Device, Owned, Tenancy};
 use line_text::Sink;
 use picture_lines::{Direction, DrawError, end_group};
 use rr_graph::ResourceKind;
@@ -60,7 +60,7 @@ fn write_tenancies<K: Sink>(
     runs: &mut Runs,
 ) {
     for (place, tenancy) in device.tenancies.iter().enumerate() {
-        let owned = device.owned_by(tenancy.id);
+        let owned = owned_by(device, tenancy.id);
         begin_tenancy(pen, *tenancy, place);
         write_owned(pen, geometry, owned, runs);
         pen.text("</g>\n");

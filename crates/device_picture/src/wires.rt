@@ -1,9 +1,9 @@
 //! Wires as lines.
 
-use crate::device::Owned;
 use crate::geometry::Geometry;
 use crate::marks::LONGEST_PATH;
 use crate::runs::{Run, Runs};
+use device_lines::Owned;
 use line_text::Sink;
 use picture_lines::{Direction, write_line};
 use rr_graph::ResourceKind;

@@ -4,7 +4,7 @@ use Rattle.std.specs.List.{range_with_len}
 use Rattle.std.specs.List.Sorted.{IsPermutation, IsSortedBy, IsStableBy}
 use Rattle.rr_graph.specs.declared.resource.ResourceKind.{ResourceKind}
 use Rattle.rr_graph.specs.declared.resource.ResourceKind.TheVariants.{Opin, Ipin, ChanX, ChanY, Pad}
-use Rattle.device_picture.specs.declared.device.Owned.{Owned}
+use Rattle.device_lines.specs.declared.device.Owned.{Owned}
 use Rattle.device_report.specs.declared.channels.Direction.{Direction}
 use Rattle.device_report.specs.declared.channels.Direction.TheVariants.{Across, Up}
 use Rattle.device_report.specs.declared.channels.ChannelUse.{ChannelUse}

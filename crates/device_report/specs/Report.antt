@@ -1,8 +1,8 @@
 -- How full a device is.
 use Rattle.std.specs.Prelude.{◌≡◌, List, map}
 use Rattle.strips.specs.declared.placed_strip.PlacedStrip.{PlacedStrip}
-use Rattle.device_picture.specs.declared.device.Device.{Device}
-use Rattle.device_picture.specs.declared.tenancy.Tenancy.{Tenancy}
+use Rattle.device_lines.specs.declared.device.Device.{Device}
+use Rattle.device_lines.specs.declared.tenancy.Tenancy.{Tenancy}
 use Rattle.device_report.specs.declared.tenancies.TenancyUse.{TenancyUse}
 use Rattle.device_report.specs.declared.report.Report.{Report}
 use Rattle.device_report.specs.Channels.{AreFullest, channels_in}

@@ -3,9 +3,9 @@ use Rattle.std.specs.Prelude.{ℕ, ◌+◌, ◌*◌, ◌/◌, ◌%◌, List, cou
 use Rattle.std.specs.List.{list_any, range_with_len}
 use Rattle.rr_graph.specs.declared.resource.ResourceKind.{ResourceKind}
 use Rattle.rr_graph.specs.declared.resource.ResourceKind.TheVariants.{Opin, Ipin, ChanX, ChanY, Pad}
-use Rattle.device_picture.specs.declared.device.Owned.{Owned}
-use Rattle.device_picture.specs.declared.size.DeviceSize.{DeviceSize}
-use Rattle.device_picture.specs.declared.tenancy.Tenancy.{Tenancy}
+use Rattle.device_lines.specs.declared.device.Owned.{Owned}
+use Rattle.device_lines.specs.declared.size.DeviceSize.{DeviceSize}
+use Rattle.device_lines.specs.declared.tenancy.Tenancy.{Tenancy}
 use Rattle.device_report.specs.declared.channels.Direction.{Direction}
 use Rattle.device_report.specs.declared.channels.Direction.TheVariants.{Across, Up}
 use Rattle.device_report.specs.declared.tenancies.TenancyUse.{TenancyUse}

@@ -2,7 +2,7 @@
 ghost use Rattle.std.specs.Prelude.{◌≡◌, ◌+◌, ◌*◌, ◌≤◌, ◌<◌, IfOk, count_by};
 ghost use Rattle.device_report.specs.Channels.{AreFullest, channel_at, channels_in, is_wire, wires_in};
 
-use device_picture::{DeviceSize, Owned};
+use device_lines::{DeviceSize, Owned};
 use rr_graph::ResourceKind;
 use std::alloc::{AllocError, Global};
 

@@ -1,5 +1,5 @@
 //! How full the device is, from what the service's program printed for `op list` and `op owners`,
-//! as [`device_picture::read_device`] reads it.
+//! as [`device_lines::read_device`] reads it.
 //!
 //! A [`Report`] has for each tenancy how many of its strip's blocks, pads and wires are used; for
 //! the device how many columns are used, are guard columns and are free, the widest strip that

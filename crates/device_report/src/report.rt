@@ -6,7 +6,7 @@ use crate::channels::{ChannelUse, fullest};
 use crate::columns::ColumnUse;
 use crate::tenancies::TenancyUse;
 use crate::widest::{Room, widest};
-use device_picture::{Device, DeviceSize};
+use device_lines::{Device, DeviceSize};
 use std::alloc::{AllocError, Global};
 use strips::PlacedStrip;
 

@@ -3,7 +3,7 @@ ghost use Rattle.std.specs.Prelude.{◌≡◌, ◌+◌, ◌*◌, ◌≤◌, ◌<
 ghost use Rattle.device_report.specs.Tenancies.{blocks_used, has_pin, is_pad, is_pin, pads_used, use_of, wires_used};
 
 use crate::channels::{Direction, is_wire};
-use device_picture::{DeviceSize, Owned, Tenancy};
+use device_lines::{DeviceSize, Owned, Tenancy};
 use rr_graph::ResourceKind;
 
 /// How many resources of one kind a strip uses.

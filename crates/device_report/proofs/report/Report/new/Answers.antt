@@ -1,6 +1,6 @@
 use Rattle.std.proofs.Common.{◌∙◌, List, refl, subst}
 use Rattle.strips.specs.declared.placed_strip.PlacedStrip.{PlacedStrip}
-use Rattle.device_picture.specs.declared.device.Owned.{Owned}
+use Rattle.device_lines.specs.declared.device.Owned.{Owned}
 use Rattle.device_report.specs.Channels.{AreFullest, channels_in}
 use Rattle.device_report.specs.Columns.{IsColumnUse}
 use Rattle.device_report.specs.Widest.{IsWidest}

@@ -1,0 +1,5 @@
+pub mod Lines
+pub mod Owning
+pub mod Reading
+pub mod Sizes
+pub mod Words

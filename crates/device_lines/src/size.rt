@@ -1,0 +1,41 @@
+//! The size of the device that is drawn.
+ghost use Rattle.std.specs.Prelude.{◌≤◌, IfNone, IfSome};
+
+/// The size of the device, of its channels and of its columns' ends, within the service's limits.
+#[derive(Clone, Copy)]
+pub struct DeviceSize {
+    /// Columns of the device, 1 to 256.
+    pub columns: u32,
+    /// Rows of the device, 1 to 64.
+    pub rows: u32,
+    /// Tracks of each channel, 1 to 64.
+    pub tracks: u32,
+    /// Pads at each end of a column, 1 to 8.
+    pub pads: u32,
+    ghost columns_lawful: { (1 ≤ columns) × (columns ≤ 256) },
+    ghost rows_lawful: { (1 ≤ rows) × (rows ≤ 64) },
+    ghost tracks_lawful: { (1 ≤ tracks) × (tracks ≤ 64) },
+    ghost pads_lawful: { (1 ≤ pads) × (pads ≤ 8) },
+}
+
+impl DeviceSize {
+    ghost use Rattle.device_lines.specs.Sizes.{AreLawful, Holds};
+
+    /// Returns this size; `None` if it isn't within the limits.
+    pub fn new(columns: u32, rows: u32, tracks: u32, pads: u32) -> Option<Self>
+        ensures some { IfSome result (λ size. Holds size columns rows tracks pads) }
+        ensures none { IfNone result (AreLawful columns rows tracks pads → ⊥) }
+    {
+        let device = (1..=256).contains(&columns) && (1..=64).contains(&rows);
+        let channel = (1..=64).contains(&tracks) && (1..=8).contains(&pads);
+        if !device || !channel {
+            return None;
+        }
+        Some(DeviceSize {
+            columns,
+            rows,
+            tracks,
+            pads,
+        })
+    }
+}

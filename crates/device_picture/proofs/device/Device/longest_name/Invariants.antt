@@ -1,5 +1,0 @@
-use Rattle.std.proofs.Common.{◌≤◌}
-use Rattle.device_picture.proofs.device.Device.longest_name.Given as goal
-
-abbrev pub invariant-loop-tenancy : goal.invariant-loop-tenancy
-invariant-loop-tenancy l = l.longest ≤ 32
