@@ -1,0 +1,15 @@
+pub mod Stamps
+pub mod Hops
+pub mod Numbers
+pub mod ByNumber
+pub mod Told
+pub mod Matches
+pub mod Refute
+pub mod Kept
+pub mod Entries
+pub mod Counted
+pub mod Sites
+pub mod Served
+pub mod Decided
+pub mod OneDriver
+pub mod Never

@@ -1,0 +1,8 @@
+use Rattle.std.proofs.Common.{take}
+use Rattle.std.specs.Prelude.{All}
+use Rattle.implements.specs.Implements.{IsNarrowBle}
+use Rattle.implements.specs.Layouts.{IsFed}
+use Rattle.layout_check.proofs.bles.check_bles.Given as goal
+
+abbrev pub invariant-loop-number : goal.invariant-loop-number
+invariant-loop-number l = All (IsFed l.arch l.block) (take l.number l.bles) × All (IsNarrowBle l.arch) (take l.number l.bles)

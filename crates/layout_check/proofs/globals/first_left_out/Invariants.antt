@@ -1,0 +1,8 @@
+use Rattle.std.proofs.Common.{◌≡◌, ◌<◌, ℕ, Some, slice_get, true}
+use Rattle.std.specs.Option.{option_map_or}
+use Rattle.blif.specs.declared.latches.Latch.{Latch}
+use Rattle.ble_cluster.specs.Nets.{has}
+use Rattle.layout_check.proofs.globals.first_left_out.Given as goal
+
+abbrev pub invariant-loop-k : goal.invariant-loop-k
+invariant-loop-k l = (j : ℕ) (latch : Latch) → j < l.k → slice_get l.latches j ≡ Some latch → option_map_or (has l.globals) latch.control true ≡ true

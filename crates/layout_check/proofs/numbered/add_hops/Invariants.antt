@@ -1,0 +1,6 @@
+use Rattle.std.proofs.Common.{◌≡◌, ◌++◌, take}
+use Rattle.pathfinder.specs.LegalRoutes.{steps_of}
+use Rattle.layout_check.proofs.numbered.add_hops.Given as goal
+
+abbrev pub invariant-loop-i : goal.invariant-loop-i
+invariant-loop-i l = l.hops.items ≡ l.initial.hops.items ++ take l.i (steps_of l.numbers)

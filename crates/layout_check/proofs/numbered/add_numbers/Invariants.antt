@@ -1,0 +1,11 @@
+use Rattle.std.proofs.Common.{◌≡◌, ◌++◌, map, true, take}
+use Rattle.std.specs.Prelude.{All}
+use Rattle.rr_graph.specs.Geometry.{is_node}
+use Rattle.rr_graph.specs.Graph.{graph_of}
+use Rattle.pathfinder.specs.PlacedNets.{number_of}
+use Rattle.layout_check.proofs.numbered.add_numbers.Given as goal
+
+abbrev pub invariant-loop-node : goal.invariant-loop-node
+invariant-loop-node l =
+    (l.numbers.items ≡ l.initial.numbers.items ++ map (number_of (graph_of l.graph)) (take l.node-index l.path))
+    × All (λ node. is_node l.graph.arch l.graph.strip node ≡ true) (take l.node-index l.path)

@@ -1,0 +1,6 @@
+use Rattle.std.proofs.Common.{◌≡◌, [], take}
+use Rattle.pathfinder.specs.LegalRoutes.{path_nodes}
+use Rattle.layout_check.proofs.paths.first_node.Given as goal
+
+abbrev pub invariant-loop-path : goal.invariant-loop-path
+invariant-loop-path l = path_nodes (take l.path-index l.paths) ≡ []

@@ -1,0 +1,6 @@
+use Rattle.std.proofs.Common.{◌≡◌, ◌<◌, ℕ, true, get_or}
+use Rattle.layout_check.specs.Marks.{is_in}
+use Rattle.layout_check.proofs.trees.first_missing.Given as goal
+
+abbrev pub invariant-loop-number : goal.invariant-loop-number
+invariant-loop-number l = (k : ℕ) → k < l.number-index → is_in l.marks (get_or l.numbers k 0) ≡ true

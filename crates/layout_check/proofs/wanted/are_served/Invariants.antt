@@ -1,0 +1,8 @@
+use Rattle.std.proofs.Common.{◌≡◌, ◌<◌, ℕ, true}
+use Rattle.std.specs.Option.{option_map_or}
+use Rattle.implements.specs.Layouts.{on_pin}
+use Rattle.layout_check.specs.Marks.{is_in}
+use Rattle.layout_check.proofs.wanted.are_served.Given as goal
+
+abbrev pub invariant-loop-pin : goal.invariant-loop-pin
+invariant-loop-pin l = (k : ℕ) → k < l.pin → option_map_or (is_in l.marks) (on_pin l.arch l.block l.class k) true ≡ true

@@ -1,0 +1,6 @@
+use Rattle.std.proofs.Common.{◌≡◌, ◌<◌, ◌≤◌, ◌^◌, ℕ, Some, slice_get}
+use Rattle.implements.specs.Layouts.{LaidNet}
+use Rattle.layout_check.proofs.wanted.net_limit.Given as goal
+
+abbrev pub invariant-loop-laid : goal.invariant-loop-laid
+invariant-loop-laid l = (k : ℕ) (laid : LaidNet) → k < l.laid-index → slice_get l.nets k ≡ Some laid → laid.net < l.limit

@@ -1,0 +1,9 @@
+pub mod Marks
+pub mod NumberTrees
+pub mod Numbered
+pub mod RouteFaults
+pub mod TreeTests
+pub mod EntryFaults
+pub mod NetFaults
+pub mod BlockFaults
+pub mod Wrongs

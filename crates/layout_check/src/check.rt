@@ -1,0 +1,99 @@
+//! Whether a layout implements a circuit.
+ghost use Rattle.std.specs.Prelude.{◌≡◌, ℕ, IfOk, MatchOption, MatchResult};
+ghost use Rattle.blif.specs.LawfulCircuits.{IsCircuit};
+ghost use Rattle.implements.specs.Holding.{AreBlesOf};
+ghost use Rattle.implements.specs.Implements.{Implements};
+ghost use Rattle.implements.specs.Layouts.{traced_bles};
+ghost use Rattle.layout_check.specs.Wrongs.{AreListsRight, ArePortsRight, IsConnected, IsWrong};
+
+use crate::apart::{same_net, same_place};
+use crate::blocks::check_blocks;
+use crate::fault::Wrong;
+use crate::globals::{first_left_out, first_local};
+use crate::nets::check_nets;
+use crate::ports::{has_inputs, has_outputs};
+use crate::wanted::check_wanted;
+use blif::Circuit;
+use layouts::Layout;
+use rr_graph::{Fabric, StripGraph};
+use std::alloc::{AllocError, Global};
+
+/// Tests of a layout what takes no memory: blocks, places, global nets and entries.
+fn check_lists(circuit: &Circuit, graph: &Fabric, layout: &Layout) -> Option<Wrong>
+    ensures { MatchOption result (AreListsRight circuit.now graph.now layout.now) (IsWrong circuit.now graph.now layout.now) }
+{
+    let _count = graph.count();
+    let blocks = layout.blocks();
+    if let Some(found) = check_blocks(graph.arch(), graph.strip(), blocks) {
+        return Some(Wrong::Block(found.0, found.1));
+    }
+    if let Some(found) = same_place(blocks) {
+        return Some(Wrong::SamePlace(found.0, found.1));
+    }
+    if let Some(net) = first_local(circuit, layout.globals()) {
+        return Some(Wrong::NotGlobal(net));
+    }
+    if let Some(latch) = first_left_out(circuit, layout.globals()) {
+        return Some(Wrong::LeftOut(latch));
+    }
+    match same_net(layout.nets()) {
+        Some(found) => Some(Wrong::SameNet(found.0, found.1)),
+        None => None,
+    }
+}
+
+/// Tests whether the pads are the circuit's ports, and the nets that are wanted have entries.
+fn check_ports(
+    alloc: Global,
+    circuit: &Circuit,
+    graph: &Fabric,
+    layout: &Layout,
+) -> Result<Option<Wrong>, AllocError>
+    ensures { IfOk result (λ found. MatchOption found (ArePortsRight circuit.now graph.now layout.now) (IsWrong circuit.now graph.now layout.now)) }
+{
+    let blocks = layout.blocks();
+    let inputs = has_inputs(alloc, circuit, blocks)?;
+    if !inputs {
+        return Ok(Some(Wrong::Inputs));
+    }
+    let outputs = has_outputs(alloc, circuit, blocks)?;
+    if !outputs {
+        return Ok(Some(Wrong::Outputs));
+    }
+    match check_wanted(alloc, graph.arch(), layout)? {
+        Some(block) => Ok(Some(Wrong::NoEntry(block))),
+        None => Ok(None),
+    }
+}
+
+/// Finds what is wrong with a layout on a strip: whether it connects what it has as the circuit
+/// says. What passes has each clause of `Implements` except `held`, that each table and each latch
+/// is in exactly one basic logic element (`AreBlesOf`), which isn't tested. With it the layout
+/// implements the circuit. A layout that has something wrong doesn't implement the circuit, if the
+/// circuit is lawful, as each is that is read from a netlist.
+pub fn check_layout(
+    alloc: Global,
+    circuit: &Circuit,
+    graph: &Fabric,
+    layout: &Layout,
+) -> Result<Result<(), Wrong>, AllocError>
+    ensures exact { IfOk result (λ checked. MatchResult checked
+        (λ _. IsConnected circuit.now graph.now.arch graph.now.strip layout.now)
+        (IsWrong circuit.now graph.now layout.now)) }
+    ensures implements { IfOk result (λ checked. MatchResult checked
+        (λ _. AreBlesOf circuit.now (traced_bles graph.now.arch layout.now)
+        → Implements circuit.now graph.now.arch graph.now.strip layout.now)
+        (λ _. IsCircuit circuit.now →
+        Implements circuit.now graph.now.arch graph.now.strip layout.now → ⊥)) }
+{
+    if let Some(wrong) = check_lists(circuit, graph, layout) {
+        return Ok(Err(wrong));
+    }
+    if let Some(wrong) = check_ports(alloc, circuit, graph, layout)? {
+        return Ok(Err(wrong));
+    }
+    match check_nets(alloc, circuit, graph, layout)? {
+        Some(fault) => Ok(Err(Wrong::Net(fault))),
+        None => Ok(Ok(())),
+    }
+}

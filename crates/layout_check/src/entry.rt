@@ -1,0 +1,252 @@
+//! Whether the entry of a net between blocks is laid.
+ghost use Rattle.std.specs.Prelude.{◌≡◌, ◌++◌, ◌+◌, ◌<◌, ◌&&◌, ◌==◌, ◌^◌, [], ◌∷◌, ℕ, IfOk, IfNone, OnOk, MatchBool, MatchOption, filter, length, map, not, slice_index, if◌then◌else◌};
+ghost use Rattle.std.specs.List.{enumerate_from};
+ghost use Rattle.cluster.specs.Blocks.{is_global};
+ghost use Rattle.implements.specs.Implements.{IsLaid, wants};
+ghost use Rattle.pathfinder.specs.LegalRoutes.{IsRouted};
+ghost use Rattle.pathfinder.specs.Terminals.{sink_at};
+ghost use Rattle.rr_graph.specs.Graph.{graph_of};
+ghost use Rattle.layout_check.specs.EntryFaults.{AreUsedBy, IsEntryFault, is_on};
+ghost use Rattle.layout_check.specs.RouteFaults.{IsPathFault};
+ghost use Rattle.layout_check.specs.TreeTests.{AreEmpty, HasRoom};
+
+use crate::drivers::{add_sinks, first_driver, other_driver, source_of};
+use crate::fault::{EntryFault, RouteFault};
+use crate::inside::{is_net, wants};
+use crate::paths::check_routed;
+use crate::uses::count_uses;
+use crate::work::{NetNumbers, Work, no_numbers};
+use arch_file::Arch;
+use blif::Circuit;
+use layouts::{LaidBlock, LaidNet, LaidPath, Layout};
+use rr_graph::{Fabric, Node, StripGraph};
+use std::alloc::{AllocError, Global};
+
+/// Whether the net controls a latch.
+pub(crate) fn is_global(circuit: &Circuit, net: u32) -> bool
+    ensures { result ≡ is_global circuit.now net }
+{
+    for latch in circuit.latches.as_slice() {
+        if is_net(net, latch.control) {
+            return true;
+        }
+    }
+    false
+}
+
+/// Whether the block with this number isn't the driver, and the net is wanted there.
+fn is_reader(arch: &Arch, net: u32, driver: usize, number: usize, block: &LaidBlock) -> bool
+    ensures { result ≡ (not (number == driver) && wants arch.now net block.now) }
+{
+    number != driver && wants(arch, net, block)
+}
+
+/// Adds the numbers of the blocks at which the net is wanted, except for its driver.
+fn add_readers(
+    arch: &Arch,
+    net: u32,
+    blocks: &[LaidBlock],
+    driver: usize,
+    readers: &mut Vec<usize>,
+) -> Result<(), AllocError>
+    ensures { OnOk result (readers.new.items ≡ readers.old.items
+        ++ map (λ block. block.0) (filter (λ block. not (block.0 == driver) && wants arch.now net block.1) (enumerate_from 0 blocks.now))) }
+{
+    for (k, block) in blocks.iter().enumerate() {
+        if is_reader(arch, net, driver, k, block) {
+            readers.push(k)?;
+        }
+    }
+    Ok(())
+}
+
+/// Whether the numbers are equal.
+fn same_numbers(numbers: &[u32], others: &[usize]) -> bool
+    ensures { MatchBool result (numbers.now ≡ others.now) (numbers.now ≡ others.now → ⊥) }
+{
+    if numbers.len() != others.len() {
+        return false;
+    }
+    for i in 0..numbers.len() {
+        if numbers[i] as usize != others[i] {
+            return false;
+        }
+    }
+    true
+}
+
+/// Adds the numbers of the blocks that are listed with a net.
+fn add_listed(
+    arch: &Arch,
+    net: u32,
+    global: bool,
+    blocks: &[LaidBlock],
+    driver: usize,
+    listed: &mut Vec<usize>,
+) -> Result<(), AllocError>
+    requires { listed.old.items ≡ [] }
+    ensures { OnOk result (listed.new.items ≡ (if global then driver
+        ∷ map (λ block. block.0) (filter (λ block. not (block.0 == driver) && wants arch.now net block.1) (enumerate_from 0 blocks.now)) else [])) }
+{
+    if global {
+        listed.push(driver)?;
+        add_readers(arch, net, blocks, driver, listed)?;
+    }
+    Ok(())
+}
+
+/// Whether these are the blocks that are listed with a net.
+fn is_listed(
+    alloc: Global,
+    arch: &Arch,
+    net: u32,
+    global: bool,
+    blocks: &[LaidBlock],
+    driver: usize,
+    numbers: &[u32],
+) -> Result<bool, AllocError>
+    ensures { IfOk result (λ is. MatchBool is
+        (numbers.now ≡ (if global then driver ∷ map (λ block. block.0) (filter (λ block. not (block.0 == driver) && wants arch.now net block.1) (enumerate_from 0 blocks.now)) else []))
+        (numbers.now ≡ (if global then driver ∷ map (λ block. block.0) (filter (λ block. not (block.0 == driver) && wants arch.now net block.1) (enumerate_from 0 blocks.now)) else []) → ⊥)) }
+{
+    let mut listed = Vec::new(alloc);
+    add_listed(arch, net, global, blocks, driver, &mut listed)?;
+    Ok(same_numbers(numbers, listed.as_slice()))
+}
+
+/// The sinks to which a net has to be led; none if it is global.
+fn sinks_of(
+    alloc: Global,
+    arch: &Arch,
+    net: u32,
+    global: bool,
+    blocks: &[LaidBlock],
+) -> Result<Vec<Node>, AllocError>
+    ensures { IfOk result (λ sinks. sinks.items ≡ (if global then []
+        else map (λ laid. sink_at laid.block laid.place) (filter (wants arch.now net) blocks.now))) }
+{
+    let mut sinks = Vec::new(alloc);
+    if !global {
+        add_sinks(arch, net, blocks, &mut sinks)?;
+    }
+    Ok(sinks)
+}
+
+/// Finds what is wrong with the paths of a net, or counts their nodes.
+fn check_and_count(
+    graph: &Fabric,
+    work: &mut Work,
+    source: Node,
+    sinks: &[Node],
+    paths: &[LaidPath],
+    numbers: &mut NetNumbers,
+    uses: &mut Vec<u64>,
+) -> Result<Option<RouteFault>, AllocError>
+    requires room { HasRoom work.old (graph_of graph.now).count }
+    requires empty { AreEmpty numbers.old }
+    requires uses { length uses.old.items ≡ (graph_of graph.now).count }
+    requires few { (k : ℕ) → slice_index uses.old.items k + 1 < 2 ^ 64 }
+    ensures room { HasRoom work.new (graph_of graph.now).count }
+    ensures uses { length uses.new.items ≡ (graph_of graph.now).count }
+    ensures exact { IfOk result (λ fault. MatchOption fault
+        (IsRouted graph.now.arch graph.now.strip source sinks.now paths.now)
+        (IsPathFault graph.now source sinks.now paths.now)) }
+    ensures used { IfOk result (λ fault. IfNone fault
+        (AreUsedBy graph.now paths.now uses.old.items uses.new.items)) }
+{
+    let _count = graph.count();
+    if let Some(fault) = check_routed(graph, work, source, sinks, paths, numbers)? {
+        return Ok(Some(fault));
+    }
+    work.marks.clear();
+    count_uses(numbers.nodes.as_slice(), &mut work.marks, uses);
+    Ok(None)
+}
+
+/// Finds what is wrong with the paths of a net, or counts their nodes. Takes memory for their
+/// numbers.
+fn check_paths(
+    alloc: Global,
+    graph: &Fabric,
+    work: &mut Work,
+    source: Node,
+    sinks: &[Node],
+    paths: &[LaidPath],
+    uses: &mut Vec<u64>,
+) -> Result<Option<RouteFault>, AllocError>
+    requires room { HasRoom work.old (graph_of graph.now).count }
+    requires uses { length uses.old.items ≡ (graph_of graph.now).count }
+    requires few { (k : ℕ) → slice_index uses.old.items k + 1 < 2 ^ 64 }
+    ensures room { HasRoom work.new (graph_of graph.now).count }
+    ensures uses { length uses.new.items ≡ (graph_of graph.now).count }
+    ensures exact { IfOk result (λ fault. MatchOption fault
+        (IsRouted graph.now.arch graph.now.strip source sinks.now paths.now)
+        (IsPathFault graph.now source sinks.now paths.now)) }
+    ensures used { IfOk result (λ fault. IfNone fault
+        (AreUsedBy graph.now paths.now uses.old.items uses.new.items)) }
+{
+    let mut numbers = no_numbers(alloc);
+    let found = check_and_count(graph, work, source, sinks, paths, &mut numbers, uses);
+    drop(numbers);
+    found
+}
+
+/// Finds what is wrong with the entry of a net, or counts the nodes of its paths.
+pub(crate) fn check_entry(
+    alloc: Global,
+    circuit: &Circuit,
+    graph: &Fabric,
+    work: &mut Work,
+    layout: &Layout,
+    laid: &LaidNet,
+    uses: &mut Vec<u64>,
+) -> Result<Option<EntryFault>, AllocError>
+    requires room { HasRoom work.old (graph_of graph.now).count }
+    requires uses { length uses.old.items ≡ (graph_of graph.now).count }
+    requires few { (k : ℕ) → slice_index uses.old.items k + 1 < 2 ^ 64 }
+    ensures room { HasRoom work.new (graph_of graph.now).count }
+    ensures uses { length uses.new.items ≡ (graph_of graph.now).count }
+    ensures exact { IfOk result (λ fault. MatchOption fault
+        (IsLaid circuit.now graph.now.arch graph.now.strip layout.now laid.now)
+        (IsEntryFault circuit.now graph.now layout.now laid.now)) }
+    ensures used { IfOk result (λ fault. IfNone fault
+        (AreUsedBy graph.now laid.now.paths uses.old.items uses.new.items)) }
+{
+    let blocks = layout.blocks();
+    let net = laid.net();
+    let Some(driver) = first_driver(net, blocks) else {
+        return Ok(Some(EntryFault::NoDriver));
+    };
+    if let Some(other) = other_driver(net, blocks, driver) {
+        return Ok(Some(EntryFault::TwoDrivers(driver, other)));
+    }
+    let global = is_global(circuit, net);
+    let listed = is_listed(
+        alloc,
+        graph.arch(),
+        net,
+        global,
+        blocks,
+        driver,
+        laid.listed(),
+    )?;
+    if !listed {
+        return Ok(Some(EntryFault::Listed(driver)));
+    }
+    let sinks = sinks_of(alloc, graph.arch(), net, global, blocks)?;
+    let source = source_of(&blocks[driver]);
+    let found = check_paths(
+        alloc,
+        graph,
+        work,
+        source,
+        sinks.as_slice(),
+        laid.paths(),
+        uses,
+    );
+    drop(sinks);
+    match found? {
+        Some(fault) => Ok(Some(EntryFault::Paths(driver, fault))),
+        None => Ok(None),
+    }
+}
