@@ -1,16 +1,9 @@
 -- A line that is read in pieces.
 use Rattle.std.proofs.Common.{◌≡◌, ℕ, suc, ◌+◌, ◌-◌, ◌<◌, ◌≤◌, nat_lt, position, List, [], ◌∷◌, ◌++◌, length, take, drop, Bool, true, false, not, ◌&&◌, cond, eqb, Option, Some, None, Result, Ok, Err, refl, sym, ap, ◌∙◌, subst, arith, append_assoc}
 use Rattle.std.specs.List.{position_or_len}
-use Rattle.std.specs.Result.{IsErr}
-use Rattle.std.specs.Io.KnownBytes.{Consumes, IsAtEnd, Keeps, prepend_known}
-use Rattle.std.proofs.KnownBytes.{Consumes-kept, Consumes-nil, Consumes-trans}
 use Rattle.std.proofs.lemmas.Bool.{eqb-true}
 use Rattle.std.proofs.lemmas.Bool.Decides.{nat_tests}
 use Rattle.std.proofs.lemmas.List.{drop-drop, drop-take, length-take, take_all}
-use Rattle.line_text.specs.declared.source.Failed.{Failed}
-use Rattle.line_feed.specs.declared.feed.LineEnd.{LineEnd}
-use Rattle.line_feed.specs.declared.feed.LineEnd.TheVariants.{LineFeed, Input}
-use Rattle.line_feed.specs.Feed.{ReadsLine}
 use Rattle.line_feed.specs.Pieces.{IsKept, TakesPiece, is_one_line}
 
 abbrev is_end : ℕ → Bool
@@ -45,78 +38,6 @@ piece_ended (x ∷ xs) inside =
           ∙ (ap (λ l. l ++ 10 ∷ drop (end_of xs + 1) xs) (sym (take_next (end_of xs) x xs))
           ∙ ap (λ l. take (1 + end_of xs) (x ∷ xs) ++ 10 ∷ l) (sym (drop_two (end_of xs) x xs)))
     ] refl inside
-
--- the bytes of a line so far
-pub record Reading (old now : Option (List ℕ)) (kept : List ℕ) : Type 0 where
-  pub bytes : List ℕ
-  pub one : is_one_line bytes ≡ true
-  pub line : IsKept kept bytes
-  pub read : Consumes old now bytes
-
-pub reading_begins : (old : Option (List ℕ)) (kept : List ℕ) → IsKept kept [] → Reading old old kept
-reading_begins old kept is = record { bytes = []; one = refl; line = is; read = Consumes-nil old }
-
-and_more : (p q r : Bool) → p && q ≡ true → (q ≡ true → r ≡ true) → p && r ≡ true
-and_more true q r both more = more both
-and_more false q r both more = both
-
-both_lines : (a b : List ℕ) → is_one_line a ≡ true → is_one_line b ≡ true → is_one_line (a ++ b) ≡ true
-both_lines [] b first second = second
-both_lines (x ∷ a) b first second = and_more (not (eqb x 10)) (is_one_line a) (is_one_line (a ++ b)) first (λ e. both_lines a b e second)
-
--- what was ahead is taken
-took_ended : (ahead piece rest : List ℕ) (left : Option (List ℕ)) → ahead ≡ piece ++ 10 ∷ rest → Consumes (prepend_known ahead left) (prepend_known rest left) (piece ++ 10 ∷ [])
-took_ended ahead piece rest None e = tt
-took_ended ahead piece rest (Some left) e = ap (λ l. l ++ left) e ∙ (append_assoc piece (10 ∷ rest) left ∙ sym (append_assoc piece (10 ∷ []) (rest ++ left)))
-
-took_all : (ahead piece rest : List ℕ) (left : Option (List ℕ)) → ahead ≡ piece → rest ≡ [] → Consumes (prepend_known ahead left) (prepend_known rest left) piece
-took_all ahead piece rest None e none = tt
-took_all ahead piece rest (Some left) e none = ap (λ l. l ++ left) e ∙ ap (λ r. piece ++ (r ++ left)) (sym none)
-
-pub line_ends : (old left : Option (List ℕ)) (ahead rest : List ℕ) (kept after : List ℕ) → Reading old (prepend_known ahead left) kept → TakesPiece ahead kept true rest after → ReadsLine old (prepend_known rest left) after (Ok LineFeed)
-line_ends old left ahead rest kept after r p =
-    let all : Consumes old (prepend_known rest left) (r.bytes ++ (p.piece ++ 10 ∷ [])) = Consumes-trans old (prepend_known ahead left) (prepend_known rest left) r.bytes (p.piece ++ 10 ∷ []) r.read (took_ended ahead p.piece rest left p.rest) in
-    let P : List ℕ → Type 0 = λ bytes. Consumes old (prepend_known rest left) bytes in
-    (r.bytes ++ p.piece, both_lines r.bytes p.piece r.one p.one, p.kept r.bytes r.line, subst P (sym (append_assoc r.bytes p.piece (10 ∷ []))) all)
-
-pub goes_on : (old left : Option (List ℕ)) (ahead rest : List ℕ) (kept after : List ℕ) → Reading old (prepend_known ahead left) kept → TakesPiece ahead kept false rest after → Reading old (prepend_known rest left) after
-goes_on old left ahead rest kept after r p = record {
-  bytes = r.bytes ++ p.piece;
-  one = both_lines r.bytes p.piece r.one p.one;
-  line = p.kept r.bytes r.line;
-  read = Consumes-trans old (prepend_known ahead left) (prepend_known rest left) r.bytes p.piece r.read (took_all ahead p.piece rest left p.rest.0 p.rest.1);
-}
-
--- what was read ahead anew is what is known
-known_again : (left next : Option (List ℕ)) (rest ahead : List ℕ) → rest ≡ [] → Consumes left next ahead → Keeps (prepend_known rest left) (prepend_known ahead next)
-known_again None next rest ahead none read = tt
-known_again (Some l) None rest ahead none read = absurd read
-known_again (Some l) (Some n) rest ahead none read = sym (ap (λ r. r ++ l) none ∙ read)
-
-pub refilled : (old left next : Option (List ℕ)) (rest ahead : List ℕ) (kept : List ℕ) → rest ≡ [] → Reading old (prepend_known rest left) kept → Consumes left next ahead → Reading old (prepend_known ahead next) kept
-refilled old left next rest ahead kept none r read = record {
-  bytes = r.bytes;
-  one = r.one;
-  line = r.line;
-  read = Consumes-kept old (prepend_known rest left) (prepend_known ahead next) r.bytes r.read (known_again left next rest ahead none read);
-}
-
-at_end : (next : Option (List ℕ)) (ahead : List ℕ) → ahead ≡ [] → IsAtEnd next → IsAtEnd (prepend_known ahead next)
-at_end None ahead none end = tt
-at_end (Some n) ahead none end = ap (λ a. a ++ n) none ∙ end
-
-pub input_ends : (old next : Option (List ℕ)) (ahead : List ℕ) (kept : List ℕ) → Reading old (prepend_known ahead next) kept → ahead ≡ [] → IsAtEnd next → ReadsLine old (prepend_known ahead next) kept (Ok Input)
-input_ends old next ahead kept r none end = (r.bytes, r.one, r.line, (r.read, at_end next ahead none end))
-
-fails_known : (left next : Option (List ℕ)) (rest ahead : List ℕ) → rest ≡ [] → ahead ≡ [] → Keeps left next → Keeps (prepend_known rest left) (prepend_known ahead next)
-fails_known None next rest ahead none empty keeps = tt
-fails_known (Some l) None rest ahead none empty keeps = absurd keeps
-fails_known (Some l) (Some n) rest ahead none empty keeps = ap (λ a. a ++ n) empty ∙ (keeps ∙ sym (ap (λ r. r ++ l) none))
-
-pub line_fails : (old left next : Option (List ℕ)) (rest ahead : List ℕ) (kept : List ℕ) (r : Result LineEnd Failed) → IsErr r → rest ≡ [] → (ahead ≡ []) × Keeps left next → Reading old (prepend_known rest left) kept → ReadsLine old (prepend_known ahead next) kept r
-line_fails old left next rest ahead kept (Ok end) is none empty went = cc
-line_fails old left next rest ahead kept (Err failed) is none empty went =
-    (went.bytes, went.one, went.line, Consumes-kept old (prepend_known rest left) (prepend_known ahead next) went.bytes went.read (fails_known left next rest ahead none empty.0 empty.1))
 
 -- the same, by the answer
 pub piece_is : (ahead rest : List ℕ) (kept after : List ℕ) (a b : Bool) → a ≡ b → TakesPiece ahead kept a rest after → TakesPiece ahead kept b rest after

@@ -1,25 +1,30 @@
--- A source that is read line by line.
-use Rattle.std.specs.Prelude.{ℕ, ◌≡◌, List, [], ◌∷◌, ◌++◌, true, Option, Result, Ok, Err}
+-- An input that is taken line by line.
+use Rattle.std.specs.Prelude.{ℕ, ◌≡◌, ◌≤◌, List, [], ◌∷◌, length, take, true, Result, Ok, Err}
 use Rattle.std.specs.Io.KnownBytes.{Consumes, IsAtEnd}
-use Rattle.line_text.specs.declared.source.Failed.{Failed}
-use Rattle.line_feed.specs.declared.feed.LineEnd.{LineEnd}
-use Rattle.line_feed.specs.declared.feed.LineEnd.TheVariants.{LineFeed, Input}
+use Rattle.dialogue.specs.declared.dialogue.Fault.{Fault}
+use Rattle.dialogue.specs.History.{Happens, View}
+use Rattle.dialogue.specs.History.Event.{Kept}
 use Rattle.line_feed.specs.declared.feed.LineFeed.{LineFeed as Feed}
-use Rattle.line_feed.specs.Pieces.{IsKept, is_one_line}
 
--- the bytes of a line were read, and the LF that ends it, if one does
-abbrev pub EndsLine : Option (List ℕ) → Option (List ℕ) → List ℕ → Result LineEnd Failed → Type 0
-EndsLine old new bytes (Ok LineFeed) = Consumes old new (bytes ++ 10 ∷ [])
-EndsLine old new bytes (Ok Input) = Consumes old new bytes × IsAtEnd new
-EndsLine old new bytes (Err failed) = Consumes old new bytes
-
--- a line was read, of which these bytes are kept
-abbrev pub ReadsLine : Option (List ℕ) → Option (List ℕ) → List ℕ → Result LineEnd Failed → Type 0
-ReadsLine old new kept end = (line : List ℕ) × (is_one_line line ≡ true) × IsKept kept line × EndsLine old new line end
-
--- the bytes that were read ahead, and what is kept of the line that was read
+-- the bytes that were read ahead, and what is kept of the line so far
 abbrev pub ahead_of : Feed → List ℕ
 ahead_of feed = feed.ahead
 
 abbrev pub line_of : Feed → List ℕ
 line_of feed = feed.line
+
+-- these bytes were read and kept; if there are none, the input is at its end
+pub record ReadsAhead (old new : View) (ahead : List ℕ) : Type 0 where
+  pub happens : Happens old new (Kept ahead ∷ [])
+  pub consumes : Consumes old.remaining new.remaining ahead
+  pub end : ahead ≡ [] → IsAtEnd new.remaining
+
+-- a device failed, and the log has kept some bytes
+pub record FailsToRead (old new : View) (fault : Fault) : Type 0 where
+  pub bytes : List ℕ
+  pub happens : Happens old new (Kept bytes ∷ [])
+  pub failed : new.has_failed fault ≡ true
+
+abbrev pub Refills : View → View → List ℕ → Result (Unit {0}) Fault → Type 0
+Refills old new ahead (Ok u) = ReadsAhead old new ahead
+Refills old new ahead (Err fault) = FailsToRead old new fault

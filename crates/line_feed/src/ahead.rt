@@ -1,17 +1,17 @@
-//! Bytes of a source that were read ahead.
-ghost use Rattle.std.specs.Prelude.{◌≡◌, ◌==◌, ◌-◌, ◌<◌, [], IfOk, OnOk, OnErr, MatchBool, length, position, true, false};
-ghost use Rattle.std.specs.Io.KnownBytes.{Consumes, IsAtEnd, Keeps};
+//! Bytes of a dialogue's input that were read ahead.
+ghost use Rattle.std.specs.Prelude.{◌≡◌, ◌==◌, ◌<◌, [], IfOk, MatchBool, length, position};
+ghost use Rattle.line_feed.specs.Feed.{Refills};
 ghost use Rattle.line_feed.specs.Pieces.{TakesPiece};
 
 use crate::fed_line::FedLine;
-use line_text::{Failed, Source};
+use dialogue::{Dialogue, Fault};
 use std::alloc::{AllocError, Global};
 use std::marker::Model;
 
 /// How many bytes are read at a time.
 const CHUNK: usize = 65_536;
 
-/// Bytes of a source that were read ahead.
+/// Bytes of a dialogue's input that were read ahead.
 #[derive(Drop)]
 pub(crate) struct Ahead {
     buffer: Vec<u8>,
@@ -56,21 +56,13 @@ impl Ahead {
     }
 
     /// Reads once, when no byte is left that was read ahead.
-    pub(crate) fn refill<S: Source>(&mut self, source: &mut S) -> Result<(), Failed>
+    pub(crate) fn refill<D: Dialogue>(&mut self, dialogue: &mut D) -> Result<(), Fault>
         requires { self.old ≡ [] }
-        ensures ok { OnOk result (Consumes (S.remaining source.old) (S.remaining source.new)
-            self.new) }
-        ensures end { OnOk result (self.new ≡ [] → IsAtEnd (S.remaining source.new)) }
-        ensures err { OnErr result ((self.new ≡ [])
-            × Keeps (S.remaining source.old) (S.remaining source.new)) }
-        ensures works { OnOk result ((S.has_failed source.old ≡ false)
-            × (S.has_failed source.new ≡ false)) }
-        ensures fails { OnErr result (S.has_failed source.new ≡ true) }
-        ensures counts { S.reads_left source.new ≡ S.reads_left source.old - 1 }
+        ensures { Refills (D.view dialogue.old) (D.view dialogue.new) self.new result }
     {
         self.at = 0;
         self.end = 0;
-        self.end = source.read(self.buffer.as_mut_slice())?;
+        self.end = dialogue.read(self.buffer.as_mut_slice())?;
         Ok(())
     }
 

@@ -1,23 +1,14 @@
-//! A source, line by line.
-ghost use Rattle.std.specs.Prelude.{◌≡◌, [], IfOk, OnErr, true};
-ghost use Rattle.std.specs.Io.KnownBytes.{prepend_known};
-ghost use Rattle.line_feed.specs.Feed.{ReadsLine};
+//! An input, line by line.
+ghost use Rattle.std.specs.Prelude.{◌≡◌, ◌<◌, [], IfOk, MatchBool, length};
+ghost use Rattle.line_feed.specs.Feed.{Refills};
+ghost use Rattle.line_feed.specs.Pieces.{IsKept, TakesPiece};
 
 use crate::ahead::Ahead;
 use crate::fed_line::FedLine;
-use line_text::{Failed, Source};
+use dialogue::{Dialogue, Fault};
 use std::alloc::{AllocError, Global};
 
-/// How the reading of a line ended.
-#[derive(Clone, Copy, PartialEq, Eq)]
-pub enum LineEnd {
-    /// At LF.
-    LineFeed,
-    /// At the input's end.
-    Input,
-}
-
-/// Reads a source line by line.
+/// Takes the input of a dialogue line by line.
 #[derive(Drop)]
 pub struct LineFeed {
     ahead: Ahead,
@@ -27,9 +18,10 @@ pub struct LineFeed {
 impl LineFeed {
     ghost use Rattle.line_feed.specs.Feed.{ahead_of, line_of};
 
-    /// A reader at the beginning of a source.
+    /// A feed that has read nothing, at the beginning of a line.
     pub fn new(alloc: Global) -> Result<Self, AllocError>
-        ensures { IfOk result (λ feed. ahead_of feed ≡ []) }
+        ensures ahead { IfOk result (λ feed. ahead_of feed ≡ []) }
+        ensures line { IfOk result (λ feed. IsKept (line_of feed) []) }
     {
         Ok(LineFeed {
             ahead: Ahead::new(alloc)?,
@@ -37,30 +29,42 @@ impl LineFeed {
         })
     }
 
-    /// Reads the next line. Once its end was read, no other read is made.
-    ///
-    /// # Errors
-    /// `Failed` if the source fails. The bytes that were read of the line are lost.
-    pub fn read_line<S: Source>(&mut self, source: &mut S) -> Result<LineEnd, Failed>
-        ensures line { ReadsLine (prepend_known (ahead_of self.old) (S.remaining source.old))
-            (prepend_known (ahead_of self.new) (S.remaining source.new)) (line_of self.new)
-            result }
-        ensures ahead { OnErr result (ahead_of self.new ≡ []) }
-        ensures fails { OnErr result (S.has_failed source.new ≡ true) }
+    /// Begins the next line.
+    pub fn begin_line(&mut self)
+        ensures ahead { ahead_of self.new ≡ ahead_of self.old }
+        ensures line { IsKept (line_of self.new) [] }
     {
         self.line.clear();
-        loop {
-            if self.ahead.take_piece(&mut self.line) {
-                return Ok(LineEnd::LineFeed);
-            }
-            self.ahead.refill(source)?;
-            if self.ahead.is_empty() {
-                return Ok(LineEnd::Input);
-            }
-        }
     }
 
-    /// The first [`MAX_LINE`](crate::MAX_LINE) bytes of the line that was read, without its LF.
+    /// Takes what was read ahead, up to the end of the line. Returns whether the line has ended.
+    pub fn take_piece(&mut self) -> bool
+        ensures { TakesPiece (ahead_of self.old) (line_of self.old) result (ahead_of self.new)
+            (line_of self.new) }
+    {
+        self.ahead.take_piece(&mut self.line)
+    }
+
+    /// Reads once, when nothing is left that was read ahead.
+    ///
+    /// # Errors
+    /// The device of the dialogue that failed.
+    pub fn refill<D: Dialogue>(&mut self, dialogue: &mut D) -> Result<(), Fault>
+        requires { ahead_of self.old ≡ [] }
+        ensures reads { Refills (D.view dialogue.old) (D.view dialogue.new) (ahead_of self.new) result }
+        ensures line { line_of self.new ≡ line_of self.old }
+    {
+        self.ahead.refill(dialogue)
+    }
+
+    /// Whether nothing is left that was read ahead.
+    pub fn is_empty(&self) -> bool
+        ensures { MatchBool result (ahead_of self.now ≡ []) (0 < length (ahead_of self.now)) }
+    {
+        self.ahead.is_empty()
+    }
+
+    /// The first [`MAX_LINE`](crate::MAX_LINE) bytes of the line so far.
     pub fn line(&self) -> &[u8]
         ensures { result.now ≡ line_of self.now }
     {

@@ -1,8 +1,8 @@
-//! A source, line by line, as the lines come.
+//! The input of a dialogue, line by line, as the lines come.
 //!
-//! [`LineFeed`] makes no read while it has a line that has come. It keeps the first [`MAX_LINE`]
+//! [`LineFeed`] needs no read while it has a line that has come. It keeps the first [`MAX_LINE`]
 //! bytes of a line and drops the others. In `specs/`, `Pieces` says what is kept of a line, and
-//! `Feed` what a read of a line does.
+//! `Feed` what a read does.
 #![tactic(auto)]
 
 mod ahead;
@@ -10,4 +10,4 @@ mod fed_line;
 mod feed;
 
 pub use fed_line::MAX_LINE;
-pub use feed::{LineEnd, LineFeed};
+pub use feed::LineFeed;

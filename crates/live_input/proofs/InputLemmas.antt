@@ -11,34 +11,13 @@ use Rattle.tagged_lines.proofs.TagLemmas.{are_lines, both, is_line, line_then}
 use Rattle.live_lines.specs.Laws.{said_by}
 use Rattle.live_input.specs.Serving.{kept_input, kept_lines}
 
-pub to_line : (line : List ℕ) → is_one_line line ≡ true → is_line line ≡ true
-to_line [] one = refl
-to_line (x ∷ line) one = let parts = both (not (eqb x 10)) (is_one_line line) one in ap (λ b. b && is_line line) parts.0 ∙ to_line line parts.1
-
 -- lines with their ends are those lines
-pub lines_then : (lines : List (List ℕ)) (more : List ℕ) → list_all is_line lines ≡ true → physical_lines (flat_map ended lines ++ more) ≡ lines ++ physical_lines more
-lines_then [] more are = refl
-lines_then (line ∷ lines) more are =
+lines_back : (lines : List (List ℕ)) → list_all is_line lines ≡ true → physical_lines (flat_map ended lines) ≡ lines
+lines_back [] are = refl
+lines_back (line ∷ lines) are =
     let parts = both (is_line line) (list_all is_line lines) are in
-    ap physical_lines (append_assoc (line ++ 10 ∷ []) (flat_map ended lines) more ∙ append_assoc line (10 ∷ []) (flat_map ended lines ++ more))
-    ∙ (line_then line (flat_map ended lines ++ more) parts.0 ∙ ap (λ ls. line ∷ ls) (lines_then lines more parts.1))
-
-pub lines_back : (lines : List (List ℕ)) → list_all is_line lines ≡ true → physical_lines (flat_map ended lines) ≡ lines
-lines_back lines are = ap physical_lines (sym (append-nil (flat_map ended lines))) ∙ (lines_then lines [] are ∙ append-nil lines)
-
-not_false : (a : Bool) → not a ≡ true → a ≡ false
-not_false false e = refl
-not_false true e = absurd (cc)
-
--- a last line without its end is a line, if it has a byte
-pub last_line : (x : ℕ) (line : List ℕ) → is_line (x ∷ line) ≡ true → physical_lines (x ∷ line) ≡ (x ∷ line) ∷ []
-last_line x [] is =
-    let parts = both (not (eqb x 10)) true is in
-    ap (λ b. cond b ([] ∷ []) (onto_first x [])) (not_false (eqb x 10) parts.0)
-last_line x (y ∷ line) is =
-    let parts = both (not (eqb x 10)) (is_line (y ∷ line)) is in
-    ap (λ b. cond b ([] ∷ physical_lines (y ∷ line)) (onto_first x (physical_lines (y ∷ line)))) (not_false (eqb x 10) parts.0)
-    ∙ ap (onto_first x) (last_line y line parts.1)
+    ap physical_lines (append_assoc line (10 ∷ []) (flat_map ended lines))
+    ∙ (line_then line (flat_map ended lines) parts.0 ∙ ap (λ ls. line ∷ ls) (lines_back lines parts.1))
 
 -- a part of a line is a line
 take_line : (n : ℕ) (line : List ℕ) → is_line line ≡ true → is_line (take n line) ≡ true

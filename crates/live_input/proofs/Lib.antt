@@ -1,3 +1,3 @@
 mod Examples
 mod InputLemmas
-mod ServingLemmas
+mod TakenLemmas

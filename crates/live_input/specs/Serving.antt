@@ -1,14 +1,18 @@
--- The lines of an input that are served, one after another.
-use Rattle.std.specs.Prelude.{ℕ, List, Option, IfSome, map, ⊤}
+-- What a line is answered, and what lines are served.
+use Rattle.std.specs.Prelude.{ℕ, ◌≡◌, List, [], Option, map}
 use Rattle.std.specs.List.{flat_map}
-use Rattle.std.specs.Io.KnownBytes.{Appends}
 use Rattle.line_text.specs.Lines.{physical_lines}
 use Rattle.line_feed.specs.Pieces.{kept_of}
+use Rattle.rr_graph.specs.Graph.{Basis}
+use Rattle.service_core.specs.declared.device.Device.{Device}
+use Rattle.service_core.specs.Service.{ServiceState, empty}
+use Rattle.sessions.specs.Fitting.{own_graph}
 use Rattle.live_lines.specs.Acts.{Telling}
-use Rattle.live_lines.specs.Live.{LiveState, Takes}
+use Rattle.live_lines.specs.Ends.{EndsTexts}
+use Rattle.live_lines.specs.Live.{IsSteady, LiveState, Takes, TakesAsked, asked_of, state_of}
+use Rattle.live_lines.specs.Said.{no_texts}
 use Rattle.tagged_lines.specs.Tags.{Tagged, ended, output_of}
-use Rattle.live_input.specs.declared.serving.InputEnd.{InputEnd}
-use Rattle.live_input.specs.declared.serving.InputEnd.TheVariants.{Done}
+use Rattle.live_input.specs.declared.lines.LiveLines.{LiveLines}
 
 -- the lines of an input, each cut to the bytes that are kept of it
 abbrev pub kept_lines : List ℕ → List (List ℕ)
@@ -18,15 +22,37 @@ kept_lines input = map kept_of (physical_lines input)
 abbrev pub kept_input : List ℕ → List ℕ
 kept_input input = flat_map ended (kept_lines input)
 
--- the lines of the input were served in order from the first: these acts were answered, and this
--- was written
-pub record IsServed (input : List ℕ) (old : LiveState) (before after : Option (List ℕ)) (new : LiveState) : Type 0 where
+-- a line of that number is answered so: what it asks leads to these answered acts and tagged texts
+pub record AnswersLine (old : LiveState) (number : ℕ) (line reply : List ℕ) (new : LiveState) : Type 0 where
   pub tellings : List Telling
   pub told : List Tagged
-  pub takes : Takes old 1 (kept_lines input) tellings told new
-  pub writes : Appends before after (output_of told)
+  pub takes : TakesAsked old number (asked_of line) tellings told new
+  pub reply_is : reply ≡ output_of told
 
--- an input that ended was served whole, if its bytes are known
-abbrev pub Ends : Option (List ℕ) → LiveState → Option (List ℕ) → InputEnd → LiveState → Option (List ℕ) → Type 0
-Ends input old before Done new after = IfSome input (λ bytes. IsServed bytes old before after new)
-Ends input old before end new after = ⊤
+-- lines, each cut, are taken one after another, and this text is all replies
+pub record AreTaken (old : LiveState) (number : ℕ) (lines : List (List ℕ)) (text : List ℕ) (new : LiveState) : Type 0 where
+  pub tellings : List Telling
+  pub told : List Tagged
+  pub takes : Takes old number (map kept_of lines) tellings told new
+  pub text_is : text ≡ output_of told
+
+-- each text that is open is refused, and this is the reply
+pub record ClosesTexts (old : LiveState) (reply : List ℕ) : Type 0 where
+  pub tellings : List Telling
+  pub told : List Tagged
+  pub ends : EndsTexts old tellings told
+  pub reply_is : reply ≡ output_of told
+
+-- the state before the first line
+abbrev pub begins_on : ServiceState → Basis → LiveState
+begins_on core graph = record { stage = record { names = []; jobs = []; service = core; graph = graph }; texts = no_texts }
+
+-- on that device, which is empty
+abbrev pub begins : Device → LiveState
+begins device = begins_on (empty device) (own_graph device)
+
+abbrev pub state_in : LiveLines → LiveState
+state_in lines = state_of lines.live
+
+abbrev pub is_ready : LiveLines → Type 0
+is_ready lines = IsSteady lines.live

@@ -1,22 +1,9 @@
-use Rattle.std.proofs.Common.{◌+◌, Ok, refl, subst}
-use Rattle.std.specs.Io.KnownBytes.{prepend_known}
-use Rattle.line_feed.specs.declared.feed.LineEnd.{LineEnd}
-use Rattle.line_feed.specs.Feed.{ReadsLine, ahead_of, line_of}
-use Rattle.live_lines.specs.Live.{state_of}
-use Rattle.live_input.proofs.ServingLemmas.{all_served, progress_more}
+use Rattle.std.proofs.Common.{◌≡◌}
+use Rattle.line_service.proofs.AlongLemmas.{conversation_along}
+use Rattle.live_input.specs.declared.lines.LiveLines.{LiveLines}
+use Rattle.live_input.specs.Serving.{AnswersLine, state_in}
 use Rattle.live_input.proofs.serving.serve_lines.Goals as goal
 
-pub returns-in-Input : goal.returns-in-Input
-returns-in-Input g c =
-    let P : LineEnd → Type 0 = λ end. ReadsLine (prepend_known (ahead_of c.loop.feed) (g.R.Source.remaining c.loop.reader)) (prepend_known (ahead_of c.read_line.new.self) (g.R.Source.remaining c.read_line.new.source)) (line_of c.read_line.new.self) (Ok end) in
-    let reads = subst P c.in-Input.is c.in-Ok.ensures.line in
-    record { served = all_served _ _ _ _ _ c.loop.number (c.loop.number + 1) (state_of c.loop.live) (state_of c.serve_line.new.live) _ (g.W.Sink.contents c.serve_line.new.writer) (line_of c.read_line.new.self) refl c.loop.invariant.progress reads c.in-Ok-serve_line.ensures.takes; steady = λ _. c.in-Ok-serve_line.ensures.steady }
-
-pub loop-preserved : goal.loop-preserved
-loop-preserved g c =
-    let P : LineEnd → Type 0 = λ end. ReadsLine (prepend_known (ahead_of c.loop.feed) (g.R.Source.remaining c.loop.reader)) (prepend_known (ahead_of c.read_line.new.self) (g.R.Source.remaining c.read_line.new.source)) (line_of c.read_line.new.self) (Ok end) in
-    let reads = subst P c.in-LineFeed.is c.in-Ok.ensures.line in
-    record {
-      steady = c.in-Ok-serve_line.ensures.steady;
-      progress = progress_more _ _ _ _ _ c.loop.number (c.loop.number + 1) (state_of c.loop.live) (state_of c.serve_line.new.live) _ (g.W.Sink.contents c.serve_line.new.writer) (line_of c.read_line.new.self) refl c.loop.invariant.progress reads c.in-Ok-serve_line.ensures.takes;
-    }
+pub returns-clause-conversation : goal.returns-clause-conversation
+returns-clause-conversation g c =
+    conversation_along state_in (λ old number line reply new. AnswersLine (state_in old) number line reply (state_in new)) AnswersLine (λ old number line reply new is. is) c.args.lines.now c.args.number.now _ _ c.converse.result c.converse.new.service c.converse.new.number c.converse.ensures.conversation

@@ -1,0 +1,21 @@
+//! The program: a place-and-route service for one shared FPGA, that answers each line of standard
+//! input as it comes.
+#![tactic(auto)]
+
+use dialogue::Connection;
+use line_text::{StdSink, StdSource};
+use live_run::run_program;
+use std::process::ExitCode;
+use std::{env, io};
+
+fn main(rt: HostRuntime) -> ExitCode {
+    let reader = StdSource::new(rt.reader());
+    let writer = StdSink::new(io::writer(&rt));
+    let mut connection = Connection::new(reader, writer);
+    run_program(&rt, words(&rt), &mut connection)
+}
+
+/// The words that the program was called with, the first being its name.
+fn words(rt: &HostRuntime) -> io::Result<Vec<String>> {
+    Ok(env::args(rt)?.collect(rt.alloc())?)
+}

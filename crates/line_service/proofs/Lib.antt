@@ -1,0 +1,6 @@
+pub mod AlongLemmas
+mod EndLemmas
+mod EventLemmas
+mod Examples
+mod LineLemmas
+pub mod TalkLemmas

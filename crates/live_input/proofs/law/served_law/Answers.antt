@@ -1,0 +1,10 @@
+use Rattle.line_service.proofs.TalkLemmas.{answered_append}
+use Rattle.live_input.specs.Serving.{AnswersLine}
+use Rattle.live_input.proofs.TakenLemmas.{are_taken}
+use Rattle.live_input.proofs.law.served_law.Goals as goal
+
+pub returns-clause-taken : goal.returns-clause-taken
+returns-clause-taken c = are_taken
+
+pub returns-clause-one : goal.returns-clause-one
+returns-clause-one c = answered_append AnswersLine

@@ -1,0 +1,69 @@
+//! A live service that answers lines.
+ghost use Rattle.std.specs.Prelude.{◌≡◌, [], IfOk, OnOk};
+
+use line_service::Answers;
+use line_text::MemorySink;
+use live_lines::Live;
+use service_core::Service;
+use std::alloc::{AllocError, Global};
+use strips::DeviceGraph;
+
+/// A live service that answers lines.
+pub struct LiveLines<'g> {
+    alloc: Global,
+    live: Live<'g>,
+}
+
+impl<'g> LiveLines<'g> {
+    ghost use Rattle.live_input.specs.Serving.{ClosesTexts, begins_on, is_ready, state_in};
+
+    /// A service that has taken no line. The core must have admitted no tenancy.
+    pub fn new(alloc: Global, graph: &'g DeviceGraph, core: Service) -> Self
+        requires { core.histories ≡ [] }
+        ensures ready { is_ready result }
+        ensures state { state_in result ≡ begins_on core graph.now }
+    {
+        LiveLines {
+            alloc,
+            live: Live::new(alloc, graph, core),
+        }
+    }
+
+    /// Ends the input: returns the replies to the names whose text has no end.
+    ///
+    /// # Errors
+    /// `AllocError` if it runs out of memory.
+    pub fn end(&mut self) -> Result<Vec<u8>, AllocError>
+        requires { is_ready self.old }
+        ensures { IfOk result (λ reply. ClosesTexts (state_in self.old) reply.items) }
+    {
+        let mut reply = MemorySink::new(self.alloc);
+        match self.live.end(&mut reply) {
+            Ok(()) => Ok(reply.into_bytes()),
+            Err(_) => Err(AllocError),
+        }
+    }
+
+    /// Ends the service. Jobs that the operator holds are given back first.
+    pub fn close(self) {
+        let LiveLines { alloc: _, live } = self;
+        live.close();
+    }
+}
+
+impl Answers for LiveLines<'_> {
+    ghost use Rattle.live_input.specs.Serving.{AnswersLine, is_ready, state_in};
+
+    ghost is_ready = { λ lines. is_ready lines };
+
+    ghost answers = { λ old number line reply new.
+        AnswersLine (state_in old) number line reply (state_in new) };
+
+    fn answer(&mut self, number: u64, line: &[u8]) -> Result<Vec<u8>, AllocError> {
+        let mut reply = MemorySink::new(self.alloc);
+        match self.live.take_line(&mut reply, number, line) {
+            Ok(()) => Ok(reply.into_bytes()),
+            Err(_) => Err(AllocError),
+        }
+    }
+}

@@ -1,0 +1,25 @@
+//! The law.
+ghost use Rattle.std.specs.Prelude.{ℕ, List};
+ghost use Rattle.line_service.specs.Conversation.{AreAnswered};
+ghost use Rattle.live_input.specs.Serving.{AnswersLine, begins};
+ghost use Rattle.live_lines.specs.Live.{LiveState};
+ghost use Rattle.live_promises.specs.Told.{IsToldLive};
+ghost use Rattle.service_core.specs.declared.device.Device.{Device};
+
+use live_input::served_law;
+use live_lines::live_law;
+use service_core::headline;
+use sessions::end_to_end;
+
+/// If lines are answered one after another, from an empty device on, then each act is answered as
+/// that of a script is, each tenancy is alone, and each name has the replies to its own lines.
+pub fn live_promises()
+    ensures { (device : Device) (lines : List (List ℕ)) (text : List ℕ) (last : LiveState) →
+        AreAnswered AnswersLine (begins device) 1 lines text last →
+        IsToldLive device lines text last }
+{
+    headline();
+    end_to_end();
+    served_law();
+    live_law();
+}

@@ -1,0 +1,2 @@
+mod Exiting
+mod RunLemmas

@@ -1,0 +1,14 @@
+-- The limits of a device.
+use Rattle.std.specs.Prelude.{ℕ, ◌≡◌, ◌≤◌}
+use Rattle.arch_file.specs.declared.arch.Arch.{Arch}
+use Rattle.service_core.specs.declared.device.Device.{Device}
+use Rattle.live_run.specs.declared.options.Options.{Options}
+
+abbrev pub AreLawful : ℕ → ℕ → ℕ → Type 0
+AreLawful tracks columns rows = (1 ≤ tracks) × (tracks ≤ 64) × (1 ≤ columns) × (columns ≤ 256) × (1 ≤ rows) × (rows ≤ 64)
+
+abbrev pub Holds : Options → ℕ → ℕ → ℕ → Type 0
+Holds options tracks columns rows = (options.tracks ≡ tracks) × (options.columns ≡ columns) × (options.rows ≡ rows)
+
+abbrev pub device_of : Options → Arch → Device
+device_of options arch = record { arch = arch; columns = options.columns; rows = options.rows }

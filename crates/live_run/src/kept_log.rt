@@ -1,0 +1,116 @@
+//! The file of a log.
+ghost use Rattle.std.specs.Prelude.{◌≢◌, IfErr};
+
+use crate::outcome::Outcome;
+use dialogue::{Fault, FileLog, Log};
+use line_text::{ReadError, Source, StdSource, read_all};
+use std::alloc::Global;
+use std::fs::{File, OpenFile, OpenOptions};
+use std::io::{self, Read, Take, Write};
+use std::rt::Files;
+
+/// The number of bytes that are read at a time.
+const CHUNK: usize = 65_536;
+
+/// A log that is open: what it kept before, and the log for what comes.
+pub(crate) struct KeptLog<F: Read + Write + OpenFile + Drop> {
+    pub past: StdSource<Take<F>>,
+    pub log: FileLog<F>,
+}
+
+/// Opens the log at that path, which begins with that line. A last line without its end is cut
+/// off. A new log gets the first line.
+pub(crate) fn open_log<H: Files + AllocGlobal>(
+    rt: &H,
+    path: &str,
+    first_line: &[u8],
+) -> Result<KeptLog<H::File>, Outcome>
+    ensures { IfErr result (λ outcome. outcome ≢ Outcome.Done) }
+{
+    let (file, length) = match open_file(rt, path) {
+        Ok(opened) => opened,
+        Err(_) => return Err(Outcome::LogUnreadable),
+    };
+    let whole = length_to_keep(rt, path, length, first_line)?;
+    if whole < length && file.set_len(whole).is_err() {
+        return Err(Outcome::LogUnreadable);
+    }
+    let mut log = FileLog::new(file);
+    if whole == 0 && log.keep(first_line).is_err() {
+        return Err(Outcome::Stopped(Fault::Log));
+    }
+    let kept = whole.max(first_line.len() as u64);
+    match part_of(rt, path, kept) {
+        Ok(past) => Ok(KeptLog { past, log }),
+        Err(_) => Err(Outcome::LogUnreadable),
+    }
+}
+
+/// Opens a file for reading and appending, and returns its length too.
+fn open_file<H: Files>(rt: &H, path: &str) -> io::Result<(H::File, u64)> {
+    let file = OpenOptions::new()
+        .read(true)
+        .append(true)
+        .create(true)
+        .open(rt, path)?;
+    let length = file.metadata()?.len();
+    Ok((file, length))
+}
+
+/// The first bytes of a file.
+fn part_of<H: Files>(rt: &H, path: &str, length: u64) -> io::Result<StdSource<Take<H::File>>> {
+    Ok(StdSource::new(File::open(rt, path)?.take(length)))
+}
+
+/// The length of a log's whole lines, the first of which must be that line. A file that has no
+/// whole line must be a beginning of it.
+fn length_to_keep<H: Files + AllocGlobal>(
+    rt: &H,
+    path: &str,
+    length: u64,
+    first_line: &[u8],
+) -> Result<u64, Outcome>
+    ensures { IfErr result (λ outcome. outcome ≢ Outcome.Done) }
+{
+    let head = match part_of(rt, path, length.min(first_line.len() as u64)) {
+        Ok(mut part) => read_all(rt.alloc(), &mut part)?,
+        Err(_) => return Err(Outcome::LogUnreadable),
+    };
+    if !first_line.starts_with(head.as_slice()) {
+        return Err(Outcome::LogDiffers);
+    }
+    if head.len() < first_line.len() {
+        return Ok(0);
+    }
+    match part_of(rt, path, length) {
+        Ok(mut part) => Ok(whole_length(rt.alloc(), &mut part)?),
+        Err(_) => Err(Outcome::LogUnreadable),
+    }
+}
+
+/// The length of the whole lines that are left in a source.
+fn whole_length<S: Source>(alloc: Global, source: &mut S) -> Result<u64, ReadError> {
+    let Ok(mut buffer) = Vec::from_elem(alloc, 0u8, CHUNK) else {
+        return Err(ReadError::NoMemory);
+    };
+    let mut length: u64 = 0;
+    let mut whole: u64 = 0;
+    for _ in 0..u64::MAX {
+        let Ok(count) = source.read(buffer.as_mut_slice()) else {
+            return Err(ReadError::Failed);
+        };
+        if count == 0 {
+            return Ok(whole);
+        }
+        if let Some(place) = last_end(&buffer[..count]) {
+            whole = length.saturating_add(place as u64).saturating_add(1);
+        }
+        length = length.saturating_add(count as u64);
+    }
+    Err(ReadError::Failed)
+}
+
+/// The place of the last LF.
+fn last_end(bytes: &[u8]) -> Option<usize> {
+    bytes.iter().rposition(|byte| *byte == b'\n')
+}

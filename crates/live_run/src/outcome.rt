@@ -1,0 +1,101 @@
+//! How a service ended.
+ghost use Rattle.std.specs.Prelude.{◌≡◌};
+ghost use Rattle.std.specs.Process.{exit_status};
+ghost use Rattle.live_run.specs.Outcomes.{outcome_of, status_of};
+
+use arch_file::ArchFault;
+use dialogue::Fault;
+use line_service::End;
+use line_text::ReadError;
+use std::fmt;
+use std::process::ExitCode;
+
+/// How a live service ended.
+#[derive(Clone, Copy, PartialEq, Eq)]
+pub enum Outcome {
+    /// The input ended, and all its lines are answered.
+    Done,
+    /// The architecture's file can't be read.
+    ArchUnreadable,
+    ArchRefused(ArchFault),
+    /// The log's file can't be opened or read.
+    LogUnreadable,
+    /// The log does not begin with the line that names the options of this run.
+    LogDiffers,
+    /// That device failed.
+    Stopped(Fault),
+    /// The log and the input have 2^64 lines or more.
+    TooManyLines,
+    /// Memory ran out for the program's own tables, or for a reply.
+    NoMemory,
+}
+
+impl Outcome {
+    /// The status that the program ends with.
+    pub fn status(&self) -> u8
+        ensures { result ≡ status_of self.now }
+    {
+        match self {
+            Outcome::Done => 0,
+            Outcome::LogDiffers => 2,
+            Outcome::NoMemory => 4,
+            Outcome::ArchUnreadable
+            | Outcome::ArchRefused(_)
+            | Outcome::LogUnreadable
+            | Outcome::Stopped(_)
+            | Outcome::TooManyLines => 1,
+        }
+    }
+
+    /// The status as an exit code.
+    pub fn exit_code(&self) -> ExitCode
+        ensures { exit_status result ≡ status_of self.now }
+    {
+        ExitCode::from(self.status())
+    }
+
+    /// How a service ends whose conversation ended so.
+    pub(crate) fn of(end: End) -> Self
+        ensures { result ≡ outcome_of end }
+    {
+        match end {
+            End::Done => Outcome::Done,
+            End::Stopped(fault) => Outcome::Stopped(fault),
+            End::TooManyLines => Outcome::TooManyLines,
+            End::NoMemory => Outcome::NoMemory,
+        }
+    }
+}
+
+/// The message for standard error, without its line's end.
+impl fmt::Display for Outcome {
+    fn fmt<W: fmt::Write>(&self, f: &mut fmt::Formatter<W>) -> fmt::Result {
+        match self {
+            Outcome::Done => write!(f, ""),
+            Outcome::ArchUnreadable => write!(f, "arch: unreadable"),
+            Outcome::ArchRefused(fault) => write!(f, "arch: {fault}"),
+            Outcome::LogUnreadable => write!(f, "log: unreadable"),
+            Outcome::LogDiffers => write!(f, "log: its first line names other options"),
+            Outcome::Stopped(Fault::Input) => write!(f, "input: failed"),
+            Outcome::Stopped(Fault::Log) => write!(f, "log: failed"),
+            Outcome::Stopped(Fault::Output) => write!(f, "output: failed"),
+            Outcome::TooManyLines => write!(f, "input: too many lines"),
+            Outcome::NoMemory => write!(f, "memory"),
+        }
+    }
+}
+
+/// A log that can't be read.
+impl From<ReadError> for Outcome {
+    ghost use Rattle.std.specs.Prelude.{◌≡◌};
+    ghost use Rattle.live_run.specs.Outcomes.{unread_log};
+
+    ghost from_gives = { λ error outcome. outcome ≡ unread_log error };
+
+    fn from(error: ReadError) -> Self {
+        match error {
+            ReadError::Failed => Outcome::LogUnreadable,
+            ReadError::NoMemory => Outcome::NoMemory,
+        }
+    }
+}

@@ -1,0 +1,140 @@
+//! The service, from an architecture to the end of its input.
+ghost use Rattle.std.specs.Prelude.{◌≡◌, is_some, MatchResult, OnOk};
+ghost use Rattle.arch_file.specs.Arch.{IsArch};
+ghost use Rattle.service_core.specs.Kept.{IsDevice};
+ghost use Rattle.line_service.specs.Conversation.{IsConversation};
+ghost use Rattle.live_input.specs.Serving.{AnswersLine, begins, is_ready, state_in};
+ghost use Rattle.live_run.specs.Runs.{ClosesAs, Replays, Runs, RunsFrom, past_of};
+
+use crate::options::Options;
+use crate::outcome::Outcome;
+use arch_file::{ArchError, read_arch};
+use dialogue::{Dialogue, Replay};
+use line_feed::LineFeed;
+use line_service::End;
+use line_text::Source;
+use live_input::{LiveLines, serve_lines};
+use service_core::{Device, Service};
+use sessions::device_graph;
+use std::alloc::AllocError;
+use std::sync::Wait;
+
+/// Serves the lines of a dialogue as they come, over a device of that architecture. If there is a
+/// log, its lines are served before, and their replies are dropped; and texts that are open at the
+/// input's end stay open for a run that goes on from the log. Else each such text is refused.
+pub fn serve<H: Wait + AllocGlobal, P: Source + Drop, D: Dialogue>(
+    rt: &H,
+    options: &Options,
+    architecture: &[u8],
+    past: Option<P>,
+    dialogue: &mut D,
+) -> Outcome
+    ensures { Runs options.now architecture.now (is_some past) (past_of P.remaining past)
+        (D.view dialogue.old) (D.view dialogue.new) result }
+{
+    match read_arch(rt.alloc(), architecture, options.tracks) {
+        Ok(arch) => match serve_device(rt, options.device(arch), past, dialogue) {
+            Ok(outcome) => outcome,
+            Err(_) => Outcome::NoMemory,
+        },
+        Err(ArchError::Fault(fault)) => Outcome::ArchRefused(fault),
+        Err(ArchError::NoMemory) => Outcome::NoMemory,
+    }
+}
+
+/// Serves the lines on that device.
+fn serve_device<H: Wait + AllocGlobal, P: Source + Drop, D: Dialogue>(
+    rt: &H,
+    device: Device,
+    past: Option<P>,
+    dialogue: &mut D,
+) -> Result<Outcome, AllocError>
+    requires { IsDevice device }
+    ensures { MatchResult result
+        (λ outcome. RunsFrom (begins device) (is_some past) (past_of P.remaining past)
+        (D.view dialogue.old) (D.view dialogue.new) outcome)
+        (λ _. D.view dialogue.new ≡ D.view dialogue.old) }
+{
+    let graph = device_graph(rt.alloc(), &device)?;
+    let core = Service::new(rt.alloc(), device)?;
+    let mut lines = LiveLines::new(rt.alloc(), &graph, core);
+    let outcome = serve_past(rt, &mut lines, past, dialogue);
+    lines.close();
+    Ok(outcome)
+}
+
+/// Serves the lines of the log, if there is one, and then those of the dialogue.
+fn serve_past<H: Wait + AllocGlobal, P: Source + Drop, D: Dialogue>(
+    rt: &H,
+    lines: &mut LiveLines<'_>,
+    past: Option<P>,
+    dialogue: &mut D,
+) -> Outcome
+    requires { is_ready lines.old }
+    ensures { RunsFrom (state_in lines.old) (is_some past) (past_of P.remaining past)
+        (D.view dialogue.old) (D.view dialogue.new) result }
+{
+    let mut number = 1;
+    match past {
+        Some(past) => match replay(rt, lines, past, &mut number) {
+            Ok(()) => Outcome::of(talk(rt, lines, dialogue, &mut number)),
+            Err(outcome) => outcome,
+        },
+        None => match talk(rt, lines, dialogue, &mut number) {
+            End::Done => close_texts(lines, dialogue),
+            end => Outcome::of(end),
+        },
+    }
+}
+
+/// Serves the lines of a log, and drops their replies.
+fn replay<H: Wait + AllocGlobal, P: Source + Drop>(
+    rt: &H,
+    lines: &mut LiveLines<'_>,
+    past: P,
+    number: &mut u64,
+) -> Result<(), Outcome>
+    requires { is_ready lines.old }
+    ensures ready { OnOk result (is_ready lines.new) }
+    ensures replays { Replays (P.remaining past) (state_in lines.old) number.old result
+        (state_in lines.new) number.new }
+{
+    let mut replay = Replay::new(past);
+    match talk(rt, lines, &mut replay, number) {
+        End::Done => Ok(()),
+        End::NoMemory => Err(Outcome::NoMemory),
+        End::Stopped(_) | End::TooManyLines => Err(Outcome::LogUnreadable),
+    }
+}
+
+/// Serves the lines of a dialogue, up to the input's end.
+fn talk<H: Wait + AllocGlobal, D: Dialogue>(
+    rt: &H,
+    lines: &mut LiveLines<'_>,
+    dialogue: &mut D,
+    number: &mut u64,
+) -> End
+    requires { is_ready lines.old }
+    ensures ready { result ≡ End.Done → is_ready lines.new }
+    ensures conversation { IsConversation AnswersLine (state_in lines.old) number.old
+        (D.view dialogue.old) (D.view dialogue.new) result (state_in lines.new) number.new }
+{
+    match LineFeed::new(rt.alloc()) {
+        Ok(mut feed) => serve_lines(rt, lines, &mut feed, dialogue, number),
+        Err(_) => End::NoMemory,
+    }
+}
+
+/// Refuses each text that is open.
+fn close_texts<D: Dialogue>(lines: &mut LiveLines<'_>, dialogue: &mut D) -> Outcome
+    requires { is_ready lines.old }
+    ensures { ClosesAs (state_in lines.old) (D.view dialogue.old) (D.view dialogue.new) result }
+{
+    let Ok(reply) = lines.end() else {
+        return Outcome::NoMemory;
+    };
+    match dialogue.write(reply.as_slice()) {
+        Ok(()) => Outcome::Done,
+        Err(fault) => Outcome::Stopped(fault),
+    }
+}
