@@ -41,21 +41,21 @@ fn keyword_in(kind: ArchFaultKind) -> Option<Keyword> {
 fn words_of(kind: ArchFaultKind) -> &'static str {
     match kind {
         ArchFaultKind::Unknown => {
-            "the first word is no keyword of an architecture file, or a pin has no `class:`"
+            "the first word is not a keyword of an architecture file, or a pin has no `class:`"
         }
-        ArchFaultKind::Repeated => "an earlier line has this keyword",
+        ArchFaultKind::Repeated => "an earlier line already has this keyword",
         ArchFaultKind::Missing(_) => "no line has the keyword ",
         ArchFaultKind::BadNumber => {
-            "too few words, too many, or a word that is not a number of the kind that is wanted"
+            "too few words, too many words, or a word that is not a number of the right kind"
         }
-        ArchFaultKind::NotProfile(_) => "a value that the devices here do not have: ",
+        ArchFaultKind::NotProfile(_) => "this value is not supported: ",
         ArchFaultKind::BadClass => {
-            "the pins: class 0 for inputs, class 1 for one output a subblock, class 2 for one clock"
+            "the pins must be: class 0 for the inputs, class 1 for one output of each subblock, class 2 for one clock"
         }
         ArchFaultKind::BadSide => "a pin's sides are one to four of top, bottom, left and right",
-        ArchFaultKind::OverLimit => "a number or the text is above its limit",
-        ArchFaultKind::NotAscii => "a letter with an accent, or another byte that is no ASCII",
-        ArchFaultKind::LineTooLong => "a joined line is above 262,144 bytes",
+        ArchFaultKind::OverLimit => "a number or the length of the text is above its limit",
+        ArchFaultKind::NotAscii => "a letter with an accent, or another byte that is not ASCII",
+        ArchFaultKind::LineTooLong => "a joined line is longer than 262,144 bytes",
     }
 }
 
@@ -65,11 +65,13 @@ fn profile_of(kind: ArchFaultKind) -> &'static str {
         return "";
     };
     match keyword {
-        Keyword::ChanWidthIo => " is 1",
-        Keyword::ChanWidthX | Keyword::ChanWidthY => " is uniform 1",
-        Keyword::FcType => " is absolute or fractional",
-        Keyword::SwitchBlockType => " is subset",
-        Keyword::Segment => { " is one line, with frequency: 1 length: 1 Frac_cb: 1 Frac_sb: 1" }
+        Keyword::ChanWidthIo => " must be 1",
+        Keyword::ChanWidthX | Keyword::ChanWidthY => " must be uniform 1",
+        Keyword::FcType => " must be absolute or fractional",
+        Keyword::SwitchBlockType => " must be subset",
+        Keyword::Segment => {
+            " must be one line with frequency: 1 length: 1 Frac_cb: 1 Frac_sb: 1"
+        }
         _ => "",
     }
 }

@@ -1,37 +1,51 @@
 //! Reads the program's words to an errand.
 use crate::size::size_of;
-use crate::{files, picture, random, report, route, script, strip};
+use crate::{files, page_tool, picture, random, report, route_wishes, script, strip};
 use clap::Error;
-use device_picture::DeviceSize;
+use device_lines::DeviceSize;
 use option_words::{Call, Toolbox, call_refusal, read_call};
-use random_script::Plan;
 use std::alloc::Global;
 use std::convert::AsStr;
 use tenancy_script::Wishes;
 
-/// The tools, for their options.
-const TOOLBOX: Toolbox = Toolbox {
-    name: "fpgad_desk",
-    about: "Tools beside fpgad: they make its scripts and read what it prints",
-    after_help: "\
+/// The beginning of the program's help.
+const ABOUT: &str = "Tools for fpgad: they write its scripts and read its output";
+
+/// The end of the program's help.
+const AFTER_HELP: &str = "\
 Each tool has its own help: fpgad_desk TOOL --help, or fpgad_desk help TOOL. The version: fpgad_desk --version
 
-Status: 0 done; 1 a file or a device failed, or `files` found a refused line; 2 the options are refused; 3 the input is, with its line; 4 out of memory
+Status: 0 done; 1 a file could not be read or written, or `files` found a refused line; 2 the command line is wrong; 3 the input is wrong (standard error names the line); 4 out of memory
 
-Example: fpgad_desk script --name T --width 2 < t.blif | fpgad --arch my.arch --tracks 8 --columns 10 --rows 10",
+Example: fpgad_desk script --name T --width 2 < t.blif | fpgad --arch my.arch --tracks 8 --columns 10 --rows 10";
+
+/// All tools, for the program's help; those that draw or report have no options here.
+const TOOLBOX: Toolbox = Toolbox {
+    name: "fpgad_desk",
+    about: ABOUT,
+    after_help: AFTER_HELP,
     tools: &[
         script::TOOL,
         files::TOOL,
-        route::TOOL,
-        strip::TOOL,
-        picture::TOOL,
-        report::TOOL,
+        route_wishes::TOOL,
+        strip::NAMED,
+        picture::NAMED,
+        report::NAMED,
+        page_tool::NAMED,
         random::TOOL,
     ],
 };
 
+/// The tools that draw or report, with their options.
+const VIEWS: Toolbox = Toolbox {
+    name: "fpgad_desk",
+    about: ABOUT,
+    after_help: AFTER_HELP,
+    tools: &[strip::TOOL, picture::TOOL, report::TOOL, page_tool::TOOL],
+};
+
 /// Why the name of a tool is refused that the desk doesn't have.
-const NO_TOOL: &str = "no tool has this name";
+const NO_TOOL: &str = "unknown tool";
 
 /// What is shown of a device.
 #[derive(Clone, Copy)]
@@ -50,13 +64,15 @@ pub(crate) enum Errand<'a> {
     /// The files of a script.
     Files(files::Wishes<'a>),
     /// A netlist on a device of its own.
-    Route(route::Wishes<'a>),
+    Route(route_wishes::Wishes<'a>),
     /// A picture of a tenancy.
     Strip(strip::Wishes<'a>),
     /// What is shown of a device, and the device's size.
     View(DeviceSize, View),
+    /// A page of a script and what was printed for it.
+    Page(page_tool::Wishes<'a>),
     /// A script with random circuits.
-    Random(Plan),
+    Random(random::Wanted),
 }
 
 /// What these words ask, the first being the program's name. An error is clap's; a request for help
@@ -65,6 +81,19 @@ pub(crate) fn read_errand<'a, S: AsStr>(
     alloc: Global,
     words: &'a [S],
 ) -> Result<Errand<'a>, Error> {
+    match words.get(1).map_or("", |word| word.as_str()) {
+        "strip" | "picture" | "report" | "page" => read_view(alloc, words),
+        _ => read_other(alloc, words),
+    }
+}
+
+/// What words ask that call a tool that draws or reports.
+fn read_view<'a, S: AsStr>(alloc: Global, words: &'a [S]) -> Result<Errand<'a>, Error> {
+    errand_by(alloc, &VIEWS, words)
+}
+
+/// What other words ask.
+fn read_other<'a, S: AsStr>(alloc: Global, words: &'a [S]) -> Result<Errand<'a>, Error> {
     errand_by(alloc, &TOOLBOX, words)
 }
 
@@ -89,11 +118,12 @@ fn errand_of<'a>(call: &Call<'a>) -> Result<Errand<'a>, &'static str> {
     match call.tool.name {
         "script" => Ok(Errand::Script(script::wishes_of(&call.given)?)),
         "files" => Ok(Errand::Files(files::wishes_of(&call.given)?)),
-        "route" => Ok(Errand::Route(route::wishes_of(&call.given)?)),
+        "route" => Ok(Errand::Route(route_wishes::wishes_of(&call.given)?)),
         "strip" => Ok(Errand::Strip(strip::wishes_of(&call.given)?)),
         "picture" => Ok(Errand::View(size_of(&call.given)?, View::Picture)),
         "report" => Ok(Errand::View(size_of(&call.given)?, View::Report)),
-        "random" => Ok(Errand::Random(random::plan_of(&call.given)?)),
+        "page" => Ok(Errand::Page(page_tool::wishes_of(&call.given)?)),
+        "random" => Ok(Errand::Random(random::wanted_of(&call.given)?)),
         _ => Err(NO_TOOL),
     }
 }

@@ -1,8 +1,10 @@
 //! The tool that saves the files which the service printed.
 ghost use Rattle.std.specs.Prelude.{◌+◌, ◌<◌, ◌^◌, length};
 
+use crate::device_file::DEVICE;
 use crate::outcome::Outcome;
 use crate::paths::{FileRole, ResultFile, make_folder, read_file, tell_stale, write_file};
+use crate::tenants::save_replies;
 use crate::words::FOLDER;
 use line_text::{Failed, NameSet, Sink, Source, read_all};
 use option_words::{Given, OptionWord, Program, Takes};
@@ -16,22 +18,22 @@ use std::rt::Files;
 use tenant_slot::FileKind;
 use text_parts::{Part, write_parts};
 
-const NO_FILE: &str = "a script and a folder are wanted";
+const NO_FILE: &str = "give a script and a folder";
 
 pub(crate) const TOOL: Program = Program {
     name: "files",
-    about: "Takes the result files out of what fpgad printed for a script, which stands on standard input, and prints each line of the script beside its reply",
+    about: "Saves the result files from what fpgad printed for a script (read from standard input), and prints each line of the script with its reply",
     after_help: "\
-Of each name the last .net, .place and .route that it was told is written into the folder. A file is found by its length, whatever
-stands in it. Refusals are told in words, with what may be done. The last line counts the lines that were served and refused, and the
-files; the status is 1 if a line was refused. A file of an earlier run that is left in the folder is told on standard error.
+For each name, the last .net, .place and .route file that the service printed is written to the folder. The length in the reply
+says where a file ends, whatever it contains. Each refusal is explained, with advice. The last line counts the served lines, the
+refused lines and the files. The status is 1 if a line was refused. A file left in the folder by an earlier run is named on standard error.
 
 Example: fpgad --arch my.arch --tracks 8 --columns 10 < my.script | fpgad_desk files --arch my.arch my.script results",
     options: &[
         OptionWord {
             name: "arch",
             value_name: "FILE",
-            help: "Given where fpgad was given it: the script has no architecture at its head then",
+            help: "Give it if fpgad was run with --arch: the script then does not begin with the architecture",
             takes: Takes::Text,
             default: None,
         },
@@ -42,6 +44,7 @@ Example: fpgad --arch my.arch --tracks 8 --columns 10 < my.script | fpgad_desk f
             takes: Takes::Alone,
             default: None,
         },
+        DEVICE,
         FOLDER,
     ],
 };
@@ -66,15 +69,15 @@ pub(crate) fn wishes_of<'a>(given: &Given<'a>) -> Result<Wishes<'a>, &'static st
 
 /// The lines of a script after its architecture.
 #[derive(Clone, Copy)]
-struct Lines<'t> {
-    text: &'t [u8],
+pub(crate) struct Lines<'t> {
+    pub(crate) text: &'t [u8],
     /// The number of its first line.
-    number: usize,
+    pub(crate) number: usize,
     ghost counted: { number + length text.now < 2 ^ 64 },
 }
 
 /// The lines of a script after its architecture, if it begins with one.
-fn lines_of(script: &[u8], has_architecture: bool) -> Lines<'_>
+pub(crate) fn lines_of(script: &[u8], has_architecture: bool) -> Lines<'_>
     requires { length script.now < 2 ^ 63 }
 {
     let whole = Lines {
@@ -147,7 +150,7 @@ fn run_on_texts<H: Files + AllocGlobal, W: Sink, E: Sink>(
         Ok(replies) => {
             let saved = save_files(rt, folder, &acts, &replies, teller);
             let outcome = match saved {
-                Ok(files) => print(rt.alloc(), lines, &acts, &replies, files, writer),
+                Ok(files) => print(rt, folder, lines, &acts, &replies, files, writer, teller),
                 Err(outcome) => Err(outcome),
             };
             drop(replies);
@@ -223,25 +226,27 @@ fn save_name<H: Files + AllocGlobal, E: Sink>(
 }
 
 /// The kinds of files that a name may have.
-const KINDS: [FileKind; 3] = [FileKind::Net, FileKind::Place, FileKind::Route];
+pub(crate) const KINDS: [FileKind; 3] = [FileKind::Net, FileKind::Place, FileKind::Route];
 
 /// Prints the lines beside their replies, and their numbers.
-fn print<W: Sink>(
-    alloc: Global,
+fn print<H: Files + AllocGlobal, W: Sink, E: Sink>(
+    rt: &H,
+    folder: &str,
     lines: Lines<'_>,
     acts: &[Act<&[u8]>],
     replies: &Replies<'_, '_>,
     files: u32,
     writer: &mut W,
+    teller: &mut E,
 ) -> Result<(), Outcome> {
-    let Ok(asked) = script_lines(alloc, lines.text, lines.number, acts) else {
+    let Ok(asked) = script_lines(rt.alloc(), lines.text, lines.number, acts) else {
         return Err(Outcome::NoMemory);
     };
-    let told = told_lines(alloc, &asked, replies);
+    let told = told_lines(rt.alloc(), &asked, replies);
     drop(asked);
     match told {
         Ok(told) => {
-            let outcome = print_told(writer, &told, files);
+            let outcome = print_told(rt, folder, acts, &told, files, writer, teller);
             drop(told);
             outcome
         }
@@ -249,16 +254,43 @@ fn print<W: Sink>(
     }
 }
 
-/// Prints the lines with their replies, and how many were served and refused.
-fn print_told<W: Sink>(writer: &mut W, told: &[ToldLine<'_>], files: u32) -> Result<(), Outcome> {
+/// Prints the lines with their replies, writes those of each name into the folder, and prints how
+/// many were served and refused.
+fn print_told<H: Files + AllocGlobal, W: Sink, E: Sink>(
+    rt: &H,
+    folder: &str,
+    acts: &[Act<&[u8]>],
+    told: &[ToldLine<'_>],
+    files: u32,
+    writer: &mut W,
+    teller: &mut E,
+) -> Result<(), Outcome> {
     let refused = told.iter().filter(|line| line.is_refused()).count();
     let served = told.len().saturating_sub(refused);
     write_told(writer, told).or(Err(Outcome::OutputFailed))?;
+    save_told(rt, folder, acts, told, writer, teller)?;
     write_summary(writer, served, refused, files).or(Err(Outcome::OutputFailed))?;
     if refused > 0 {
         return Err(Outcome::LinesRefused(refused));
     }
     Ok(())
+}
+
+/// Writes the lines of each name into the folder, and prints what each used.
+fn save_told<H: Files + AllocGlobal, W: Sink, E: Sink>(
+    rt: &H,
+    folder: &str,
+    acts: &[Act<&[u8]>],
+    told: &[ToldLine<'_>],
+    writer: &mut W,
+    teller: &mut E,
+) -> Result<(), Outcome> {
+    let Ok(names) = session_names(rt.alloc(), acts) else {
+        return Err(Outcome::NoMemory);
+    };
+    let saved = save_replies(rt, folder, &names, acts, told, writer, teller);
+    drop(names);
+    saved
 }
 
 /// Writes the numbers of lines that were served and refused, and of files.

@@ -6,7 +6,7 @@ use std::alloc::Global;
 use text_parts::{Part, write_parts};
 
 /// A number of inputs that no table of a netlist has.
-const ANY_TABLE: u32 = 1_000_000;
+pub(crate) const ANY_TABLE: u32 = 1_000_000;
 
 /// Writes a warning for each latch of a netlist that has no clock, with its line and its name. A
 /// netlist with a fault has no warnings: it is refused. A warning that can't be written is skipped.

@@ -8,6 +8,7 @@
 //! - `route` packs, places and routes one netlist on a device of its own, and writes its files.
 //! - `strip` draws one tenancy from its three files.
 //! - `picture` draws the device from what the service printed, and `report` says how full it is.
+//! - `page` prints one HTML file with the device and its tenancies, for a browser.
 //! - `random` prints a script with random circuits, to measure the service with.
 //!
 //! [`run_words`] reads a program's words and does what they ask, over any input and output.
@@ -15,20 +16,28 @@
 #![tactic(auto)]
 
 mod arch_words;
+mod csv;
+mod device_file;
 mod errand;
 mod files;
 mod latches;
+mod longest;
 mod outcome;
+mod page_tool;
 mod paths;
 mod picture;
 mod random;
 mod report;
 mod route;
+mod route_size;
+mod route_wishes;
+mod routed_table;
 mod run;
 mod script;
 mod silence;
 mod size;
 mod strip;
+mod tenants;
 mod words;
 
 pub use outcome::Outcome;

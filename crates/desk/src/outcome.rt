@@ -4,7 +4,7 @@ ghost use Rattle.desk.specs.Outcomes.{status_of, written_so};
 
 use crate::paths::FileRole;
 use arch_file::ArchFault;
-use device_picture::InputFault;
+use device_lines::InputFault;
 use line_text::{Failed, ReadError};
 use std::fmt;
 use strip_files::FileFault;
@@ -96,13 +96,13 @@ impl fmt::Display for Outcome {
             Outcome::LinesRefused(1) => write!(f, "1 line is refused"),
             Outcome::LinesRefused(lines) => write!(f, "{lines} lines are refused"),
             Outcome::ScriptRefused(line) => write!(f, "script: line {line}"),
-            Outcome::RepliesRefused(line) => write!(f, "line {line}: no reply to the script"),
+            Outcome::RepliesRefused(line) => write!(f, "line {line}: does not match the script"),
             Outcome::ArchRefused(fault) => write!(f, "arch: {fault}"),
             Outcome::NetlistRefused => write!(f, "netlist: refused"),
-            Outcome::Unrouted => write!(f, "netlist: left without routes"),
+            Outcome::Unrouted => write!(f, "netlist: not routed"),
             Outcome::StripRefused(fault) => write!(f, "{fault}"),
-            Outcome::NoNet => write!(f, "no net has this name"),
-            Outcome::NoMemory => write!(f, "memory"),
+            Outcome::NoNet => write!(f, "there is no net with this name"),
+            Outcome::NoMemory => write!(f, "out of memory"),
         }
     }
 }

@@ -16,6 +16,7 @@ pub enum FileRole {
     Net,
     Places,
     Routes,
+    Device,
     Folder,
 }
 
@@ -28,6 +29,7 @@ impl fmt::Display for FileRole {
             FileRole::Net => write!(f, ".net file"),
             FileRole::Places => write!(f, ".place file"),
             FileRole::Routes => write!(f, ".route file"),
+            FileRole::Device => write!(f, "device file"),
             FileRole::Folder => write!(f, "folder"),
         }
     }
@@ -60,7 +62,7 @@ fn read_open<H: Files + AllocGlobal, F: Read + Drop, E: Sink>(
         Ok(bytes) => Ok(bytes),
         Err(ReadError::NoMemory) => Err(Outcome::NoMemory),
         Err(ReadError::Failed) => {
-            let _ = write_parts(teller, &[path.as_bytes(), b": can't be read\n"]);
+            let _ = write_parts(teller, &[path.as_bytes(), b": cannot be read\n"]);
             Err(Outcome::FileFailed(role))
         }
     }

@@ -1,63 +1,99 @@
 //! The tool that prints a script with random circuits.
+use crate::outcome::Outcome;
+use line_text::Sink;
 use option_words::{Given, OptionWord, Program, Takes};
-use random_script::{Phase, Plan, Wishes};
+use random_script::{Phase, Plan, Wishes, write_netlist, write_script};
 
-const NO_ROOM: &str = "no device has room for so many tenancies with so many tables";
+const NO_ROOM: &str =
+    "the tenancies do not fit on the largest device: ask for fewer tenancies or fewer tables";
 
-const NO_PHASE: &str = "no phase has this name";
+const NO_PHASE: &str = "unknown phase";
 
 pub(crate) const TOOL: Program = Program {
     name: "random",
-    about: "Prints a script for fpgad with random circuits, to measure it with",
-    after_help: "Its first line names the options of fpgad. Example: fpgad_desk random --tables 60 > my.script && fpgad $(head -n 1 my.script | cut -c 9-) < my.script",
+    about: "Prints a script for fpgad with random circuits, for measurements",
+    after_help: "The first line of the script is a comment with the options for fpgad. Example: fpgad_desk random --tables 60 > my.script && fpgad $(head -n 1 my.script | cut -c 9-) < my.script",
     options: &[
         OptionWord {
             name: "tables",
             value_name: "N",
-            help: "Tables of each circuit, 1 to 7500",
+            help: "Lookup tables in each circuit, 1 to 7500",
             takes: Takes::Number(1, 7500),
             default: Some("400"),
         },
         OptionWord {
             name: "tenancies",
             value_name: "T",
-            help: "Tenancies with a circuit each, 1 to 64",
+            help: "Tenancies, each with its own circuit, 1 to 64",
             takes: Takes::Number(1, 64),
             default: Some("1"),
         },
         OptionWord {
             name: "inputs",
             value_name: "K",
-            help: "Inputs of a table, 1 to 8",
+            help: "Inputs of a lookup table, 1 to 8",
             takes: Takes::Number(1, 8),
             default: Some("4"),
         },
         OptionWord {
             name: "cluster",
             value_name: "C",
-            help: "Tables of a cluster, 1 to 16",
+            help: "Lookup tables in a cluster, 1 to 16",
             takes: Takes::Number(1, 16),
             default: Some("1"),
         },
         OptionWord {
             name: "seed",
             value_name: "S",
-            help: "Where the random draws begin, 0 to 18446744073709551615",
+            help: "Seed of the random numbers, 0 to 18446744073709551615",
             takes: Takes::Long,
             default: Some("1"),
         },
         OptionWord {
             name: "until",
             value_name: "PHASE",
-            help: "The last phase that the tenants ask for",
+            help: "The last phase that the tenants request",
             takes: Takes::Word(&["reading", "packing", "placing", "routing"]),
             default: Some("routing"),
+        },
+        OptionWord {
+            name: "blif",
+            value_name: "",
+            help: "Prints the netlist of the first circuit alone",
+            takes: Takes::Nothing,
+            default: None,
         },
     ],
 };
 
+/// What is printed of a plan.
+#[derive(Clone, Copy)]
+pub(crate) struct Wanted {
+    plan: Plan,
+    /// Whether the netlist is printed alone, without the script around it.
+    is_alone: bool,
+}
+
+/// What the options ask for, or why they are refused.
+pub(crate) fn wanted_of(given: &Given<'_>) -> Result<Wanted, &'static str> {
+    Ok(Wanted {
+        plan: plan_of(given)?,
+        is_alone: given.is_given("blif"),
+    })
+}
+
+/// Prints the script, or the netlist alone.
+pub(crate) fn print<W: Sink>(wanted: Wanted, writer: &mut W) -> Outcome {
+    let written = if wanted.is_alone {
+        write_netlist(writer, wanted.plan)
+    } else {
+        write_script(writer, wanted.plan)
+    };
+    Outcome::of_writing(written)
+}
+
 /// The plan that the options give, or why they are refused.
-pub(crate) fn plan_of(given: &Given<'_>) -> Result<Plan, &'static str> {
+fn plan_of(given: &Given<'_>) -> Result<Plan, &'static str> {
     let wishes = Wishes {
         tables: given.number("tables")?,
         tenancies: given.number("tenancies")?,
@@ -69,7 +105,7 @@ pub(crate) fn plan_of(given: &Given<'_>) -> Result<Plan, &'static str> {
     Plan::new(wishes).ok_or(NO_ROOM)
 }
 
-/// The phase that the word names. None if no phase has this name.
+/// The phase with this name, if there is one.
 fn phase(word: &str) -> Option<Phase> {
     match word {
         "reading" => Some(Phase::Reading),

@@ -1,18 +1,30 @@
 //! The tool that says how full the device is.
 use crate::outcome::Outcome;
 use crate::size::SIZES;
-use device_picture::Device;
+use device_lines::Device;
 use device_report::{Report, write_report};
 use line_text::Sink;
 use option_words::Program;
 use std::alloc::Global;
 
+/// The beginning of its help.
+const ABOUT: &str =
+    "Reports how full the device is, from what fpgad printed for `op list` and `op owners`";
+
+/// The tool without its options, for the program's help.
+pub(crate) const NAMED: Program = Program {
+    name: "report",
+    about: ABOUT,
+    after_help: "",
+    options: &[],
+};
+
 pub(crate) const TOOL: Program = Program {
     name: "report",
-    about: "Tells how full the device is, from what fpgad printed: `op list` and `op owners`",
+    about: ABOUT,
     after_help: "\
-Of each tenancy what it uses of its strip; of the device its used, guard and free columns, the widest strip that
-`op admit` would take now, and the fullest channels.
+For each tenancy: how much of its strip it uses. For the device: its used, guard and free columns, the widest strip that
+`op admit` would accept now, and the fullest channels.
 
 Example: fpgad --tracks 8 --columns 10 --rows 8 < my.script | fpgad_desk report --tracks 8 --columns 10 --rows 8",
     options: SIZES,

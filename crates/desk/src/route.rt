@@ -5,144 +5,24 @@ use crate::arch_words::write_arch_fault;
 use crate::latches::warn_of_latches;
 use crate::outcome::Outcome;
 use crate::paths::{FileRole, ResultFile, make_folder, read_file, tell_stale, write_file};
+use crate::route_size::{Sized, size_for};
+use crate::route_wishes::{GivenSize, Tracks, Wishes};
+use crate::routed_table::{Routed, print_routed};
 use crate::silence::Silence;
-use crate::words::{COLUMNS, EFFORT, FOLDER, NO_DEVICE, ROWS, SEED};
 use arch_file::ArchError;
-use line_text::{
-    Failed, MAX_TEXT, MemorySink, Sink, Text, TextError, split_line, write_all, write_parts,
-};
+use line_text::{MAX_TEXT, MemorySink, Sink, Text, TextError, split_line, write_all, write_parts};
 use one_user::{
-    DevicePlan, Figures, Files as Results, Least, Outcome as End, Request, Run, least_tracks,
-    run_with, write_figures,
+    DevicePlan, Figures, Files as Results, Least, Outcome as End, Request, Run, Unrouted,
+    least_tracks, run_with,
 };
-use option_words::{Given, OptionWord, Program, Takes};
 use script_replies::advice_for;
 use sessions::write_reply;
 use std::alloc::Global;
 use std::rt::Files;
-use tenant_slot::{Ending, Refusal, Reply, SharedText, StateName, Status};
-use text_parts::Part;
-
-const NO_FILE: &str = "an architecture, a netlist and a folder are wanted";
-
-const NO_TRACKS: &str = "--tracks W or --least-tracks is wanted, and not both";
+use tenant_slot::{Refusal, Reply, SharedText, StateName, Status};
 
 /// The most bytes of a text that are read: one more than it may have.
 const MAX_READ: u64 = MAX_TEXT as u64 + 1;
-
-pub(crate) const TOOL: Program = Program {
-    name: "route",
-    about: "Packs, places and routes one netlist on a device of its own, and writes its .net, .place and .route files into a folder",
-    after_help: "\
-The files are those that the service writes of this netlist in a strip of this size, on whatever device and beside whomever. What they use of
-the device is printed at the end. A step's line is told on standard error where that is a terminal, or --progress is given.
-
-Example: fpgad_desk route --arch my.arch --tracks 8 --columns 10 --rows 10 --effort 100 t.blif results",
-    options: &[
-        OptionWord {
-            name: "arch",
-            value_name: "FILE",
-            help: "The architecture",
-            takes: Takes::GivenText,
-            default: None,
-        },
-        OptionWord {
-            name: "tracks",
-            value_name: "W",
-            help: "Tracks of each channel, 1 to 64",
-            takes: Takes::Number(1, 64),
-            default: None,
-        },
-        OptionWord {
-            name: "least-tracks",
-            value_name: "",
-            help: "Tries 1 track, then 2, and so on, until the netlist is routed",
-            takes: Takes::Nothing,
-            default: None,
-        },
-        COLUMNS,
-        ROWS,
-        SEED,
-        EFFORT,
-        OptionWord {
-            name: "progress",
-            value_name: "",
-            help: "Tells a line a step on standard error, where that is no terminal too",
-            takes: Takes::Nothing,
-            default: None,
-        },
-        OptionWord {
-            name: "netlist",
-            value_name: "NETLIST",
-            help: "The netlist, as BLIF; the files have its name",
-            takes: Takes::Alone,
-            default: None,
-        },
-        FOLDER,
-    ],
-};
-
-/// A number of tracks, 1 to 64.
-#[derive(Clone, Copy)]
-struct Tracks {
-    number: u32,
-    ghost lawful: { (1 ≤ number) × (number ≤ 64) },
-}
-
-/// What is routed, on which device, and the folder for the files.
-#[derive(Clone, Copy)]
-pub(crate) struct Wishes<'a> {
-    arch: &'a str,
-    netlist: &'a str,
-    folder: &'a str,
-    /// None: the least number with which the netlist is routed.
-    tracks: Option<Tracks>,
-    columns: u32,
-    rows: u32,
-    seed: u64,
-    effort: u32,
-    /// Whether a line for each step is written in any case.
-    is_told: bool,
-    ghost columns_lawful: { (1 ≤ columns) × (columns ≤ 256) },
-    ghost rows_lawful: { (1 ≤ rows) × (rows ≤ 64) },
-    ghost effort_lawful: { effort ≤ 100 },
-}
-
-/// What the options ask for, or why they are refused.
-pub(crate) fn wishes_of<'a>(given: &Given<'a>) -> Result<Wishes<'a>, &'static str> {
-    let columns = given.number("columns")?;
-    let rows = given.number("rows")?;
-    let effort = given.number("effort")?;
-    if !(1..=256).contains(&columns) || !(1..=64).contains(&rows) || effort > 100 {
-        return Err(NO_DEVICE);
-    }
-    Ok(Wishes {
-        arch: given.text("arch").ok_or(NO_FILE)?,
-        netlist: given.text("netlist").ok_or(NO_FILE)?,
-        folder: given.text("folder").ok_or(NO_FILE)?,
-        tracks: tracks_of(given)?,
-        columns,
-        rows,
-        seed: given.long("seed")?,
-        effort,
-        is_told: given.is_given("progress"),
-    })
-}
-
-/// The number of tracks. None if the least is wanted.
-fn tracks_of(given: &Given<'_>) -> Result<Option<Tracks>, &'static str> {
-    match (given.text("tracks"), given.is_given("least-tracks")) {
-        (Some(_), false) => {
-            let number = given.number("tracks")?;
-            if number < 1 || number > 64 {
-                return Err(NO_DEVICE);
-            }
-            Ok(Some(Tracks { number }))
-        }
-        (None, true) => Ok(None),
-        _ => Err(NO_TRACKS),
-    }
-}
 
 /// Routes a netlist, writes its files, and prints what they use.
 pub(crate) fn run<H: Files + AllocGlobal, W: Sink, E: Sink>(
@@ -153,24 +33,109 @@ pub(crate) fn run<H: Files + AllocGlobal, W: Sink, E: Sink>(
     is_terminal: bool,
 ) -> Result<(), Outcome> {
     let arch = read_file(rt, FileRole::Architecture, wishes.arch, MAX_READ, teller)?;
-    let trial = trial_on(rt, wishes, arch.as_slice(), teller, is_terminal);
+    let is_told = wishes.is_told || is_terminal;
+    let outcome = run_with_arch(rt, wishes, arch.as_slice(), writer, teller, is_told);
     drop(arch);
-    let outcome = match trial {
-        Ok(Trial::Decided(run)) => ended(rt, wishes, run, writer, teller),
-        Ok(Trial::NeverRouted) => Err(Outcome::Unrouted),
-        Err(outcome) => Err(outcome),
-    };
+    if let Err(Outcome::NetlistRefused | Outcome::ArchRefused(_)) = outcome {
+        tell_stale(rt, result_file(wishes, "net"), teller);
+        tell_stale(rt, result_file(wishes, "place"), teller);
+    }
     if let Err(Outcome::Unrouted | Outcome::NetlistRefused | Outcome::ArchRefused(_)) = outcome {
-        tell_all_stale(rt, wishes, teller);
+        tell_stale(rt, result_file(wishes, "route"), teller);
     }
     outcome
 }
 
-/// Writes which of the three files are left from an earlier run.
-fn tell_all_stale<H: Files + AllocGlobal, E: Sink>(rt: &H, wishes: Wishes<'_>, teller: &mut E) {
-    tell_stale(rt, result_file(wishes, "net"), teller);
-    tell_stale(rt, result_file(wishes, "place"), teller);
-    tell_stale(rt, result_file(wishes, "route"), teller);
+/// Routes a netlist on devices of that architecture.
+fn run_with_arch<H: Files + AllocGlobal, W: Sink, E: Sink>(
+    rt: &H,
+    wishes: Wishes<'_>,
+    arch: &[u8],
+    writer: &mut W,
+    teller: &mut E,
+    is_told: bool,
+) -> Result<(), Outcome> {
+    let netlist = netlist_of(rt, wishes, teller)?;
+    let request = Request {
+        netlist: &netlist,
+        seed: wishes.seed,
+        effort: wishes.effort,
+    };
+    let outcome = match size_for(rt.alloc(), wishes, arch, request) {
+        Ok(Sized::Size(size)) => {
+            run_on_size(rt, wishes, arch, request, size, writer, teller, is_told)
+        }
+        Ok(Sized::Refused(refusal)) => Err(told_refused(rt.alloc(), refusal, teller)),
+        Err(error) => Err(told_arch(error, wishes, teller)),
+    };
+    drop(netlist);
+    outcome
+}
+
+/// Routes a netlist on a device of that size.
+fn run_on_size<H: Files + AllocGlobal, W: Sink, E: Sink>(
+    rt: &H,
+    wishes: Wishes<'_>,
+    arch: &[u8],
+    request: Request<'_>,
+    size: GivenSize,
+    writer: &mut W,
+    teller: &mut E,
+    is_told: bool,
+) -> Result<(), Outcome>
+    requires { request.effort ≤ 100 }
+{
+    let mut quiet = MemorySink::new(rt.alloc());
+    let trial = if is_told {
+        trial_with(rt.alloc(), wishes, arch, request, size, teller)
+    } else {
+        trial_with(rt.alloc(), wishes, arch, request, size, &mut quiet)
+    };
+    let outcome = match trial {
+        Ok(Trial::Decided(run)) => {
+            tell_overuse(&run, quiet.as_bytes(), teller);
+            ended(rt, wishes, size, request, run, writer, teller)
+        }
+        Ok(Trial::NeverRouted) => Err(Outcome::Unrouted),
+        Err(error) => Err(told_arch(error, wishes, teller)),
+    };
+    drop(quiet);
+    outcome
+}
+
+/// Writes, of a run that was left without routes, the last of these lines that counts overused
+/// nodes.
+fn tell_overuse<E: Sink>(run: &Run, lines: &[u8], teller: &mut E) {
+    if let End::Unrouted(_) = run.outcome {
+        if let Some(line) = last_overuse(lines) {
+            let _ = write_parts(teller, &[line, b"\n"]);
+        }
+    }
+}
+
+/// The last of these lines that counts overused nodes.
+fn last_overuse(lines: &[u8]) -> Option<&[u8]> {
+    let mut last = None;
+    let mut rest = lines;
+    while !rest.is_empty() {
+        let (line, later) = split_line(rest);
+        if line.starts_with(b"iteration ") && line.ends_with(b")") {
+            last = Some(line);
+        }
+        rest = later;
+    }
+    last
+}
+
+/// Writes what is wrong with the architecture, and returns how the errand ended.
+fn told_arch<E: Sink>(error: ArchError, wishes: Wishes<'_>, teller: &mut E) -> Outcome {
+    match error {
+        TextError::NoMemory => Outcome::NoMemory,
+        TextError::Fault(fault) => {
+            let _ = write_arch_fault(teller, wishes.arch, fault);
+            Outcome::ArchRefused(fault)
+        }
+    }
 }
 
 /// The file of that kind.
@@ -220,49 +185,22 @@ fn netlist_of<H: Files + AllocGlobal, E: Sink>(
     }
 }
 
-/// Reads the netlist, and tries it on that architecture.
-fn trial_on<H: Files + AllocGlobal, E: Sink>(
-    rt: &H,
-    wishes: Wishes<'_>,
-    arch: &[u8],
-    teller: &mut E,
-    is_terminal: bool,
-) -> Result<Trial, Outcome> {
-    let netlist = netlist_of(rt, wishes, teller)?;
-    let trial = if wishes.is_told || is_terminal {
-        trial_with(rt.alloc(), wishes, arch, &netlist, teller)
-    } else {
-        trial_with(rt.alloc(), wishes, arch, &netlist, &mut Silence)
-    };
-    drop(netlist);
-    match trial {
-        Ok(trial) => Ok(trial),
-        Err(TextError::NoMemory) => Err(Outcome::NoMemory),
-        Err(TextError::Fault(fault)) => {
-            let _ = write_arch_fault(teller, wishes.arch, fault);
-            Err(Outcome::ArchRefused(fault))
-        }
-    }
-}
-
 /// Runs the netlist with the number of tracks that is asked for, or else with one number after
 /// another until it is routed or refused.
 fn trial_with<E: Sink>(
     alloc: Global,
     wishes: Wishes<'_>,
     arch: &[u8],
-    netlist: &SharedText,
+    request: Request<'_>,
+    size: GivenSize,
     teller: &mut E,
-) -> Result<Trial, ArchError> {
+) -> Result<Trial, ArchError>
+    requires { request.effort ≤ 100 }
+{
     let plan = DevicePlan {
         text: arch,
-        columns: wishes.columns,
-        rows: wishes.rows,
-    };
-    let request = Request {
-        netlist,
-        seed: wishes.seed,
-        effort: wishes.effort,
+        columns: size.columns,
+        rows: size.rows,
     };
     match wishes.tracks {
         Some(Tracks { number, .. }) => {
@@ -270,7 +208,7 @@ fn trial_with<E: Sink>(
             Ok(Trial::Decided(run))
         }
         None => {
-            let least = least_tracks(alloc, plan, request, teller)?;
+            let least = least_tracks(alloc, plan, request, teller, &mut Silence)?;
             Ok(Trial::of_least(least))
         }
     }
@@ -280,6 +218,8 @@ fn trial_with<E: Sink>(
 fn ended<H: Files + AllocGlobal, W: Sink, E: Sink>(
     rt: &H,
     wishes: Wishes<'_>,
+    size: GivenSize,
+    request: Request<'_>,
     run: Run,
     writer: &mut W,
     teller: &mut E,
@@ -290,30 +230,39 @@ fn ended<H: Files + AllocGlobal, W: Sink, E: Sink>(
             let saved = saved(rt, wishes, &files, teller);
             drop(files);
             saved?;
-            print_known(writer, figures)
+            print_known(rt.alloc(), wishes, size, request, figures, writer)
         }
-        End::Unrouted(ending) => Err(told_unrouted(rt.alloc(), ending, teller)),
+        End::Unrouted(left) => {
+            let saved = saved_left(rt, wishes, &left, teller);
+            let outcome = told_unrouted(rt.alloc(), left, teller);
+            saved?;
+            Err(outcome)
+        }
         End::Refused(refusal) => Err(told_refused(rt.alloc(), refusal, teller)),
     }
 }
 
 /// Prints what a run uses, if that is known.
-fn print_known<W: Sink>(writer: &mut W, figures: Option<Figures>) -> Result<(), Outcome> {
+fn print_known<W: Sink>(
+    alloc: Global,
+    wishes: Wishes<'_>,
+    size: GivenSize,
+    request: Request<'_>,
+    figures: Option<Figures>,
+    writer: &mut W,
+) -> Result<(), Outcome> {
     match figures {
-        Some(figures) => print(writer, &figures).or(Err(Outcome::OutputFailed)),
+        Some(figures) => {
+            let routed = Routed {
+                name: stem_of(wishes.netlist).as_bytes(),
+                netlist: request.netlist.as_bytes(),
+                size,
+                figures,
+            };
+            print_routed(alloc, wishes, routed, writer).or(Err(Outcome::OutputFailed))
+        }
         None => Ok(()),
     }
-}
-
-/// Prints with how many tracks the netlist was routed, and what it uses.
-fn print<W: Sink>(writer: &mut W, figures: &Figures) -> Result<(), Failed> {
-    let parts = [
-        Part::Text("tracks "),
-        Part::Number(figures.tracks),
-        Part::Text("\n"),
-    ];
-    text_parts::write_parts(writer, parts.as_slice())?;
-    write_figures(writer, figures)
 }
 
 /// Writes the three files.
@@ -331,6 +280,23 @@ fn saved<H: Files + AllocGlobal, E: Sink>(
     write_file(rt, result_file(wishes, "route"), routes, teller)
 }
 
+/// Writes the two files of a netlist that was left without routes.
+fn saved_left<H: Files + AllocGlobal, E: Sink>(
+    rt: &H,
+    wishes: Wishes<'_>,
+    left: &Unrouted,
+    teller: &mut E,
+) -> Result<(), Outcome> {
+    make_folder(rt, wishes.folder, teller)?;
+    write_file(rt, result_file(wishes, "net"), left.net.as_bytes(), teller)?;
+    write_file(
+        rt,
+        result_file(wishes, "place"),
+        left.places.as_bytes(),
+        teller,
+    )
+}
+
 /// The name of a file without its folders and the ending `.blif`.
 fn stem_of(path: &str) -> &str {
     let name = match path.rsplit_once('/') {
@@ -342,7 +308,14 @@ fn stem_of(path: &str) -> &str {
 
 /// Writes how a routing ended without routes, as the service would reply, and returns how the
 /// errand ended.
-fn told_unrouted<E: Sink>(alloc: Global, ending: Ending, teller: &mut E) -> Outcome {
+fn told_unrouted<E: Sink>(alloc: Global, left: Unrouted, teller: &mut E) -> Outcome {
+    let Unrouted {
+        ending,
+        net,
+        places,
+    } = left;
+    drop(net);
+    drop(places);
     let reply = Reply::Status(Status {
         state: StateName::Unrouted,
         steps: 0,

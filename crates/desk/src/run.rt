@@ -1,13 +1,14 @@
 //! Runs errands.
+use crate::device_file::{device_path, with_device};
 use crate::errand::{Errand, View, read_errand};
 use crate::latches::warn_of_latches;
 use crate::outcome::Outcome;
-use crate::{files, picture, report, route, script, strip};
+use crate::paths::{FileRole, read_file};
+use crate::{files, page_tool, picture, random, report, route, script, strip};
 use clap::Error;
 use clap::error::ErrorKind;
-use device_picture::{DeviceSize, ReadError, read_device};
+use device_lines::{DeviceSize, ReadError, read_device};
 use line_text::{Sink, Source, read_all, write_all};
-use random_script::write_script;
 use std::alloc::Global;
 use std::convert::AsStr;
 use std::rt::Files;
@@ -24,12 +25,64 @@ pub struct Streams<'a, R: Source, W: Sink, E: Sink> {
     pub is_terminal: bool,
 }
 
+/// The most bytes of a device file that are read.
+const MAX_DEVICE: u64 = 65_536;
+
 /// What `--version` prints.
 const VERSION: &str = "fpgad_desk 1.0\n";
 
 /// Does what a program's words ask, the first being its name. Help and the version are printed to
 /// the writer. An error is clap's: the words are refused.
 pub fn run_words<H: Files + AllocGlobal, S: AsStr, R: Source, W: Sink, E: Sink>(
+    rt: &H,
+    words: &[S],
+    streams: Streams<'_, R, W, E>,
+) -> Result<Outcome, Error> {
+    if let Some(path) = device_path(words) {
+        return run_on_device(rt, words, path, streams);
+    }
+    run_plain(rt, words, streams)
+}
+
+/// Does what the words ask, with the options in the device file of that path.
+fn run_on_device<H: Files + AllocGlobal, S: AsStr, R: Source, W: Sink, E: Sink>(
+    rt: &H,
+    words: &[S],
+    path: &str,
+    streams: Streams<'_, R, W, E>,
+) -> Result<Outcome, Error> {
+    match read_file(rt, FileRole::Device, path, MAX_DEVICE, streams.teller) {
+        Ok(text) => {
+            let done = run_with_text(rt, words, text.as_slice(), streams);
+            drop(text);
+            done
+        }
+        Err(outcome) => Ok(outcome),
+    }
+}
+
+/// Does what the words ask, with the options in that text of a device file.
+fn run_with_text<H: Files + AllocGlobal, S: AsStr, R: Source, W: Sink, E: Sink>(
+    rt: &H,
+    words: &[S],
+    text: &[u8],
+    streams: Streams<'_, R, W, E>,
+) -> Result<Outcome, Error> {
+    let Ok(text) = str::from_utf8(text) else {
+        return Ok(Outcome::FileFailed(FileRole::Device));
+    };
+    match with_device(rt.alloc(), words, text) {
+        Ok(all) => {
+            let done = run_plain(rt, all.as_slice(), streams);
+            drop(all);
+            done
+        }
+        Err(_) => Ok(Outcome::NoMemory),
+    }
+}
+
+/// Does what the words ask, without a device file.
+fn run_plain<H: Files + AllocGlobal, S: AsStr, R: Source, W: Sink, E: Sink>(
     rt: &H,
     words: &[S],
     streams: Streams<'_, R, W, E>,
@@ -92,7 +145,8 @@ fn run<H: Files + AllocGlobal, R: Source, W: Sink, E: Sink>(
         Errand::Route(wishes) => Outcome::of(route::run(rt, wishes, writer, teller, is_terminal)),
         Errand::Strip(wishes) => Outcome::of(strip::print(rt, wishes, writer, teller)),
         Errand::View(size, view) => show(rt.alloc(), size, view, reader, writer),
-        Errand::Random(plan) => Outcome::of_writing(write_script(writer, plan)),
+        Errand::Page(wishes) => Outcome::of(page_tool::run(rt, wishes, reader, writer, teller)),
+        Errand::Random(wanted) => random::print(wanted, writer),
     }
 }
 

@@ -12,11 +12,11 @@ const NO_NAME: &str = "a name is 1 to 32 letters, digits and `_`";
 
 pub(crate) const TOOL: Program = Program {
     name: "script",
-    about: "Prints the lines of one tenancy round the netlist on standard input: op admit, upload, pack, wait, place, wait, route, wait, net, placefile, routefile",
+    about: "Prints a script for one tenancy with the netlist on standard input: op admit, upload, pack, wait, place, wait, route, wait, net, placefile, routefile",
     after_help: "\
-A netlist with a line that is `.` alone, or of more than 1048576 bytes, is refused with that line and status 3:
-whatever else it holds, the script says what it said before, one upload of this text, and the commands above.
-Of each latch without a clock a warning is told on standard error.
+A netlist with a line `.`, or of more than 1048576 bytes, is refused with that line and status 3. Any other text is safe:
+appended to a script, it adds one upload of this text and the commands above, and nothing else.
+Each latch without a clock gets a warning on standard error.
 
 Example: fpgad_desk script --name T --width 2 --seed 1 --effort 50 < t.blif >> my.script",
     options: &[
@@ -30,7 +30,7 @@ Example: fpgad_desk script --name T --width 2 --seed 1 --effort 50 < t.blif >> m
         OptionWord {
             name: "width",
             value_name: "COLUMNS",
-            help: "The columns it is admitted with, 1 to 256; without it there is no line `op admit`",
+            help: "The columns of its strip, 1 to 256; without this option there is no line `op admit`",
             takes: Takes::Number(1, 256),
             default: None,
         },

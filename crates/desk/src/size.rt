@@ -1,6 +1,7 @@
 //! The size of a device, as the tools take it.
+use crate::device_file::DEVICE;
 use crate::words::{COLUMNS, NO_DEVICE, ROWS};
-use device_picture::DeviceSize;
+use device_lines::DeviceSize;
 use option_words::{Given, OptionWord, Takes};
 
 /// The options with a device's size.
@@ -14,6 +15,7 @@ pub(crate) const SIZES: &[OptionWord] = &[
     },
     COLUMNS,
     ROWS,
+    DEVICE,
     OptionWord {
         name: "pads",
         value_name: "P",

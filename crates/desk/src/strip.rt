@@ -1,21 +1,40 @@
 //! The tool that draws one tenancy.
 use crate::outcome::Outcome;
 use crate::paths::{FileRole, read_file};
-use line_text::{Sink, TextError};
+use line_text::{MemorySink, Sink, TextError, split_line, write_parts};
 use option_words::{Given, OptionWord, Program, Takes};
-use std::alloc::Global;
+use page::{Item, viewer, write_page};
+use std::alloc::{AllocError, Global};
 use std::rt::Files;
 use strip_files::{RoutedStrip, StripTexts, read_strip};
 use strip_picture::{DrawError, View, draw};
 
-const NO_FILE: &str = "three files are wanted";
+/// The word for a file that is not there.
+const NONE: &str = "-";
+
+const NO_FILE: &str = "give a .net, a .place and a .route file";
+
+/// The beginning of its help.
+const ABOUT: &str = "Draws one tenancy as an SVG, from its three result files";
+
+/// The tool without its options, for the program's help.
+pub(crate) const NAMED: Program = Program {
+    name: "strip",
+    about: ABOUT,
+    after_help: "",
+    options: &[],
+};
 
 pub(crate) const TOOL: Program = Program {
     name: "strip",
-    about: "Draws one tenancy as an SVG, from the three files that the service wrote of it",
+    about: ABOUT,
     after_help: "\
-Its blocks with their names, and a colour a net; with --net one net before the others, with --heat how many tracks of each
-channel are used. A line that no such file has is refused with its number and status 3. What the lines say is drawn unchecked.
+Shows the blocks with their names, and each net in a colour; with --net one net in front of the others, with --heat how many
+tracks of each channel are used. A malformed line is refused with its number and status 3, and so is a route that no device of
+this size has: each node follows the node before it by an edge, a pin being joined with the wires beside its block, whatever its
+sides and tracks; the first path of a net begins at a source, a later one at a node of an earlier one, and each ends at a sink;
+a route joins just the blocks that have its net on a pin. Not checked: the sides, tracks and classes of pins, wires that two
+nets share, global nets, and BLEs.
 
 Example: fpgad_desk strip T.net T.place T.route --heat > t.svg",
     options: &[
@@ -36,14 +55,14 @@ Example: fpgad_desk strip T.net T.place T.route --heat > t.svg",
         OptionWord {
             name: "routes",
             value_name: "ROUTE_FILE",
-            help: "The .route file",
+            help: "The .route file, or - if there is none: then the blocks are drawn without routes",
             takes: Takes::Alone,
             default: None,
         },
         OptionWord {
             name: "net",
             value_name: "NAME",
-            help: "Draws the net of this name before the others",
+            help: "Draws the net with this name in front of the others",
             takes: Takes::Text,
             default: None,
         },
@@ -51,6 +70,13 @@ Example: fpgad_desk strip T.net T.place T.route --heat > t.svg",
             name: "heat",
             value_name: "",
             help: "Draws how many tracks of each channel are used",
+            takes: Takes::Nothing,
+            default: None,
+        },
+        OptionWord {
+            name: "page",
+            value_name: "",
+            help: "Prints one HTML file for a browser, with search, zoom and clicks, in place of the SVG",
             takes: Takes::Nothing,
             default: None,
         },
@@ -72,6 +98,8 @@ enum Shown<'a> {
     Nets,
     Net(&'a str),
     Channels,
+    /// All of them, on a page for a browser.
+    Page,
 }
 
 /// What the options ask for, or why they are refused.
@@ -86,8 +114,11 @@ pub(crate) fn wishes_of<'a>(given: &Given<'a>) -> Result<Wishes<'a>, &'static st
 
 /// What is to be drawn of the routes: one net, or the channels, or all nets.
 fn shown_of<'a>(given: &Given<'a>) -> Result<Shown<'a>, &'static str> {
+    if given.is_given("page") {
+        return Ok(Shown::Page);
+    }
     match (given.text("net"), given.is_given("heat")) {
-        (Some(_), true) => Err("--net and --heat show two pictures: give one of them"),
+        (Some(_), true) => Err("--net and --heat draw different pictures: give only one of them"),
         (Some(name), false) => Ok(Shown::Net(name)),
         (None, true) => Ok(Shown::Channels),
         (None, false) => Ok(Shown::Nets),
@@ -130,6 +161,9 @@ fn print_placed<H: Files + AllocGlobal, W: Sink, E: Sink>(
     writer: &mut W,
     teller: &mut E,
 ) -> Result<(), Outcome> {
+    if wishes.route_file == NONE {
+        return print_unrouted(rt.alloc(), wishes, net, place, writer);
+    }
     let route = read_file(rt, FileRole::Routes, wishes.route_file, u64::MAX, teller)?;
     let texts = StripTexts {
         net,
@@ -139,6 +173,81 @@ fn print_placed<H: Files + AllocGlobal, W: Sink, E: Sink>(
     let outcome = drawn(rt.alloc(), texts, wishes.shown, writer);
     drop(route);
     outcome
+}
+
+/// Draws a tenancy without routes from the texts of its packing and placement.
+fn print_unrouted<W: Sink>(
+    alloc: Global,
+    wishes: Wishes<'_>,
+    net: &[u8],
+    place: &[u8],
+    writer: &mut W,
+) -> Result<(), Outcome> {
+    let route = no_routes(alloc, place)?;
+    let outcome = match without_nets(alloc, net) {
+        Ok(net) => {
+            let texts = StripTexts {
+                net: net.as_slice(),
+                place,
+                route: route.as_slice(),
+            };
+            let outcome = drawn(alloc, texts, wishes.shown, writer);
+            drop(net);
+            outcome
+        }
+        Err(_) => Err(Outcome::NoMemory),
+    };
+    drop(route);
+    outcome
+}
+
+/// The text of a `.net` file with an empty line in place of each list of pins: no block has a net.
+/// Fails if memory runs out.
+fn without_nets(alloc: Global, net: &[u8]) -> Result<Vec<u8>, AllocError> {
+    let mut text = Vec::new(alloc);
+    let mut rest = net;
+    while !rest.is_empty() {
+        let (line, later) = split_line(rest);
+        if !line.starts_with(b"pinlist:") {
+            text.extend_from_slice(line)?;
+        }
+        text.push(b'\n')?;
+        rest = later;
+    }
+    Ok(text)
+}
+
+/// The text of a `.route` file without nets, for a strip of the size in that `.place` file.
+fn no_routes(alloc: Global, place: &[u8]) -> Result<Vec<u8>, Outcome> {
+    let (_, rest) = split_line(place);
+    let (size, _) = split_line(rest);
+    let mut text = MemorySink::new(alloc);
+    match write_parts(&mut text, &[size, b".\n\nRouting:\n\n"]) {
+        Ok(()) => Ok(text.into_bytes()),
+        Err(_) => {
+            drop(text);
+            Err(Outcome::NoMemory)
+        }
+    }
+}
+
+/// Prints the page of one tenancy.
+fn print_page<W: Sink>(texts: StripTexts<'_>, writer: &mut W) -> Result<(), Outcome> {
+    let items = [
+        item("net", texts.net),
+        item("place", texts.place),
+        item("route", texts.route),
+    ];
+    write_page(writer, viewer(), items.as_slice()).or(Err(Outcome::OutputFailed))
+}
+
+/// A text of the tenancy.
+fn item<'a>(kind: &'static str, text: &'a [u8]) -> Item<'a> {
+    Item {
+        kind,
+        name: b"strip",
+        text,
+    }
 }
 
 /// Draws a tenancy from the texts of its files.
@@ -153,9 +262,10 @@ fn drawn<W: Sink>(
         Err(TextError::NoMemory) => return Err(Outcome::NoMemory),
         Err(TextError::Fault(fault)) => return Err(Outcome::StripRefused(fault)),
     };
-    let outcome = match view_of(&strip, shown) {
-        Some(view) => written(draw(alloc, &strip, view, writer)),
-        None => Err(Outcome::NoNet),
+    let outcome = match (shown, view_of(&strip, shown)) {
+        (Shown::Page, _) => print_page(texts, writer),
+        (_, Some(view)) => written(draw(alloc, &strip, view, writer)),
+        (_, None) => Err(Outcome::NoNet),
     };
     drop(strip);
     outcome
@@ -166,6 +276,7 @@ fn view_of(strip: &RoutedStrip<'_>, shown: Shown<'_>) -> Option<View> {
     match shown {
         Shown::Nets => Some(View::Nets),
         Shown::Channels => Some(View::Channels),
+        Shown::Page => None,
         Shown::Net(name) => Some(View::Net(strip.net_named(name.as_bytes())?)),
     }
 }

@@ -2,7 +2,7 @@
 use option_words::{OptionWord, Takes};
 
 /// Why numbers are refused that are not the sizes of a device.
-pub(crate) const NO_DEVICE: &str = "no device has these sizes";
+pub(crate) const NO_DEVICE: &str = "a size is out of range";
 
 pub(crate) const COLUMNS: OptionWord = OptionWord {
     name: "columns",
@@ -23,7 +23,7 @@ pub(crate) const ROWS: OptionWord = OptionWord {
 pub(crate) const SEED: OptionWord = OptionWord {
     name: "seed",
     value_name: "S",
-    help: "Where the placing's draws begin, 0 to 18446744073709551615",
+    help: "Seed of the placement's random numbers, 0 to 18446744073709551615",
     takes: Takes::Long,
     default: Some("1"),
 };
@@ -31,7 +31,7 @@ pub(crate) const SEED: OptionWord = OptionWord {
 pub(crate) const EFFORT: OptionWord = OptionWord {
     name: "effort",
     value_name: "E",
-    help: "How hard the placing tries, 0 to 100",
+    help: "Effort of the placement, 0 to 100: more is slower and usually better",
     takes: Takes::Number(0, 100),
     default: Some("50"),
 };
@@ -39,7 +39,7 @@ pub(crate) const EFFORT: OptionWord = OptionWord {
 pub(crate) const FOLDER: OptionWord = OptionWord {
     name: "folder",
     value_name: "FOLDER",
-    help: "Where the files are written; it is made where it isn't there",
+    help: "The folder for the files; it is created if it does not exist",
     takes: Takes::Alone,
     default: None,
 };

@@ -19,7 +19,7 @@ fn main(rt: HostRuntime) -> ExitCode {
         Err(error) if error.kind() == ErrorKind::OutOfMemory => {
             return ended(&rt, Outcome::NoMemory);
         }
-        Err(_) => return refused(&rt, "error: an argument is no text\n"),
+        Err(_) => return refused(&rt, "error: an argument is not valid UTF-8\n"),
     };
     let Ok(buffer) = BufWriter::new(rt.alloc(), io::writer(&rt)) else {
         return ended(&rt, Outcome::NoMemory);

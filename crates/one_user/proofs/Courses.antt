@@ -23,7 +23,8 @@ use Rattle.tenant_slot.specs.declared.reply.StateName.{StateName}
 use Rattle.tenant_slot.specs.declared.reply.StateName.TheVariants.{Loaded, Packing, Packed, Placing, Placed, Routing}
 use Rattle.one_user.specs.Counts.{HasCounts, IsWhole}
 use Rattle.one_user.specs.Outcomes.{Task, routing_of}
-use Rattle.one_user.specs.Steps.{AreCounts, Finishes, IsAt, IsLoaded, IsPacked, IsPlaced, device_of, refusal_in, slot_in, state_at, task_in}
+use Rattle.one_user.specs.Counting.{AreCounts}
+use Rattle.one_user.specs.Steps.{Finishes, IsAt, IsLoaded, IsPacked, IsPlaced, device_of, refusal_in, slot_in, state_at, task_in}
 use Rattle.one_user.specs.declared.figures.PackedCounts.{PackedCounts}
 use Rattle.one_user.specs.declared.steps.StepMade.{StepMade}
 use Rattle.one_user.proofs.Asking.{Leads, loads, packs, places, routes}

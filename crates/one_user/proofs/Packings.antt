@@ -18,7 +18,8 @@ use Rattle.job_state.proofs.NextStep.{as_value}
 use Rattle.job_state.proofs.Ended.{kind_made, packed_made}
 use Rattle.one_user.specs.Counts.{HasCounts, IsWhole}
 use Rattle.one_user.specs.Outcomes.{Task}
-use Rattle.one_user.specs.Steps.{AreCounts, IsTold}
+use Rattle.one_user.specs.Counting.{AreCounts}
+use Rattle.one_user.specs.Steps.{IsTold}
 use Rattle.one_user.specs.declared.figures.PackedCounts.{PackedCounts}
 
 -- a packing that is whole

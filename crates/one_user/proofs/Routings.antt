@@ -22,10 +22,11 @@ use Rattle.tenant_slot.specs.declared.reply.Reply.{Reply}
 use Rattle.tenant_slot.specs.declared.reply.Reply.TheVariants.{File}
 use Rattle.tenant_slot.specs.declared.reply.StateName.TheVariants.{Routing, Routed as RoutedName, Unrouted as UnroutedName}
 use Rattle.vpr_files.specs.NetFile.{net_text_of}
-use Rattle.one_user.specs.Outcomes.{Task, by_fit, by_netlist, by_packing, by_routing, files_of, outcome_of, placing_of, routing_of}
+use Rattle.one_user.specs.Outcomes.{Task, by_fit, by_netlist, by_packing, by_routing, files_of, left_of, outcome_of, placing_of, routing_of}
 use Rattle.one_user.specs.Service.{AreTold, HasRouted}
-use Rattle.one_user.specs.Steps.{IsLoaded, IsPlaced, ending_in, slot_in, state_at, task_in, text_in}
+use Rattle.one_user.specs.Steps.{IsLeft, IsLoaded, IsPlaced, ending_in, slot_in, state_at, task_in, text_in}
 use Rattle.one_user.specs.declared.outcome.Files.{Files}
+use Rattle.one_user.specs.declared.outcome.Unrouted.{Unrouted as Left}
 use Rattle.one_user.specs.declared.outcome.Outcome.{Outcome}
 use Rattle.one_user.specs.declared.outcome.Outcome.TheVariants.{Routed, Unrouted, Refused}
 
@@ -96,10 +97,14 @@ module _ (task : Task) (placed : IsPlaced task) (generation entries count : ℕ)
   status_told : (failure : RoutingFailure) → ending_in (answer_to (after_end (Some failure)) (Asked Status)).1 ≡ Some (ending_of (packed_of placed.circuit task.arch) failure)
   status_told failure = ap (λ (r : Result Circuit BlifFault). ending_told r task.arch failure) placed.said
 
-  pub ending_is : (failure : Option RoutingFailure) → failure_of (end_value (routing_of task)) ≡ failure → ((after_end failure).name ≡ RoutedName → ⊥) →
-      (ending : Ending) × (ending_in (answer_to (after_end failure) (Asked Status)).1 ≡ Some ending) × (outcome_of task ≡ Unrouted ending)
-  ending_is None is not = absurd (not refl)
-  ending_is (Some failure) is not = (ending_of (packed_of placed.circuit task.arch) failure, status_told failure, outcome_is task placed (Some failure) is)
+  net_is : (failure : RoutingFailure) → text_in (answer_to (after_end (Some failure)) (Asked Net)).1 ≡ Some (net_text_of (packed_of placed.circuit task.arch))
+  net_is failure = ap (λ (r : Result Circuit BlifFault). text_in (with_circuit r (λ circuit. (None, File NetFile (net_text_of (packed_of circuit task.arch))))).1) placed.said
+
+  pub left_is : (failure : Option RoutingFailure) → failure_of (end_value (routing_of task)) ≡ failure → ((after_end failure).name ≡ RoutedName → ⊥) →
+      (left : Left) × IsLeft (after_end failure) left × (outcome_of task ≡ Unrouted left)
+  left_is None is not = absurd (not refl)
+  left_is (Some failure) is not =
+      (left_of task placed.circuit failure, record { ending = status_told failure; net = net_is failure; places = refl }, outcome_is task placed (Some failure) is)
 
 -- the task made of a routed state's parts is the given one
 pub routed_own : (task : Task) (state : State) → HasRouted task state → task_in state state.seed state.effort ≡ task
@@ -123,15 +128,21 @@ pub routed_held : (task : Task) (state : State) → HasRouted task state → rou
 unfolding routed_set
 routed_held task state has = ap routed_set (state_is task state has)
 
--- an ending in a status is there
+-- an ending in a status is there, and a text in a reply
 pub some_ending : (told : Option Ending) (ending : Ending) → told ≡ Some ending → IsSome told
 some_ending told ending is = ap is_some is
 
-pub same_ending : (task : Task) (told : Option Ending) (ending other : Ending) → told ≡ Some ending → told ≡ Some other → outcome_of task ≡ Unrouted ending → Unrouted other ≡ outcome_of task
-same_ending task told ending other is so outcome =
-    let both : Some other ≡ Some ending = sym so ∙ is in
-    let same : other ≡ ending = cc in
-    ap Unrouted same ∙ sym outcome
+pub some_text : (told : Option (List ℕ)) (text : List ℕ) → told ≡ Some text → IsSome told
+some_text told text is = ap is_some is
+
+-- a state has only one such answer
+pub same_left : (task : Task) (state : State) (left other : Left) → IsLeft state left → IsLeft state other → outcome_of task ≡ Unrouted left → Unrouted other ≡ outcome_of task
+same_left task state left other is so outcome =
+    let ending : other.ending ≡ left.ending = (let both : Some other.ending ≡ Some left.ending = sym so.ending ∙ is.ending in cc) in
+    let net : other.net ≡ left.net = (let both : Some other.net ≡ Some left.net = sym so.net ∙ is.net in cc) in
+    let places : other.places ≡ left.places = (let both : Some other.places ≡ Some left.places = sym so.places ∙ is.places in cc) in
+    let make : Ending → List ℕ → List ℕ → Left = λ e n p. record { ending = e; net = n; places = p } in
+    ap Unrouted (ap (λ e. make e other.net other.places) ending ∙ (ap (λ n. make left.ending n other.places) net ∙ ap (λ p. make left.ending left.net p) places)) ∙ sym outcome
 
 -- a share with these fields
 pub share_of : (used other there at : ℕ) (share : Share) → share ≡ record { used = used; there = there } → used ≡ other → there ≡ at → share ≡ record { used = other; there = at }

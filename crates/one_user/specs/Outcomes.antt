@@ -19,6 +19,7 @@ use Rattle.tenant_slot.specs.declared.reply.Misfit.{Misfit}
 use Rattle.tenant_slot.specs.declared.reply.Refusal.TheVariants.{BadBlif, CannotPack, DoesNotFit}
 use Rattle.vpr_files.specs.NetFile.{net_text_of}
 use Rattle.one_user.specs.declared.outcome.Files.{Files}
+use Rattle.one_user.specs.declared.outcome.Unrouted.{Unrouted as Left}
 use Rattle.one_user.specs.declared.outcome.Outcome.{Outcome}
 use Rattle.one_user.specs.declared.outcome.Outcome.TheVariants.{Routed, Unrouted, Refused}
 
@@ -49,10 +50,18 @@ files_of task circuit = record {
   routes = route_file_of (end_value (placing_of task)) (end_value (routing_of task));
 }
 
+-- what there is if its routing fails so
+abbrev pub left_of : Task → Circuit → RoutingFailure → Left
+left_of task circuit failure = record {
+  ending = ending_of (packed_of circuit task.arch) failure;
+  net = net_text_of (packed_of circuit task.arch);
+  places = place_file_of (end_value (placing_of task));
+}
+
 -- how its routing ends: without a failure there are routes
 abbrev pub by_routing : Task → Circuit → Option RoutingFailure → Outcome
 by_routing task circuit None = Routed (files_of task circuit)
-by_routing task circuit (Some failure) = Unrouted (ending_of (packed_of circuit task.arch) failure)
+by_routing task circuit (Some failure) = Unrouted (left_of task circuit failure)
 
 -- it is placed if the device has enough places
 abbrev pub by_fit : Task → Circuit → Option Misfit → Outcome

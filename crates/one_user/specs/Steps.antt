@@ -12,8 +12,10 @@ use Rattle.job_state.specs.declared.sources.JobKind.{JobKind}
 use Rattle.job_state.specs.declared.sources.Sources.{Sources}
 use Rattle.job_state.specs.declared.work.Work.{Work}
 use Rattle.rr_graph.specs.Graph.{Basis}
-use Rattle.tenant_slot.specs.SingleUser.{State, finished, misfit_of, running, sources_of, start}
+use Rattle.tenant_slot.specs.SingleUser.{State, answer_to, finished, misfit_of, running, sources_of, start}
 use Rattle.tenant_slot.specs.Slot.{SlotState}
+use Rattle.tenant_slot.specs.declared.command.Command.TheVariants.{Net, PlaceFile, Status as StatusAsked}
+use Rattle.tenant_slot.specs.declared.event.Event.TheVariants.{Command as Asked}
 use Rattle.tenant_slot.specs.declared.reply.Ending.{Ending}
 use Rattle.tenant_slot.specs.declared.reply.Refusal.{Refusal}
 use Rattle.tenant_slot.specs.declared.reply.Reply.{Reply}
@@ -22,8 +24,10 @@ use Rattle.tenant_slot.specs.declared.reply.StateName.{StateName}
 use Rattle.tenant_slot.specs.declared.reply.StateName.TheVariants.{Loaded, Packed, Placed, Routed}
 use Rattle.tenant_slot.specs.declared.reply.StepReply.{StepReply}
 use Rattle.tenant_slot.specs.declared.reply.StepReply.TheVariants.{Advanced, Finished, Stale}
+use Rattle.one_user.specs.Counting.{AreCounts}
 use Rattle.one_user.specs.Outcomes.{Task}
 use Rattle.one_user.specs.declared.figures.PackedCounts.{PackedCounts}
+use Rattle.one_user.specs.declared.outcome.Unrouted.{Unrouted}
 use Rattle.one_user.specs.declared.steps.StepMade.{StepMade}
 
 -- the refusal in a reply, if there is one
@@ -97,12 +101,6 @@ pub record IsPlaced (task : Task) : Type 0 where
   pub said : circuit_of task.text task.arch.lut_size ≡ Ok circuit
   pub fits : unfit_of circuit task.arch ≡ None
   pub enough : misfit_of (fit_of task.strip (packed_of circuit task.arch)) ≡ None
-
--- the counts are those of the packed netlist
-abbrev pub AreCounts : Task → PackedCounts → Type 0
-AreCounts task counts =
-    (circuit : Circuit) × (circuit_of task.text task.arch.lut_size ≡ Ok circuit) × (counts.clusters ≡ length (packed_of circuit task.arch).clusters)
-    × (counts.pads ≡ length circuit.inputs + length circuit.outputs) × (counts.nets ≡ length (block_nets (packed_of circuit task.arch)))
 
 -- the possible results of a step: the job advances, or is over after its last step
 abbrev pub Goes : JobKind → SlotState → StepReply → SlotState → Type 0
@@ -181,3 +179,9 @@ pub record HasFiles (state : State) : Type 0 where
   pub routed : state.name ≡ Routed
   pub loaded : IsLoaded (task_in state state.seed state.effort)
   pub kept : state.kept ≡ []
+
+-- this is what a state without routes is answered
+pub record IsLeft (state : State) (left : Unrouted) : Type 0 where
+  pub ending : ending_in (answer_to state (Asked StatusAsked)).1 ≡ Some left.ending
+  pub net : text_in (answer_to state (Asked Net)).1 ≡ Some left.net
+  pub places : text_in (answer_to state (Asked PlaceFile)).1 ≡ Some left.places

@@ -5,7 +5,9 @@ ghost use Rattle.grid.specs.Sizes.{IsStripSize};
 ghost use Rattle.strips.specs.Windows.{device_strip};
 ghost use Rattle.one_user.specs.Figures.{HasFigures};
 ghost use Rattle.one_user.specs.Outcomes.{outcome_of, task_on};
+ghost use Rattle.one_user.specs.Counting.{IsCounted};
 
+use crate::counts::{Counted, count};
 use crate::outcome::Run;
 use crate::stages::upload;
 use arch_file::{Arch, SharedArch};
@@ -98,5 +100,26 @@ impl OwnDevice {
         let run = upload(&mut slot, &window, request, teller);
         drop(slot);
         run
+    }
+
+    /// Packs a netlist, and returns its counts or why it is refused. It writes one line for each
+    /// step; a line that can't be written is skipped. Fails with [`AllocError`] if memory runs out.
+    pub fn count<W: Sink>(
+        &self,
+        request: Request<'_>,
+        teller: &mut W,
+    ) -> Result<Counted, AllocError>
+        requires { request.effort ≤ 100 }
+        ensures { IfOk result (IsCounted
+            (task_on self.now request.entry.netlist.now request.entry.seed request.entry.effort)) }
+    {
+        let Some(window) = Window::new(&self.graph, 0, self.strip) else {
+            unreachable!()
+        };
+        let arch = self.arch.clone()?;
+        let mut slot = Slot::new(self.alloc, 1, arch, self.strip);
+        let counted = count(&mut slot, &window, request, teller);
+        drop(slot);
+        counted
     }
 }

@@ -29,10 +29,11 @@ pub struct Figures {
 
 /// The counts of a whole packing.
 #[derive(Clone, Copy)]
-pub(crate) struct PackedCounts {
-    pub(crate) clusters: usize,
-    pub(crate) pads: usize,
-    pub(crate) nets: usize,
+pub struct PackedCounts {
+    pub clusters: usize,
+    pub pads: usize,
+    /// Nets between blocks.
+    pub nets: usize,
 }
 
 /// The counts of a packing that is whole.

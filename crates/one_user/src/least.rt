@@ -37,13 +37,15 @@ pub struct DevicePlan<'a> {
     pub rows: u32,
 }
 
-/// Runs a netlist with 1 track, then with 2, and so on, until it is routed or refused. Fails if the
-/// architecture has a fault or memory runs out.
-pub fn least_tracks<W: Sink>(
+/// Runs a netlist with 1 track, then with 2, and so on, until it is routed or refused. Writes one
+/// line for each try to `tries`, and one for each step to `steps`; a line that can't be written is
+/// skipped. Fails if the architecture has a fault or memory runs out.
+pub fn least_tracks<T: Sink, S: Sink>(
     alloc: Global,
     plan: DevicePlan<'_>,
     request: Request<'_>,
-    teller: &mut W,
+    tries: &mut T,
+    steps: &mut S,
 ) -> Result<Least, ArchError>
     requires { IsLawful plan request }
     ensures least { IfOk result (IsLeast plan.entry request.entry) }
@@ -51,8 +53,8 @@ pub fn least_tracks<W: Sink>(
         × Fails (fault_of (arch_of plan.entry.text.now tracks)) error) }
 {
     for tracks in 1..MAX_TRACKS + 1 {
-        let _told = tell_tracks(teller, tracks);
-        let run = run_with(alloc, plan, tracks, request, teller)?;
+        let run = run_with(alloc, plan, tracks, request, steps)?;
+        let _told = tell_try(tries, tracks, word_for(&run.outcome));
         match run.outcome {
             Outcome::Unrouted(_) => drop(run),
             Outcome::Routed(_) => return Ok(Least::Routed { tracks, run }),
@@ -62,16 +64,27 @@ pub fn least_tracks<W: Sink>(
     Ok(Least::Unrouted)
 }
 
-/// Writes the line of a number of tracks.
-fn tell_tracks<W: Sink>(sink: &mut W, tracks: u32) -> Result<(), Failed> {
+/// Writes the line of a try with a number of tracks, with its end.
+fn tell_try<W: Sink>(sink: &mut W, tracks: u32, end: &str) -> Result<(), Failed> {
     write_parts(
         sink,
         &[
             Part::Text("tracks "),
             Part::Number(tracks),
+            Part::Text(": "),
+            Part::Text(end),
             Part::Text("\n"),
         ],
     )
+}
+
+/// The end of a try in a word or two.
+fn word_for(outcome: &Outcome) -> &'static str {
+    match outcome {
+        Outcome::Routed(_) => "routed",
+        Outcome::Unrouted(_) => "left without routes",
+        Outcome::Refused(_) => "refused",
+    }
 }
 
 /// Runs a netlist with that number of tracks. Fails if the architecture has a fault or memory runs

@@ -5,6 +5,8 @@
 //!   outcome: the three files, how the routing ended without routes, or why the netlist is refused.
 //!   It writes one line for each step to a [`line_text::Sink`].
 //! - [`Figures`] are what the routed circuit uses of the device; [`write_figures`] writes them.
+//! - [`OwnDevice::count`] packs a netlist and counts its blocks; [`least_side`] and
+//!   [`least_columns`] return the least device that has room for them.
 //! - [`least_tracks`] finds the least number of tracks with which a netlist is routed. It searches
 //!   upward, since a circuit that is routed with some number of tracks may be left unrouted with a
 //!   larger one.
@@ -14,6 +16,7 @@
 //! netlist routed in this way gets these files.
 #![tactic(auto)]
 
+mod counts;
 mod device;
 mod figures;
 mod law;
@@ -25,9 +28,10 @@ mod steps;
 mod table;
 mod telling;
 
+pub use counts::{Counted, least_columns, least_side};
 pub use device::{OwnDevice, Request};
-pub use figures::Figures;
+pub use figures::{Figures, PackedCounts};
 pub use law::same_files;
 pub use least::{DevicePlan, Least, MAX_TRACKS, least_tracks, run_with};
-pub use outcome::{Files, Outcome, Run};
+pub use outcome::{Files, Outcome, Run, Unrouted};
 pub use table::write_figures;

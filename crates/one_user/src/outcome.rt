@@ -13,13 +13,24 @@ pub struct Files {
     pub routes: SharedText,
 }
 
+/// What there is of a netlist whose routing ended without routes.
+#[derive(Drop)]
+pub struct Unrouted {
+    /// How the routing ended.
+    pub ending: Ending,
+    /// The `.net` file.
+    pub net: SharedText,
+    /// The `.place` file.
+    pub places: SharedText,
+}
+
 /// The outcome of a netlist on a device of one user's own.
 #[derive(Drop)]
 pub enum Outcome {
     /// It was packed, placed and routed.
     Routed(Files),
     /// It was packed and placed, but the routing ended without routes.
-    Unrouted(Ending),
+    Unrouted(Unrouted),
     /// The netlist has a fault, has a BLE that fits into no cluster, or doesn't fit on the device.
     Refused(Refusal),
 }

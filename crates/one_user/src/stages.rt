@@ -7,11 +7,11 @@ ghost use Rattle.tenant_slot.specs.Slot.{after_event};
 ghost use Rattle.one_user.specs.declared.outcome.Outcome.{Outcome};
 ghost use Rattle.one_user.specs.Figures.{HasFigures};
 ghost use Rattle.one_user.specs.Outcomes.{files_of, outcome_of, task_on};
-ghost use Rattle.one_user.specs.Steps.{IsReadyToPack, IsReadyToPlace, IsReadyToRoute, IsReadyToUpload, HasFiles, ending_in, refusal_in, task_in, text_in};
+ghost use Rattle.one_user.specs.Steps.{IsReadyToPack, IsReadyToPlace, IsReadyToRoute, IsReadyToUpload, HasFiles, IsLeft, ending_in, refusal_in, task_in, text_in};
 
 use crate::device::Request;
 use crate::figures::{PackedCounts, figures_of, packed_counts};
-use crate::outcome::{Files, Outcome, Run};
+use crate::outcome::{Files, Outcome, Run, Unrouted};
 use crate::steps::make_steps;
 use line_text::Sink;
 use std::alloc::AllocError;
@@ -124,7 +124,7 @@ fn route<W: Sink>(
             })
         }
         _ => Ok(Run {
-            outcome: Outcome::Unrouted(ending_of(slot)?),
+            outcome: Outcome::Unrouted(unrouted_of(slot)?),
             figures: None,
         }),
     }
@@ -141,7 +141,7 @@ fn refused(refusal: Refusal) -> Run
 }
 
 /// Serves a command, and returns why it is refused, if it is.
-fn ask(slot: &mut Slot, command: Command) -> Result<Option<Refusal>, AllocError>
+pub(crate) fn ask(slot: &mut Slot, command: Command) -> Result<Option<Refusal>, AllocError>
     requires { slot.old.state.entries < 65536 }
     ensures reply { IfOk result (λ refusal.
         refusal ≡ refusal_in (answer_to slot.old.state (Asked command)).1) }
@@ -169,6 +169,21 @@ fn files_of(slot: &Slot) -> Result<Files, AllocError>
         net: file_of(slot, Command::Net)?,
         places: file_of(slot, Command::PlaceFile)?,
         routes: file_of(slot, Command::RouteFile)?,
+    })
+}
+
+/// What there is of a netlist that was left without routes.
+fn unrouted_of(slot: &Slot) -> Result<Unrouted, AllocError>
+    requires room { slot.now.state.entries < 65536 }
+    requires ending { IsSome (ending_in (answer_to slot.now.state (Asked Command.Status)).1) }
+    requires net { IsSome (text_in (answer_to slot.now.state (Asked Command.Net)).1) }
+    requires places { IsSome (text_in (answer_to slot.now.state (Asked Command.PlaceFile)).1) }
+    ensures { IfOk result (IsLeft slot.now.state) }
+{
+    Ok(Unrouted {
+        ending: ending_of(slot)?,
+        net: file_of(slot, Command::Net)?,
+        places: file_of(slot, Command::PlaceFile)?,
     })
 }
 

@@ -4,7 +4,8 @@
 //! chooses a device on which they fit. [`write_script`] writes the whole script to a
 //! [`line_text::Sink`], in small pieces and without memory, so the sink should have a buffer: the
 //! architecture, and for each tenancy its admission, its netlist and its commands up to the route
-//! file. A plan always gives the same bytes.
+//! file. [`write_netlist`] writes the netlist of its first circuit alone. A plan always gives the
+//! same bytes.
 //!
 //! It is proved that both are safe and return, and that a plan keeps the service's limits. That a
 //! circuit has a placing and a routing on its device is only tested.
@@ -17,4 +18,4 @@ mod plan;
 mod script;
 
 pub use plan::{Phase, Plan, Wishes};
-pub use script::write_script;
+pub use script::{write_netlist, write_script};

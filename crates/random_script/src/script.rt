@@ -23,6 +23,14 @@ pub fn write_script<K: Sink>(sink: &mut K, plan: Plan) -> Result<(), Failed> {
     pen.end()
 }
 
+/// Writes the netlist of a plan's first circuit alone, as BLIF. If the sink fails, it has taken a
+/// first part of it.
+pub fn write_netlist<K: Sink>(sink: &mut K, plan: Plan) -> Result<(), Failed> {
+    let mut pen = Pen::new(sink);
+    write_circuit(&mut pen, plan, 1);
+    pen.end()
+}
+
 /// Writes the lines of the script.
 fn write_lines<K: Sink>(pen: &mut Pen<'_, K>, plan: Plan) {
     write_options(pen, plan);

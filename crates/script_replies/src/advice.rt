@@ -43,26 +43,28 @@ impl OperatorAdvice {
     /// The advice in words.
     pub fn words(self) -> &'static str {
         match self {
-            OperatorAdvice::NoMemory => { "memory lacked, and nothing changed: ask again" }
+            OperatorAdvice::NoMemory => { "out of memory; nothing has changed: try again" }
             OperatorAdvice::NoRoom => {
-                "no free columns in a row with a free one on each side of them: a narrower strip, an eviction or a move, or more --columns"
+                "there are not enough adjacent free columns with a free column on each side: ask for a narrower strip, evict or move a tenancy, or use more --columns"
             }
-            OperatorAdvice::TooManyStrips => { "64 tenancies live, and no more can: evict one" }
-            OperatorAdvice::BadWidth => { "a width is 1 up to --columns" }
+            OperatorAdvice::TooManyStrips => {
+                "there are 64 tenancies, the most that a device can have: evict one"
+            }
+            OperatorAdvice::BadWidth => { "a width is a number from 1 to --columns" }
             OperatorAdvice::NoSuchTenancy => {
-                "no tenancy of that name lives: it was never admitted, its admission was refused, or it was evicted"
+                "there is no tenancy with this name: it was never admitted, its admission was refused, or it was evicted"
             }
             OperatorAdvice::IdsSpent => {
-                "65,535 tenancies were admitted, and no more can be: begin a new run"
+                "65,535 tenancies have been admitted, the most in one run: start a new run"
             }
             OperatorAdvice::NameInUse => {
-                "a tenancy of that name lives: another name, or evict it first"
+                "a tenancy already has this name: choose another name, or evict it first"
             }
             OperatorAdvice::StepLacksMemory => {
-                "memory lacked for the step, and its job was given back: ask again"
+                "out of memory during the step; the job has been given back: try again"
             }
             OperatorAdvice::JournalFull => {
-                "the tenancy's journal has 65,536 entries, and nothing more is served: evict it, and admit it anew"
+                "the tenancy's journal is full (65,536 entries), so its commands are refused: evict it and admit it again"
             }
         }
     }
@@ -83,20 +85,20 @@ impl TenantAdvice {
     /// The advice in words.
     pub fn words(self) -> &'static str {
         match self {
-            TenantAdvice::NoMemory => { "memory lacked, and nothing changed: ask again" }
+            TenantAdvice::NoMemory => { "out of memory; nothing has changed: try again" }
             TenantAdvice::JournalFull => {
-                "the tenancy's journal has 65,536 entries, and nothing more is served: evict it, and admit it anew"
+                "the tenancy's journal is full (65,536 entries), so its commands are refused: evict it and admit it again"
             }
             TenantAdvice::CannotPack => {
-                "that BLE reads more nets than a block has input pins: a smaller table in synthesis (abc -lut), or more pins of class 0"
+                "this BLE has more input nets than a block has input pins: use smaller tables in synthesis (abc -lut), or more pins of class 0"
             }
             TenantAdvice::TooFewBlocks => {
-                "the strip has fewer logic places (the first number) than are needed (the second): a wider strip, more --rows, or bigger clusters"
+                "the strip has fewer logic blocks (the first number) than the netlist needs (the second): use a wider strip, more --rows, or bigger clusters"
             }
             TenantAdvice::TooFewPads => {
-                "the strip has fewer pads (the first number) than are needed (the second): a wider strip, or fewer ports"
+                "the strip has fewer pads (the first number) than the netlist needs (the second): use a wider strip, or fewer ports"
             }
-            TenantAdvice::BadEffort => { "an effort is 0 to 100" }
+            TenantAdvice::BadEffort => { "an effort is a number from 0 to 100" }
         }
     }
 }
@@ -119,24 +121,24 @@ impl StateAdvice {
     pub fn words(self) -> &'static str {
         match self {
             StateAdvice::Empty => {
-                "there is no netlist: `upload` one first; if that was refused, mend it"
+                "there is no netlist: `upload` one first; if the upload was refused, correct the netlist"
             }
             StateAdvice::Loaded => {
-                "the netlist is not packed: `pack` first; for another netlist `change`"
+                "the netlist is not packed yet: `pack` first, or `change` to another netlist"
             }
             StateAdvice::Packed => {
-                "the netlist is packed and not placed: `place` first; for another netlist `change`"
+                "the netlist is packed but not placed yet: `place` first, or `change` to another netlist"
             }
             StateAdvice::Placed => {
-                "the netlist is placed and not routed: `route` first; for another netlist `change`"
+                "the netlist is placed but not routed yet: `route` first, or `change` to another netlist"
             }
             StateAdvice::Routed => {
-                "the netlist is routed: `place` before another `route`; for another netlist `change`"
+                "the netlist is already routed: `place` again before another `route`, or `change` to another netlist"
             }
             StateAdvice::Unrouted => {
-                "the netlist was left without routes: `place` again, and then `route`"
+                "routing found no routes for this placement: `place` again, and then `route`"
             }
-            StateAdvice::Running => "a job runs: `wait` first, or `cancel`",
+            StateAdvice::Running => "a job is running: `wait` for it first, or `cancel` it",
         }
     }
 }
@@ -155,14 +157,14 @@ impl SessionAdvice {
     pub fn words(self) -> &'static str {
         match self {
             SessionAdvice::UnknownCommand => {
-                "no command, a word too many, or a line above 4,096 bytes"
+                "an unknown command, too many words, or a line longer than 4,096 bytes"
             }
-            SessionAdvice::BadNumber => { "`place SEED EFFORT` has two decimals, and no word more" }
+            SessionAdvice::BadNumber => { "`place SEED EFFORT` takes exactly two decimal numbers" }
             SessionAdvice::UnfinishedUpload => {
-                "no line that is `.` alone ends the text, so all lines behind it are part of it"
+                "no line `.` ends the text, so all lines after it belong to it"
             }
             SessionAdvice::Evicted => {
-                "no tenancy of that name lives: it was never admitted, its admission was refused, or it was evicted"
+                "there is no tenancy with this name: it was never admitted, its admission was refused, or it was evicted"
             }
         }
     }
@@ -180,10 +182,10 @@ impl RoutingAdvice {
     pub fn words(self) -> &'static str {
         match self {
             RoutingAdvice::GaveUp => {
-                "after 30 iterations nets still want one wire: place again with another seed or more effort, a wider strip, or more --tracks"
+                "after 30 iterations, several nets still use the same wire: place again with another seed or more effort, or use a wider strip or more --tracks"
             }
             RoutingAdvice::NoPath => {
-                "no way leads from that net's driver to one of its readers, whatever other nets do: raise Fc_output or Fc_input, or use more --tracks"
+                "there is no path from this net's driver to one of its sinks, even without the other nets: raise Fc_output or Fc_input, or use more --tracks"
             }
         }
     }
@@ -211,37 +213,37 @@ impl NetlistAdvice {
     pub fn words(self) -> &'static str {
         match self {
             NetlistAdvice::Unknown => {
-                "a line that is read by nobody here, as .subckt, .gate, .attr, a second .model, or text behind .end: synth -flatten, and abc -lut; write_blif without -gates, -attr, -param, -cname, -conn"
+                "a line that this service does not support, such as .subckt, .gate, .attr, a second .model, or text after .end: use synth -flatten and abc -lut, and write_blif without -gates, -attr, -param, -cname, -conn"
             }
             NetlistAdvice::BadCover => {
-                "a row has another number of characters than its table has inputs, or others than 0, 1 and -: write the file by write_blif"
+                "a row of a table does not have one character for each input, or has characters other than 0, 1 and -: write the file with write_blif"
             }
             NetlistAdvice::MixedCover => {
-                "a table has rows with output 0 and rows with output 1: keep those of one output"
+                "a table has rows with output 0 and rows with output 1: keep only one kind"
             }
             NetlistAdvice::TooWide => {
-                "a table has more inputs than subblock_lut_size: abc -lut with that number"
+                "a table has more inputs than subblock_lut_size: use abc -lut with that number"
             }
             NetlistAdvice::TwoDrivers => {
-                "that net is driven twice: two assignments, or a port that is driven from inside, too"
+                "this net has two drivers: two assignments, or an input port that is also driven inside the module"
             }
             NetlistAdvice::Undriven => {
-                "nothing drives that net: setundef -undriven -zero, and for $false, $true or $undef write_blif without -impltf"
+                "nothing drives this net: use setundef -undriven -zero; for $false, $true or $undef use write_blif without -impltf"
             }
-            NetlistAdvice::RepeatedOutput => "that net is named twice in .outputs: name it once",
+            NetlistAdvice::RepeatedOutput => "this net is listed twice in .outputs: list it once",
             NetlistAdvice::BadLatch => {
-                "a latch with a type or a first value that is none: dfflegalize -cell $_DFF_P_ 01"
+                "a latch with an unknown type or initial value: use dfflegalize -cell $_DFF_P_ 01"
             }
             NetlistAdvice::NoModel => {
-                "the first line isn't .model, or there is none: see whether synthesis ended"
+                "the first line is not .model, or the netlist is empty: check whether synthesis succeeded"
             }
             NetlistAdvice::OverLimit => {
-                "more than 8,192 nets, or a text above 1 MiB (line 0): a smaller module"
+                "more than 8,192 nets, or a text larger than 1 MiB (line 0): use a smaller module"
             }
             NetlistAdvice::NotAscii =>
-                "letters with accents, or quotes of a word processor: plain names",
+                "letters with accents, or curly quotes: use plain ASCII names",
             NetlistAdvice::LineTooLong =>
-                "a joined line is above 262,144 bytes: write_blif breaks lines by itself",
+                "a joined line is longer than 262,144 bytes: use write_blif, which breaks long lines",
         }
     }
 }

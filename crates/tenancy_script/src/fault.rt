@@ -24,10 +24,13 @@ impl fmt::Display for Fault {
             Fault::PointAlone(line) => {
                 write!(
                     f,
-                    "line {line}: `.` alone ends an upload, and what follows would be commands"
+                    "line {line}: a line `.` would end the upload, and the lines after it would be commands"
                 )
             }
-            Fault::TextTooLong(line) => write!(f, "line {line}: the text is above 1048576 bytes"),
+            Fault::TextTooLong(line) => write!(
+                f,
+                "line {line}: the text is longer than 1048576 bytes"
+            ),
         }
     }
 }

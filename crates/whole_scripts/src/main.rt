@@ -2,11 +2,11 @@
 //! output, the messages and the status of each.
 //!
 //! Standard input lists the runs, one a line: `NAME STATUS WORDS`. The words are those of a command
-//! line: `fpgad WORDS`, `fpgad_desk WORDS`, or `cmp FILE FILE`, which ends with 0 if the files have
-//! equal bytes. A run reads NAME.script; it must end with that status, write NAME.stdout to
-//! standard output and NAME.stderr to standard error, byte for byte. A file that does not exist
-//! counts as empty. Each line is printed with its result. The status is 0 if all agree, and 1 if
-//! one does not, or if input or output failed.
+//! line: `fpgad WORDS`, `fpgad_live WORDS`, `fpgad_desk WORDS`, or `cmp FILE FILE`, which ends with
+//! 0 if the files have equal bytes. A run reads NAME.script; it must end with that status, write
+//! NAME.stdout to standard output and NAME.stderr to standard error, byte for byte. A file that
+//! does not exist counts as empty. Each line is printed with its result. The status is 0 if all
+//! agree, and 1 if one does not, or if input or output failed.
 #![tactic(auto)]
 
 mod difference;

@@ -4,6 +4,7 @@ use crate::ended::{Ended, ended_by};
 use crate::row::Row;
 use crate::verdict::Verdict;
 use desk::Streams;
+use dialogue::Connection;
 use line_text::{MemorySink, MemorySource, ReadError, StdSource, read_all};
 use std::alloc::{AllocError, AllocGlobal, Global};
 use std::fs::File;
@@ -37,13 +38,22 @@ fn run_words<H: Files + Threads + Wait + Clock + AllocGlobal + Sync>(
         return compare_files(rt, left, right);
     }
     let input = row_file(rt, name, "script")?;
-    let ended = if words.first() == Some(&"fpgad_desk") {
-        run_tool(rt, words, input.as_slice())
-    } else {
-        run_script(rt, words, input.as_slice())
-    };
+    let ended = run_program(rt, words, input.as_slice());
     drop(input);
     ended
+}
+
+/// Runs the program that the first word names, on that input.
+fn run_program<H: Files + Threads + Wait + Clock + AllocGlobal + Sync>(
+    rt: &H,
+    words: &[&str],
+    input: &[u8],
+) -> Result<Ended, AllocError> {
+    match words.first() {
+        Some(&"fpgad_desk") => run_tool(rt, words, input),
+        Some(&"fpgad_live") => run_live(rt, words, input),
+        _ => run_script(rt, words, input),
+    }
 }
 
 /// Runs a script as the service does under these words.
@@ -63,6 +73,29 @@ fn run_script<H: Files + Threads + Wait + Clock + AllocGlobal + Sync>(
         rt.alloc(),
         writer,
         MemorySink::new(rt.alloc()),
+        status,
+        outcome,
+    )
+}
+
+/// Serves the lines of an input as the live service does under these words.
+fn run_live<H: Files + Wait + AllocGlobal>(
+    rt: &H,
+    words: &[&str],
+    lines: &[u8],
+) -> Result<Ended, AllocError> {
+    let reader = MemorySource::new(lines);
+    let mut connection = Connection::new(reader, MemorySink::new(rt.alloc()));
+    let outcome = live_run::run_words(rt, words, &mut connection);
+    let status = match &outcome {
+        Ok(outcome) => outcome.status(),
+        Err(_) => 2,
+    };
+    let teller = MemorySink::new(rt.alloc());
+    ended_by(
+        rt.alloc(),
+        connection.into_output(),
+        teller,
         status,
         outcome,
     )

@@ -4,7 +4,8 @@ use Rattle.rr_graph.specs.Graph.{Basis}
 use Rattle.tenant_slot.specs.declared.reply.StateName.TheVariants.{Packing, Packed}
 use Rattle.one_user.specs.Figures.{HasFigures}
 use Rattle.one_user.specs.Outcomes.{Task, outcome_of}
-use Rattle.one_user.specs.Steps.{AreCounts, IsAt, IsPacked, state_at, task_in}
+use Rattle.one_user.specs.Counting.{AreCounts}
+use Rattle.one_user.specs.Steps.{IsAt, IsPacked, state_at, task_in}
 use Rattle.one_user.specs.declared.outcome.Run.{Run}
 use Rattle.one_user.proofs.Asking.{Leads}
 use Rattle.one_user.proofs.Courses.{pack_leads, packing_done, task_own}

@@ -13,9 +13,9 @@ use Rattle.tenant_slot.specs.declared.event.Event.TheVariants.{Command as Asked}
 use Rattle.one_user.specs.Figures.{product, wires_there}
 use Rattle.one_user.specs.Outcomes.{routing_of}
 use Rattle.one_user.specs.Service.{HasRouted}
-use Rattle.one_user.specs.Steps.{ending_in, task_in}
+use Rattle.one_user.specs.Steps.{IsLeft, ending_in, task_in}
 use Rattle.one_user.proofs.Courses.{route_leads, routing_done}
-use Rattle.one_user.proofs.Routings.{ending_is, has_routed, none_failed, routed_files, routed_held, routed_loaded, same_ending, share_of, some_ending}
+use Rattle.one_user.proofs.Routings.{has_routed, left_is, none_failed, routed_files, routed_held, routed_loaded, same_left, share_of, some_ending, some_text}
 use Rattle.one_user.proofs.stages.route.Goals as goal
 
 pub files_of-requires : goal.files_of-requires
@@ -83,8 +83,8 @@ returns-in_ok-files_of-in-Routed-clause-figures g c =
       },
     )
 
-pub ending_of-requires-clause-room : goal.ending_of-requires-clause-room
-ending_of-requires-clause-room g c =
+pub unrouted_of-requires-clause-room : goal.unrouted_of-requires-clause-room
+unrouted_of-requires-clause-room g c =
     let old = c.args.slot.now in
     let task = task_in old.state old.state.seed old.state.effort in
     let placed = c.requires.placed in
@@ -95,8 +95,8 @@ ending_of-requires-clause-room g c =
     let count = old.state.entries + 1 + c.in_ok-last.last.number in
     omega (arith, ap (λ (s : SlotState). s.state.entries) done.0, c.requires.slot.few, done.2)
 
-pub ending_of-requires-clause-ending : goal.ending_of-requires-clause-ending
-ending_of-requires-clause-ending g c =
+pub unrouted_of-requires-clause-ending : goal.unrouted_of-requires-clause-ending
+unrouted_of-requires-clause-ending g c =
     let old = c.args.slot.now in
     let task = task_in old.state old.state.seed old.state.effort in
     let placed = c.requires.placed in
@@ -105,12 +105,12 @@ ending_of-requires-clause-ending g c =
     let done = routing_done task placed (old.state.generation + 1) (old.state.entries + 1) c.ask.new.slot.id c.ask.new.slot new c.in_ok-last.last went.1 c.in_ok-last.ensures in
     let failure = failure_of (end_value (routing_of task)) in
     let count = old.state.entries + 1 + c.in_ok-last.last.number in
-    let ended = ending_is task placed (old.state.generation + 1) (old.state.entries + 1) count failure refl (λ is. c.in_default.not-Routed (c.state.ensures ∙ (ap (λ (s : SlotState). s.state.name) done.0 ∙ is))) in
-    let told = ap (λ (s : SlotState). ending_in (answer_to s.state (Asked Status)).1) done.0 ∙ ended.1 in
-    some_ending _ ended.0 told
+    let ended = left_is task placed (old.state.generation + 1) (old.state.entries + 1) count failure refl (λ is. c.in_default.not-Routed (c.state.ensures ∙ (ap (λ (s : SlotState). s.state.name) done.0 ∙ is))) in
+    let left : IsLeft new.state ended.0 = subst (λ (s : SlotState). IsLeft s.state ended.0) (sym done.0) ended.1 in
+    some_ending _ ended.0.ending left.ending
 
-pub returns-in_ok-ending_of-in_default : goal.returns-in_ok-ending_of-in_default
-returns-in_ok-ending_of-in_default g c =
+pub unrouted_of-requires-clause-net : goal.unrouted_of-requires-clause-net
+unrouted_of-requires-clause-net g c =
     let old = c.args.slot.now in
     let task = task_in old.state old.state.seed old.state.effort in
     let placed = c.requires.placed in
@@ -119,6 +119,34 @@ returns-in_ok-ending_of-in_default g c =
     let done = routing_done task placed (old.state.generation + 1) (old.state.entries + 1) c.ask.new.slot.id c.ask.new.slot new c.in_ok-last.last went.1 c.in_ok-last.ensures in
     let failure = failure_of (end_value (routing_of task)) in
     let count = old.state.entries + 1 + c.in_ok-last.last.number in
-    let ended = ending_is task placed (old.state.generation + 1) (old.state.entries + 1) count failure refl (λ is. c.in_default.not-Routed (c.state.ensures ∙ (ap (λ (s : SlotState). s.state.name) done.0 ∙ is))) in
-    let told = ap (λ (s : SlotState). ending_in (answer_to s.state (Asked Status)).1) done.0 ∙ ended.1 in
-    record { outcome = same_ending task (ending_in (answer_to new.state (Asked Status)).1) ended.0 c.in_ok-ending_of-in_default.field-0 told c.in_ok-ending_of-in_default.ensures ended.2; figures = tt }
+    let ended = left_is task placed (old.state.generation + 1) (old.state.entries + 1) count failure refl (λ is. c.in_default.not-Routed (c.state.ensures ∙ (ap (λ (s : SlotState). s.state.name) done.0 ∙ is))) in
+    let left : IsLeft new.state ended.0 = subst (λ (s : SlotState). IsLeft s.state ended.0) (sym done.0) ended.1 in
+    some_text _ ended.0.net left.net
+
+pub unrouted_of-requires-clause-places : goal.unrouted_of-requires-clause-places
+unrouted_of-requires-clause-places g c =
+    let old = c.args.slot.now in
+    let task = task_in old.state old.state.seed old.state.effort in
+    let placed = c.requires.placed in
+    let new = c.make_steps.new.slot in
+    let went = route_leads task old c.requires.slot c.ask.new.slot c.in_ok-refusal.field-0 c.in_ok-refusal.ensures.reply c.in_ok-refusal.ensures.slot in
+    let done = routing_done task placed (old.state.generation + 1) (old.state.entries + 1) c.ask.new.slot.id c.ask.new.slot new c.in_ok-last.last went.1 c.in_ok-last.ensures in
+    let failure = failure_of (end_value (routing_of task)) in
+    let count = old.state.entries + 1 + c.in_ok-last.last.number in
+    let ended = left_is task placed (old.state.generation + 1) (old.state.entries + 1) count failure refl (λ is. c.in_default.not-Routed (c.state.ensures ∙ (ap (λ (s : SlotState). s.state.name) done.0 ∙ is))) in
+    let left : IsLeft new.state ended.0 = subst (λ (s : SlotState). IsLeft s.state ended.0) (sym done.0) ended.1 in
+    some_text _ ended.0.places left.places
+
+pub returns-in_ok-unrouted_of-in_default : goal.returns-in_ok-unrouted_of-in_default
+returns-in_ok-unrouted_of-in_default g c =
+    let old = c.args.slot.now in
+    let task = task_in old.state old.state.seed old.state.effort in
+    let placed = c.requires.placed in
+    let new = c.make_steps.new.slot in
+    let went = route_leads task old c.requires.slot c.ask.new.slot c.in_ok-refusal.field-0 c.in_ok-refusal.ensures.reply c.in_ok-refusal.ensures.slot in
+    let done = routing_done task placed (old.state.generation + 1) (old.state.entries + 1) c.ask.new.slot.id c.ask.new.slot new c.in_ok-last.last went.1 c.in_ok-last.ensures in
+    let failure = failure_of (end_value (routing_of task)) in
+    let count = old.state.entries + 1 + c.in_ok-last.last.number in
+    let ended = left_is task placed (old.state.generation + 1) (old.state.entries + 1) count failure refl (λ is. c.in_default.not-Routed (c.state.ensures ∙ (ap (λ (s : SlotState). s.state.name) done.0 ∙ is))) in
+    let left : IsLeft new.state ended.0 = subst (λ (s : SlotState). IsLeft s.state ended.0) (sym done.0) ended.1 in
+    record { outcome = same_left task new.state ended.0 c.in_ok-unrouted_of-in_default.field-0 left c.in_ok-unrouted_of-in_default.ensures ended.2; figures = tt }

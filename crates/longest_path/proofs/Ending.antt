@@ -1,0 +1,81 @@
+-- The longest path of a circuit.
+use Rattle.std.proofs.Common.{ℕ, ◌≡◌, ◌+◌, ◌<◌, ◌≤◌, ◌∙◌, List, [], ◌∷◌, ◌++◌, length, map, get_or, sym, refl, ap, subst, arith}
+use Rattle.std.specs.List.{All}
+use Rattle.std.proofs.lemmas.List.Elements.{All-append, All-map, All-weaker}
+use Rattle.blif.specs.LookupTables.{LookupTable}
+use Rattle.blif.specs.LawfulCircuits.{IsCircuit, IsLatchWithin, IsTableWithin}
+use Rattle.blif.specs.declared.circuit.Circuit.{Circuit}
+use Rattle.blif.specs.declared.latches.Latch.{Latch}
+use Rattle.longest_path.specs.declared.longest.Longest.{Longest}
+use Rattle.longest_path.specs.declared.longest.Longest.TheVariants.{Path, NoPath, Loop}
+use Rattle.longest_path.specs.declared.reach.Reach.{Reach}
+use Rattle.longest_path.specs.Ends.{IsEnd}
+use Rattle.longest_path.specs.Paths.{HasLoop, IsIn, IsLongest, IsPath, IsWay, ends_of, starts_of}
+use Rattle.longest_path.specs.Reaches.{far, steps_to}
+use Rattle.longest_path.specs.Settled.{IsSettled}
+use Rattle.longest_path.proofs.Raising.{table_within}
+
+-- the starts and the ends are nets
+pub starts_within : (circuit : Circuit) → IsCircuit circuit → All (λ net. net < length circuit.nets) (starts_of circuit)
+starts_within circuit lawful =
+    All-append (λ net. net < length circuit.nets) circuit.inputs (map (λ (latch : Latch). latch.output) circuit.latches) lawful.inputs
+    (All-map (λ net. net < length circuit.nets) (λ (latch : Latch). latch.output) circuit.latches
+    (All-weaker (IsLatchWithin (length circuit.nets)) (λ (latch : Latch). latch.output < length circuit.nets) (λ latch within. within.output) circuit.latches lawful.latches))
+
+pub ends_within : (circuit : Circuit) → IsCircuit circuit → All (λ net. net < length circuit.nets) (ends_of circuit)
+ends_within circuit lawful =
+    All-append (λ net. net < length circuit.nets) circuit.outputs (map (λ (latch : Latch). latch.input) circuit.latches) lawful.outputs
+    (All-map (λ net. net < length circuit.nets) (λ (latch : Latch). latch.input) circuit.latches
+    (All-weaker (IsLatchWithin (length circuit.nets)) (λ (latch : Latch). latch.input < length circuit.nets) (λ latch within. within.input) circuit.latches lawful.latches))
+
+-- if all nets are starts and the ways are settled, there is no loop
+pub no_loop : (nets : ℕ) (tables : List LookupTable) (starts : List ℕ) (reach : List Reach) → All (IsTableWithin nets) tables → length starts ≡ nets → ((k : ℕ) → k < nets → get_or starts k 0 ≡ k)
+    → IsSettled nets tables starts reach → HasLoop tables → ⊥
+no_loop nets tables starts reach all count each settled loop =
+    let net : ℕ = loop.0 in
+    let table : LookupTable = loop.1 in
+    let way : IsWay tables net (table ∷ loop.2) net = loop.3 in
+    let low : table.output < nets = (table_within tables nets way.0.0 table all way.0.1).output in
+    let within : net < nets = subst (λ n. n < nets) way.1 low in
+    let reached : 0 < steps_to reach net = settled.started net (net, omega arith, each net within) in
+    let longer : steps_to reach net + length (table ∷ loop.2) ≤ steps_to reach net = settled.settled net (table ∷ loop.2) net reached way in
+    omega arith
+
+-- a path has at most as many tables as there are steps to its end, but one
+path_steps : (circuit : Circuit) (nets : ℕ) (reach : List Reach) → IsSettled nets circuit.tables (starts_of circuit) reach
+    → (from : ℕ) (tables : List LookupTable) (to : ℕ) → IsPath circuit from tables to → length tables + 1 ≤ steps_to reach to
+path_steps circuit nets reach settled from tables to path =
+    let reached : 0 < steps_to reach from = settled.started from path.start in
+    let long : steps_to reach from + length tables ≤ steps_to reach to = settled.settled from tables to reached path.way in
+    omega arith
+
+-- what was found to the farthest end is the longest path
+pub longest : (circuit : Circuit) (nets : ℕ) (reach : List Reach) (found : Longest) → (HasLoop circuit.tables → ⊥) → IsSettled nets circuit.tables (starts_of circuit) reach
+    → IsEnd reach (ends_of circuit) found → IsLongest circuit found
+longest circuit nets reach (Path path) none settled end =
+    let led = settled.found path.to end.0.reached in
+    let start : (far reach path.to).start ≡ path.from = sym end.2 in
+    let steps : path.tables + 1 ≡ steps_to reach path.to = end.1 in (
+      none,
+      λ from tables to other. (
+          let a : length tables + 1 ≤ steps_to reach to = path_steps circuit nets reach settled from tables to other in
+          let b : steps_to reach to ≤ steps_to reach path.to = subst (λ n. steps_to reach n ≤ steps_to reach path.to) other.end.2 (end.0.most other.end.0 other.end.1) in
+          omega arith),
+      (
+        led.1.0,
+        record {
+          start = subst (IsIn (starts_of circuit)) start led.0;
+          end = end.0.among;
+          way = subst (λ n. IsWay circuit.tables n led.1.0 path.to) start led.1.1;
+        },
+        (let e : length led.1.0 + 1 ≡ steps_to reach path.to = led.1.2 in omega arith),
+      ),
+    )
+longest circuit nets reach NoPath none settled end = (
+  none,
+  λ from tables to other. (
+      let a : length tables + 1 ≤ steps_to reach to = path_steps circuit nets reach settled from tables to other in
+      let b : steps_to reach to ≡ 0 = subst (λ n. steps_to reach n ≡ 0) other.end.2 (end other.end.0 other.end.1) in
+      omega arith),
+)
+longest circuit nets reach Loop none settled end = absurd end

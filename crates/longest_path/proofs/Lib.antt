@@ -1,0 +1,4 @@
+mod Ways
+mod Raising
+mod Starting
+mod Ending

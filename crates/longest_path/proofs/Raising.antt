@@ -1,0 +1,236 @@
+-- Passes over the tables.
+use Rattle.std.proofs.Common.{ℕ, ◌≡◌, ◌+◌, ◌<◌, ◌≤◌, ◌∙◌, ◌⊎◌, List, [], ◌∷◌, length, get_or, set, length-set, Some, sym, refl, ap, subst, arith, inl, inr}
+use Rattle.std.specs.List.{All, slice_get}
+use Rattle.blif.specs.LawfulCircuits.{IsTableWithin}
+use Rattle.blif.specs.LookupTables.{LookupTable}
+use Rattle.longest_path.specs.declared.reach.Reach.{Reach}
+use Rattle.longest_path.specs.Paths.{HasLoop, IsIn, IsTable, IsWay}
+use Rattle.longest_path.specs.Passes.{AreRaised, IsPassed, IsFarther}
+use Rattle.longest_path.specs.Reaches.{AreFound, AreSmall, IsBegun, IsFarthest, IsFound, far, none, steps_to}
+use Rattle.longest_path.specs.Settled.{IsOnTheWay, IsSettled}
+use Rattle.std.proofs.lemmas.Bool.{cases_eq, cases_lt}
+use Rattle.std.proofs.lemmas.List.{get_or-set_other, get_or-set_same, get_or_past}
+use Rattle.std.proofs.lemmas.Option.{get_or_from_slice_get, same_Some, slice_get-get_or, slice_get_within}
+use Rattle.longest_path.proofs.Ways.{long_loop}
+
+-- if a pass raises nothing, a way that leads on from a net is not longer than what was found
+pub settled_ways : (tables : List LookupTable) (reach : List Reach) → AreRaised tables (length tables) reach reach
+    → (from : ℕ) (through : List LookupTable) (to : ℕ) → 0 < steps_to reach from → IsWay tables from through to → steps_to reach from + length through ≤ steps_to reach to
+settled_ways tables reach raised from [] to reached way = subst (λ n. steps_to reach from + 0 ≤ steps_to reach n) way (omega arith)
+settled_ways tables reach raised from (table ∷ others) to reached way =
+    let net : ℕ = way.2.0 in
+    let before : steps_to reach from + length others ≤ steps_to reach net = settled_ways tables reach raised from others net reached way.2.2 in
+    let more : steps_to reach net + 1 ≤ steps_to reach table.output =
+    raised way.0.0 table (slice_get_within tables way.0.0 table way.0.1) way.0.1 net way.2.1 (omega arith) in
+    subst (λ n. steps_to reach from + length (table ∷ others) ≤ steps_to reach n) way.1 (omega arith)
+
+-- a pass covers ways with one table more
+pub covers : (tables : List LookupTable) (starts : List ℕ) (passes : ℕ) (old new : List Reach) → AreRaised tables (length tables) old new
+    → ((net : ℕ) → steps_to old net ≤ steps_to new net)
+    → ((from : ℕ) (through : List LookupTable) (to : ℕ) → IsIn starts from → IsWay tables from through to → length through ≤ passes → length through + 1 ≤ steps_to old to)
+    → (from : ℕ) (through : List LookupTable) (to : ℕ) → IsIn starts from → IsWay tables from through to → length through ≤ passes + 1 → length through + 1 ≤ steps_to new to
+covers tables starts passes old new raised rises covered from [] to start way few =
+    let a : length {A = LookupTable} [] + 1 ≤ steps_to old to = covered from [] to start way (omega arith) in
+    let b : steps_to old to ≤ steps_to new to = rises to in
+    omega arith
+covers tables starts passes old new raised rises covered from (table ∷ others) to start way few =
+    let net : ℕ = way.2.0 in
+    let before : length others + 1 ≤ steps_to old net = covered from others net start way.2.2 (omega arith) in
+    let more : steps_to old net + 1 ≤ steps_to new table.output =
+    raised way.0.0 table (slice_get_within tables way.0.0 table way.0.1) way.0.1 net way.2.1 (omega arith) in
+    subst (λ n. length (table ∷ others) + 1 ≤ steps_to new n) way.1 (omega arith)
+
+-- after one more pass that raised a net
+pub on_the_way : (passes nets : ℕ) (tables : List LookupTable) (starts : List ℕ) (old new : List Reach)
+    → IsOnTheWay passes nets tables starts old → IsPassed tables starts (length tables) old new → IsFarther old new → IsOnTheWay (passes + 1) nets tables starts new
+on_the_way passes nets tables starts old new was passed farther =
+    let net : ℕ = farther.0 in
+    let reached : 0 < steps_to new net = (let h : steps_to old net < steps_to new net = farther.1 in omega arith) in
+    let found : IsFound tables starts net (far new net) = passed.found net reached in
+    let through : List LookupTable = found.1.0 in
+    record {
+      long = passed.long ∙ was.long;
+      small = passed.small;
+      found = passed.found;
+      started = λ one start. (let a : 0 < steps_to old one = was.started one start in let b : steps_to old one ≤ steps_to new one = passed.rises one in omega arith);
+      covered = covers tables starts passes old new passed.raised passed.rises was.covered;
+      far = λ _. (
+        net,
+        (
+            elim (cases_lt passes (length through)) [
+              | inr short ↦
+                  let cover : length through + 1 ≤ steps_to old net = was.covered (far new net).start through net found.0 found.1.1 short in
+                  let same : length through + 1 ≡ steps_to new net = found.1.2 in
+                  let more : steps_to old net < steps_to new net = farther.1 in
+                  absurd (omega arith)
+              | inl long ↦ (let same : length through + 1 ≡ steps_to new net = found.1.2 in omega arith)
+            ]),
+      );
+    }
+
+-- after a pass that raised nothing
+pub settled_by : (nets passes : ℕ) (tables : List LookupTable) (starts : List ℕ) (reach : List Reach)
+    → IsOnTheWay passes nets tables starts reach → IsPassed tables starts (length tables) reach reach → IsSettled nets tables starts reach
+settled_by nets passes tables starts reach was passed = record {
+  long = was.long;
+  found = was.found;
+  started = was.started;
+  settled = settled_ways tables reach passed.raised;
+}
+
+-- a table of these is within the nets
+pub table_within : (tables : List LookupTable) (nets place : ℕ) (table : LookupTable) → All (IsTableWithin nets) tables → slice_get tables place ≡ Some table → IsTableWithin nets table
+table_within tables nets place table all here =
+    subst (IsTableWithin nets) (get_or_from_slice_get tables place table table here) (all place table (slice_get_within tables place table here))
+
+-- the steps to a net of a list are at most those to the farthest of them
+at_most : (reach : List Reach) (nets : List ℕ) (most net : ℕ) → ((k : ℕ) → k < length nets → steps_to reach (get_or nets k 0) ≤ most) → IsIn nets net → steps_to reach net ≤ most
+at_most reach nets most net h here = subst (λ n. steps_to reach n ≤ most) here.2 (h here.0 here.1)
+
+-- one more table was gone over, of whose inputs none was farther than that
+raised_more : (tables : List LookupTable) (place most : ℕ) (table : LookupTable) (old now new : List Reach) → slice_get tables place ≡ Some table
+    → ((net : ℕ) → steps_to old net ≤ steps_to now net) → ((net : ℕ) → steps_to now net ≤ steps_to new net)
+    → ((net : ℕ) → IsIn table.inputs net → steps_to now net ≤ most) → (0 < most → most + 1 ≤ steps_to new table.output)
+    → AreRaised tables place old now → AreRaised tables (place + 1) old new
+raised_more tables place most table old now new here rises rise most_is up raised number other within there net among reached =
+    elim (cases_lt number place) [
+      | inl before ↦
+          let a : steps_to old net + 1 ≤ steps_to now other.output = raised number other before there net among reached in
+          let b : steps_to now other.output ≤ steps_to new other.output = rise other.output in
+          omega arith
+      | inr at ↦
+          let same : number ≡ place = omega arith in
+          let this : other ≡ table = same_Some other table (sym there ∙ (ap (slice_get tables) same ∙ here)) in
+          let a : steps_to now net ≤ most = most_is net (subst (λ (t : LookupTable). IsIn t.inputs net) this among) in
+          let b : steps_to old net ≤ steps_to now net = rises net in
+          let d : most + 1 ≤ steps_to new table.output = up (omega arith) in
+          subst (λ (t : LookupTable). steps_to old net + 1 ≤ steps_to new t.output) (sym this) (omega arith)
+    ]
+
+-- a table that raises nothing, since its inputs are not reached, or since its output is farther
+pub kept : (tables : List LookupTable) (starts : List ℕ) (place most : ℕ) (table : LookupTable) (old now : List Reach) → slice_get tables place ≡ Some table
+    → ((k : ℕ) → k < length table.inputs → steps_to now (get_or table.inputs k 0) ≤ most) → (0 < most → most + 1 ≤ steps_to now table.output)
+    → IsPassed tables starts place old now → IsPassed tables starts (place + 1) old now
+kept tables starts place most table old now here most_is up passed = record {
+  long = passed.long;
+  small = passed.small;
+  found = passed.found;
+  rises = passed.rises;
+  raised = raised_more tables place most table old now now here passed.rises (λ net. omega arith) (λ net among. at_most now table.inputs most net most_is among) up passed.raised;
+}
+
+-- what was found for a net after the output of a table is raised
+steps_at : (now : List Reach) (output : ℕ) (best : Reach) (net : ℕ) → output < length now
+    → ((net ≡ output) × (far (set now output (record { steps = best.steps + 1; start = best.start })) net ≡ record { steps = best.steps + 1; start = best.start }))
+    ⊎ (far (set now output (record { steps = best.steps + 1; start = best.start })) net ≡ far now net)
+steps_at now output best net within =
+    elim (cases_eq net output) [
+      | inl here ↦ inl (here, ap (λ n. get_or (set now output (record { steps = best.steps + 1; start = best.start })) n none) here ∙ get_or-set_same now output (record { steps = best.steps + 1; start = best.start }) none within)
+      | inr off ↦ inr (get_or-set_other now output net (record { steps = best.steps + 1; start = best.start }) none off)
+    ]
+
+-- if a net is raised, none falls
+pub raises : (now : List Reach) (output : ℕ) (best : Reach) (n : ℕ) → output < length now → steps_to now output ≤ best.steps → steps_to now n ≤ steps_to (set now output (record { steps = best.steps + 1; start = best.start })) n
+raises now output best n within above =
+    elim (steps_at now output best n within) [
+      | inl at ↦ (let a : steps_to (set now output (record { steps = best.steps + 1; start = best.start })) n ≡ best.steps + 1 = ap (λ (r : Reach). r.steps) at.1 in
+          let b : steps_to now n ≡ steps_to now output = ap (steps_to now) at.0 in omega arith)
+      | inr off ↦ (let a : steps_to (set now output (record { steps = best.steps + 1; start = best.start })) n ≡ steps_to now n = ap (λ (r : Reach). r.steps) off in omega arith)
+    ]
+
+-- a table raises its output
+pub more : (tables : List LookupTable) (starts : List ℕ) (place net : ℕ) (table : LookupTable) (best : Reach) (old now : List Reach) → slice_get tables place ≡ Some table
+    → far now net ≡ best → IsFarthest now table.inputs net → best.steps ≤ length now → steps_to now table.output ≤ best.steps → table.output < length now
+    → IsPassed tables starts place old now
+    → IsPassed tables starts (place + 1) old (set now table.output (record { steps = best.steps + 1; start = best.start }))
+more tables starts place net table best old now here is farthest few above within passed =
+    let new : List Reach = set now table.output (record { steps = best.steps + 1; start = best.start }) in
+    let same_length : length new ≡ length now = length-set now table.output (record { steps = best.steps + 1; start = best.start }) in
+    let rise : (n : ℕ) → steps_to now n ≤ steps_to new n = λ n. raises now table.output best n within above in
+    let best_is : steps_to now net ≡ best.steps = ap (λ (r : Reach). r.steps) is in
+    record {
+      long = same_length ∙ passed.long;
+      small = λ n. elim (steps_at now table.output best n within) [
+        | inl at ↦ (let a : steps_to new n ≡ best.steps + 1 = ap (λ (r : Reach). r.steps) at.1 in omega arith)
+        | inr off ↦ (let a : steps_to new n ≡ steps_to now n = ap (λ (r : Reach). r.steps) off in let b : steps_to now n ≤ length now + 1 = passed.small n in omega arith)
+      ];
+      found = λ n reached. elim (steps_at now table.output best n within) [
+        | inl at ↦
+            let was : IsFound tables starts net (far now net) = passed.found net farthest.reached in
+            let lead : IsFound tables starts net best = subst (IsFound tables starts net) is was in
+            let through : List LookupTable = table ∷ lead.1.0 in
+            let count : length lead.1.0 + 1 ≡ best.steps = lead.1.2 in
+            let led : IsFound tables starts n (record { steps = best.steps + 1; start = best.start }) =
+            (lead.0, (through, ((place, here), sym at.0, (net, farthest.among, lead.1.1)), omega arith)) in
+            subst (IsFound tables starts n) (sym at.1) led
+        | inr off ↦ subst (IsFound tables starts n) (sym off) (passed.found n (subst (λ (r : Reach). 0 < r.steps) off reached))
+      ];
+      rises = λ n. (let a : steps_to old n ≤ steps_to now n = passed.rises n in let b : steps_to now n ≤ steps_to new n = rise n in omega arith);
+      raised = raised_more tables place best.steps table old now new here passed.rises rise
+          (λ n among. (let a : steps_to now n ≤ steps_to now net = at_most now table.inputs (steps_to now net) n farthest.most among in omega arith))
+          (λ _. (elim (steps_at now table.output best table.output within) [
+            | inl at ↦ (let a : steps_to new table.output ≡ best.steps + 1 = ap (λ (r : Reach). r.steps) at.1 in omega arith)
+            | inr off ↦ (let a : far new table.output ≡ record { steps = best.steps + 1; start = best.start } = get_or-set_same now table.output (record { steps = best.steps + 1; start = best.start }) none within in
+                let b : steps_to new table.output ≡ best.steps + 1 = ap (λ (r : Reach). r.steps) a in omega arith)
+          ]))
+          passed.raised;
+    }
+
+-- the output is farther than it was
+pub farther : (output : ℕ) (best : Reach) (old now : List Reach) → output < length now → steps_to now output ≤ best.steps → ((net : ℕ) → steps_to old net ≤ steps_to now net)
+    → IsFarther old (set now output (record { steps = best.steps + 1; start = best.start }))
+farther output best old now within above rises =
+    let a : far (set now output (record { steps = best.steps + 1; start = best.start })) output ≡ record { steps = best.steps + 1; start = best.start } = get_or-set_same now output (record { steps = best.steps + 1; start = best.start }) none within in
+    let b : steps_to (set now output (record { steps = best.steps + 1; start = best.start })) output ≡ best.steps + 1 = ap (λ (r : Reach). r.steps) a in
+    let d : steps_to old output ≤ steps_to now output = rises output in
+    (output, omega arith)
+
+-- an input that is farther than there are nets is behind a loop
+pub looped : (tables : List LookupTable) (starts : List ℕ) (place net : ℕ) (table : LookupTable) (best : Reach) (old now : List Reach) → All (IsTableWithin (length old)) tables → slice_get tables place ≡ Some table
+    → far now net ≡ best → IsFarthest now table.inputs net → length old < best.steps → IsPassed tables starts place old now → HasLoop tables
+looped tables starts place net table best old now all here is farthest many passed =
+    let was : IsFound tables starts net (far now net) = passed.found net farthest.reached in
+    let lead : IsFound tables starts net best = subst (IsFound tables starts net) is was in
+    let count : length lead.1.0 + 1 ≡ best.steps = lead.1.2 in
+    long_loop tables (length old) (λ one among. (table_within tables (length old) among.0 one all among.1).output) best.start (table ∷ lead.1.0) table.output
+    ((place, here), refl, (net, farthest.among, lead.1.1)) (omega arith)
+
+covered_none : (tables : List LookupTable) (reach : List Reach) (from : ℕ) (through : List LookupTable) (to : ℕ) → steps_to reach from ≡ 1 → IsWay tables from through to → length through ≤ 0 → length through + 1 ≤ steps_to reach to
+covered_none tables reach from [] to one way few = subst (λ n. 1 ≤ steps_to reach n) way (omega arith)
+covered_none tables reach from (table ∷ others) to one way few = absurd (omega arith)
+
+-- before the first pass
+pub not_yet : (nets : ℕ) (tables : List LookupTable) (starts : List ℕ) (reach : List Reach) → IsBegun nets starts reach → IsOnTheWay 0 nets tables starts reach
+not_yet nets tables starts reach begun = record {
+  long = begun.long;
+  small = λ net. elim (cases_lt 0 (steps_to reach net)) [
+    | inl reached ↦ (let a : steps_to reach net ≡ 1 = (begun.only net reached).1 in omega arith)
+    | inr off ↦ omega arith
+  ];
+  found = λ net reached. (let it = begun.only net reached in
+      (subst (IsIn starts) (sym it.2) it.0, ([], it.2, sym it.1)));
+  started = λ net start. (let a : steps_to reach net ≡ 1 = begun.started net start in omega arith);
+  covered = λ from through to start way few. covered_none tables reach from through to (begun.started from start) way few;
+  far = λ h. absurd (omega arith);
+}
+
+-- before the tables
+pub first : (tables : List LookupTable) (starts : List ℕ) (reach : List Reach) → AreSmall reach → AreFound tables starts reach → IsPassed tables starts 0 reach reach
+first tables starts reach small found = record {
+  long = refl;
+  small = small;
+  found = found;
+  rises = λ net. omega arith;
+  raised = λ number table within. absurd (omega arith);
+}
+
+-- what is read for a net that is reached, or that is there
+pub far_of : (reach : List Reach) (net : ℕ) (best : Reach) → net < length reach → best ≡ get_or reach net best → far reach net ≡ best
+far_of reach net best within read = get_or_from_slice_get reach net (get_or reach net best) none (slice_get-get_or reach net best within) ∙ sym read
+
+pub reached_within : (reach : List Reach) (net : ℕ) → 0 < steps_to reach net → net < length reach
+reached_within reach net reached =
+    elim (cases_lt net (length reach)) [
+      | inl within ↦ within
+      | inr past ↦ (let e : steps_to reach net ≡ 0 = ap (λ (r : Reach). r.steps) (get_or_past reach net none past) in absurd (omega arith))
+    ]

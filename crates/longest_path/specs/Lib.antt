@@ -1,0 +1,5 @@
+pub mod Paths
+pub mod Reaches
+pub mod Passes
+pub mod Settled
+pub mod Ends

@@ -1,0 +1,33 @@
+//! Texts as HTML shows them.
+ghost use Rattle.std.specs.List.{flat_map};
+ghost use Rattle.line_text.specs.Writing.{Writes};
+ghost use Rattle.page.specs.Shown.{shown};
+
+use line_text::{Failed, Sink, write_all};
+
+/// Writes bytes as the text of an element or of an attribute in quotes: a byte with a meaning in
+/// HTML by its name, a line end as it is, and any other byte that is no printable ASCII character
+/// as the replacement character. If the sink fails, it has taken a first part of them.
+pub fn write_shown<K: Sink>(sink: &mut K, bytes: &[u8]) -> Result<(), Failed>
+    ensures { Writes K.contents K.has_failed sink.old sink.new (flat_map shown bytes.now) result }
+{
+    for byte in bytes {
+        write_byte(sink, *byte)?;
+    }
+    Ok(())
+}
+
+fn write_byte<K: Sink>(sink: &mut K, byte: u8) -> Result<(), Failed>
+    ensures { Writes K.contents K.has_failed sink.old sink.new (shown byte) result }
+{
+    match byte {
+        b'&' => write_all(sink, b"&amp;"),
+        b'<' => write_all(sink, b"&lt;"),
+        b'>' => write_all(sink, b"&gt;"),
+        b'"' => write_all(sink, b"&quot;"),
+        b'\'' => write_all(sink, b"&#39;"),
+        b'\n' => write_all(sink, b"\n"),
+        b' '..=b'~' => write_all(sink, &[byte]),
+        _ => write_all(sink, b"&#65533;"),
+    }
+}
