@@ -15,7 +15,10 @@ pub(crate) const TOOL: Program = Program {
     about: "Draws one tenancy as an SVG, from the three files that the service wrote of it",
     after_help: "\
 Its blocks with their names, and a colour a net; with --net one net before the others, with --heat how many tracks of each
-channel are used. A line that no such file has is refused with its number and status 3. What the lines say is drawn unchecked.
+channel are used. A line that no such file has is refused with its number and status 3, and so is a route that no device of this size has:
+each node follows the node before it by an edge, a pin being joined with the wires beside its block, whatever its sides and tracks; the first path
+of a net begins at a source, a later one at a node of an earlier one, and each ends at a sink; a route joins just the blocks that have its net on a
+pin. Not checked: the sides, tracks and classes of pins, wires that two nets share, global nets, and BLEs.
 
 Example: fpgad_desk strip T.net T.place T.route --heat > t.svg",
     options: &[

@@ -1,4 +1,5 @@
 //! Why a file is refused.
+use line_text::TextError;
 use std::fmt;
 
 /// Which of the three files.
@@ -34,6 +35,28 @@ pub enum Fault {
     OverLimit,
     /// The file ends before it is complete.
     Unfinished,
+    /// A size different from that of the strip.
+    OtherStrip,
+    /// A block that the `.place` file does not have, or has with another name.
+    OtherPlaced,
+    /// A name that no net of the netlist has.
+    UnknownNet,
+    /// A BLE's line with malformed words.
+    BadElement,
+    /// The line of a block of a global net, with a malformed number.
+    BadListed,
+    /// A path before this line whose last node is not a sink.
+    OpenPath,
+    /// A node to which no edge leads from the node before, or at which no path of the net begins.
+    NoStep,
+    /// A net with the name of an earlier one.
+    RepeatedNet,
+    /// A net on a pin that the `.route` file does not have.
+    NoRoute,
+    /// A net whose route does not lead between just the blocks that have it on a pin.
+    OtherEnds,
+    /// A line different from the one that the service writes of what was read.
+    OtherText,
 }
 
 impl Fault {
@@ -51,6 +74,19 @@ impl Fault {
             Fault::NotThere => "the strip has no such place",
             Fault::OverLimit => "more blocks or nets than a tenancy may have",
             Fault::Unfinished => "the file ends too early",
+            Fault::OtherStrip => "not the size of the strip",
+            Fault::OtherPlaced => "the .place file has another block of that number, or none",
+            Fault::UnknownNet => "the netlist has no net of that name",
+            Fault::BadElement => "not a BLE's line: subblock: NAME INPUT .. OUTPUT CLOCK",
+            Fault::BadListed => "not a block's line: Block NAME (#NUMBER) at (COLUMN,ROW).",
+            Fault::OpenPath => "the path before it ends at no sink",
+            Fault::NoStep => "no edge leads here from the node before, and no path begins here",
+            Fault::RepeatedNet => "an earlier net has this name",
+            Fault::NoRoute => "the .route file has no net of that name",
+            Fault::OtherEnds =>
+                "its route does not join just the blocks that have this net on a pin",
+            Fault::OtherText =>
+                "not what the service writes of this layout: a name, number, place or blank differs",
         }
     }
 }
@@ -73,5 +109,13 @@ impl fmt::Display for FileFault {
         let line = self.line;
         let text = self.fault.text();
         write!(f, "{file} line {line}: {text}")
+    }
+}
+
+/// The error of a line as the error of a file.
+pub fn in_file(error: TextError<Fault>, file: File, line: usize) -> TextError<FileFault> {
+    match error {
+        TextError::NoMemory => TextError::NoMemory,
+        TextError::Fault(fault) => TextError::Fault(FileFault { file, line, fault }),
     }
 }

@@ -11,6 +11,7 @@
 #![tactic(auto)]
 
 mod block;
+mod ends;
 mod fault;
 mod net_text;
 mod node_line;
@@ -19,10 +20,13 @@ mod reader;
 mod route_node;
 mod route_text;
 mod size;
+mod steps;
 
 pub use block::{Block, BlockKind};
-pub use fault::{Fault, File, FileFault};
+pub use fault::{Fault, File, FileFault, in_file};
+pub use node_line::node_in;
+pub use place_text::{place_in, size_in};
 pub use reader::{RoutedStrip, StripTexts, read_strip};
 pub use route_node::RouteNode;
-pub use route_text::Net;
+pub use route_text::{Net, block_in, net_in};
 pub use size::StripSize;

@@ -2,8 +2,8 @@
 ghost use Rattle.std.specs.Prelude.{length};
 
 use crate::block::{BlockKind, ListedBlock};
-use crate::fault::{Fault, File, FileFault};
-use line_text::{TextError, split_line};
+use crate::fault::{Fault, File, FileFault, in_file};
+use line_text::{TextError, is_word, split_line};
 use std::alloc::Global;
 use text_parts::Scanner;
 
@@ -11,9 +11,25 @@ use text_parts::Scanner;
 /// output for each net.
 const MAX_BLOCKS: usize = 16_384;
 
+/// The largest number of pins of a block: 128 inputs, 16 outputs and a clock.
+const MOST_PINS: u32 = 145;
+
+/// A pin with a net.
+#[derive(Clone, Copy)]
+pub(crate) struct ListedPin<'t> {
+    /// The number of its block.
+    pub(crate) block: usize,
+    /// The number of its line.
+    pub(crate) line: usize,
+    /// The name of its net.
+    pub(crate) name: &'t [u8],
+}
+
 /// The contents of a `.net` file.
 #[derive(Drop)]
 pub(crate) struct Listed<'t> {
+    /// The pins with nets, block by block.
+    pub(crate) pins: Vec<ListedPin<'t>>,
     pub(crate) blocks: Vec<ListedBlock<'t>>,
     /// The names of the BLEs, cluster by cluster.
     pub(crate) elements: Vec<&'t [u8]>,
@@ -23,6 +39,7 @@ impl<'t> Listed<'t> {
     /// Returns empty contents.
     pub(crate) fn new(alloc: Global) -> Self {
         Listed {
+            pins: Vec::new(alloc),
             blocks: Vec::new(alloc),
             elements: Vec::new(alloc),
         }
@@ -35,7 +52,7 @@ impl<'t> Listed<'t> {
         while !rest.is_empty() {
             let (line, later) = split_line(rest);
             number = number.saturating_add(1);
-            if let Err(error) = self.line(line) {
+            if let Err(error) = self.line(line, number) {
                 return Err(in_file(error, File::Net, number));
             }
             rest = later;
@@ -43,10 +60,14 @@ impl<'t> Listed<'t> {
         Ok(())
     }
 
-    fn line(&mut self, line: &'t [u8]) -> Result<(), TextError<Fault>> {
+    /// Reads the line of that number.
+    fn line(&mut self, line: &'t [u8], number: usize) -> Result<(), TextError<Fault>> {
         let mut scanner = Scanner::new(line);
-        if line.is_empty() || scanner.takes("pinlist:") || scanner.takes(".global ") {
+        if line.is_empty() || scanner.takes(".global ") {
             return Ok(());
+        }
+        if scanner.takes("pinlist:") {
+            return self.pin_list(&mut scanner, number);
         }
         if scanner.takes("subblock: ") {
             return self.element(scanner.word());
@@ -61,6 +82,26 @@ impl<'t> Listed<'t> {
             return Err(TextError::Fault(Fault::UnknownLine));
         };
         self.block(kind, scanner.word())
+    }
+
+    /// Adds the pins of the last block that have nets.
+    fn pin_list(&mut self, scanner: &mut Scanner<'t>, line: usize) -> Result<(), TextError<Fault>> {
+        let Some(block) = self.blocks.len().checked_sub(1) else {
+            return Err(TextError::Fault(Fault::UnknownLine));
+        };
+        for _ in 0..MOST_PINS {
+            if !scanner.takes(" ") {
+                break;
+            }
+            let name = scanner.word();
+            if !is_word(name, "open") {
+                self.pins.push(ListedPin { block, line, name })?;
+            }
+        }
+        if !scanner.is_done() {
+            return Err(TextError::Fault(Fault::UnknownLine));
+        }
+        Ok(())
     }
 
     /// Adds a block of that kind and name.
@@ -85,13 +126,5 @@ impl<'t> Listed<'t> {
             }
             _ => Err(TextError::Fault(Fault::UnknownLine)),
         }
-    }
-}
-
-/// The error of a line as the error of a file.
-pub(crate) fn in_file(error: TextError<Fault>, file: File, line: usize) -> TextError<FileFault> {
-    match error {
-        TextError::NoMemory => TextError::NoMemory,
-        TextError::Fault(fault) => TextError::Fault(FileFault { file, line, fault }),
     }
 }

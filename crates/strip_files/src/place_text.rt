@@ -2,8 +2,7 @@
 ghost use Rattle.std.specs.Prelude.{◌≡◌, ◌≤◌, length, true};
 
 use crate::block::{Block, ListedBlock};
-use crate::fault::{Fault, File, FileFault};
-use crate::net_text::in_file;
+use crate::fault::{Fault, File, FileFault, in_file};
 use crate::size::StripSize;
 use grid::Place;
 use line_text::{TextError, split_line};
@@ -64,7 +63,7 @@ impl<'t> Placed<'t> {
             (1, _) if line.starts_with(b"Netlist file: ") => Ok(()),
             (1, _) => Err(TextError::Fault(Fault::UnknownLine)),
             (_, None) => {
-                let Some(size) = read_size(line, " logic blocks") else {
+                let Some(size) = size_in(line, " logic blocks") else {
                     return Err(TextError::Fault(Fault::BadSize));
                 };
                 self.size = Some(size);
@@ -82,7 +81,7 @@ impl<'t> Placed<'t> {
         line: &[u8],
         listed: &[ListedBlock<'t>],
     ) -> Result<(), TextError<Fault>> {
-        let Some((name, place, number)) = read_block(line) else {
+        let Some((name, place, number)) = place_in(line) else {
             return Err(TextError::Fault(Fault::BadBlock));
         };
         if number as usize != self.blocks.len() {
@@ -117,7 +116,7 @@ fn is_there(size: StripSize, place: Place) -> bool
 }
 
 /// The name, the place and the number of a block's line: `NAME COLUMN ROW PAD #NUMBER`.
-fn read_block(line: &[u8]) -> Option<(&[u8], Place, u32)> {
+pub fn place_in(line: &[u8]) -> Option<(&[u8], Place, u32)> {
     let mut scanner = Scanner::new(line);
     let name = scanner.word();
     scanner.text(" ")?;
@@ -135,7 +134,7 @@ fn read_block(line: &[u8]) -> Option<(&[u8], Place, u32)> {
 }
 
 /// The size in a line `Array size: COLUMNS x ROWS` with these words at its end.
-pub(crate) fn read_size(line: &[u8], end: &str) -> Option<StripSize> {
+pub fn size_in(line: &[u8], end: &str) -> Option<StripSize> {
     let mut scanner = Scanner::new(line);
     scanner.text("Array size: ")?;
     let columns = scanner.number()?;

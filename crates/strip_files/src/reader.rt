@@ -3,6 +3,7 @@ ghost use Rattle.std.specs.Prelude.{◌≡◌, length, IfOk};
 ghost use Rattle.strip_files.specs.NodeLines.{AreTold, node_lines};
 
 use crate::block::Block;
+use crate::ends::{PinsAndRoutes, check_ends};
 use crate::fault::FileFault;
 use crate::net_text::Listed;
 use crate::place_text::Placed;
@@ -88,7 +89,12 @@ fn stretch<T>(all: &[T], start: usize, end: usize) -> &[T] {
 /// - The `.route` file has that size too, and the nets in order of their numbers, with the nodes of
 ///   their routes.
 ///
-/// Empty lines are skipped, as are what pins carry, global nets' blocks and headings. The fault is
+/// Each node of a path must follow the node before it by an edge that some architecture has: a pin
+/// is joined with the wires beside its block, whatever its sides and tracks. The first path of a
+/// net begins at a source, a later one at a node of an earlier one, and each ends at a sink. A
+/// route joins just the blocks that have its net on a pin.
+///
+/// Empty lines are skipped, as are global nets' blocks and headings. The fault is
 /// that of the first faulty file, in this order, at its first faulty line; a fault that only shows
 /// at the end has the last line.
 pub fn read_strip(
@@ -100,7 +106,7 @@ pub fn read_strip(
     let mut listed = Listed::new(alloc);
     let mut placed = Placed::new(alloc);
     let mut routed = Routed::new(alloc);
-    match read_all(texts, &mut listed, &mut placed, &mut routed) {
+    match read_all(alloc, texts, &mut listed, &mut placed, &mut routed) {
         Ok(size) => Ok(joined(size, listed, placed, routed)),
         Err(error) => {
             drop(listed);
@@ -113,6 +119,7 @@ pub fn read_strip(
 
 /// Reads the three files, and returns the strip's size.
 fn read_all<'t>(
+    alloc: Global,
     texts: StripTexts<'t>,
     listed: &mut Listed<'t>,
     placed: &mut Placed<'t>,
@@ -125,6 +132,14 @@ fn read_all<'t>(
     listed.read(texts.net)?;
     let size = placed.read(texts.place, &listed.blocks)?;
     routed.read(texts.route, size)?;
+    let files = PinsAndRoutes {
+        rows: size.rows,
+        pins: &listed.pins,
+        blocks: &placed.blocks,
+        nets: &routed.nets,
+        nodes: &routed.nodes,
+    };
+    check_ends(alloc, files)?;
     Ok(size)
 }
 
@@ -137,7 +152,12 @@ fn joined<'t>(
 ) -> RoutedStrip<'t>
     ensures { result.nodes.items ≡ routed.entry.nodes.items }
 {
-    let Listed { blocks, elements } = listed;
+    let Listed {
+        pins,
+        blocks,
+        elements,
+    } = listed;
+    drop(pins);
     drop(blocks);
     let Placed { blocks, size: _ } = placed;
     let Routed {

@@ -3,14 +3,14 @@ ghost use Rattle.std.specs.Prelude.{◌≡◌, ◌≤◌, ◌++◌, ◌∷◌, [
 ghost use Rattle.strip_files.specs.declared.route_node.RouteNode.{RouteNode};
 ghost use Rattle.strip_files.specs.NodeLines.{AreTold, IsReadOn, IsTailOf, node_lines};
 
-use crate::fault::{Fault, File, FileFault};
-use crate::net_text::in_file;
+use crate::fault::{Fault, File, FileFault, in_file};
 use crate::node_line::{read_node, take_kind};
-use crate::place_text::read_size;
+use crate::place_text::size_in;
 use crate::route_node::RouteNode;
 use crate::size::StripSize;
+use crate::steps::can_lead;
 use line_text::{TextError, is_word, split_line};
-use rr_graph::NodeKind;
+use rr_graph::{Node, NodeKind};
 use std::alloc::Global;
 use text_parts::Scanner;
 
@@ -23,6 +23,8 @@ pub struct Net<'t> {
     pub name: &'t [u8],
     /// Whether the net uses the global network, and has no route.
     pub is_global: bool,
+    /// The number of its first line.
+    pub line: usize,
     /// The index, among the strip's nodes, of its route's first one. The others follow, up to the
     /// next net's first.
     pub first_node: usize,
@@ -75,24 +77,30 @@ impl<'t> Routed<'t> {
         while !rest.is_empty() {
             let (line, later) = split_line(rest);
             number = number.saturating_add(1);
-            if let Err(error) = self.line(line, size) {
+            if let Err(error) = self.line(line, number, size) {
                 return Err(in_file(error, File::Route, number));
             }
             rest = later;
         }
-        if self.section != Section::Nets {
+        if self.section != Section::Nets || self.is_inside_path() {
             return Err(in_file(TextError::Fault(Fault::Unfinished), File::Route, number));
         }
         Ok(())
     }
 
-    fn line(&mut self, line: &'t [u8], size: StripSize) -> Result<(), TextError<Fault>>
+    /// Reads the line of that number.
+    fn line(
+        &mut self,
+        line: &'t [u8],
+        number: usize,
+        size: StripSize,
+    ) -> Result<(), TextError<Fault>>
         ensures { OnOk result (IsReadOn line.now self.old.nodes.items self.new.nodes.items) }
     {
         let mut scanner = Scanner::new(line);
         match take_kind(&mut scanner) {
             Some(kind) => self.node(size, kind, scanner),
-            None => self.other(line, size),
+            None => self.other(line, number, size),
         }
     }
 
@@ -112,6 +120,9 @@ impl<'t> Routed<'t> {
         }
         match read_node(size, kind, tail) {
             Ok(node) => {
+                if !self.leads_to(size.rows, node.node) {
+                    return Err(TextError::Fault(Fault::NoStep));
+                }
                 self.nodes.push(node)?;
                 Ok(())
             }
@@ -119,8 +130,41 @@ impl<'t> Routed<'t> {
         }
     }
 
+    /// The nodes of the last net.
+    fn last_nodes(&self) -> &[RouteNode] {
+        let first = self.nets.last().map_or(0, |net| net.first_node);
+        let (_, nodes) = self.nodes.split_at(first.min(self.nodes.len()));
+        nodes
+    }
+
+    /// Whether the last path of the last net has not ended at a sink.
+    fn is_inside_path(&self) -> bool {
+        match self.last_nodes().last() {
+            Some(read) => read.node.kind != NodeKind::Sink,
+            None => false,
+        }
+    }
+
+    /// Whether the node can be the next one: an edge leads to it from the node before, or a path
+    /// begins there, the first one of a net at a source, a later one at a node of an earlier one.
+    fn leads_to(&self, rows: u32, node: Node) -> bool {
+        let nodes = self.last_nodes();
+        match nodes.last() {
+            None => node.kind == NodeKind::Source,
+            Some(read) if read.node.kind == NodeKind::Sink => {
+                nodes.iter().any(|earlier| earlier.node == node)
+            }
+            Some(read) => can_lead(rows, read.node, node),
+        }
+    }
+
     /// Reads a line that isn't a node's.
-    fn other(&mut self, line: &'t [u8], size: StripSize) -> Result<(), TextError<Fault>>
+    fn other(
+        &mut self,
+        line: &'t [u8],
+        number: usize,
+        size: StripSize,
+    ) -> Result<(), TextError<Fault>>
         ensures { self.new.nodes.items ≡ self.old.nodes.items }
     {
         match self.section {
@@ -132,7 +176,7 @@ impl<'t> Routed<'t> {
             _ if line.is_empty() => Ok(()),
             Section::Before => Err(TextError::Fault(Fault::UnknownLine)),
             Section::Nets if line.starts_with(b"Block ") && !self.nets.is_empty() => Ok(()),
-            Section::Nets => self.net(line),
+            Section::Nets => self.net(line, number),
         }
     }
 
@@ -140,7 +184,7 @@ impl<'t> Routed<'t> {
     fn heading(&mut self, line: &[u8], size: StripSize) -> Result<(), TextError<Fault>>
         ensures { self.new.nodes.items ≡ self.old.nodes.items }
     {
-        let Some(told) = read_size(line, " logic blocks.") else {
+        let Some(told) = size_in(line, " logic blocks.") else {
             return Err(TextError::Fault(Fault::BadSize));
         };
         if told != size {
@@ -151,13 +195,16 @@ impl<'t> Routed<'t> {
     }
 
     /// Reads the first line of a net.
-    fn net(&mut self, line: &'t [u8]) -> Result<(), TextError<Fault>>
+    fn net(&mut self, line: &'t [u8], at: usize) -> Result<(), TextError<Fault>>
         ensures { self.new.nodes.items ≡ self.old.nodes.items }
     {
+        if self.is_inside_path() {
+            return Err(TextError::Fault(Fault::OpenPath));
+        }
         if !line.starts_with(b"Net ") {
             return Err(TextError::Fault(Fault::UnknownLine));
         }
-        let Some((number, name, is_global)) = read_net(line) else {
+        let Some((number, name, is_global)) = net_in(line) else {
             return Err(TextError::Fault(Fault::BadNet));
         };
         if number as usize != self.nets.len() {
@@ -169,6 +216,7 @@ impl<'t> Routed<'t> {
         self.nets.push(Net {
             name,
             is_global,
+            line: at,
             first_node: self.nodes.len(),
         })?;
         Ok(())
@@ -177,7 +225,7 @@ impl<'t> Routed<'t> {
 
 /// Reads the number and the name from a net's line, and whether the net is global:
 /// `Net NUMBER (NAME)`, or that with `: global net connecting:`.
-fn read_net(line: &[u8]) -> Option<(u32, &[u8], bool)> {
+pub fn net_in(line: &[u8]) -> Option<(u32, &[u8], bool)> {
     let mut scanner = Scanner::new(line);
     scanner.text("Net ")?;
     let number = scanner.number()?;
@@ -190,4 +238,16 @@ fn read_net(line: &[u8]) -> Option<(u32, &[u8], bool)> {
     let end = if is_global { "):" } else { ")" };
     let name = word.strip_suffix(end.as_bytes())?;
     Some((number, name, is_global))
+}
+
+/// The number of a block that is listed with a global net, from its line:
+/// `Block NAME (#NUMBER) at (COLUMN,ROW).`.
+pub fn block_in(line: &[u8]) -> Option<u32> {
+    let mut scanner = Scanner::new(line);
+    scanner.text("Block ")?;
+    let _name = scanner.word();
+    scanner.text(" (#")?;
+    let number = scanner.number()?;
+    scanner.text(") at (")?;
+    Some(number)
 }

@@ -1,0 +1,135 @@
+-- Lines of the three texts, as they are printed part by part.
+use Rattle.std.proofs.Common.{◌≡◌, ◌==◌, ℕ, nat_lt, List, [], ◌∷◌, ◌++◌, length, map, true, false, cond, Option, refl, sym, ap, ◌∙◌, codes, decimal, slice_get, append_assoc, append-nil}
+use Rattle.std.specs.List.{enumerate_from, flat_map, range_with_len}
+use Rattle.std.proofs.lemmas.Bool.{true≢false}
+use Rattle.std.proofs.lemmas.Grind.{flat_map-append}
+use Rattle.std.proofs.lemmas.List.Folds.{flat_map-map}
+use Rattle.arch_file.specs.declared.arch.Arch.{Arch}
+use Rattle.blif.specs.declared.circuit.Circuit.{Circuit}
+use Rattle.cluster.specs.Blocks.{net_name}
+use Rattle.cluster.specs.declared.block.Block.{Block}
+use Rattle.cluster.specs.declared.block.Block.TheVariants.{InputPad, OutputPad}
+use Rattle.grid.specs.declared.Strip.{Strip}
+use Rattle.implements.specs.Layouts.{LaidBle, LaidBlock, LaidNet, Layout}
+use Rattle.implements.specs.declared.feed.Feed.{Feed}
+use Rattle.layout_text.specs.LayoutText.{between_lines, ble_line, block_of, feed_or_open, laid_lines, laid_lines_as, laid_name_as, listed_line, net_text, place_line, place_text, route_text}
+use Rattle.vpr_files.proofs.FileTexts.{global_heading_text, local_heading_text, net_text as net_lines_text, place_headings_text, route_headings_text}
+use Rattle.vpr_files.specs.NetFile.{or_open}
+use Rattle.vpr_files.specs.TextLines.{line_of, spaced, text_of}
+use Rattle.layout_files.specs.Printing.{connected_text, global_lines, heading_text, node_lines, place_headings, route_headings}
+
+-- ---- the `.net` text
+
+joined : (name inputs output clock : List ℕ) → (name ++ []) ++ inputs ++ output ++ clock ++ 10 ∷ [] ≡ (name ++ (inputs ++ (output ++ (clock ++ [])))) ++ 10 ∷ []
+joined name inputs output clock = simp (append_assoc, append-nil)
+
+words_text : (name inputs output clock : List ℕ) (words : List (List ℕ)) → inputs ≡ flat_map spaced words
+    → (name ++ []) ++ inputs ++ spaced output ++ spaced clock ++ 10 ∷ [] ≡ (name ++ flat_map spaced (words ++ output ∷ clock ∷ [])) ++ 10 ∷ []
+words_text name inputs output clock words e =
+    ap (λ t. (name ++ []) ++ t ++ spaced output ++ spaced clock ++ 10 ∷ []) e
+    ∙ joined name (flat_map spaced words) (spaced output) (spaced clock)
+    ∙ ap (λ t. (name ++ t) ++ 10 ∷ []) (sym (flat_map-append spaced words (output ∷ clock ∷ [])))
+
+-- the line of a BLE, from the parts that are printed
+pub ble_text : (circuit : Circuit) (arch : Arch) (ble : LaidBle) (name : List ℕ) (inputs : List Feed) (output clock : Option ℕ)
+    → name ≡ net_name circuit ble.name → inputs ≡ ble.inputs → output ≡ ble.output → clock ≡ ble.clock
+    → codes "subblock: " ++ (name ++ []) ++ flat_map (λ place. spaced (feed_or_open (slice_get inputs place))) (range_with_len 0 arch.lut_size) ++ spaced (or_open decimal output) ++ spaced (or_open decimal clock) ++ 10 ∷ []
+    ≡ line_of (ble_line circuit arch ble)
+ble_text circuit arch ble name inputs output clock e f g h =
+    rw (e, f, g, h) (
+    let word = λ (place : ℕ). feed_or_open (slice_get ble.inputs place) in
+    ap (λ t. codes "subblock: " ++ t) (words_text (net_name circuit ble.name) _ (or_open decimal ble.output) (or_open decimal ble.clock) (map word (range_with_len 0 arch.lut_size)) (sym (flat_map-map spaced word (range_with_len 0 arch.lut_size)))))
+
+pad_tail : (name word : List ℕ) → name ++ (10 ∷ (word ++ (name ++ 10 ∷ 10 ∷ []))) ≡ ((name ++ []) ++ 10 ∷ []) ++ ((word ++ ((name ++ []) ++ 10 ∷ [])) ++ 10 ∷ [])
+pad_tail name word = simp (append_assoc, append-nil)
+
+-- the lines of a pad of an input, from the parts that are printed
+pub input_text : (circuit : Circuit) (arch : Arch) (laid : LaidBlock) (net : ℕ) (name : List ℕ) → InputPad net ≡ laid.block → name ≡ net_name circuit net
+    → codes ".input " ++ (name ++ (codes "\npinlist: " ++ (name ++ (10 ∷ 10 ∷ [])))) ≡ text_of (laid_lines circuit arch laid)
+input_text circuit arch laid net name is named =
+    ap (λ n. codes ".input " ++ (n ++ (codes "\npinlist: " ++ (n ++ (10 ∷ 10 ∷ []))))) named
+    ∙ ap (λ rest. codes ".input " ++ rest) (pad_tail (net_name circuit net) (codes "pinlist: "))
+    ∙ ap (λ n. text_of ((codes ".input" ∷ n ∷ []) ∷ (codes "pinlist:" ∷ net_name circuit net ∷ []) ∷ [] ∷ [])) (ap (laid_name_as circuit laid) is)
+    ∙ ap (λ (block : Block). text_of (laid_lines_as circuit arch laid block)) is
+
+-- the lines of a pad of an output
+pub output_text : (circuit : Circuit) (arch : Arch) (laid : LaidBlock) (net : ℕ) (name : List ℕ) → OutputPad net ≡ laid.block → name ≡ net_name circuit net
+    → codes ".output out:" ++ (name ++ (codes "\npinlist: " ++ (name ++ (10 ∷ 10 ∷ [])))) ≡ text_of (laid_lines circuit arch laid)
+output_text circuit arch laid net name is named =
+    ap (λ n. codes ".output out:" ++ (n ++ (codes "\npinlist: " ++ (n ++ (10 ∷ 10 ∷ []))))) named
+    ∙ ap (λ rest. codes ".output out:" ++ rest) (pad_tail (net_name circuit net) (codes "pinlist: "))
+    ∙ ap (λ n. text_of ((codes ".output" ∷ n ∷ []) ∷ (codes "pinlist:" ∷ net_name circuit net ∷ []) ∷ [] ∷ [])) (ap (laid_name_as circuit laid) is)
+    ∙ ap (λ (block : Block). text_of (laid_lines_as circuit arch laid block)) is
+
+-- the lines of the global nets, if there are any, and the empty line after them
+pub globals_text : (circuit : Circuit) (globals : List ℕ) → nat_lt 0 (length globals) ≡ true
+    → flat_map (λ net. line_of (codes ".global" ∷ net_name circuit net ∷ [])) globals ++ 10 ∷ [] ≡ text_of (global_lines circuit globals)
+globals_text circuit globals some =
+    let line = λ (net : ℕ). codes ".global" ∷ net_name circuit net ∷ [] in
+    ap (λ t. t ++ 10 ∷ []) (sym (flat_map-map line_of line globals))
+    ∙ sym (flat_map-append line_of (map line globals) ([] ∷ []))
+    ∙ ap (λ b. text_of (map line globals ++ cond b ([] ∷ []) [])) (sym some)
+
+-- the `.net` text, from its two parts
+pub net_parts : (circuit : Circuit) (arch : Arch) (layout : Layout) (globals : List ℕ) (blocks : List LaidBlock) → globals ≡ layout.globals → blocks ≡ layout.blocks
+    → text_of (global_lines circuit globals) ++ text_of (flat_map (laid_lines circuit arch) blocks) ≡ net_text circuit arch layout
+unfolding net_text
+net_parts circuit arch layout globals blocks e f =
+    rw (e, f) (sym (flat_map-append line_of (global_lines circuit layout.globals) (flat_map (laid_lines circuit arch) layout.blocks)))
+
+-- joined lists of lines
+pub flat_map-flat_map : {X Y Z : Type 0} (h : Y → List Z) (g : X → List Y) (xs : List X) → flat_map h (flat_map g xs) ≡ flat_map (λ x. flat_map h (g x)) xs
+flat_map-flat_map h g [] = refl
+flat_map-flat_map h g (x ∷ xs) = flat_map-append h (g x) (flat_map g xs) ∙ ap (λ rest. flat_map h (g x) ++ rest) (flat_map-flat_map h g xs)
+
+-- ---- the `.place` text
+
+no_arch : Arch
+no_arch = record { io_rat = 0; pins = []; cluster_size = 0; lut_size = 0; tracks = 0; fc_output = 0; fc_input = 0; fc_pad = 0 }
+
+pub place_heading : (circuit : Circuit) (strip : Strip) (model : List ℕ) → model ≡ circuit.model
+    → codes "Netlist file: " ++ (model ++ (codes ".net Architecture file: device.arch\nArray size: " ++ (decimal strip.width ++ (codes " x " ++ (decimal strip.rows ++ codes " logic blocks\n\n#block name x y subblk block number\n#---------- - - ------ ------------\n")))))
+    ≡ text_of (place_headings circuit strip)
+place_heading circuit strip model e = place_headings_text strip (record { circuit = circuit; arch = no_arch; clusters = [] }) model (decimal strip.width) (decimal strip.rows) e refl refl
+
+pub place_parts : (circuit : Circuit) (strip : Strip) (layout : Layout) (blocks : List LaidBlock) → blocks ≡ layout.blocks
+    → text_of (place_headings circuit strip) ++ text_of (map (λ block. place_line circuit block.0 block.1) (enumerate_from 0 blocks)) ≡ place_text circuit strip layout
+unfolding place_text
+place_parts circuit strip layout blocks e =
+    rw e (sym (flat_map-append line_of (place_headings circuit strip) (map (λ block. place_line circuit block.0 block.1) (enumerate_from 0 layout.blocks))))
+
+-- ---- the `.route` text
+
+pub route_heading : (strip : Strip) → codes "Array size: " ++ (decimal strip.width ++ (codes " x " ++ (decimal strip.rows ++ codes " logic blocks.\n\nRouting:\n\n"))) ≡ text_of (route_headings strip)
+route_heading strip = route_headings_text strip (decimal strip.width) (decimal strip.rows) refl refl
+
+pub route_parts : (circuit : Circuit) (strip : Strip) (layout : Layout)
+    → text_of (route_headings strip) ++ text_of (flat_map (λ net. between_lines circuit strip layout net.0 net.1 net.1.listed) (enumerate_from 0 layout.nets)) ≡ route_text circuit strip layout
+unfolding route_text
+route_parts circuit strip layout = sym (flat_map-append line_of (route_headings strip) (flat_map (λ net. between_lines circuit strip layout net.0 net.1 net.1.listed) (enumerate_from 0 layout.nets)))
+
+opened : (number name end rest : List ℕ)
+    → ((number ++ (32 ∷ 40 ∷ name)) ++ (end ++ rest)) ++ 10 ∷ [] ≡ (number ++ (32 ∷ 40 ∷ (name ++ end))) ++ (rest ++ 10 ∷ [])
+opened number name end rest = simp append_assoc
+
+-- the lines of a net, from the parts that are printed
+pub net_printed : (circuit : Circuit) (strip : Strip) (layout : Layout) (number : ℕ) (between : LaidNet) (listed : List ℕ)
+    → heading_text circuit number between.net ++ connected_text circuit strip layout between listed ++ 10 ∷ [] ≡ text_of (between_lines circuit strip layout number between listed)
+net_printed circuit strip layout number between [] =
+    let name = net_name circuit between.net in
+    let lines = flat_map (node_lines strip.rows) between.paths in
+    ap (λ t. codes "Net " ++ t) (opened (decimal number) name (codes ")\n\n") (text_of lines))
+    ∙ ap (λ t. t ++ (text_of lines ++ 10 ∷ [])) (local_heading_text number false (decimal number) name refl refl)
+    ∙ net_lines_text (codes "Net" ∷ decimal number ∷ (codes "(" ++ name ++ codes ")") ∷ []) lines
+net_printed circuit strip layout number between (first ∷ others) =
+    let name = net_name circuit between.net in
+    let lines = map (λ block. listed_line circuit block (block_of layout block)) (first ∷ others) in
+    ap (λ t. codes "Net " ++ t) (opened (decimal number) name (codes "): global net connecting:\n\n") (text_of lines))
+    ∙ ap (λ t. t ++ (text_of lines ++ 10 ∷ [])) (global_heading_text number true (decimal number) name refl refl)
+    ∙ net_lines_text (codes "Net" ∷ decimal number ∷ (codes "(" ++ name ++ codes "): global net connecting:") ∷ []) lines
+
+-- what follows the name of a net with listed blocks
+pub connected_listed : (circuit : Circuit) (strip : Strip) (layout : Layout) (net : LaidNet) (listed : List ℕ) → (length listed == 0) ≡ false
+    → codes "): global net connecting:\n\n" ++ text_of (map (λ block. listed_line circuit block (block_of layout block)) listed) ≡ connected_text circuit strip layout net listed
+connected_listed circuit strip layout net [] e = absurd (true≢false e)
+connected_listed circuit strip layout net (first ∷ others) e = refl

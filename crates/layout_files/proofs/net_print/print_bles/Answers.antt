@@ -1,0 +1,12 @@
+use Rattle.std.proofs.Common.{◌≤◌, length, sym}
+use Rattle.std.proofs.lemmas.List.Folds.{flat_map-map}
+use Rattle.vpr_files.specs.TextLines.{line_of}
+use Rattle.layout_text.specs.LayoutText.{ble_line}
+use Rattle.layout_files.proofs.Printing.{all_printed, printed_as}
+use Rattle.layout_files.proofs.net_print.print_bles.Goals as goal
+
+pub returns : goal.returns
+returns c =
+    let xs = c.args.bles.now in
+    let past : length xs ≤ c.loop-ble.ble-index = c.loop-ble-test.false in
+    printed_as _ _ _ _ (all_printed (λ ble. line_of (ble_line c.args.circuit.now c.args.arch.now ble)) xs c.loop-ble.ble-index _ _ past c.loop-ble.invariant) (sym (flat_map-map line_of (ble_line c.args.circuit.now c.args.arch.now) xs))

@@ -1,0 +1,9 @@
+use Rattle.std.proofs.Common.{◌≡◌, ◌++◌, [], ◌∷◌, codes, take}
+use Rattle.std.specs.List.{flat_map}
+use Rattle.vpr_files.specs.TextLines.{line_of}
+use Rattle.cluster.specs.Blocks.{net_name}
+use Rattle.layout_files.proofs.net_print.print_globals.Given as goal
+
+-- those before this one are printed
+abbrev pub invariant-loop-net : goal.invariant-loop-net
+invariant-loop-net l = l.print.bytes ≡ l.initial.print.bytes ++ flat_map (λ net. line_of (codes ".global" ∷ net_name l.circuit net ∷ [])) (take l.net-index l.globals)

@@ -1,0 +1,52 @@
+-- When a layout is what its three files say.
+use Rattle.std.specs.Prelude.{ℕ, ◌≡◌, ◌≢◌, ◌-◌, Bool, true, false, List, [], All, Some, codes, length, position}
+use Rattle.arch_file.specs.declared.arch.Arch.{Arch}
+use Rattle.blif.specs.declared.circuit.Circuit.{Circuit}
+use Rattle.cluster.specs.declared.block.Block.{Block}
+use Rattle.cluster.specs.declared.block.Block.TheVariants.{Cluster}
+use Rattle.grid.specs.declared.Strip.{Strip}
+use Rattle.implements.specs.Layouts.{LaidBlock, LaidNet, Layout}
+use Rattle.layout_text.specs.LayoutText.{net_text, place_text, route_text}
+use Rattle.rr_graph.specs.declared.node.Node.{Node}
+use Rattle.rr_graph.specs.declared.node.NodeKind.{NodeKind}
+use Rattle.rr_graph.specs.declared.node.NodeKind.TheVariants.{Source, Sink, Opin, Ipin, ChanX, ChanY}
+
+abbrev pub is_sink_kind : NodeKind → Bool
+is_sink_kind Sink = true
+is_sink_kind Source = false
+is_sink_kind Opin = false
+is_sink_kind Ipin = false
+is_sink_kind ChanX = false
+is_sink_kind ChanY = false
+
+-- a path has one sink, which is its last node
+abbrev pub EndsAtSink : List Node → Type 0
+EndsAtSink path = position (λ node. is_sink_kind node.kind) path ≡ Some (length path - 1)
+
+-- a pad has neither pins nor BLEs
+abbrev pub IsBareAs : LaidBlock → Block → Type 0
+IsBareAs laid (Cluster number) = Unit {0}
+IsBareAs laid pad = (laid.pins ≡ []) × (laid.bles ≡ [])
+
+abbrev pub IsBare : LaidBlock → Type 0
+IsBare laid = IsBareAs laid laid.block
+
+-- a net either lists blocks or has paths, of which each ends at its first sink
+pub record HasWholePaths (net : LaidNet) : Type 0 where
+  pub ends : All EndsAtSink net.paths
+  pub either : (net.listed ≢ []) → net.paths ≡ []
+
+-- What the texts don't print of a layout is so: where one path ends and the next one begins, the
+-- paths of a global net, and what pads have in them.
+pub record HasPrintedForm (layout : Layout) : Type 0 where
+  pub blocks : All IsBare layout.blocks
+  pub nets : All HasWholePaths layout.nets
+
+-- The three texts are the print of this layout. No net is called `open`, so in the `.net` text each
+-- `open` is a pin without a net.
+pub record AreFilesOf (circuit : Circuit) (arch : Arch) (strip : Strip) (net place route : List ℕ) (layout : Layout) : Type 0 where
+  pub packing : net ≡ net_text circuit arch layout
+  pub places : place ≡ place_text circuit strip layout
+  pub routes : route ≡ route_text circuit strip layout
+  pub form : HasPrintedForm layout
+  pub named : All (λ name. name ≢ codes "open") circuit.nets

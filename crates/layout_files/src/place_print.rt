@@ -1,0 +1,88 @@
+//! Prints the `.place` text of a layout.
+ghost use Rattle.std.specs.Prelude.{◌≡◌, ◌++◌, OnOk, map};
+ghost use Rattle.std.specs.List.{enumerate_from};
+ghost use Rattle.layout_files.specs.Printing.{place_headings};
+ghost use Rattle.layout_text.specs.LayoutText.{place_line, place_text};
+ghost use Rattle.vpr_files.specs.TextLines.{line_of, text_of};
+
+use crate::comparer::Comparer;
+use crate::laid_names::laid_name;
+use blif::Circuit;
+use grid::Strip;
+use layouts::{LaidBlock, Layout};
+use line_text::Failed;
+use text_parts::Part;
+
+/// Prints the `.place` text of a layout.
+pub(crate) fn print_place_text(
+    print: &mut Comparer<'_>,
+    circuit: &Circuit,
+    strip: Strip,
+    layout: &Layout,
+) -> Result<(), Failed>
+    ensures { OnOk result (print.new.bytes
+        ≡ print.old.bytes ++ place_text circuit.now strip layout.now) }
+{
+    print_headings(print, circuit, strip)?;
+    print_places(print, circuit, layout.blocks())
+}
+
+fn print_headings(print: &mut Comparer<'_>, circuit: &Circuit, strip: Strip) -> Result<(), Failed>
+    ensures { OnOk result (print.new.bytes
+        ≡ print.old.bytes ++ text_of (place_headings circuit.now strip)) }
+{
+    print.print(&[
+        Part::Text("Netlist file: "),
+        Part::Bytes(circuit.model.as_bytes()),
+        Part::Text(".net Architecture file: device.arch\nArray size: "),
+        Part::Number(strip.width),
+        Part::Text(" x "),
+        Part::Number(strip.rows),
+        Part::Text(
+            " logic blocks\n\n#block name x y subblk block number\n#---------- - - ------ ------------\n",
+        ),
+    ])
+}
+
+/// Prints the lines of the blocks, with their numbers.
+fn print_places(
+    print: &mut Comparer<'_>,
+    circuit: &Circuit,
+    blocks: &[LaidBlock],
+) -> Result<(), Failed>
+    ensures { OnOk result (print.new.bytes ≡ print.old.bytes
+        ++ text_of (map (λ block. place_line circuit.now block.0 block.1)
+        (enumerate_from 0 blocks.now))) }
+{
+    for (number, laid) in blocks.iter().enumerate() {
+        print_place(print, circuit, number, laid)?;
+    }
+    Ok(())
+}
+
+/// Prints the line of the block of that number.
+fn print_place(
+    print: &mut Comparer<'_>,
+    circuit: &Circuit,
+    number: usize,
+    laid: &LaidBlock,
+) -> Result<(), Failed>
+    ensures { OnOk result (print.new.bytes
+        ≡ print.old.bytes ++ line_of (place_line circuit.now number laid.now)) }
+{
+    let name = laid_name(circuit, laid);
+    let place = laid.place();
+    print.print(&[
+        Part::Bytes(name.before),
+        Part::Bytes(name.net),
+        Part::Text(" "),
+        Part::Number(place.x),
+        Part::Text(" "),
+        Part::Number(place.y),
+        Part::Text(" "),
+        Part::Number(place.subblock),
+        Part::Text(" #"),
+        Part::Long(number as u64),
+        Part::Text("\n"),
+    ])
+}
