@@ -15,9 +15,12 @@
 #![tactic(auto)]
 
 mod arch_words;
+mod check;
 mod errand;
 mod files;
 mod latches;
+mod layout_lines;
+mod layout_words;
 mod outcome;
 mod paths;
 mod picture;

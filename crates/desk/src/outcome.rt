@@ -5,6 +5,7 @@ ghost use Rattle.desk.specs.Outcomes.{status_of, written_so};
 use crate::paths::FileRole;
 use arch_file::ArchFault;
 use device_picture::InputFault;
+use layout_files::LayoutFault;
 use line_text::{Failed, ReadError};
 use std::fmt;
 use strip_files::FileFault;
@@ -37,6 +38,11 @@ pub enum Outcome {
     Unrouted,
     /// A file isn't one that the service wrote for a tenancy.
     StripRefused(FileFault),
+    /// The three files are no layout of the netlist.
+    LayoutRefused(LayoutFault),
+    /// The three files are a layout that does not implement the netlist. The cause is written to
+    /// standard error.
+    OtherCircuit,
     /// No net has the name.
     NoNet,
     NoMemory,
@@ -50,7 +56,7 @@ impl Outcome {
         match self {
             Outcome::Done => 0,
             Outcome::InputFailed | Outcome::OutputFailed | Outcome::FileFailed(_) => 1,
-            Outcome::LinesRefused(_) => 1,
+            Outcome::LinesRefused(_) | Outcome::LayoutRefused(_) | Outcome::OtherCircuit => 1,
             Outcome::NoMemory => 4,
             _ => 3,
         }
@@ -101,6 +107,8 @@ impl fmt::Display for Outcome {
             Outcome::NetlistRefused => write!(f, "netlist: refused"),
             Outcome::Unrouted => write!(f, "netlist: left without routes"),
             Outcome::StripRefused(fault) => write!(f, "{fault}"),
+            Outcome::LayoutRefused(fault) => write!(f, "{fault}"),
+            Outcome::OtherCircuit => write!(f, "the files do not implement the netlist"),
             Outcome::NoNet => write!(f, "no net has this name"),
             Outcome::NoMemory => write!(f, "memory"),
         }

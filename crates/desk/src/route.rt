@@ -353,7 +353,7 @@ fn told_unrouted<E: Sink>(alloc: Global, ending: Ending, teller: &mut E) -> Outc
 }
 
 /// Writes why the netlist is refused, as the service would reply, and returns how the errand ended.
-fn told_refused<E: Sink>(alloc: Global, refusal: Refusal, teller: &mut E) -> Outcome {
+pub(crate) fn told_refused<E: Sink>(alloc: Global, refusal: Refusal, teller: &mut E) -> Outcome {
     tell(alloc, Reply::Refused(refusal), teller);
     Outcome::NetlistRefused
 }
