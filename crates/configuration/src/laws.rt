@@ -1,0 +1,40 @@
+//! What configurations keep.
+ghost use Rattle.arch_file.specs.declared.arch.Arch.{Arch};
+ghost use Rattle.blif.specs.declared.circuit.Circuit.{Circuit};
+ghost use Rattle.configuration.specs.Configuration.{configuration_of};
+ghost use Rattle.configuration.specs.Things.{NameOnly, ShareNothing};
+ghost use Rattle.configuration.specs.Wired.{Configures, HasOneDriver};
+ghost use Rattle.grid.specs.Sizes.{IsStripSize};
+ghost use Rattle.grid.specs.declared.Strip.{Strip};
+ghost use Rattle.implements.specs.Implements.{Implements};
+ghost use Rattle.implements.specs.Layouts.{Layout};
+ghost use Rattle.line_text.specs.Lines.{JoinedLine};
+ghost use Rattle.std.specs.Prelude.{◌≡◌, ◌+◌, ◌≤◌, ℕ, List};
+
+/// Walked back, the configuration of a layout that implements a circuit connects what the circuit
+/// connects, and what one finds by walking back is all that one can find, whoever made the layout.
+pub fn laws_of_configurations()
+    ensures connects { (lines : List JoinedLine) (circuit : Circuit) (arch : Arch) (strip : Strip)
+        (layout : Layout) → IsStripSize strip → Implements circuit arch strip layout →
+        Configures circuit arch strip layout (configuration_of lines circuit arch strip layout) }
+    ensures one_driver { (lines : List JoinedLine) (circuit : Circuit) (arch : Arch)
+        (strip : Strip) (layout : Layout) → Implements circuit arch strip layout →
+        HasOneDriver arch strip (configuration_of lines circuit arch strip layout) }
+{}
+
+/// A configuration names only what is of its strip. So the configurations of two strips on one
+/// device name no common pin, wire, pad or place of a BLE, if one strip ends before the other
+/// begins: loading one of them changes nothing that the other one names.
+pub fn own_things()
+    ensures named { (lines : List JoinedLine) (circuit : Circuit) (arch : Arch) (strip : Strip)
+        (layout : Layout) → IsStripSize strip → Implements circuit arch strip layout →
+        NameOnly arch strip (configuration_of lines circuit arch strip layout) }
+    ensures apart { (lines others : List JoinedLine) (circuit other_circuit : Circuit)
+        (arch other_arch : Arch) (strip other_strip : Strip) (layout other_layout : Layout)
+        (offset other_offset : ℕ) → IsStripSize strip → IsStripSize other_strip →
+        Implements circuit arch strip layout →
+        Implements other_circuit other_arch other_strip other_layout →
+        offset + strip.width + 1 ≤ other_offset →
+        ShareNothing offset (configuration_of lines circuit arch strip layout) other_offset
+        (configuration_of others other_circuit other_arch other_strip other_layout) }
+{}

@@ -1,0 +1,2 @@
+pub mod TableBits
+pub mod CellLines
