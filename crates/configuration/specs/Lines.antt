@@ -3,23 +3,11 @@ use Rattle.std.specs.Prelude.{ℕ, Bool, List, [], ◌∷◌, Option}
 use Rattle.std.specs.List.{flat_map}
 use Rattle.grid.specs.declared.place.Place.{Place}
 use Rattle.rr_graph.specs.declared.node.Node.{Node}
-
--- the place of a BLE: the column and the row of its block, and its number in the block, from 0
-pub record BlePlace : Type 0 where
-  pub x : ℕ
-  pub y : ℕ
-  pub n : ℕ
-
--- what drives a net: a pad, or a BLE
-pub data Driver : Type 0 where
-  PadAt : Place → Driver
-  BleAt : BlePlace → Driver
-
--- what an input of a table takes: an input pin of its block, a BLE of its block, or a global net
-pub data Signal : Type 0 where
-  FromPin : ℕ → Signal
-  FromBle : ℕ → Signal
-  FromGlobal : ℕ → Signal
+pub use Rattle.configuration.specs.declared.line.BlePlace.{BlePlace}
+pub use Rattle.configuration.specs.declared.line.Driver.{Driver}
+pub use Rattle.configuration.specs.declared.line.Driver.TheVariants.{PadAt, BleAt}
+pub use Rattle.configuration.specs.declared.line.Signal.{Signal}
+pub use Rattle.configuration.specs.declared.line.Signal.TheVariants.{FromPin, FromBle, FromGlobal}
 
 pub data ConfigurationLine : Type 0 where
   -- the device's columns, rows and tracks, and the inputs of a table

@@ -14,5 +14,7 @@
 #![tactic(auto)]
 
 mod laws;
+mod line;
 
 pub use laws::{laws_of_configurations, own_things};
+pub use line::{BlePlace, Driver, Signal};
