@@ -50,7 +50,7 @@ receives_all element nets net r is =
     from_has element.inputs net (from_all (has element.inputs) nets net all (from_has nets net is))
 
 module _ (circuit : Circuit) where
-  reads_table : (element : LogicElement) (table : LookupTable) → holds_table circuit element table ≡ true → receives element table.inputs ≡ true
+  pub reads_table : (element : LogicElement) (table : LookupTable) → holds_table circuit element table ≡ true → receives element table.inputs ≡ true
   reads_table element table holds = by (is_table element table) refl
     where
       by : (b : Bool) → is_table element table ≡ b → receives element table.inputs ≡ true

@@ -8,3 +8,4 @@ pub mod Connected
 pub mod EachLine
 pub mod OneDriver
 pub mod OwnThings
+pub mod TableValues

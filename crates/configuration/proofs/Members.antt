@@ -122,3 +122,9 @@ module _ (lines : List JoinedLine) (circuit : Circuit) (arch : Arch) (strip : St
       let latches = latch_lines lines circuit arch layout laid place ble in
       in_later (Used place) (make latch) (input_lines arch layout laid place ble ++ values ∷ latches) (to_append_right (input_lines arch layout laid place ble) (values ∷ latches) (make latch)
       (in_later values (make latch) latches (to_map make (option_to_list (latch_driving circuit ble.name)) latch (one_only (latch_driving circuit ble.name) latch is))))
+
+  pub has_values : (laid : LaidBlock) (place : BlePlace) (ble : LaidBle) → Contains (ble_lines lines circuit arch layout laid place ble) (Values place (values_in lines circuit arch laid ble))
+  has_values laid place ble =
+      let values = Values place (values_in lines circuit arch laid ble) in
+      let latches = latch_lines lines circuit arch layout laid place ble in
+      in_later (Used place) values (input_lines arch layout laid place ble ++ values ∷ latches) (to_append_right (input_lines arch layout laid place ble) (values ∷ latches) values (in_first values latches))

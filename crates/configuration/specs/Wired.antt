@@ -1,5 +1,8 @@
 -- What is proved of a configuration: walked back, it connects what the netlist connects.
-use Rattle.std.specs.Prelude.{ℕ, ◌≡◌, ◌⊎◌, true, List, Contains, Option, Some, slice_get}
+use Rattle.std.specs.Prelude.{ℕ, ◌≡◌, ◌⊎◌, ◌<◌, ◌^◌, Bool, true, List, Contains, Option, Some, map, slice_get}
+use Rattle.line_text.specs.Lines.{JoinedLine}
+use Rattle.table_rows.specs.CellLines.{rows_at}
+use Rattle.table_rows.specs.TableBits.{bit_of, value_of}
 use Rattle.arch_file.specs.declared.arch.Arch.{Arch}
 use Rattle.blif.specs.declared.circuit.Circuit.{Circuit}
 use Rattle.blif.specs.declared.latches.Latch.{Latch}
@@ -10,7 +13,7 @@ use Rattle.grid.specs.declared.Strip.{Strip}
 use Rattle.grid.specs.declared.place.Place.{Place}
 use Rattle.implements.specs.Holding.{holds_latch, holds_table}
 use Rattle.implements.specs.Layouts.{LaidBle, LaidBlock, Layout, traced}
-use Rattle.configuration.specs.Lines.{BlePlace, ConfigurationLine, Driver, Feeds, PadAt, BleAt, PadOut, Signal, Stores, Takes, Used}
+use Rattle.configuration.specs.Lines.{BlePlace, ConfigurationLine, Driver, Feeds, PadAt, BleAt, PadOut, Signal, Stores, Takes, Used, Values}
 use Rattle.configuration.specs.RoutedPins.{ble_at}
 use Rattle.rr_graph.specs.declared.node.Node.{Node}
 use Rattle.configuration.specs.Drivers.{IsShownFrom, IsTakenFrom, LeadsBack}
@@ -78,3 +81,12 @@ pub record Configures (circuit : Circuit) (arch : Arch) (strip : Strip) (layout 
 pub record HasOneDriver (arch : Arch) (strip : Strip) (lines : List ConfigurationLine) : Type 0 where
   pub led : (node : Node) (driver other : Driver) → LeadsBack arch strip lines node driver → LeadsBack arch strip lines node other → driver ≡ other
   pub fed : (number : ℕ) (driver other : Driver) → Contains lines (Feeds number driver) → Contains lines (Feeds number other) → driver ≡ other
+
+-- The table of a BLE that holds a table of the netlist gives what the rows of that table say: its
+-- bit at a number is the rows' value at the values of the inputs, by name, if the net that comes to
+-- input j has the value of the number's bit j.
+pub record HasValues (netlist : List JoinedLine) (circuit : Circuit) (arch : Arch) (layout : Layout) (lines : List ConfigurationLine) (spot : Spot layout) (table : LookupTable) : Type 0 where
+  pub bits : List Bool
+  pub configured : Contains lines (Values (place_of_spot arch layout spot) bits)
+  pub given : (number : ℕ) (values : ℕ → Bool) → number < 2 ^ arch.lut_size → ((j net : ℕ) → slice_get (traced arch spot.laid spot.ble).inputs j ≡ Some net → values net ≡ bit_of number j) →
+      slice_get bits number ≡ Some (value_of (rows_at netlist table.line) (map values table.inputs))

@@ -1,15 +1,18 @@
 //! What configurations keep.
 ghost use Rattle.arch_file.specs.declared.arch.Arch.{Arch};
+ghost use Rattle.blif.specs.LawfulCircuits.{IsCircuit};
+ghost use Rattle.blif.specs.LookupTables.{LookupTable};
 ghost use Rattle.blif.specs.declared.circuit.Circuit.{Circuit};
 ghost use Rattle.configuration.specs.Configuration.{configuration_of};
 ghost use Rattle.configuration.specs.Things.{NameOnly, ShareNothing};
-ghost use Rattle.configuration.specs.Wired.{Configures, HasOneDriver};
+ghost use Rattle.configuration.specs.Wired.{Configures, HasOneDriver, HasValues, Spot};
 ghost use Rattle.grid.specs.Sizes.{IsStripSize};
 ghost use Rattle.grid.specs.declared.Strip.{Strip};
+ghost use Rattle.implements.specs.Holding.{holds_table};
 ghost use Rattle.implements.specs.Implements.{Implements};
-ghost use Rattle.implements.specs.Layouts.{Layout};
+ghost use Rattle.implements.specs.Layouts.{Layout, traced};
 ghost use Rattle.line_text.specs.Lines.{JoinedLine};
-ghost use Rattle.std.specs.Prelude.{◌≡◌, ◌+◌, ◌≤◌, ℕ, List};
+ghost use Rattle.std.specs.Prelude.{◌≡◌, ◌+◌, ◌≤◌, ℕ, true, Contains, List};
 
 /// Walked back, the configuration of a layout that implements a circuit connects what the circuit
 /// connects, and what one finds by walking back is all that one can find, whoever made the layout.
@@ -37,4 +40,15 @@ pub fn own_things()
         offset + strip.width + 1 ≤ other_offset →
         ShareNothing offset (configuration_of lines circuit arch strip layout) other_offset
         (configuration_of others other_circuit other_arch other_strip other_layout) }
+{}
+
+/// The table of each BLE gives what the rows of the netlist's table say of the inputs' values, by
+/// name. `netlist` are the lines of the netlist, and reading it gives `IsCircuit`.
+pub fn values_are_rows()
+    ensures { (netlist : List JoinedLine) (circuit : Circuit) (arch : Arch) (strip : Strip)
+        (layout : Layout) → IsCircuit circuit → Implements circuit arch strip layout →
+        (table : LookupTable) → Contains circuit.tables table → (spot : Spot layout) →
+        holds_table circuit (traced arch spot.laid spot.ble) table ≡ true →
+        HasValues netlist circuit arch layout
+        (configuration_of netlist circuit arch strip layout) spot table }
 {}

@@ -11,10 +11,11 @@
 //!   netlist names (`Configures`), and nothing else (`HasOneDriver`).
 //! - `own_things`: a configuration names only what is of its strip, so two configurations on one
 //!   device name nothing in common.
+//! - `values_are_rows`: the table of each BLE gives what the rows of the netlist's table say.
 #![tactic(auto)]
 
 mod laws;
 mod line;
 
-pub use laws::{laws_of_configurations, own_things};
+pub use laws::{laws_of_configurations, own_things, values_are_rows};
 pub use line::{BlePlace, Driver, Signal};
