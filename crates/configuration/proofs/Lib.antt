@@ -9,3 +9,5 @@ pub mod EachLine
 pub mod OneDriver
 pub mod OwnThings
 pub mod TableValues
+pub mod BlePlaces
+pub mod Apart

@@ -90,3 +90,7 @@ pub record HasValues (netlist : List JoinedLine) (circuit : Circuit) (arch : Arc
   pub configured : Contains lines (Values (place_of_spot arch layout spot) bits)
   pub given : (number : ℕ) (values : ℕ → Bool) → number < 2 ^ arch.lut_size → ((j net : ℕ) → slice_get (traced arch spot.laid spot.ble).inputs j ≡ Some net → values net ≡ bit_of number j) →
       slice_get bits number ≡ Some (value_of (rows_at netlist table.line) (map values table.inputs))
+
+-- No two BLEs of the layout are at one place.
+abbrev pub AreBlesApart : Arch → Layout → Type 0
+AreBlesApart arch layout = (spot other : Spot layout) → place_of_spot arch layout spot ≡ place_of_spot arch layout other → (spot.laid ≡ other.laid) × (spot.index ≡ other.index)

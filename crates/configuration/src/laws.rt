@@ -5,7 +5,7 @@ ghost use Rattle.blif.specs.LookupTables.{LookupTable};
 ghost use Rattle.blif.specs.declared.circuit.Circuit.{Circuit};
 ghost use Rattle.configuration.specs.Configuration.{configuration_of};
 ghost use Rattle.configuration.specs.Things.{NameOnly, ShareNothing};
-ghost use Rattle.configuration.specs.Wired.{Configures, HasOneDriver, HasValues, Spot};
+ghost use Rattle.configuration.specs.Wired.{AreBlesApart, Configures, HasOneDriver, HasValues, Spot};
 ghost use Rattle.grid.specs.Sizes.{IsStripSize};
 ghost use Rattle.grid.specs.declared.Strip.{Strip};
 ghost use Rattle.implements.specs.Holding.{holds_table};
@@ -15,7 +15,8 @@ ghost use Rattle.line_text.specs.Lines.{JoinedLine};
 ghost use Rattle.std.specs.Prelude.{◌≡◌, ◌+◌, ◌≤◌, ℕ, true, Contains, List};
 
 /// Walked back, the configuration of a layout that implements a circuit connects what the circuit
-/// connects, and what one finds by walking back is all that one can find, whoever made the layout.
+/// connects, what one finds by walking back is all that one can find, and no two BLEs are at one
+/// place, whoever made the layout.
 pub fn laws_of_configurations()
     ensures connects { (lines : List JoinedLine) (circuit : Circuit) (arch : Arch) (strip : Strip)
         (layout : Layout) → IsStripSize strip → Implements circuit arch strip layout →
@@ -23,6 +24,8 @@ pub fn laws_of_configurations()
     ensures one_driver { (lines : List JoinedLine) (circuit : Circuit) (arch : Arch)
         (strip : Strip) (layout : Layout) → Implements circuit arch strip layout →
         HasOneDriver arch strip (configuration_of lines circuit arch strip layout) }
+    ensures apart { (circuit : Circuit) (arch : Arch) (strip : Strip) (layout : Layout) →
+        IsStripSize strip → Implements circuit arch strip layout → AreBlesApart arch layout }
 {}
 
 /// A configuration names only what is of its strip. So the configurations of two strips on one
