@@ -1,0 +1,135 @@
+//! The pins that the routes take.
+ghost use Rattle.std.specs.Prelude.{◌≡◌};
+ghost use Rattle.configuration.specs.RoutedPins.{output_rank};
+ghost use Rattle.implements.specs.Layouts.{on_pin};
+ghost use Rattle.pathfinder.specs.Terminals.{terminal_number};
+
+use arch_file::{Arch, PinClass};
+use cluster::Block;
+use configuration::Signal;
+use grid::Place;
+use layouts::{LaidBlock, LaidPath, Layout};
+use rr_graph::{Node, NodeKind};
+
+/// The paths of the net's tree.
+pub(crate) fn paths_of(layout: &Layout, net: u32) -> &[LaidPath] {
+    match layout.nets().iter().find(|between| between.net() == net) {
+        Some(between) => between.paths(),
+        None => &[],
+    }
+}
+
+/// The node after this one, on the first of the paths that goes on from it.
+fn node_after(paths: &[LaidPath], node: Node) -> Option<Node> {
+    for path in paths {
+        if let Some(next) = step_after(path.nodes(), node) {
+            return Some(next);
+        }
+    }
+    None
+}
+
+/// The node after this one on the path.
+fn step_after(path: &[Node], node: Node) -> Option<Node> {
+    for place in 1..path.len() {
+        if path[place - 1] == node {
+            return Some(path[place]);
+        }
+    }
+    None
+}
+
+/// The node before this one, on the first of the paths that leads to it.
+fn node_before(paths: &[LaidPath], node: Node) -> Option<Node> {
+    for path in paths {
+        if let Some(before) = step_before(path.nodes(), node) {
+            return Some(before);
+        }
+    }
+    None
+}
+
+/// The node before this one on the path.
+fn step_before(path: &[Node], node: Node) -> Option<Node> {
+    for place in 1..path.len() {
+        if path[place] == node {
+            return Some(path[place - 1]);
+        }
+    }
+    None
+}
+
+/// The number of a block's source or sink.
+fn terminal_number(block: Block, place: Place, class: u32) -> u32
+    ensures { result ≡ terminal_number block place class }
+{
+    match block {
+        Block::Cluster(_) => class,
+        _ => place.subblock,
+    }
+}
+
+/// The pin by which the net's tree leaves the block.
+pub(crate) fn pin_out(layout: &Layout, laid: &LaidBlock, net: u32) -> Option<Node> {
+    let place = laid.place();
+    let source = Node {
+        x: place.x,
+        kind: NodeKind::Source,
+        y: place.y,
+        n: terminal_number(laid.block(), place, 1),
+    };
+    node_after(paths_of(layout, net), source)
+}
+
+/// The pin by which the net's tree comes to the block.
+pub(crate) fn pin_in(layout: &Layout, laid: &LaidBlock, net: u32) -> Option<Node> {
+    let place = laid.place();
+    let sink = Node {
+        x: place.x,
+        kind: NodeKind::Sink,
+        y: place.y,
+        n: terminal_number(laid.block(), place, 0),
+    };
+    node_before(paths_of(layout, net), sink)
+}
+
+/// The number of output pins before this pin.
+pub(crate) fn output_rank(arch: &Arch, pin: u32) -> usize
+    ensures { result ≡ output_rank arch.now pin }
+{
+    let pins = arch.pins.as_slice();
+    let before = &pins[..pins.len().min(pin as usize)];
+    before
+        .iter()
+        .filter(|other| other.class == PinClass::Output)
+        .count()
+}
+
+/// The net on a pin of the block, if the pin is of that class.
+pub(crate) fn on_pin(arch: &Arch, laid: &LaidBlock, class: PinClass, pin: usize) -> Option<u32>
+    ensures { result ≡ on_pin arch.now laid.now class pin }
+{
+    match arch.pins.as_slice().get(pin) {
+        Some(found) if found.class == class => match laid.pins().get(pin) {
+            Some(carried) => *carried,
+            None => None,
+        },
+        _ => None,
+    }
+}
+
+/// The number of a net on the global network, if it goes over that.
+pub(crate) fn global_number(layout: &Layout, net: u32) -> Option<usize> {
+    layout.globals().iter().position(|other| *other == net)
+}
+
+/// What an input with the net of a pin takes.
+pub(crate) fn signal_of(layout: &Layout, laid: &LaidBlock, net: u32) -> Option<Signal> {
+    match global_number(layout, net) {
+        Some(number) => Some(Signal::FromGlobal(number)),
+        None => {
+            let pin = pin_in(layout, laid, net)?;
+            Some(Signal::FromPin(pin.n as usize))
+        }
+    }
+}
