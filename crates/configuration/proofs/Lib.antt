@@ -11,3 +11,4 @@ pub mod OwnThings
 pub mod TableValues
 pub mod BlePlaces
 pub mod Apart
+mod Examples
