@@ -1,9 +1,11 @@
 //! The pins that the routes take.
 ghost use Rattle.std.specs.Prelude.{◌≡◌};
-ghost use Rattle.configuration.specs.RoutedPins.{output_rank};
+ghost use Rattle.configuration.specs.RoutedPins.{node_after, node_before, output_rank, paths_of, pin_in, pin_out};
 ghost use Rattle.implements.specs.Layouts.{on_pin};
+ghost use Rattle.pathfinder.specs.LegalRoutes.{pairs_of, steps_of};
 ghost use Rattle.pathfinder.specs.Terminals.{terminal_number};
 
+use crate::nodes::is_same_node;
 use arch_file::{Arch, PinClass};
 use cluster::Block;
 use configuration::Signal;
@@ -12,7 +14,9 @@ use layouts::{LaidBlock, LaidPath, Layout};
 use rr_graph::{Node, NodeKind};
 
 /// The paths of the net's tree.
-pub(crate) fn paths_of(layout: &Layout, net: u32) -> &[LaidPath] {
+pub(crate) fn paths_of(layout: &Layout, net: u32) -> &[LaidPath]
+    ensures { result.now ≡ paths_of layout.now net }
+{
     match layout.nets().iter().find(|between| between.net() == net) {
         Some(between) => between.paths(),
         None => &[],
@@ -20,7 +24,9 @@ pub(crate) fn paths_of(layout: &Layout, net: u32) -> &[LaidPath] {
 }
 
 /// The node after this one, on the first of the paths that goes on from it.
-fn node_after(paths: &[LaidPath], node: Node) -> Option<Node> {
+fn node_after(paths: &[LaidPath], node: Node) -> Option<Node>
+    ensures { result ≡ node_after (pairs_of paths.now) node }
+{
     for path in paths {
         if let Some(next) = step_after(path.nodes(), node) {
             return Some(next);
@@ -30,17 +36,21 @@ fn node_after(paths: &[LaidPath], node: Node) -> Option<Node> {
 }
 
 /// The node after this one on the path.
-fn step_after(path: &[Node], node: Node) -> Option<Node> {
-    for place in 1..path.len() {
-        if path[place - 1] == node {
-            return Some(path[place]);
+fn step_after(path: &[Node], node: Node) -> Option<Node>
+    ensures { result ≡ node_after (steps_of path.now) node }
+{
+    for place in 0..path.len().saturating_sub(1) {
+        if is_same_node(path[place], node) {
+            return Some(path[place + 1]);
         }
     }
     None
 }
 
 /// The node before this one, on the first of the paths that leads to it.
-fn node_before(paths: &[LaidPath], node: Node) -> Option<Node> {
+fn node_before(paths: &[LaidPath], node: Node) -> Option<Node>
+    ensures { result ≡ node_before (pairs_of paths.now) node }
+{
     for path in paths {
         if let Some(before) = step_before(path.nodes(), node) {
             return Some(before);
@@ -50,10 +60,12 @@ fn node_before(paths: &[LaidPath], node: Node) -> Option<Node> {
 }
 
 /// The node before this one on the path.
-fn step_before(path: &[Node], node: Node) -> Option<Node> {
-    for place in 1..path.len() {
-        if path[place] == node {
-            return Some(path[place - 1]);
+fn step_before(path: &[Node], node: Node) -> Option<Node>
+    ensures { result ≡ node_before (steps_of path.now) node }
+{
+    for place in 0..path.len().saturating_sub(1) {
+        if is_same_node(path[place + 1], node) {
+            return Some(path[place]);
         }
     }
     None
@@ -69,8 +81,11 @@ fn terminal_number(block: Block, place: Place, class: u32) -> u32
     }
 }
 
-/// The pin by which the net's tree leaves the block.
-pub(crate) fn pin_out(layout: &Layout, laid: &LaidBlock, net: u32) -> Option<Node> {
+/// The pin by which the net's tree leaves the block: the node after the block's source. `None` if
+/// the net has no tree that leaves there.
+pub fn pin_out(layout: &Layout, laid: &LaidBlock, net: u32) -> Option<Node>
+    ensures { result ≡ pin_out layout.now laid.now net }
+{
     let place = laid.place();
     let source = Node {
         x: place.x,
@@ -81,8 +96,11 @@ pub(crate) fn pin_out(layout: &Layout, laid: &LaidBlock, net: u32) -> Option<Nod
     node_after(paths_of(layout, net), source)
 }
 
-/// The pin by which the net's tree comes to the block.
-pub(crate) fn pin_in(layout: &Layout, laid: &LaidBlock, net: u32) -> Option<Node> {
+/// The pin by which the net's tree comes to the block: the node before the block's sink. `None` if
+/// the net has no tree that leads there.
+pub fn pin_in(layout: &Layout, laid: &LaidBlock, net: u32) -> Option<Node>
+    ensures { result ≡ pin_in layout.now laid.now net }
+{
     let place = laid.place();
     let sink = Node {
         x: place.x,

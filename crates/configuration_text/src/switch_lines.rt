@@ -1,29 +1,40 @@
 //! The lines of switches.
+ghost use Rattle.std.specs.Prelude.{◌≡◌, ◌++◌, [], IfOk, map};
+ghost use Rattle.std.specs.List.{filter};
+ghost use Rattle.configuration.specs.Configuration.{each_once, is_switch, switch_lines};
+ghost use Rattle.configuration.specs.ConfigurationText.{lines_text};
+ghost use Rattle.configuration.specs.Lines.{Switch};
+ghost use Rattle.pathfinder.specs.LegalRoutes.{pairs_of, steps_of};
 
 use crate::line_bytes::push_switch;
-use layouts::LaidNet;
-use rr_graph::{Node, NodeKind};
+use crate::nodes::is_new_switch;
+use layouts::{LaidNet, LaidPath};
+use rr_graph::Node;
 use std::alloc::{AllocError, Global};
 
-/// Appends the lines of the switches of a net's tree, each once.
-pub(crate) fn push_switches(
-    alloc: Global,
-    text: &mut Vec<u8>,
-    between: &LaidNet,
-) -> Result<(), AllocError> {
+/// Appends the lines of the switches of a net's tree, each once, in the order of its paths. If memory
+/// runs out, the text has a beginning of them.
+pub fn push_switches(alloc: Global, text: &mut Vec<u8>, between: &LaidNet) -> Result<(), AllocError>
+    ensures { IfOk result (λ _.
+        text.new.items ≡ text.old.items ++ lines_text (switch_lines between.now)) }
+{
     let mut seen = Vec::new(alloc);
-    let pushed = push_paths(text, between, &mut seen);
+    let pushed = push_paths(text, between.paths(), &mut seen);
     drop(seen);
     pushed
 }
 
-/// Appends the lines of the switches of the net's paths that are not seen yet.
+/// Appends the lines of the switches of the paths that are not seen yet.
 fn push_paths(
     text: &mut Vec<u8>,
-    between: &LaidNet,
+    paths: &[LaidPath],
     seen: &mut Vec<(Node, Node)>,
-) -> Result<(), AllocError> {
-    for path in between.paths() {
+) -> Result<(), AllocError>
+    ensures text { IfOk result (λ _. text.new.items
+        ≡ text.old.items ++ lines_text (map (λ edge. Switch edge.0 edge.1)
+        (each_once seen.old.items (filter is_switch (pairs_of paths.now))))) }
+{
+    for path in paths {
         push_path(text, path.nodes(), seen)?;
     }
     Ok(())
@@ -34,19 +45,20 @@ fn push_path(
     text: &mut Vec<u8>,
     path: &[Node],
     seen: &mut Vec<(Node, Node)>,
-) -> Result<(), AllocError> {
-    for place in 1..path.len() {
-        let from = path[place - 1];
-        let to = path[place];
-        if !is_terminal(from.kind) && !is_terminal(to.kind) && !seen.contains(&(from, to)) {
+) -> Result<(), AllocError>
+    ensures text { IfOk result (λ _. text.new.items
+        ≡ text.old.items ++ lines_text (map (λ edge. Switch edge.0 edge.1)
+        (each_once seen.old.items (filter is_switch (steps_of path.now))))) }
+    ensures seen { IfOk result (λ _. seen.new.items
+        ≡ seen.old.items ++ each_once seen.old.items (filter is_switch (steps_of path.now))) }
+{
+    for place in 0..path.len().saturating_sub(1) {
+        let from = path[place];
+        let to = path[place + 1];
+        if is_new_switch(from, to, seen.as_slice()) {
             push_switch(text, from, to)?;
             seen.push((from, to))?;
         }
     }
     Ok(())
-}
-
-/// Whether the kind is for the pins of a class together.
-fn is_terminal(kind: NodeKind) -> bool {
-    kind == NodeKind::Source || kind == NodeKind::Sink
 }
