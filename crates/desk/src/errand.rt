@@ -1,6 +1,6 @@
 //! Reads the program's words to an errand.
 use crate::size::size_of;
-use crate::{files, picture, random, report, route, script, strip};
+use crate::{configure, files, picture, random, report, route, script, strip};
 use clap::Error;
 use device_picture::DeviceSize;
 use option_words::{Call, Toolbox, call_refusal, read_call};
@@ -24,6 +24,7 @@ Example: fpgad_desk script --name T --width 2 < t.blif | fpgad --arch my.arch --
         files::TOOL,
         route::TOOL,
         strip::TOOL,
+        configure::TOOL,
         picture::TOOL,
         report::TOOL,
         random::TOOL,
@@ -51,6 +52,8 @@ pub(crate) enum Errand<'a> {
     Files(files::Wishes<'a>),
     /// A netlist on a device of its own.
     Route(route::Wishes<'a>),
+    /// A configuration.
+    Configure(configure::Wishes<'a>),
     /// A picture of a tenancy.
     Strip(strip::Wishes<'a>),
     /// What is shown of a device, and the device's size.
@@ -90,6 +93,7 @@ fn errand_of<'a>(call: &Call<'a>) -> Result<Errand<'a>, &'static str> {
         "script" => Ok(Errand::Script(script::wishes_of(&call.given)?)),
         "files" => Ok(Errand::Files(files::wishes_of(&call.given)?)),
         "route" => Ok(Errand::Route(route::wishes_of(&call.given)?)),
+        "configure" => Ok(Errand::Configure(configure::wishes_of(&call.given)?)),
         "strip" => Ok(Errand::Strip(strip::wishes_of(&call.given)?)),
         "picture" => Ok(Errand::View(size_of(&call.given)?, View::Picture)),
         "report" => Ok(Errand::View(size_of(&call.given)?, View::Report)),

@@ -15,6 +15,7 @@
 #![tactic(auto)]
 
 mod arch_words;
+mod configure;
 mod errand;
 mod files;
 mod latches;

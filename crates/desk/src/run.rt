@@ -2,7 +2,7 @@
 use crate::errand::{Errand, View, read_errand};
 use crate::latches::warn_of_latches;
 use crate::outcome::Outcome;
-use crate::{files, picture, report, route, script, strip};
+use crate::{configure, files, picture, report, route, script, strip};
 use clap::Error;
 use clap::error::ErrorKind;
 use device_picture::{DeviceSize, ReadError, read_device};
@@ -90,6 +90,7 @@ fn run<H: Files + AllocGlobal, R: Source, W: Sink, E: Sink>(
         Errand::Script(wishes) => print_script(rt.alloc(), wishes, reader, writer, teller),
         Errand::Files(wishes) => Outcome::of(files::run(rt, wishes, reader, writer, teller)),
         Errand::Route(wishes) => Outcome::of(route::run(rt, wishes, writer, teller, is_terminal)),
+        Errand::Configure(wishes) => Outcome::of(configure::print(rt, wishes, writer, teller)),
         Errand::Strip(wishes) => Outcome::of(strip::print(rt, wishes, writer, teller)),
         Errand::View(size, view) => show(rt.alloc(), size, view, reader, writer),
         Errand::Random(plan) => Outcome::of_writing(write_script(writer, plan)),
