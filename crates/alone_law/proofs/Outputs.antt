@@ -25,11 +25,11 @@ use Rattle.fpgad_run.specs.Run.{IsAnswered, Section, Telling, Tells, output_of, 
 use Rattle.alone_law.proofs.Found.{AllHadMemory, HadMemory}
 use Rattle.alone_law.proofs.Memory.{all_had}
 use Rattle.fpgad_run.proofs.Telling.{answered_runs}
-use Rattle.one_output.specs.OneOutput.{HasOneOutput}
-use Rattle.one_output.proofs.SameCalls.{admitted_alike, evicted_alike, moved_alike}
-use Rattle.one_output.proofs.SameHeld.{held_alike, holds_alike}
-use Rattle.one_output.proofs.SameLines.{line_alike, tried_alike}
-use Rattle.one_output.proofs.Sorted.{same_list}
+use Rattle.alone_law.specs.OneOutput.{HasOneOutput}
+use Rattle.alone_law.proofs.SameCalls.{admitted_alike, evicted_alike, moved_alike}
+use Rattle.alone_law.proofs.SameHeld.{held_alike, holds_alike}
+use Rattle.alone_law.proofs.SameLines.{line_alike, tried_alike}
+use Rattle.alone_law.proofs.Sorted.{same_list}
 
 stage_is : (a b : Stage) → a.names ≡ b.names → a.jobs ≡ b.jobs → a.service ≡ b.service → a.graph ≡ b.graph → a ≡ b
 stage_is a b names jobs service graph =

@@ -34,7 +34,7 @@ use Rattle.sessions.proofs.EndToEndLemmas.{split}
 use Rattle.alone_law.proofs.Lines.{asked_sits, goes_on}
 use Rattle.alone_law.proofs.Seats.{asked_text, next_event, seat, seat_of}
 use Rattle.alone_law.proofs.Steps.{Taken, event_is, had_parts, makes_memory, makes_unfit, never_full, never_gone, two_calls}
-use Rattle.one_output.proofs.SameCalls.{command_is, commanded}
+use Rattle.alone_law.proofs.SameCalls.{command_is, commanded}
 
 -- a step of a tenancy's job, as a function
 abbrev made_by : Option Reply → ServiceState → ℕ → History → ServiceState × StepOutcome
