@@ -1,1 +1,4 @@
+pub mod Alone
+pub mod Memory
+pub mod OneOutput
 pub mod ReadBack

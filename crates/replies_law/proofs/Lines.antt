@@ -28,9 +28,9 @@ use Rattle.sessions.specs.Steps.{MadeStep, MakesStep}
 use Rattle.sessions.proofs.EndToEndLemmas.{split}
 use Rattle.operator.specs.OperatorText.{evicted_text, last_id, names_after}
 use Rattle.operator.specs.Serving.{IsAdmission, Stage}
-use Rattle.alone_law.proofs.Found.{HadMemory}
-use Rattle.alone_law.proofs.Seats.{admits as is_admitted, Admits, Says, UsesSeat, Waited, asked_after, asked_text, eviction_text, seat, seat_in}
-use Rattle.alone_law.proofs.Steps.{AsksSeat, command_sits, ended, had_parts, made_sit, makes_memory, step_sits}
+use Rattle.replies_law.proofs.Found.{HadMemory}
+use Rattle.replies_law.proofs.Seats.{admits as is_admitted, Admits, Says, UsesSeat, Waited, asked_after, asked_text, eviction_text, seat, seat_in}
+use Rattle.replies_law.proofs.Steps.{AsksSeat, command_sits, ended, had_parts, made_sit, makes_memory, step_sits}
 
 -- nothing is called
 none_called : (old new : ServiceState) (id : ℕ) (calls : List Call) → calls ≡ [] → Run old calls new → seat new.histories id ≡ seat old.histories id

@@ -33,16 +33,16 @@ use Rattle.fpgad_run.specs.Program.{device_of}
 use Rattle.fpgad_run.specs.Run.{IsAnswered, Telling, Tells}
 use Rattle.sessions.proofs.StepLemmas.{Run-append}
 use Rattle.fpgad_run.proofs.Telling.{answered_runs}
-use Rattle.alone_law.proofs.Found.{AllHadMemory, HadMemory}
-use Rattle.alone_law.proofs.Memory.{all_had}
-use Rattle.alone_law.specs.Memory.{HaveMemory}
-use Rattle.alone_law.specs.Alone.{AreLeft, IsAlone, IsLeft, Plays, admissions, fits, grants, is_about, is_admit, is_own, own, own_acts}
-use Rattle.alone_law.proofs.Lines.{newest_id}
-use Rattle.alone_law.proofs.Others.{Apart, AreFor, Same, eviction_local, for_line, for_tried, local_calls}
-use Rattle.alone_law.proofs.Scripts.{is_the_same, own_of, run_sits}
-use Rattle.alone_law.proofs.Seats.{AreGiven, IsGiven, admits, given_to, grant_the_same}
-use Rattle.alone_law.proofs.Told.{are_given, grants_told}
-use Rattle.alone_law.proofs.Stages.{Sound, sound_after, steady_for}
+use Rattle.replies_law.proofs.Found.{AllHadMemory, HadMemory}
+use Rattle.replies_law.proofs.Memory.{all_had}
+use Rattle.replies_law.specs.Memory.{HaveMemory}
+use Rattle.replies_law.specs.Alone.{AreLeft, IsAlone, IsLeft, Plays, admissions, fits, grants, is_about, is_admit, is_own, own, own_acts}
+use Rattle.replies_law.proofs.Lines.{newest_id}
+use Rattle.replies_law.proofs.Others.{Apart, AreFor, Same, eviction_local, for_line, for_tried, local_calls}
+use Rattle.replies_law.proofs.Scripts.{is_the_same, own_of, run_sits}
+use Rattle.replies_law.proofs.Seats.{AreGiven, IsGiven, admits, given_to, grant_the_same}
+use Rattle.replies_law.proofs.Told.{are_given, grants_told}
+use Rattle.replies_law.proofs.Stages.{Sound, sound_after, steady_for}
 
 -- a script in which all acts are one name's
 abbrev AllOwn : List ℕ → List (Act (List ℕ)) → Type 0

@@ -29,7 +29,7 @@ use Rattle.sessions.specs.Steps.{MadeStep, MakesStep, StepsAndPuts}
 use Rattle.sessions.proofs.EndToEndLemmas.{split}
 use Rattle.operator.specs.HeldJobs.{Holds}
 use Rattle.operator.specs.OperatorText.{last_id}
-use Rattle.alone_law.proofs.Steps.{taken_is}
+use Rattle.replies_law.proofs.Steps.{taken_is}
 
 -- the two ids are of no common tenancy
 abbrev pub Apart : ℕ → ℕ → Type 0

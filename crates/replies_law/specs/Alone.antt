@@ -15,7 +15,7 @@ use Rattle.fpgad_run.specs.declared.inputs.Architecture.{Architecture}
 use Rattle.fpgad_run.specs.declared.options.Options.{Options}
 use Rattle.fpgad_run.specs.Program.{IsReplies, start_of}
 use Rattle.fpgad_run.specs.Run.{Telling}
-use Rattle.alone_law.specs.Memory.{HaveMemory}
+use Rattle.replies_law.specs.Memory.{HaveMemory}
 
 -- a line of the operator is about the name if it admits it, evicts it or makes steps of its job. A
 -- move of its strip isn't

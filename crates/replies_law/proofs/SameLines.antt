@@ -28,13 +28,13 @@ use Rattle.sessions.specs.SessionAnswer.{Asks, AsksCommand}
 use Rattle.sessions.specs.SessionText.{answer_text}
 use Rattle.sessions.specs.Steps.{EndsSteps, MadeStep, MakesStep}
 use Rattle.operator.specs.OperatorText.{outcome_text}
-use Rattle.alone_law.proofs.Found.{HadMemory}
+use Rattle.replies_law.proofs.Found.{HadMemory}
 use Rattle.sessions.proofs.Counted.{some_and}
 use Rattle.sessions.proofs.EndToEndLemmas.{split}
-use Rattle.alone_law.proofs.Lines.{asked_sits, goes_on}
-use Rattle.alone_law.proofs.Seats.{asked_text, next_event, seat, seat_of}
-use Rattle.alone_law.proofs.Steps.{Taken, event_is, had_parts, makes_memory, makes_unfit, never_full, never_gone, two_calls}
-use Rattle.alone_law.proofs.SameCalls.{command_is, commanded}
+use Rattle.replies_law.proofs.Lines.{asked_sits, goes_on}
+use Rattle.replies_law.proofs.Seats.{asked_text, next_event, seat, seat_of}
+use Rattle.replies_law.proofs.Steps.{Taken, event_is, had_parts, makes_memory, makes_unfit, never_full, never_gone, two_calls}
+use Rattle.replies_law.proofs.SameCalls.{command_is, commanded}
 
 -- a step of a tenancy's job, as a function
 abbrev made_by : Option Reply → ServiceState → ℕ → History → ServiceState × StepOutcome

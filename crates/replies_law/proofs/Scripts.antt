@@ -18,12 +18,12 @@ use Rattle.fpgad_run.specs.Program.{IsReplies, device_of, start_of}
 use Rattle.fpgad_run.specs.Run.{Telling, Tells}
 use Rattle.replies_law.specs.ReadBack.{answered}
 use Rattle.replies_law.proofs.OutputLemmas.{output_is_read}
-use Rattle.alone_law.proofs.Found.{AllHadMemory}
-use Rattle.alone_law.proofs.Memory.{own_had}
-use Rattle.alone_law.specs.Alone.{AreLeft, IsTheSame, Plays, answers_in, is_about, is_own, own, own_acts, own_answer, own_answers, section_in}
-use Rattle.alone_law.proofs.Seats.{given_to, Seat, SitThrough, hear_the_same, heard, heard_of, own_answer_in, seat}
-use Rattle.alone_law.proofs.Told.{grants_told}
-use Rattle.alone_law.proofs.Stages.{Sound, own_sits, own_uses, seat_stays, sound_after}
+use Rattle.replies_law.proofs.Found.{AllHadMemory}
+use Rattle.replies_law.proofs.Memory.{own_had}
+use Rattle.replies_law.specs.Alone.{AreLeft, IsTheSame, Plays, answers_in, is_about, is_own, own, own_acts, own_answer, own_answers, section_in}
+use Rattle.replies_law.proofs.Seats.{given_to, Seat, SitThrough, hear_the_same, heard, heard_of, own_answer_in, seat}
+use Rattle.replies_law.proofs.Told.{grants_told}
+use Rattle.replies_law.proofs.Stages.{Sound, own_sits, own_uses, seat_stays, sound_after}
 
 -- a run, by a name's own acts
 sits_through : (device : Device) (name : List ℕ) (old last : Stage) (ts : List Telling) → Tells old ts last → Sound device name old → AreLeft name ts → AllHadMemory (own name ts) →

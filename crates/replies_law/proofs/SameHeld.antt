@@ -22,8 +22,8 @@ use Rattle.sessions.specs.declared.steps.StepOutcome.{StepOutcome}
 use Rattle.sessions.specs.declared.steps.StepOutcome.TheVariants.{Recorded, Full, Gone, NoMemory, Nothing, Unfit}
 use Rattle.sessions.specs.Steps.{IsOnePut, StepsAndPuts}
 use Rattle.operator.specs.HeldJobs.{Holds, PutsHeld}
-use Rattle.alone_law.proofs.Found.{HadMemory}
-use Rattle.alone_law.proofs.Steps.{PutAnswer, counts}
+use Rattle.replies_law.proofs.Found.{HadMemory}
+use Rattle.replies_law.proofs.Steps.{PutAnswer, counts}
 
 -- a take by hand
 abbrev IsTakenOf : ℕ → JobState → History → Type 0

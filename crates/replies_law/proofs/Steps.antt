@@ -41,8 +41,8 @@ use Rattle.sessions.specs.SessionText.{answer_text}
 use Rattle.sessions.specs.Steps.{EndsSteps, IsOnePut, MadeStep, MakesStep, StepsAndPuts}
 use Rattle.sessions.proofs.Counted.{live_of-changed, some_and}
 use Rattle.sessions.proofs.EndToEndLemmas.{split}
-use Rattle.alone_law.proofs.Found.{FoundMemory, HadMemory}
-use Rattle.alone_law.proofs.Seats.{Goes, Seat, asked_after, asked_text, happened, next_event, seat, seat_in, seat_of, stepped, stepped_text, takeable, tried, tried_text, tries, tries_text}
+use Rattle.replies_law.proofs.Found.{FoundMemory, HadMemory}
+use Rattle.replies_law.proofs.Seats.{Goes, Seat, asked_after, asked_text, happened, next_event, seat, seat_in, seat_of, stepped, stepped_text, takeable, tried, tried_text, tries, tries_text}
 
 -- a full journal takes no event, and another one takes an event
 happened-full : (s : SlotState) (event : Event) → s.state.entries ≡ 65536 → happened s event ≡ s

@@ -17,8 +17,8 @@ use Rattle.operator.specs.OperatorText.{admitted_text, last_id, refused_text}
 use Rattle.operator.specs.Serving.{IsAdmission, Stage}
 use Rattle.printed_replies.specs.Lengths.{behind}
 use Rattle.fpgad_run.specs.Run.{IsAnswered, Telling, Tells}
-use Rattle.alone_law.specs.Alone.{AreGranted, IsGranted, granted, grants, is_own, own}
-use Rattle.alone_law.proofs.Seats.{AreGiven, IsGiven, admits, given_to}
+use Rattle.replies_law.specs.Alone.{AreGranted, IsGranted, granted, grants, is_own, own}
+use Rattle.replies_law.proofs.Seats.{AreGiven, IsGiven, admits, given_to}
 
 abbrev told_ok : List ℕ → Bool
 told_ok text = is_some (behind (codes "ok") text)

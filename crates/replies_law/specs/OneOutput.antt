@@ -3,7 +3,7 @@ use Rattle.std.specs.Prelude.{ℕ, ◌≡◌, List}
 use Rattle.script_text.specs.declared.act.Act.{Act}
 use Rattle.fpgad_run.specs.declared.options.Options.{Options}
 use Rattle.fpgad_run.specs.Program.{IsReplies, Start}
-use Rattle.alone_law.specs.Memory.{HaveMemory}
+use Rattle.replies_law.specs.Memory.{HaveMemory}
 
 -- two outputs that the contract allows for one script and one command line are equal, if neither
 -- says that memory ran out

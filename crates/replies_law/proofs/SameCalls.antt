@@ -21,9 +21,9 @@ use Rattle.service_core.specs.Run.Call.{Admit as AdmitCall, Tenant}
 use Rattle.service_core.specs.Service.{ServiceState, live_of, with_change, with_tenancy}
 use Rattle.service_core.proofs.Effects.{Kept}
 use Rattle.operator.specs.OperatorText.{evicted_text, moved_text}
-use Rattle.alone_law.proofs.Found.{FoundMemory}
+use Rattle.replies_law.proofs.Found.{FoundMemory}
 use Rattle.sessions.proofs.Counted.{some_and}
-use Rattle.alone_law.proofs.Steps.{counts}
+use Rattle.replies_law.proofs.Steps.{counts}
 
 -- an admission
 the_refusal : Bool → Bool → Bool → OpRefusal

@@ -27,12 +27,12 @@ use Rattle.operator.proofs.OperatorLemmas.{lengths-admitted, lengths-evicted, le
 use Rattle.operator.proofs.Stepping.{AreSteady, lengths-run}
 use Rattle.fpgad_run.specs.Run.{IsAnswered}
 use Rattle.fpgad_run.proofs.Telling.{answered_runs}
-use Rattle.alone_law.proofs.Found.{HadMemory}
-use Rattle.alone_law.specs.Alone.{IsLeft, is_about, is_own}
-use Rattle.alone_law.proofs.Lines.{admission_sits, admission_uses, eviction_sits, eviction_told, line_sits}
-use Rattle.alone_law.proofs.Others.{Apart, AreFor, Same, admission_local, eviction_local, for_holds, for_line, for_puts, for_tried, id_within, local_calls, move_local, names_apart, older_id, taken_own}
-use Rattle.alone_law.proofs.Seats.{admits as is_admitted, given_to, Admits, Says, Serves, Sits, Uses, UsesBy, UsesSeat, seat, seat_in, tries, tries_text}
-use Rattle.alone_law.proofs.Steps.{tries_sit}
+use Rattle.replies_law.proofs.Found.{HadMemory}
+use Rattle.replies_law.specs.Alone.{IsLeft, is_about, is_own}
+use Rattle.replies_law.proofs.Lines.{admission_sits, admission_uses, eviction_sits, eviction_told, line_sits}
+use Rattle.replies_law.proofs.Others.{Apart, AreFor, Same, admission_local, eviction_local, for_holds, for_line, for_puts, for_tried, id_within, local_calls, move_local, names_apart, older_id, taken_own}
+use Rattle.replies_law.proofs.Seats.{admits as is_admitted, given_to, Admits, Says, Serves, Sits, Uses, UsesBy, UsesSeat, seat, seat_in, tries, tries_text}
+use Rattle.replies_law.proofs.Steps.{tries_sit}
 
 -- jobs that are held do not belong to the name's last tenancy
 abbrev pub IsElsewhere : List (List ℕ) → List ℕ → JobState → Type 0

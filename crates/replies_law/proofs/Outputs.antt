@@ -22,14 +22,14 @@ use Rattle.operator.specs.OwnersText.{owners_text}
 use Rattle.operator.specs.Serving.{IsAdmission, IsServed, Stage}
 use Rattle.fpgad_run.specs.Program.{device_of}
 use Rattle.fpgad_run.specs.Run.{IsAnswered, Section, Telling, Tells, output_of, sections_after, told_operator, told_session, written}
-use Rattle.alone_law.proofs.Found.{AllHadMemory, HadMemory}
-use Rattle.alone_law.proofs.Memory.{all_had}
+use Rattle.replies_law.proofs.Found.{AllHadMemory, HadMemory}
+use Rattle.replies_law.proofs.Memory.{all_had}
 use Rattle.fpgad_run.proofs.Telling.{answered_runs}
-use Rattle.alone_law.specs.OneOutput.{HasOneOutput}
-use Rattle.alone_law.proofs.SameCalls.{admitted_alike, evicted_alike, moved_alike}
-use Rattle.alone_law.proofs.SameHeld.{held_alike, holds_alike}
-use Rattle.alone_law.proofs.SameLines.{line_alike, tried_alike}
-use Rattle.alone_law.proofs.Sorted.{same_list}
+use Rattle.replies_law.specs.OneOutput.{HasOneOutput}
+use Rattle.replies_law.proofs.SameCalls.{admitted_alike, evicted_alike, moved_alike}
+use Rattle.replies_law.proofs.SameHeld.{held_alike, holds_alike}
+use Rattle.replies_law.proofs.SameLines.{line_alike, tried_alike}
+use Rattle.replies_law.proofs.Sorted.{same_list}
 
 stage_is : (a b : Stage) → a.names ≡ b.names → a.jobs ≡ b.jobs → a.service ≡ b.service → a.graph ≡ b.graph → a ≡ b
 stage_is a b names jobs service graph =

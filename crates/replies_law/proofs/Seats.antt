@@ -27,7 +27,7 @@ use Rattle.script_text.specs.declared.operator_line.OperatorLine.TheVariants.{Ad
 use Rattle.operator.specs.OperatorText.{evicted_text, outcome_text}
 use Rattle.fpgad_run.specs.Run.{Telling}
 use Rattle.service_core.specs.Run.Call.{Admit as AdmitCall}
-use Rattle.alone_law.specs.Alone.{fits, own_answer}
+use Rattle.replies_law.specs.Alone.{fits, own_answer}
 
 -- which admissions were granted, by their calls
 abbrev pub is_admission : Call → Bool

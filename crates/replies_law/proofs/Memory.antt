@@ -34,9 +34,9 @@ use Rattle.operator.specs.OperatorText.{admitted_text, last_id, outcome_text}
 use Rattle.operator.specs.Serving.{HasOwnGraph, IsAdmission, IsServed, Stage}
 use Rattle.fpgad_run.specs.Run.{IsAnswered, Telling, Tells}
 use Rattle.fpgad_run.proofs.Telling.{answered_runs}
-use Rattle.alone_law.specs.Alone.{is_own, own}
-use Rattle.alone_law.specs.Memory.{HaveMemory, RanOut}
-use Rattle.alone_law.proofs.Found.{AllHadMemory, HadMemory}
+use Rattle.replies_law.specs.Alone.{is_own, own}
+use Rattle.replies_law.specs.Memory.{HaveMemory, RanOut}
+use Rattle.replies_law.proofs.Found.{AllHadMemory, HadMemory}
 
 abbrev Not : Type 0 → Type 0
 Not A = A → ⊥

@@ -1,5 +1,0 @@
-use Rattle.alone_law.proofs.Outputs.{has_one_output}
-use Rattle.alone_law.proofs.law.one_output.Goals as goal
-
-pub returns : goal.returns
-returns c = has_one_output
