@@ -1,6 +1,6 @@
 -- The tests together decide the clauses.
-use Rattle.std.proofs.Common.{◌≡◌, ◌≢◌, ℕ, ◌+◌, ◌<◌, ◌≤◌, Bool, true, false, List, Option, Some, None, is_some, map, get_or, length, slice_get, sym, ap, refl, ◌∙◌, subst, arith, inl, inr, ◌⊎◌}
-use Rattle.std.specs.Prelude.{All, AllPairs, Contains}
+use Rattle.std.proofs.Common.{◌≡◌, ℕ, ◌≤◌, true, false, List, Option, Some, None, is_some, map, length, slice_get, sym, ap, refl, ◌∙◌, subst, arith}
+use Rattle.std.specs.Prelude.{All, Contains}
 use Rattle.std.specs.List.{flat_map}
 use Rattle.std.specs.Option.{ForSome, option_map_or, option_to_list}
 use Rattle.std.proofs.lemmas.Bool.{false≢true}
@@ -25,15 +25,15 @@ use Rattle.rr_graph.specs.Graph.{Basis}
 use Rattle.layout_check.specs.declared.fault.BleFault.{BleFault}
 use Rattle.layout_check.specs.declared.fault.BleFault.TheVariants.{TooManyInputs, NoInput, NoClock, WrongOutput}
 use Rattle.layout_check.specs.declared.fault.BlockFault.{BlockFault}
-use Rattle.layout_check.specs.declared.fault.BlockFault.TheVariants.{NoPlace, TooManyBles, Ble}
+use Rattle.layout_check.specs.declared.fault.BlockFault.TheVariants.{NoPlace, TooManyBles, Ble as BleOf}
 use Rattle.layout_check.specs.declared.fault.EntryFault.{EntryFault}
 use Rattle.layout_check.specs.declared.fault.EntryFault.TheVariants.{TwoDrivers}
 use Rattle.layout_check.specs.declared.fault.NetFault.TheVariants.{Entry, Overused}
 use Rattle.layout_check.specs.declared.fault.Wrong.{Wrong}
-use Rattle.layout_check.specs.declared.fault.Wrong.TheVariants.{Block, SamePlace, Inputs, Outputs, NotGlobal, LeftOut, SameNet, NoEntry, Net}
+use Rattle.layout_check.specs.declared.fault.Wrong.TheVariants.{Block, SamePlace, Inputs, Outputs, NotGlobal, LeftOut, SameNet, NoEntry, Unlawful, Ble, TableTwice, NoTable, LatchTwice, NoLatch, Net}
 use Rattle.layout_check.specs.BlockFaults.{IsBleFault, IsBlockFault, IsBlockRight}
 use Rattle.layout_check.specs.NetFaults.{AreCarried}
-use Rattle.layout_check.specs.Wrongs.{AreListsRight, ArePortsRight, IsConnected, IsTwoDrivers, IsWrong}
+use Rattle.layout_check.specs.Wrongs.{AreListsRight, ArePortsRight, IsConnected, IsAboutHeld, IsWrong}
 use Rattle.layout_check.proofs.Entries.{entry_refuted}
 
 all_at : {X : Type 0} (P : X → Type 0) (xs : List X) (k : ℕ) (x : X) → All P xs → slice_get xs k ≡ Some x → P x
@@ -116,7 +116,7 @@ block_refuted : (arch : Arch) (strip : Strip) (block : LaidBlock) (fault : Block
     All (IsFed arch block) block.bles → All (IsNarrowBle arch) block.bles → ⊥
 block_refuted arch strip block NoPlace none placed few are narrow = none placed
 block_refuted arch strip block TooManyBles more placed few are narrow = omega (arith, more, few)
-block_refuted arch strip block (Ble number fault) (ble, there, said) placed few are narrow =
+block_refuted arch strip block (BleOf number fault) (ble, there, said) placed few are narrow =
     ble_refuted arch block ble fault said (all_at (IsFed arch block) block.bles number ble are there) (all_at (IsNarrowBle arch) block.bles number ble narrow there)
 
 left_out : (circuit : Circuit) (globals : List ℕ) (latch : Latch) → ((net : ℕ) → has globals net ≡ is_global circuit net) → Contains circuit.latches latch → option_map_or (has globals) latch.control true ≡ false → ⊥
@@ -129,10 +129,10 @@ left_out circuit globals latch are c fails = by latch.control refl
         let there : is_global circuit net ≡ true = to_has (flat_map f circuit.latches) net (to_flat_map f circuit.latches latch net c (one_only latch.control net e)) in
         false≢true (sym fails ∙ ap (λ (o : Option ℕ). option_map_or (has globals) o true) e ∙ are net ∙ there)
 
-never_two : (number : ℕ) (fault : EntryFault) → (IsTwoDrivers (Net (Entry number fault)) → ⊥) → (driver other : ℕ) → fault ≡ TwoDrivers driver other → ⊥
-never_two number fault two driver other e = two (subst (λ f. IsTwoDrivers (Net (Entry number f))) (sym e) tt)
+never_two : (number : ℕ) (fault : EntryFault) → (IsAboutHeld (Net (Entry number fault)) → ⊥) → (driver other : ℕ) → fault ≡ TwoDrivers driver other → ⊥
+never_two number fault two driver other e = two (subst (λ f. IsAboutHeld (Net (Entry number f))) (sym e) tt)
 
-refuted : (circuit : Circuit) (basis : Basis) (layout : Layout) (wrong : Wrong) → (IsTwoDrivers wrong → ⊥) → IsWrong circuit basis layout wrong → IsConnected circuit basis.arch basis.strip layout → ⊥
+refuted : (circuit : Circuit) (basis : Basis) (layout : Layout) (wrong : Wrong) → (IsAboutHeld wrong → ⊥) → IsWrong circuit basis layout wrong → IsConnected circuit basis.arch basis.strip layout → ⊥
 refuted circuit basis layout (Block number fault) two (block, there, said) is =
     block_refuted basis.arch basis.strip block fault said (all_at (λ laid. Contains (places_of basis.strip (kind_of laid.block)) laid.place) layout.blocks number block is.placed there)
     (all_at (λ laid. length laid.bles ≤ ble_places basis.arch laid.block) layout.blocks number block is.few_bles there)
@@ -151,10 +151,16 @@ refuted circuit basis layout (SameNet number other) two (less, laid, also, there
     is.once number other laid less (from_get layout.nets other also here).0 (ap (λ (laid : LaidNet). laid.net) first ∙ same ∙ sym (ap (λ (laid : LaidNet). laid.net) second))
 refuted circuit basis layout (NoEntry number) two (block, there, net, wanted, none) is =
     false≢true (sym none ∙ all_at (λ laid. (net : ℕ) → wants basis.arch net laid ≡ true → has (map (λ between. between.net) layout.nets) net ≡ true) layout.blocks number block is.all there net wanted)
+refuted circuit basis layout (Unlawful net) two said is = absurd (two tt)
+refuted circuit basis layout (Ble number fault) two said is = absurd (two tt)
+refuted circuit basis layout (TableTwice k number other) two said is = absurd (two tt)
+refuted circuit basis layout (NoTable k) two said is = absurd (two tt)
+refuted circuit basis layout (LatchTwice k number other) two said is = absurd (two tt)
+refuted circuit basis layout (NoLatch k) two said is = absurd (two tt)
 refuted circuit basis layout (Net (Entry number fault)) two (laid, there, said) is =
     entry_refuted circuit basis layout laid fault (never_two number fault two) said (all_at (IsLaid circuit basis.arch basis.strip layout) layout.nets number laid is.laid there)
 refuted circuit basis layout (Net (Overused node)) two more is = let few = is.carried node in omega (arith, more, few)
 
 -- a layout with something wrong doesn't implement the circuit
-pub wrong_refuted : (circuit : Circuit) (basis : Basis) (layout : Layout) (wrong : Wrong) → IsWrong circuit basis layout wrong → (IsTwoDrivers wrong → ⊥) → Implements circuit basis.arch basis.strip layout → ⊥
+pub wrong_refuted : (circuit : Circuit) (basis : Basis) (layout : Layout) (wrong : Wrong) → IsWrong circuit basis layout wrong → (IsAboutHeld wrong → ⊥) → Implements circuit basis.arch basis.strip layout → ⊥
 wrong_refuted circuit basis layout wrong said two is = refuted circuit basis layout wrong two said (connected_by circuit basis layout is)

@@ -10,6 +10,16 @@ pub mod Entries
 pub mod Counted
 pub mod Sites
 pub mod Served
-pub mod Decided
 pub mod OneDriver
+pub mod Receiving
+pub mod HeldParts
+pub mod HoldsJust
+pub mod HoldRefuted
+pub mod BlePlaces
+pub mod Owning
+pub mod ReadCounts
+pub mod HeldOnce
+pub mod HeldTold
+pub mod LatchTold
+pub mod Decided
 pub mod Never

@@ -1,18 +1,23 @@
 -- A layout with something wrong doesn't implement a lawful circuit.
-use Rattle.std.proofs.Common.{◌≡◌, sym}
+use Rattle.std.proofs.Common.{◌≡◌, true, arith, sym}
+use Rattle.std.specs.Prelude.{count_by}
+use Rattle.std.proofs.lemmas.List.Elements.{All-contains}
 use Rattle.blif.specs.declared.circuit.Circuit.{Circuit}
 use Rattle.blif.specs.LawfulCircuits.{IsCircuit}
+use Rattle.implements.specs.Holding.{holds_latch, holds_table}
 use Rattle.implements.specs.Implements.{Implements}
-use Rattle.implements.specs.Layouts.{Layout}
+use Rattle.implements.specs.Layouts.{Layout, traced_bles}
+use Rattle.implements.proofs.Members.{from_get}
 use Rattle.rr_graph.specs.Graph.{Basis}
-use Rattle.layout_check.specs.declared.fault.EntryFault.{EntryFault}
 use Rattle.layout_check.specs.declared.fault.EntryFault.TheVariants.{NoDriver, TwoDrivers, Listed, Paths}
-use Rattle.layout_check.specs.declared.fault.NetFault.{NetFault}
 use Rattle.layout_check.specs.declared.fault.NetFault.TheVariants.{Entry, Overused}
 use Rattle.layout_check.specs.declared.fault.Wrong.{Wrong}
-use Rattle.layout_check.specs.declared.fault.Wrong.TheVariants.{Block, SamePlace, Inputs, Outputs, NotGlobal, LeftOut, SameNet, NoEntry, Net}
-use Rattle.layout_check.specs.Wrongs.{IsTwoDrivers, IsWrong}
+use Rattle.layout_check.specs.declared.fault.Wrong.TheVariants.{Block, SamePlace, Inputs, Outputs, NotGlobal, LeftOut, SameNet, NoEntry, Unlawful, Ble, TableTwice, NoTable, LatchTwice, NoLatch, Net}
+use Rattle.layout_check.specs.Wrongs.{IsWrong}
+use Rattle.layout_check.proofs.BlePlaces.{in_traced, two_bles}
 use Rattle.layout_check.proofs.Decided.{wrong_refuted}
+use Rattle.layout_check.proofs.HeldParts.{holds_some}
+use Rattle.layout_check.proofs.HoldRefuted.{holds_nothing}
 use Rattle.layout_check.proofs.OneDriver.{one_driver}
 
 pub never : (circuit : Circuit) (basis : Basis) (layout : Layout) (wrong : Wrong) → IsCircuit circuit → IsWrong circuit basis layout wrong → Implements circuit basis.arch basis.strip layout → ⊥
@@ -24,6 +29,23 @@ never circuit basis layout (NotGlobal net) lawful said is = wrong_refuted circui
 never circuit basis layout (LeftOut number) lawful said is = wrong_refuted circuit basis layout (LeftOut number) said (λ two. two) is
 never circuit basis layout (SameNet number other) lawful said is = wrong_refuted circuit basis layout (SameNet number other) said (λ two. two) is
 never circuit basis layout (NoEntry number) lawful said is = wrong_refuted circuit basis layout (NoEntry number) said (λ two. two) is
+never circuit basis layout (Unlawful net) lawful said is = said lawful
+never circuit basis layout (Ble number fault) lawful (element, at, said) is =
+    holds_nothing circuit lawful element fault said (All-contains (λ element. holds_some circuit element ≡ true) (traced_bles basis.arch layout) element is.held.each (in_traced basis.arch layout.blocks number element at))
+never circuit basis layout (TableTwice k number other) lawful (table, at, differ, one, two) is =
+    let twice = two_bles (λ element. holds_table circuit element table) basis.arch layout.blocks number other one.0 two.0 differ one.1 two.1 one.2 two.2 in
+    let once = All-contains (λ table. count_by (λ element. holds_table circuit element table) (traced_bles basis.arch layout) ≡ 1) circuit.tables table is.held.tables (from_get circuit.tables k table at).1 in
+    omega (arith, twice, once)
+never circuit basis layout (NoTable k) lawful (table, at, none) is =
+    let once = All-contains (λ table. count_by (λ element. holds_table circuit element table) (traced_bles basis.arch layout) ≡ 1) circuit.tables table is.held.tables (from_get circuit.tables k table at).1 in
+    omega (arith, none, once)
+never circuit basis layout (LatchTwice k number other) lawful (latch, at, differ, one, two) is =
+    let twice = two_bles (λ element. holds_latch circuit element latch) basis.arch layout.blocks number other one.0 two.0 differ one.1 two.1 one.2 two.2 in
+    let once = All-contains (λ latch. count_by (λ element. holds_latch circuit element latch) (traced_bles basis.arch layout) ≡ 1) circuit.latches latch is.held.latches (from_get circuit.latches k latch at).1 in
+    omega (arith, twice, once)
+never circuit basis layout (NoLatch k) lawful (latch, at, none) is =
+    let once = All-contains (λ latch. count_by (λ element. holds_latch circuit element latch) (traced_bles basis.arch layout) ≡ 1) circuit.latches latch is.held.latches (from_get circuit.latches k latch at).1 in
+    omega (arith, none, once)
 never circuit basis layout (Net (Entry number NoDriver)) lawful said is = wrong_refuted circuit basis layout (Net (Entry number NoDriver)) said (λ two. two) is
 never circuit basis layout (Net (Entry number (TwoDrivers driver other))) lawful (laid, there, (differ, one, two)) is =
     one_driver circuit lawful basis.arch basis.strip layout is laid.net driver other one.0 two.0 (λ e. differ (sym e)) one.1 two.1 one.2 two.2

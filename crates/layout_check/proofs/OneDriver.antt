@@ -1,6 +1,6 @@
 -- In a layout that implements a lawful circuit no two blocks drive one net.
-use Rattle.std.proofs.Common.{◌≡◌, ◌≢◌, ℕ, zero, suc, ◌+◌, ◌<◌, ◌≤◌, Bool, true, false, ◌||◌, ◌&&◌, List, [], ◌∷◌, ◌++◌, Some, map, eqb, slice_get, sym, ap, refl, ◌∙◌, eq-eqb, subst, arith, inl, inr, ◌⊎◌}
-use Rattle.std.specs.Prelude.{All, AllPairs, Contains, count_by}
+use Rattle.std.proofs.Common.{◌≡◌, ◌≢◌, ℕ, zero, suc, ◌≤◌, Bool, true, false, ◌||◌, ◌&&◌, List, [], ◌∷◌, ◌++◌, Some, map, eqb, slice_get, sym, ap, refl, ◌∙◌, eq-eqb, subst, arith, inl, inr, ◌⊎◌}
+use Rattle.std.specs.Prelude.{All, Contains, count_by}
 use Rattle.std.specs.List.{flat_map, list_any}
 use Rattle.std.proofs.lemmas.Bool.{and_parts, eqb-true, false≢true}
 use Rattle.std.proofs.lemmas.List.Elements.{All-contains, All-head, All-tail}
@@ -16,18 +16,18 @@ use Rattle.cluster.proofs.Pairs.{pairs_back, pairs_front, pairs_head, pairs_tail
 use Rattle.grid.specs.declared.Strip.{Strip}
 use Rattle.implements.specs.Holding.{holds_latch, holds_table, is_latch, is_pair, is_table}
 use Rattle.implements.specs.Implements.{Implements, drives, drives_as, input_at, leaves_as}
-use Rattle.implements.specs.Layouts.{LaidBle, LaidBlock, Layout, traced, traced_bles}
-use Rattle.implements.proofs.Members.{from_any, from_get, in_cases, in_first, in_later, in_none, to_any, to_append_left, to_append_right, to_flat_map, to_map}
+use Rattle.implements.specs.Layouts.{LaidBlock, Layout, traced, traced_bles}
+use Rattle.implements.proofs.Members.{from_any, from_get, in_first, to_any, to_append_left, to_append_right, to_flat_map, to_map}
 use Rattle.implements.proofs.Unique.{AreApart, count-append, count-no, count-yes, never_both, same_by, some_counted}
 
-or_cases : (a b : Bool) → (a || b) ≡ true → (a ≡ true) ⊎ (b ≡ true)
+pub or_cases : (a b : Bool) → (a || b) ≡ true → (a ≡ true) ⊎ (b ≡ true)
 or_cases true b h = inl refl
 or_cases false b h = inr h
 
-or_left : (a b : Bool) → a ≡ true → (a || b) ≡ true
+pub or_left : (a b : Bool) → a ≡ true → (a || b) ≡ true
 or_left a b h = ap (λ x. x || b) h
 
-or_right : (a b : Bool) → b ≡ true → (a || b) ≡ true
+pub or_right : (a b : Bool) → b ≡ true → (a || b) ≡ true
 or_right true b h = refl
 or_right false b h = h
 
@@ -45,7 +45,7 @@ part_counted f test (x ∷ xs) (suc j) y at one =
     let all = count-append test (f x) (flat_map f xs) in
     omega (arith, rest, all)
 
-two_counted : {X Y : Type 0} (f : X → List Y) (test : Y → Bool) (xs : List X) (i j : ℕ) (x y : X) → i ≢ j → slice_get xs i ≡ Some x → slice_get xs j ≡ Some y → 1 ≤ count_by test (f x) → 1 ≤ count_by test (f y) →
+pub two_counted : {X Y : Type 0} (f : X → List Y) (test : Y → Bool) (xs : List X) (i j : ℕ) (x y : X) → i ≢ j → slice_get xs i ≡ Some x → slice_get xs j ≡ Some y → 1 ≤ count_by test (f x) → 1 ≤ count_by test (f y) →
     2 ≤ count_by test (flat_map f xs)
 two_counted f test [] i j x y differ a b one two = absurd cc
 two_counted f test (z ∷ xs) zero zero x y differ a b one two = absurd (differ refl)
@@ -75,7 +75,7 @@ none_in first net is (n ∷ some) apart = by (none_in first net is some (All-tai
     by rest true also = absurd (All-head (λ n. first ≢ n) n some apart (eqb-true first net is ∙ sym (eqb-true n net also)))
     by rest false differ = omega (arith, rest, count-no (λ n. eqb n net) n some differ)
 
-once_counted : (nets : List ℕ) (net : ℕ) → AreApart nets → count_by (λ n. eqb n net) nets ≤ 1
+pub once_counted : (nets : List ℕ) (net : ℕ) → AreApart nets → count_by (λ n. eqb n net) nets ≤ 1
 once_counted [] net apart = omega arith
 once_counted (first ∷ nets) net apart = by (once_counted nets net (pairs_tail (λ net other. net ≢ other) first nets apart)) (eqb first net) refl
   where

@@ -6,4 +6,7 @@ pub mod TreeTests
 pub mod EntryFaults
 pub mod NetFaults
 pub mod BlockFaults
+pub mod HoldFaults
+pub mod NetOwners
+pub mod Helds
 pub mod Wrongs

@@ -5,27 +5,33 @@ use Rattle.std.specs.Option.{option_map_or}
 use Rattle.arch_file.specs.declared.arch.Arch.{Arch}
 use Rattle.blif.specs.declared.circuit.Circuit.{Circuit}
 use Rattle.blif.specs.declared.latches.Latch.{Latch}
+use Rattle.blif.specs.LawfulCircuits.{IsCircuit}
+use Rattle.blif.specs.LookupTables.{LookupTable}
 use Rattle.ble_cluster.specs.Nets.{has}
+use Rattle.ble_cluster.specs.Bles.{LogicElement}
 use Rattle.block_places.specs.Fits.{kind_of}
 use Rattle.cluster.specs.Blocks.{is_global}
 use Rattle.grid.specs.declared.Strip.{Strip}
 use Rattle.grid.specs.Places.{places_of}
+use Rattle.implements.specs.Holding.{holds_latch, holds_table}
 use Rattle.implements.specs.Implements.{IsLaid, IsNarrowBle, ble_places, input_at, output_at, wants}
-use Rattle.implements.specs.Layouts.{IsFed, LaidBlock, LaidNet, Layout}
+use Rattle.implements.specs.Layouts.{IsFed, LaidBle, LaidBlock, LaidNet, Layout, traced, traced_bles}
 use Rattle.pathfinder.specs.LegalRoutes.{path_nodes}
 use Rattle.pathfinder.specs.Terminals.{is_same_node}
 use Rattle.rr_graph.specs.declared.node.Node.{Node}
 use Rattle.rr_graph.specs.Geometry.{capacity_of}
 use Rattle.rr_graph.specs.Graph.{Basis}
+use Rattle.layout_check.specs.declared.fault.BleNumber.{BleNumber}
 use Rattle.layout_check.specs.declared.fault.EntryFault.TheVariants.{TwoDrivers}
 use Rattle.layout_check.specs.declared.fault.NetFault.TheVariants.{Entry}
 use Rattle.layout_check.specs.declared.fault.Wrong.{Wrong}
-use Rattle.layout_check.specs.declared.fault.Wrong.TheVariants.{Block, SamePlace, Inputs, Outputs, NotGlobal, LeftOut, SameNet, NoEntry, Net}
+use Rattle.layout_check.specs.declared.fault.Wrong.TheVariants.{Block, SamePlace, Inputs, Outputs, NotGlobal, LeftOut, SameNet, NoEntry, Unlawful, Ble, TableTwice, NoTable, LatchTwice, NoLatch, Net}
 use Rattle.layout_check.specs.BlockFaults.{IsBlockFault, IsBlockRight}
+use Rattle.layout_check.specs.HoldFaults.{IsHoldFault}
 use Rattle.layout_check.specs.NetFaults.{IsNetFault}
 
 -- The clauses of `Implements`, in its words, except for `held`: that each table and each latch of
--- the circuit is in exactly one BLE.
+-- the circuit is in exactly one BLE (`AreBlesOf`).
 pub record IsConnected (circuit : Circuit) (arch : Arch) (strip : Strip) (layout : Layout) : Type 0 where
   pub fed : All (λ laid. All (IsFed arch laid) laid.bles) layout.blocks
   pub few_bles : All (λ laid. length laid.bles ≤ ble_places arch laid.block) layout.blocks
@@ -40,6 +46,21 @@ pub record IsConnected (circuit : Circuit) (arch : Arch) (strip : Strip) (layout
   pub apart : AllPairs (λ laid other. laid.place ≢ other.place) layout.blocks
   pub carried : (node : Node) → count_by (λ between. list_any (is_same_node node) (path_nodes between.paths)) layout.nets ≤ capacity_of arch strip node
 
+-- this is what the BLE with this number is when it is traced
+pub record IsBleAt (arch : Arch) (blocks : List LaidBlock) (number : BleNumber) (element : LogicElement) : Type 0 where
+  pub laid : LaidBlock
+  pub at_block : slice_get blocks number.block ≡ Some laid
+  pub ble : LaidBle
+  pub at_ble : slice_get laid.bles number.ble ≡ Some ble
+  pub is : traced arch laid ble ≡ element
+
+-- the BLE with this number holds the table, or the latch
+abbrev pub HoldsTableAt : Circuit → Arch → Layout → LookupTable → BleNumber → Type 0
+HoldsTableAt circuit arch layout table number = (element : LogicElement) × IsBleAt arch layout.blocks number element × (holds_table circuit element table ≡ true)
+
+abbrev pub HoldsLatchAt : Circuit → Arch → Layout → Latch → BleNumber → Type 0
+HoldsLatchAt circuit arch layout latch number = (element : LogicElement) × IsBleAt arch layout.blocks number element × (holds_latch circuit element latch ≡ true)
+
 -- what it says that something is wrong
 abbrev pub IsWrong : Circuit → Basis → Layout → Wrong → Type 0
 IsWrong circuit basis layout (Block number fault) = (laid : LaidBlock) × (slice_get layout.blocks number ≡ Some laid) × IsBlockFault basis.arch basis.strip laid fault
@@ -51,12 +72,27 @@ IsWrong circuit basis layout (LeftOut number) = (latch : Latch) × (slice_get ci
 IsWrong circuit basis layout (SameNet number other) = (number < other) × (laid : LaidNet) × (also : LaidNet) × (slice_get layout.nets number ≡ Some laid) × (slice_get layout.nets other ≡ Some also) × (laid.net ≡ also.net)
 IsWrong circuit basis layout (NoEntry number) =
     (laid : LaidBlock) × (slice_get layout.blocks number ≡ Some laid) × (net : ℕ) × (wants basis.arch net laid ≡ true) × (has (map (λ between. between.net) layout.nets) net ≡ false)
+IsWrong circuit basis layout (Unlawful net) = IsCircuit circuit → ⊥
+IsWrong circuit basis layout (Ble number fault) = (element : LogicElement) × IsBleAt basis.arch layout.blocks number element × IsHoldFault circuit element fault
+IsWrong circuit basis layout (TableTwice k number other) =
+    (table : LookupTable) × (slice_get circuit.tables k ≡ Some table) × (number ≢ other) × HoldsTableAt circuit basis.arch layout table number × HoldsTableAt circuit basis.arch layout table other
+IsWrong circuit basis layout (NoTable k) = (table : LookupTable) × (slice_get circuit.tables k ≡ Some table) × (count_by (λ element. holds_table circuit element table) (traced_bles basis.arch layout) ≡ 0)
+IsWrong circuit basis layout (LatchTwice k number other) =
+    (latch : Latch) × (slice_get circuit.latches k ≡ Some latch) × (number ≢ other) × HoldsLatchAt circuit basis.arch layout latch number × HoldsLatchAt circuit basis.arch layout latch other
+IsWrong circuit basis layout (NoLatch k) = (latch : Latch) × (slice_get circuit.latches k ≡ Some latch) × (count_by (λ element. holds_latch circuit element latch) (traced_bles basis.arch layout) ≡ 0)
 IsWrong circuit basis layout (Net fault) = IsNetFault circuit basis layout fault
 
--- two blocks that drive one net contradict only `held`
-abbrev pub IsTwoDrivers : Wrong → Type 0
-IsTwoDrivers (Net (Entry number (TwoDrivers driver other))) = Unit {0}
-IsTwoDrivers wrong = ⊥
+-- Private: it contradicts only `held`, that each table and each latch of the circuit is in exactly
+-- one BLE
+abbrev pub IsAboutHeld : Wrong → Type 0
+IsAboutHeld (Unlawful net) = Unit {0}
+IsAboutHeld (Ble number fault) = Unit {0}
+IsAboutHeld (TableTwice k number other) = Unit {0}
+IsAboutHeld (NoTable k) = Unit {0}
+IsAboutHeld (LatchTwice k number other) = Unit {0}
+IsAboutHeld (NoLatch k) = Unit {0}
+IsAboutHeld (Net (Entry number (TwoDrivers driver other))) = Unit {0}
+IsAboutHeld wrong = ⊥
 
 -- Private: the clauses on lists
 pub record AreListsRight (circuit : Circuit) (basis : Basis) (layout : Layout) : Type 0 where

@@ -1,15 +1,14 @@
 //! Whether a layout implements a circuit.
 ghost use Rattle.std.specs.Prelude.{◌≡◌, ℕ, IfOk, MatchOption, MatchResult};
 ghost use Rattle.blif.specs.LawfulCircuits.{IsCircuit};
-ghost use Rattle.implements.specs.Holding.{AreBlesOf};
 ghost use Rattle.implements.specs.Implements.{Implements};
-ghost use Rattle.implements.specs.Layouts.{traced_bles};
 ghost use Rattle.layout_check.specs.Wrongs.{AreListsRight, ArePortsRight, IsConnected, IsWrong};
 
 use crate::apart::{same_net, same_place};
 use crate::blocks::check_blocks;
 use crate::fault::Wrong;
 use crate::globals::{first_left_out, first_local};
+use crate::held::check_held;
 use crate::nets::check_nets;
 use crate::ports::{has_inputs, has_outputs};
 use crate::wanted::check_wanted;
@@ -66,11 +65,11 @@ fn check_ports(
     }
 }
 
-/// Finds what is wrong with a layout on a strip: whether it connects what it has as the circuit
-/// says. What passes has each clause of `Implements` except `held`, that each table and each latch
-/// is in exactly one basic logic element (`AreBlesOf`), which isn't tested. With it the layout
-/// implements the circuit. A layout that has something wrong doesn't implement the circuit, if the
-/// circuit is lawful, as each is that is read from a netlist.
+/// Finds what is wrong with a layout on a strip, in this order: blocks by themselves, places, nets
+/// on the global network and entries; the pads, and nets without entries; the basic logic elements
+/// (BLEs), of which each table and each latch is in exactly one; the nets between blocks. What
+/// passes implements the circuit. A layout that has something wrong doesn't, if the circuit is
+/// lawful, as each is that is read from a netlist.
 pub fn check_layout(
     alloc: Global,
     circuit: &Circuit,
@@ -81,8 +80,7 @@ pub fn check_layout(
         (λ _. IsConnected circuit.now graph.now.arch graph.now.strip layout.now)
         (IsWrong circuit.now graph.now layout.now)) }
     ensures implements { IfOk result (λ checked. MatchResult checked
-        (λ _. AreBlesOf circuit.now (traced_bles graph.now.arch layout.now)
-        → Implements circuit.now graph.now.arch graph.now.strip layout.now)
+        (λ _. Implements circuit.now graph.now.arch graph.now.strip layout.now)
         (λ _. IsCircuit circuit.now →
         Implements circuit.now graph.now.arch graph.now.strip layout.now → ⊥)) }
 {
@@ -90,6 +88,9 @@ pub fn check_layout(
         return Ok(Err(wrong));
     }
     if let Some(wrong) = check_ports(alloc, circuit, graph, layout)? {
+        return Ok(Err(wrong));
+    }
+    if let Some(wrong) = check_held(alloc, circuit, graph, layout)? {
         return Ok(Err(wrong));
     }
     match check_nets(alloc, circuit, graph, layout)? {

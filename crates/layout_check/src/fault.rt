@@ -77,6 +77,48 @@ pub enum BlockFault {
     Ble(usize, BleFault),
 }
 
+/// What is wrong with the nets that a BLE receives, against the nets that it should receive.
+#[derive(Clone, Copy)]
+pub enum ReadFault {
+    /// It doesn't receive this net, and should.
+    Lacks(u32),
+    /// It receives this net, and shouldn't.
+    Extra(u32),
+    /// It receives this net at two of its inputs.
+    Twice(u32),
+}
+
+/// Why a BLE holds no table and no latch: it is not a table of the circuit, nor a latch, nor a
+/// table with the latch that alone reads it. The numbers are those of tables and latches in the
+/// circuit.
+#[derive(Clone, Copy)]
+pub enum HoldFault {
+    /// No table and no latch drives the net that the BLE drives.
+    NotDriven,
+    /// The BLE drives what this table drives, and it has a clock.
+    Clocked(usize),
+    /// The BLE drives what this table drives, and doesn't receive just what the table reads.
+    Table(usize, ReadFault),
+    /// The BLE drives what this latch drives, and its clock isn't the latch's control.
+    WrongClock(usize),
+    /// The BLE drives what this latch drives, and doesn't receive just the latch's data, which no
+    /// table drives.
+    Latch(usize, ReadFault),
+    /// A table drives the data of a latch (first the table, then the latch). The BLE drives what
+    /// the latch drives; it doesn't receive just the latch's data, nor just what the table reads.
+    Pair(usize, usize, ReadFault),
+    /// The BLE is a table with a latch (first the table, then the latch), and not the latch alone
+    /// reads what the table drives.
+    ReadElsewhere(usize, usize),
+}
+
+/// Which BLE of a layout it is: the number of its block, and its own number in the block.
+#[derive(Clone, Copy)]
+pub struct BleNumber {
+    pub block: usize,
+    pub ble: usize,
+}
+
 /// What is wrong with a layout.
 #[derive(Clone, Copy)]
 pub enum Wrong {
@@ -96,6 +138,19 @@ pub enum Wrong {
     SameNet(usize, usize),
     /// At the block with this number a net is wanted that has no entry.
     NoEntry(usize),
+    /// The circuit drives this net twice, or doesn't have it. No circuit that is read from a
+    /// netlist does so.
+    Unlawful(u32),
+    /// This BLE holds no table and no latch.
+    Ble(BleNumber, HoldFault),
+    /// Two BLEs hold the table with this number.
+    TableTwice(usize, BleNumber, BleNumber),
+    /// No BLE holds the table with this number.
+    NoTable(usize),
+    /// Two BLEs hold the latch with this number.
+    LatchTwice(usize, BleNumber, BleNumber),
+    /// No BLE holds the latch with this number.
+    NoLatch(usize),
     /// The nets between blocks have a fault.
     Net(NetFault),
 }

@@ -24,7 +24,7 @@ pub(crate) fn first_local(circuit: &Circuit, globals: &[u32]) -> Option<u32>
 }
 
 /// Whether the net is one of the nets.
-fn lists(nets: &[u32], net: u32) -> bool
+pub(crate) fn lists(nets: &[u32], net: u32) -> bool
     ensures { result ≡ has nets.now net }
 {
     nets.iter().any(|other| *other == net)

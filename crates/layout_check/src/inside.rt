@@ -1,7 +1,8 @@
 //! The nets on the pins of a block and at the inputs of its BLEs.
-ghost use Rattle.std.specs.Prelude.{◌≡◌, ◌≤◌, Option, false, true, option_and_then, slice_get, is_some};
+ghost use Rattle.std.specs.Prelude.{◌≡◌, ◌≤◌, ◌||◌, Option, false, true, option_and_then, slice_get, is_some};
 ghost use Rattle.std.specs.List.{list_any};
 ghost use Rattle.std.specs.Option.{option_map_or};
+ghost use Rattle.arch_file.specs.declared.arch.PinClass.TheVariants.{Clock, Input};
 ghost use Rattle.cluster.specs.Blocks.{is_same_class};
 ghost use Rattle.implements.specs.Layouts.{fed, on_pin};
 ghost use Rattle.implements.specs.Implements.{drives, has_on, is_net, leaves_as, wants};
@@ -91,6 +92,28 @@ fn has_on(arch: &Arch, block: &LaidBlock, class: PinClass, net: u32) -> bool
     false
 }
 
+/// Whether the net is on one of the pins.
+fn carries(net: u32, pins: &[Option<u32>]) -> bool
+    ensures { result ≡ list_any (is_net net) pins.now }
+{
+    for pin in pins {
+        if is_net(net, *pin) {
+            return true;
+        }
+    }
+    false
+}
+
+/// Whether the net is wanted on a pin of the block. Most blocks don't have it on any pin.
+fn wants_on_pin(arch: &Arch, net: u32, block: &LaidBlock) -> bool
+    ensures { result ≡ (has_on arch.now block.now Input net || has_on arch.now block.now Clock net) }
+{
+    if !carries(net, block.pins()) {
+        return false;
+    }
+    has_on(arch, block, PinClass::Input, net) || has_on(arch, block, PinClass::Clock, net)
+}
+
 /// Whether the net is wanted at the block.
 pub(crate) fn wants(arch: &Arch, net: u32, block: &LaidBlock) -> bool
     ensures { result ≡ wants arch.now net block.now }
@@ -98,9 +121,7 @@ pub(crate) fn wants(arch: &Arch, net: u32, block: &LaidBlock) -> bool
     match block.block() {
         Block::InputPad(_) => false,
         Block::OutputPad(output) => output == net,
-        Block::Cluster(_) => {
-            has_on(arch, block, PinClass::Input, net) || has_on(arch, block, PinClass::Clock, net)
-        }
+        Block::Cluster(_) => wants_on_pin(arch, net, block),
     }
 }
 

@@ -1,15 +1,20 @@
-//! Whether a layout connects what a circuit says, whoever made it.
+//! Whether a layout implements a circuit, whoever made it.
 //!
-//! [`check_layout`] decides each clause of `Implements` (`implements`) except `held`, that each
-//! table and each latch is in exactly one basic logic element (BLE). It returns the first thing
+//! [`check_layout`] decides each clause of `Implements` (`implements`). It returns the first thing
 //! that is wrong, as [`Wrong`], whose cases say in `specs/` what they mean.
 //!
 //! - Blocks by themselves: places and room ([`BlockFault`]), and the inputs, clock and output pin
-//!   of each BLE ([`BleFault`]).
+//!   of each basic logic element (BLE, [`BleFault`]).
 //! - Between blocks: places that differ, ports, global nets, one entry for each net that is wanted.
+//! - What BLEs hold ([`HoldFault`]): each is a table, a latch, or a table with the latch that alone
+//!   reads it, and each table and each latch is in exactly one.
 //! - Entries ([`EntryFault`]): the block that drives the net, the blocks that are listed with a
 //!   global net, and the paths ([`RouteFault`]).
 //! - Nodes in the trees of too many nets ([`NetFault`]).
+//!
+//! The BLEs are traced, each input followed to the net that comes to it. What a traced BLE holds is
+//! found by the net that it drives, in a list of the tables and latches by net, so no BLE is
+//! compared with all tables.
 //!
 //! A net's paths are tested by the numbers of their nodes, with sets that are cleared at once:
 //! each node has one predecessor, the source leads to each node, one node is an output pin, and the
@@ -21,15 +26,22 @@ mod bles;
 mod blocks;
 mod check;
 mod drivers;
+mod elements;
 mod entry;
 mod fault;
 mod globals;
+mod held;
+mod holding;
 mod inside;
 mod marks;
 mod nets;
 mod numbered;
+mod once;
+mod owners;
 mod paths;
 mod ports;
+mod reads;
+mod receives;
 mod route;
 mod routes;
 mod trees;
@@ -38,4 +50,6 @@ mod wanted;
 mod work;
 
 pub use check::check_layout;
-pub use fault::{BleFault, BlockFault, EntryFault, NetFault, RouteFault, Wrong};
+pub use fault::{
+    BleFault, BleNumber, BlockFault, EntryFault, HoldFault, NetFault, ReadFault, RouteFault, Wrong,
+};

@@ -1,0 +1,55 @@
+-- What is wrong with BLEs by their places is wrong with them by their numbers.
+use Rattle.std.proofs.Common.{◌≡◌, ℕ, ◌<◌, List, [], ◌++◌, Some, length, slice_get, ap, subst, sym, ◌∙◌}
+use Rattle.std.specs.List.{flat_map}
+use Rattle.arch_file.specs.declared.arch.Arch.{Arch}
+use Rattle.blif.specs.declared.circuit.Circuit.{Circuit}
+use Rattle.ble_cluster.specs.Bles.{LogicElement}
+use Rattle.implements.specs.Holding.{AreBlesOf}
+use Rattle.implements.specs.Layouts.{LaidBlock, Layout, traced_bles}
+use Rattle.rr_graph.specs.Graph.{Basis}
+use Rattle.layout_check.specs.declared.fault.BleNumber.{BleNumber}
+use Rattle.layout_check.specs.declared.fault.HoldFault.{HoldFault}
+use Rattle.layout_check.specs.declared.fault.Wrong.TheVariants.{Ble as WrongBle, TableTwice as WrongTableTwice, LatchTwice as WrongLatchTwice}
+use Rattle.layout_check.specs.declared.held.HeldFault.TheVariants.{Ble, TableTwice, LatchTwice}
+use Rattle.layout_check.specs.Helds.{IsHeldFault, IsNumberOf}
+use Rattle.layout_check.specs.Wrongs.{IsBleAt, IsWrong}
+use Rattle.layout_check.proofs.BlePlaces.{bles_in, numbers_differ, place_within, traced_at, traced_in}
+
+-- the elements are the traced BLEs of the layout
+pub traced_told : (basis : Basis) (layout : Layout) (arch : Arch) (blocks : List LaidBlock) (old elements slice : List LogicElement) → old ≡ [] → elements ≡ old ++ flat_map (traced_in arch) blocks → arch ≡ basis.arch → blocks ≡ layout.blocks →
+    slice ≡ elements → slice ≡ traced_bles basis.arch layout
+traced_told basis layout arch blocks old elements slice none are at same copy =
+    copy ∙ are ∙ ap (λ xs. xs ++ flat_map (traced_in arch) blocks) none ∙ ap (λ a. flat_map (traced_in a) blocks) at ∙ ap (flat_map (traced_in basis.arch)) same
+
+module _ (circuit : Circuit) (basis : Basis) (layout : Layout) (blocks : List LaidBlock) (elements : List LogicElement) (same : blocks ≡ layout.blocks) (are : elements ≡ traced_bles basis.arch layout) where
+  pub bles_told : AreBlesOf circuit elements → AreBlesOf circuit (traced_bles basis.arch layout)
+  bles_told is = subst (AreBlesOf circuit) are is
+
+  in_traced : (place : ℕ) (element : LogicElement) → slice_get elements place ≡ Some element → slice_get (flat_map (traced_in basis.arch) layout.blocks) place ≡ Some element
+  in_traced place element at = sym (ap (λ es. slice_get es place) are) ∙ at
+
+  place_told : (place : ℕ) (element : LogicElement) → slice_get elements place ≡ Some element → place < length (bles_in blocks)
+  place_told place element at = subst (λ bs. place < length (bles_in bs)) (sym same) (place_within basis.arch layout.blocks place element (in_traced place element at))
+
+  at_told : (place : ℕ) (number : BleNumber) (element : LogicElement) → IsNumberOf blocks place number → slice_get elements place ≡ Some element → IsBleAt basis.arch layout.blocks number element
+  at_told place number element so at = traced_at basis.arch layout.blocks place number element (subst (λ bs. IsNumberOf bs place number) same so) (in_traced place element at)
+
+  pub ble_small : (place : ℕ) (fault : HoldFault) → IsHeldFault circuit elements (Ble place fault) → place < length (bles_in blocks)
+  ble_small place fault (element, at, said) = place_told place element at
+
+  pub table_small : (k place other : ℕ) → IsHeldFault circuit elements (TableTwice k place other) → (place < length (bles_in blocks)) × (other < length (bles_in blocks))
+  table_small k place other (table, at, less, first, second) = (place_told place first.0 first.1, place_told other second.0 second.1)
+
+  pub latch_small : (k place other : ℕ) → IsHeldFault circuit elements (LatchTwice k place other) → (place < length (bles_in blocks)) × (other < length (bles_in blocks))
+  latch_small k place other (latch, at, less, first, second) = (place_told place first.0 first.1, place_told other second.0 second.1)
+
+  pub ble_told : (place : ℕ) (fault : HoldFault) (number : BleNumber) → IsNumberOf blocks place number → IsHeldFault circuit elements (Ble place fault) → IsWrong circuit basis layout (WrongBle number fault)
+  ble_told place fault number so (element, at, said) = (element, at_told place number element so at, said)
+
+  pub table_told : (k place other : ℕ) (number second : BleNumber) → IsNumberOf blocks place number → IsNumberOf blocks other second → IsHeldFault circuit elements (TableTwice k place other) → IsWrong circuit basis layout (WrongTableTwice k number second)
+  table_told k place other number second a b (table, at, less, one, two) =
+      (table, at, numbers_differ blocks place other number second less a b, (one.0, at_told place number one.0 a one.1, one.2), (two.0, at_told other second two.0 b two.1, two.2))
+
+  pub latch_told : (k place other : ℕ) (number second : BleNumber) → IsNumberOf blocks place number → IsNumberOf blocks other second → IsHeldFault circuit elements (LatchTwice k place other) → IsWrong circuit basis layout (WrongLatchTwice k number second)
+  latch_told k place other number second a b (latch, at, less, one, two) =
+      (latch, at, numbers_differ blocks place other number second less a b, (one.0, at_told place number one.0 a one.1, one.2), (two.0, at_told other second two.0 b two.1, two.2))

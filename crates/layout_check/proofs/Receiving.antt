@@ -1,0 +1,94 @@
+-- Whether a BLE receives just some nets.
+use Rattle.std.proofs.Common.{◌≡◌, ℕ, ◌+◌, ◌<◌, ◌≤◌, Bool, true, false, ◌&&◌, ◌==◌, List, [], ◌∷◌, ◌++◌, drop, get_or, length, take, subst, sym, ap, refl, ◌∙◌, eq-eqb, eqb, arith}
+use Rattle.std.specs.Prelude.{count_by}
+use Rattle.std.specs.List.{AllByRecursion, IsDistinct, list_all}
+use Rattle.std.specs.Set.{is_member}
+use Rattle.std.proofs.lemmas.Bool.{and_parts, eqb-true, false_from_ne_true, false≢true}
+use Rattle.std.proofs.lemmas.Bool.Decides.{Decides-eqb, nat_tests}
+use Rattle.std.proofs.lemmas.Cmp.{nat_eq_equiv}
+use Rattle.std.proofs.lemmas.List.{take-append-drop, take_more}
+use Rattle.std.proofs.lemmas.List.Sums.{count_by_more_yes}
+use Rattle.std.proofs.lemmas.Map.Made.{AllPairs-from_IsDistinct, IsDistinct-from_count, distinct_count-from_IsDistinct, length-from_keys}
+use Rattle.std.specs.Set.{distinct_count}
+use Rattle.ble_cluster.specs.Nets.{IsOnce, distinct, has}
+use Rattle.ble_cluster.specs.Bles.{LogicElement}
+use Rattle.ble_cluster.proofs.Outside.{has-distinct, once-distinct, once-push}
+use Rattle.implements.specs.Holding.{receives}
+use Rattle.implements.proofs.Between.{same_truth}
+use Rattle.implements.proofs.Members.{from_all, from_has}
+use Rattle.implements.proofs.Unique.{count-append, some_counted}
+use Rattle.layout_check.specs.declared.fault.ReadFault.{ReadFault}
+use Rattle.layout_check.specs.declared.fault.ReadFault.TheVariants.{Lacks, Extra, Twice}
+use Rattle.layout_check.specs.HoldFaults.{IsReadFault}
+use Rattle.layout_check.proofs.OneDriver.{once_counted}
+
+apart : (net : ℕ) (nets : List ℕ) → has nets net ≡ false → AllByRecursion (λ other. eqb net other ≡ false) nets
+apart net [] h = tt
+apart net (other ∷ nets) h = (grind (arith, nat_tests, h), apart net nets (grind (arith, h)))
+
+once_distinct : (nets : List ℕ) → IsOnce nets → IsDistinct eqb nets
+unfolding IsDistinct
+once_distinct [] once = tt
+once_distinct (net ∷ nets) once = (apart net nets once.0, once_distinct nets once.1)
+
+member_has : (nets : List ℕ) (net : ℕ) → is_member eqb nets net ≡ has nets net
+member_has [] net = refl
+member_has (other ∷ nets) net = let rest = member_has nets net in grind (arith, nat_tests, rest)
+
+-- how many nets there are, if the inputs have the same
+counted : (inputs nets : List ℕ) → list_all (has nets) inputs ≡ true → list_all (has inputs) nets ≡ true → length (distinct nets) ≡ distinct_count eqb inputs
+counted inputs nets all also = length-from_keys nat_eq_equiv (distinct nets) inputs (once_distinct (distinct nets) (once-distinct nets)) (λ q.
+    member_has (distinct nets) q ∙ has-distinct nets q
+    ∙ same_truth (has nets q) (has inputs q) (λ is. from_all (has inputs) nets q also (from_has nets q is)) (λ is. from_all (has nets) inputs q all (from_has inputs q is))
+    ∙ sym (member_has inputs q))
+
+pub received : (element : LogicElement) (nets : List ℕ) → list_all (has element.inputs) nets ≡ true → list_all (has nets) element.inputs ≡ true → IsOnce element.inputs → receives element nets ≡ true
+received element nets also all once =
+    let long : length element.inputs ≡ length (distinct nets) =
+    sym (distinct_count-from_IsDistinct nat_eq_equiv element.inputs (once_distinct element.inputs once)) ∙ sym (counted element.inputs nets all also) in
+    let is : (length element.inputs == length (distinct nets)) ≡ true = eq-eqb (length element.inputs) (length (distinct nets)) long in
+    ap (λ b. b && (list_all (has nets) element.inputs && list_all (has element.inputs) nets)) is ∙ ap (λ b. b && list_all (has element.inputs) nets) all ∙ also
+
+pub read_refuted : (element : LogicElement) (nets : List ℕ) (fault : ReadFault) → IsReadFault element nets fault → receives element nets ≡ true → ⊥
+read_refuted element nets fault said is = by fault said
+  where
+    long : (length element.inputs == length (distinct nets)) ≡ true
+    long = (and_parts (length element.inputs == length (distinct nets)) _ is).0
+
+    all : list_all (has nets) element.inputs ≡ true
+    all = (and_parts (list_all (has nets) element.inputs) _ (and_parts (length element.inputs == length (distinct nets)) _ is).1).0
+
+    also : list_all (has element.inputs) nets ≡ true
+    also = (and_parts (list_all (has nets) element.inputs) _ (and_parts (length element.inputs == length (distinct nets)) _ is).1).1
+
+    few : (net : ℕ) → count_by (λ input. input == net) element.inputs ≤ 1
+    few net =
+        let same : distinct_count eqb element.inputs ≡ length element.inputs = sym (counted element.inputs nets all also) ∙ sym (eqb-true (length element.inputs) (length (distinct nets)) long) in
+        once_counted element.inputs net (AllPairs-from_IsDistinct Decides-eqb element.inputs (IsDistinct-from_count nat_eq_equiv element.inputs same))
+
+    by : (fault : ReadFault) → IsReadFault element nets fault → ⊥
+    by (Lacks net) (c, none) = false≢true (sym none ∙ from_all (has element.inputs) nets net also c)
+    by (Extra net) (c, none) = false≢true (sym none ∙ from_all (has nets) element.inputs net all c)
+    by (Twice net) two = let once = few net in omega (arith, once, two)
+
+pub never_received : (element : LogicElement) (nets : List ℕ) (fault : ReadFault) → IsReadFault element nets fault → receives element nets ≡ false
+never_received element nets fault said = false_from_ne_true (receives element nets) (read_refuted element nets fault said)
+
+-- the same over a copy of the inputs
+pub received_told : (element : LogicElement) (nets inputs : List ℕ) → inputs ≡ element.inputs → list_all (has inputs) nets ≡ true → list_all (has nets) inputs ≡ true → IsOnce inputs → receives element nets ≡ true
+received_told element nets inputs same also all once =
+    received element nets (subst (λ xs. list_all (has xs) nets ≡ true) same also) (subst (λ xs. list_all (has nets) xs ≡ true) same all) (subst IsOnce same once)
+
+-- a net that is one of those before it
+pub repeated : (nets : List ℕ) (place : ℕ) → place < length nets → has (take place nets) (get_or nets place 0) ≡ true → 1 < count_by (λ other. other == get_or nets place 0) nets
+repeated nets place small is =
+    let net = get_or nets place 0 in
+    let test : ℕ → Bool = λ other. other == net in
+    let before = some_counted test (take place nets) net (from_has (take place nets) net is) (eq-eqb net net refl) in
+    let more = count_by_more_yes test nets place 0 small (eq-eqb net net refl) in
+    let all = count-append test (take (place + 1) nets) (drop (place + 1) nets) in
+    let whole : count_by test (take (place + 1) nets ++ drop (place + 1) nets) ≡ count_by test nets = ap (count_by test) (take-append-drop (place + 1) nets) in
+    omega (arith, before, more, all, whole)
+
+pub once_more : (nets : List ℕ) (place : ℕ) → place < length nets → IsOnce (take place nets) → has (take place nets) (get_or nets place 0) ≡ false → IsOnce (take (place + 1) nets)
+once_more nets place small once new = subst IsOnce (sym (take_more nets place 0 small)) (once-push (take place nets) (get_or nets place 0) once new)

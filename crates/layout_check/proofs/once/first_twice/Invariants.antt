@@ -1,0 +1,6 @@
+use Rattle.std.proofs.Common.{length}
+use Rattle.layout_check.proofs.HeldOnce.{ArePlacesUpTo}
+use Rattle.layout_check.proofs.once.first_twice.Given as goal
+
+abbrev pub invariant-loop-place : goal.invariant-loop-place
+invariant-loop-place l = ArePlacesUpTo l.numbers (length l.initial.places.items) l.place l.places.items

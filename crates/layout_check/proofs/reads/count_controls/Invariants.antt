@@ -1,0 +1,8 @@
+use Rattle.std.proofs.Common.{take}
+use Rattle.std.specs.List.{flat_map}
+use Rattle.std.specs.Option.{option_to_list}
+use Rattle.layout_check.specs.NetOwners.{CountsOn}
+use Rattle.layout_check.proofs.reads.count_controls.Given as goal
+
+abbrev pub invariant-loop-latch : goal.invariant-loop-latch
+invariant-loop-latch l = CountsOn l.initial.counts.items (flat_map (λ latch. option_to_list latch.control) (take l.latch-index l.latches)) l.counts.items

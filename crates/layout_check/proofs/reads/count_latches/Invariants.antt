@@ -1,0 +1,6 @@
+use Rattle.std.proofs.Common.{map, take}
+use Rattle.layout_check.specs.NetOwners.{CountsOn}
+use Rattle.layout_check.proofs.reads.count_latches.Given as goal
+
+abbrev pub invariant-loop-latch : goal.invariant-loop-latch
+invariant-loop-latch l = CountsOn l.initial.counts.items (map (λ latch. latch.input) (take l.latch-index l.latches)) l.counts.items
