@@ -1,0 +1,11 @@
+-- The size of a strip and of its channels.
+use Rattle.std.specs.Prelude.{ℕ, ◌≡◌, ◌≤◌}
+use Rattle.layout_verdict.specs.declared.shape.StripShape.{StripShape}
+
+-- the numbers are within the service's limits
+abbrev pub AreLawful : ℕ → ℕ → ℕ → Type 0
+AreLawful columns rows tracks = ((1 ≤ columns) × (columns ≤ 256)) × ((1 ≤ rows) × (rows ≤ 64)) × ((1 ≤ tracks) × (tracks ≤ 64))
+
+-- the shape has these numbers
+abbrev pub Holds : StripShape → ℕ → ℕ → ℕ → Type 0
+Holds shape columns rows tracks = (shape.columns ≡ columns) × (shape.rows ≡ rows) × (shape.tracks ≡ tracks)
