@@ -1,8 +1,14 @@
 //! Where the inputs and clocks of BLEs come from.
+ghost use Rattle.std.specs.Prelude.{◌≡◌, ◌++◌, IfOk, slice_index};
+ghost use Rattle.std.specs.List.{flat_map};
+ghost use Rattle.std.specs.Option.{option_to_list};
+ghost use Rattle.configuration.specs.Configuration.{control_in, signal_for};
+ghost use Rattle.configuration.specs.RoutedPins.{ble_numbers};
+ghost use Rattle.implements.specs.Layouts.{fed, traced};
 
 use crate::pins::{global_number, on_pin, signal_of};
 use arch_file::{Arch, PinClass};
-use configuration::Signal;
+use configuration::{BlePlace, Signal};
 use implements::Feed;
 use layouts::{LaidBle, LaidBlock, Layout};
 use std::alloc::{AllocError, Global};
@@ -14,29 +20,55 @@ pub(crate) fn signal_for(
     laid: &LaidBlock,
     numbers: &[usize],
     feed: Feed,
-) -> Option<Signal> {
+) -> Option<Signal>
+    requires { numbers.now ≡ ble_numbers arch.now layout.now laid.now }
+    ensures { result ≡ signal_for arch.now layout.now laid.now feed }
+{
     match feed {
         Feed::Ble(index) => Some(Signal::FromBle(number_at(numbers, index))),
-        Feed::Pin(pin) => {
-            let net = on_pin(arch, laid, PinClass::Input, pin)?;
-            signal_of(layout, laid, net)
-        }
+        Feed::Pin(pin) => match on_pin(arch, laid, PinClass::Input, pin) {
+            Some(net) => signal_of(layout, laid, net),
+            None => None,
+        },
     }
 }
 
 /// The number at the index; 0 after the last one.
-pub(crate) fn number_at(numbers: &[usize], index: usize) -> usize {
+fn number_at(numbers: &[usize], index: usize) -> usize
+    ensures { result ≡ slice_index numbers.now index }
+{
     match numbers.get(index) {
         Some(number) => *number,
         None => 0,
     }
 }
 
+/// The place of the block's BLE at the index. `numbers` are the places of the block's BLEs.
+pub(crate) fn place_at(laid: &LaidBlock, numbers: &[usize], index: usize) -> BlePlace
+    ensures { result ≡ record {
+      x = laid.now.place.x;
+      y = laid.now.place.y;
+      n = slice_index numbers.now index;
+    } }
+{
+    let place = laid.place();
+    BlePlace {
+        x: place.x,
+        y: place.y,
+        n: number_at(numbers, index),
+    }
+}
+
 /// The net that comes to an input of a BLE.
-fn fed(arch: &Arch, laid: &LaidBlock, feed: Feed) -> Option<u32> {
+fn fed(arch: &Arch, laid: &LaidBlock, feed: Feed) -> Option<u32>
+    ensures { result ≡ fed arch.now laid.now feed }
+{
     match feed {
         Feed::Pin(pin) => on_pin(arch, laid, PinClass::Input, pin),
-        Feed::Ble(index) => Some(laid.bles().get(index)?.name()),
+        Feed::Ble(index) => match laid.bles().get(index) {
+            Some(ble) => Some(ble.name()),
+            None => None,
+        },
     }
 }
 
@@ -46,7 +78,9 @@ pub(crate) fn nets_in(
     arch: &Arch,
     laid: &LaidBlock,
     ble: &LaidBle,
-) -> Result<Vec<u32>, AllocError> {
+) -> Result<Vec<u32>, AllocError>
+    ensures { IfOk result (λ nets. nets.items ≡ (traced arch.now laid.now ble.now).inputs) }
+{
     let mut nets = Vec::new(alloc);
     match add_nets(arch, laid, ble.inputs(), &mut nets) {
         Ok(()) => Ok(nets),
@@ -63,11 +97,22 @@ fn add_nets(
     laid: &LaidBlock,
     feeds: &[Feed],
     nets: &mut Vec<u32>,
-) -> Result<(), AllocError> {
+) -> Result<(), AllocError>
+    ensures { IfOk result (λ _. nets.new.items ≡ nets.old.items
+        ++ flat_map (λ feed. option_to_list (fed arch.now laid.now feed)) feeds.now) }
+{
     for feed in feeds {
-        if let Some(net) = fed(arch, laid, *feed) {
-            nets.push(net)?;
-        }
+        add_net(fed(arch, laid, *feed), nets)?;
+    }
+    Ok(())
+}
+
+/// Appends the net, if there is one.
+fn add_net(net: Option<u32>, nets: &mut Vec<u32>) -> Result<(), AllocError>
+    ensures { IfOk result (λ _. nets.new.items ≡ nets.old.items ++ option_to_list net) }
+{
+    if let Some(net) = net {
+        nets.push(net)?;
     }
     Ok(())
 }
@@ -78,7 +123,21 @@ pub(crate) fn control_in(
     layout: &Layout,
     laid: &LaidBlock,
     ble: &LaidBle,
-) -> Option<usize> {
-    let net = on_pin(arch, laid, PinClass::Clock, ble.clock()?)?;
-    global_number(layout, net)
+) -> Option<usize>
+    ensures { result ≡ control_in arch.now layout.now laid.now ble.now }
+{
+    match clock_of(arch, laid, ble) {
+        Some(net) => global_number(layout, net),
+        None => None,
+    }
+}
+
+/// The net that clocks the BLE.
+fn clock_of(arch: &Arch, laid: &LaidBlock, ble: &LaidBle) -> Option<u32>
+    ensures { result ≡ (traced arch.now laid.now ble.now).clock }
+{
+    match ble.clock() {
+        Some(pin) => on_pin(arch, laid, PinClass::Clock, pin),
+        None => None,
+    }
 }

@@ -1,5 +1,8 @@
 //! The pins that the routes take.
-ghost use Rattle.std.specs.Prelude.{◌≡◌};
+ghost use Rattle.std.specs.Prelude.{◌≡◌, ◌==◌, not, if◌then◌else◌};
+ghost use Rattle.std.specs.List.{prefix_len};
+ghost use Rattle.ble_cluster.specs.Nets.{has};
+ghost use Rattle.configuration.specs.Configuration.{global_number, signal_of};
 ghost use Rattle.configuration.specs.RoutedPins.{node_after, node_before, output_rank, paths_of, pin_in, pin_out};
 ghost use Rattle.implements.specs.Layouts.{on_pin};
 ghost use Rattle.pathfinder.specs.LegalRoutes.{pairs_of, steps_of};
@@ -137,17 +140,35 @@ pub(crate) fn on_pin(arch: &Arch, laid: &LaidBlock, class: PinClass, pin: usize)
 }
 
 /// The number of a net on the global network, if it goes over that.
-pub(crate) fn global_number(layout: &Layout, net: u32) -> Option<usize> {
-    layout.globals().iter().position(|other| *other == net)
+pub(crate) fn global_number(layout: &Layout, net: u32) -> Option<usize>
+    ensures { result ≡ global_number layout.now net }
+{
+    number_of(layout.globals(), net)
+}
+
+/// The index of the first of the nets that is this net.
+fn number_of(nets: &[u32], net: u32) -> Option<usize>
+    ensures { result
+        ≡ (if has nets.now net then Some (prefix_len (λ other. not (other == net)) nets.now)
+        else None) }
+{
+    for (number, other) in nets.iter().enumerate() {
+        if *other == net {
+            return Some(number);
+        }
+    }
+    None
 }
 
 /// What an input with the net of a pin takes.
-pub(crate) fn signal_of(layout: &Layout, laid: &LaidBlock, net: u32) -> Option<Signal> {
+pub(crate) fn signal_of(layout: &Layout, laid: &LaidBlock, net: u32) -> Option<Signal>
+    ensures { result ≡ signal_of layout.now laid.now net }
+{
     match global_number(layout, net) {
         Some(number) => Some(Signal::FromGlobal(number)),
-        None => {
-            let pin = pin_in(layout, laid, net)?;
-            Some(Signal::FromPin(pin.n as usize))
-        }
+        None => match pin_in(layout, laid, net) {
+            Some(pin) => Some(Signal::FromPin(pin.n as usize)),
+            None => None,
+        },
     }
 }

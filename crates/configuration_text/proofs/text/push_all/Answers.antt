@@ -1,0 +1,22 @@
+use Rattle.std.proofs.Common.{◌∙◌, ◌++◌, ap, List}
+use Rattle.std.specs.List.{flat_map}
+use Rattle.std.proofs.lemmas.Result.{IfOk-weaker}
+use Rattle.configuration.specs.Configuration.{block_lines, configuration_of, global_lines, switch_lines}
+use Rattle.configuration.specs.ConfigurationText.{lines_text}
+use Rattle.configuration.specs.Lines.{Device}
+use Rattle.implements.specs.Layouts.{LaidNet}
+use Rattle.configuration_text.proofs.Texts.{whole_written}
+use Rattle.configuration_text.proofs.text.push_all.Goals as goal
+
+pub returns : goal.returns
+unfolding configuration_of
+returns c =
+    let strip = c.args.design.strip in
+    let arch = c.args.design.arch.now in
+    let layout = c.args.design.layout.now in
+    IfOk-weaker c.push_nets.result _ _
+    (λ _ e. whole_written (Device strip.width strip.rows arch.tracks arch.lut_size) (flat_map (block_lines c.args.design.netlist.now c.args.design.circuit.now c.args.design.arch.now c.args.design.layout.now) layout.blocks) (global_lines arch layout) (flat_map switch_lines layout.nets) c.args.text.now.items
+    c.push_device.new.text.items c.push_blocks.new.text.items c.push_globals.new.text.items c.push_nets.new.text.items
+    c.in_ok-push_device.ensures c.in_ok-push_blocks.ensures c.in_ok-push_globals.ensures
+    (e ∙ ap (λ (nets : List LaidNet). c.push_globals.new.text.items ++ lines_text (flat_map switch_lines nets)) c.nets.ensures))
+    c.push_nets.ensures

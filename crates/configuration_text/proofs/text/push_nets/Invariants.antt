@@ -1,0 +1,8 @@
+use Rattle.std.proofs.Common.{◌≡◌, ◌++◌, drop}
+use Rattle.std.specs.List.{flat_map}
+use Rattle.configuration.specs.Configuration.{switch_lines}
+use Rattle.configuration.specs.ConfigurationText.{lines_text}
+use Rattle.configuration_text.proofs.text.push_nets.Given as goal
+
+abbrev pub invariant-loop-between : goal.invariant-loop-between
+invariant-loop-between l = l.text.items ++ lines_text (flat_map switch_lines (drop l.between-index l.nets)) ≡ l.initial.text.items ++ lines_text (flat_map switch_lines l.nets)
