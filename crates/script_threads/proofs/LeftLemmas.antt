@@ -28,6 +28,7 @@ use Rattle.sessions.proofs.StepLemmas.{Run-append}
 use Rattle.shared_core.specs.Reaching.{is_of_threads, own_receipt, own_receipts}
 use Rattle.shared_core.proofs.Reaching.{IsOfThreads, run_goes_on}
 use Rattle.script_threads.specs.Left.{HaveMadeSteps, IsEnded, IsJobOf, MakesSteps, MakesStepsOf}
+use Rattle.script_threads.proofs.TurnLemmas.{none_asked}
 
 -- a job that is taken is its tenancy's
 next_own : (slot : SlotState) (o : Option Sources) (s : JobStep) → option_map (λ sources. record { id = slot.id; generation = slot.state.generation; number = slot.state.steps + 1; sources = sources }) o ≡ Some s → s.id ≡ slot.id
@@ -237,7 +238,7 @@ all_made graph old new n all done = record {
   calls = done.calls;
   run = done.run;
   kinds = done.kinds;
-  none_served = done.none_served;
+  none_asked = λ id. none_asked id done.calls done.kinds (done.none_served id);
   ended = λ own id. by_id own id (nat_le id n) refl;
 }
   where

@@ -1,3 +1,4 @@
+mod AskedLemmas
 mod CrowdLemmas
 mod FinishLemmas
 mod LineLemmas
@@ -9,3 +10,4 @@ mod RefusalLemmas
 mod SeatLemmas
 mod ServeLemmas
 pub mod OneRunLemmas
+pub mod TurnLemmas

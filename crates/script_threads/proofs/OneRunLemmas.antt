@@ -7,14 +7,14 @@ use Rattle.service_core.specs.declared.device.Device.{Device}
 use Rattle.service_core.specs.Run.{Call, Run}
 use Rattle.service_core.specs.Service.{ServiceState, empty}
 use Rattle.service_core.proofs.Alone.{each_alone, is_book, own_journals}
-use Rattle.service_core.proofs.Effects.{run_device}
+use Rattle.service_core.proofs.Effects.{Kept, run_device, run_keeps}
+use Rattle.service_core.proofs.Keeps.{IsService-empty}
 use Rattle.service_core.proofs.Owning.{one_owner}
 use Rattle.service_core.proofs.Parted.{are_parted}
 use Rattle.sessions.specs.Fitting.{own_graph}
 use Rattle.sessions.proofs.StepLemmas.{Run-append}
 use Rattle.shared_core.specs.Following.{Follows, Stays}
 use Rattle.shared_core.specs.Reaching.{own_receipts}
-use Rattle.shared_core.proofs.Reaching.{run_goes_on}
 use Rattle.settling.proofs.AllCalls.{Stands, own_stand}
 use Rattle.transcripts.specs.declared.item.Place.{Place}
 use Rattle.operator.specs.HeldJobs.{give_backs}
@@ -25,7 +25,9 @@ use Rattle.script_text.specs.Threaded.{Parts as Script}
 use Rattle.script_threads.specs.Lines.{AreServed, Serves, stage, with_give_backs}
 use Rattle.script_threads.specs.OneRun.{IsOneRun, calls_of}
 use Rattle.script_threads.specs.Left.{IsEnded}
-use Rattle.script_threads.specs.Served.{Conversation, IsAnswered, IsServedFrom, Told, receipts_told}
+use Rattle.script_threads.specs.Served.{Conversation, IsAnswered, IsServedFrom, Told}
+use Rattle.script_threads.specs.Turns.{receipts_told}
+use Rattle.script_threads.proofs.TurnLemmas.{IsFullFrom, IsTurn, full_from, served_told, turns_go_on, without_refused}
 
 lines_run : (old : Stage) (lines : List (OperatorLine (List ℕ))) (calls : List Call) (text : List ℕ) (new : Stage) → AreServed old lines calls text new → Run old.service calls new.service
 lines_run old [] calls text new is =
@@ -62,19 +64,33 @@ is_one_run device script sections text is =
     }
 
 pub goes_on : (graph : Basis) (start : ServiceState) (script : Script) (sections : List Told) (text : List ℕ) (is : IsServedFrom graph start script sections text) → Follows is.service is.settled × Stays is.service is.settled
-goes_on graph start script sections text is = run_goes_on is.service is.ran.calls is.settled is.ran.kinds is.ran.run
+goes_on graph start script sections text is = turns_go_on is.service is.ran.calls is.settled is.ran.kinds is.ran.run
 
 abbrev Confirmed : ServiceState → ℕ → Option (List (Option Place)) → Type 0
 Confirmed s id told = IfSome told (λ answers. All (Stands s id) (receipts_told answers))
 
-one_stands : (calls : List Call) (s : ServiceState) (c : Conversation) (told : Option (List (Option Place))) → All (Stands s c.id) (own_receipts c.id calls) → IfSome told (IsAnswered calls s c) → Confirmed s c.id told
+one_stands : (calls : List Call) (s : ServiceState) (c : Conversation) (told : Option (List (Option Place))) → All (Stands s c.id) (own_receipts c.id calls) → IfSome told (IsAnswered calls c) → Confirmed s c.id told
 one_stands calls s c None own is = tt
-one_stands calls s c (Some answers) own is = subst (All (Stands s c.id)) is.served own
+one_stands calls s c (Some answers) own is = subst (All (Stands s c.id)) (served_told calls c answers is) own
 
 pub stand : (graph : Basis) (start : ServiceState) (script : Script) (sections : List Told) (text : List ℕ) (is : IsServedFrom graph start script sections text) → All (λ (c : Conversation). Confirmed is.settled c.id c.told) is.ran.conversations
 stand graph start script sections text is =
-    All-weaker (λ (c : Conversation). IfSome c.told (IsAnswered is.ran.calls is.settled c)) (λ (c : Conversation). Confirmed is.settled c.id c.told)
-    (λ c answered. one_stands is.ran.calls is.settled c c.told (own_stand is.service is.ran.calls is.settled c.id is.ran.kinds is.ran.run) answered) is.ran.conversations is.ran.answered
+    let serving = without_refused is.service is.ran.calls is.settled is.ran.kinds is.ran.run in
+    let own : (id : ℕ) → All (Stands is.settled id) (own_receipts id is.ran.calls) = λ id. subst (All (Stands is.settled id)) (serving.receipts id) (own_stand is.service serving.served is.settled id serving.kinds serving.run) in
+    All-weaker (λ (c : Conversation). IfSome c.told (IsAnswered is.ran.calls c)) (λ (c : Conversation). Confirmed is.settled c.id c.told) (λ c answered. one_stands is.ran.calls is.settled c c.told (own c.id) answered) is.ran.conversations is.ran.answered
+
+-- each command that is refused
+abbrev AreFullFrom : ServiceState → Conversation → Type 0
+AreFullFrom service c = IfSome c.told (IsFullFrom service c.id)
+
+one_full : (begun : ServiceState) (calls : List Call) (service : ServiceState) (c : Conversation) (told : Option (List (Option Place))) → Kept begun → All IsTurn calls → Run begun calls service → IfSome told (IsAnswered calls c) → IfSome told (IsFullFrom service c.id)
+one_full begun calls service c None kept kinds run is = tt
+one_full begun calls service c (Some told) kept kinds run is = full_from begun calls service c told kept kinds run is
+
+pub all_full : (device : Device) (script : Script) (sections : List Told) (text : List ℕ) (is : IsServedFrom (own_graph device) (empty device) script sections text) → All (AreFullFrom is.settled) is.ran.conversations
+all_full device script sections text is =
+    let kept : Kept is.service = run_keeps (empty device) (with_give_backs is.ahead.calls is.ahead.last) is.service (serves_run _ _ _ _ _ _ _ is.ahead) (IsService-empty device) in
+    All-weaker (λ (c : Conversation). IfSome c.told (IsAnswered is.ran.calls c)) (AreFullFrom is.settled) (λ c answered. one_full is.service is.ran.calls is.settled c c.told kept is.ran.kinds is.ran.run answered) is.ran.conversations is.ran.answered
 
 pub none_left : (device : Device) (script : Script) (sections : List Told) (text : List ℕ) (is : IsServedFrom (own_graph device) (empty device) script sections text) (id : ℕ) → IsEnded is.rested is.left.calls id
 none_left device script sections text is id =

@@ -1,31 +1,33 @@
 -- The answers of the sessions, by their conversations.
-use Rattle.std.proofs.Common.{◌≡◌, ◌≢◌, ℕ, zero, suc, List, [], ◌∷◌, ◌++◌, length, map, true, false, eqb, Option, Some, None, refl, sym, ap, ◌∙◌, subst, arith, append_assoc, append-nil}
+use Rattle.std.proofs.Common.{◌≡◌, ◌≢◌, ◌<◌, get_or, ℕ, zero, suc, List, [], ◌∷◌, ◌++◌, length, map, true, false, eqb, Option, Some, None, refl, sym, ap, ◌∙◌, subst, arith, append_assoc, append-nil}
 use Rattle.std.specs.Prelude.{All, AllPairs, IfSome, is_some}
 use Rattle.std.specs.List.{AllZip, cons_option, filter_map}
 use Rattle.std.proofs.lemmas.Bool.Decides.{nat_tests}
 use Rattle.std.proofs.lemmas.List.{map_push}
-use Rattle.std.proofs.lemmas.List.Elements.{All-cons, All-head, All-map, All-nil, All-tail, filter_map-append}
+use Rattle.std.proofs.lemmas.List.Elements.{All-append, All-cons, All-head, All-map, All-nil, All-tail, All-weaker, filter_map-append}
 use Rattle.std.proofs.lemmas.List.Kept.{AllPairs-cons}
-use Rattle.service_core.specs.declared.not_served.NoteCause.TheVariants.{JournalFull}
 use Rattle.service_core.specs.History.{History}
-use Rattle.service_core.specs.Receipt.{Noted}
-use Rattle.service_core.specs.Run.{Call}
-use Rattle.service_core.specs.Service.{ServiceState, journal_of, live_of}
+use Rattle.service_core.specs.Run.{Call, Run}
+use Rattle.service_core.specs.Service.{ServiceState, live_of}
 use Rattle.sessions.specs.declared.line.SessionLine.{SessionLine}
+use Rattle.sessions.specs.Items.{items_of}
+use Rattle.sessions.proofs.StepLemmas.{Run-append}
 use Rattle.shared_core.specs.Reaching.{own_receipts}
+use Rattle.shared_core.proofs.Reaching.{IsOfThreads, run_goes_on}
 use Rattle.settling.specs.Settling.{has_id}
 use Rattle.session_threads.specs.Told.{AreTold, noted_all, IsTold as IsToldTo}
 use Rattle.transcripts.specs.declared.item.Item.{Item}
 use Rattle.transcripts.specs.declared.item.Place.{Place}
-use Rattle.transcripts.specs.declared.item.Place.TheVariants.{Note}
 use Rattle.session_threads.specs.WholeSession.{fresh}
 use Rattle.transcripts.specs.Transcripts.{TranscriptState, receipt_in, receipts_of, with_no_memory}
 use Rattle.operator.specs.OperatorText.{last_id}
 use Rattle.script_text.specs.Threaded.{Said}
 use Rattle.script_threads.specs.Refusals.{NoneLate, served_late}
-use Rattle.script_threads.proofs.RefusalLemmas.{at_split, none_behind}
+use Rattle.script_threads.specs.Turns.{own_answer, own_answers, receipts_told, told_answers}
+use Rattle.script_threads.proofs.AskedLemmas.{Answer, IsFullNote, IsIdle, all_places, are_answers, are_idle, idle_run, kind_turn, none_late, notes_of, of_receipt, other_notes, own_notes, own_served, parted, places, receipt_by, receipts_are, refused_calls}
+use Rattle.script_threads.proofs.TurnLemmas.{IsTurn}
 use Rattle.script_threads.specs.Parts.{AreFullNotes, Finishes, part_told}
-use Rattle.script_threads.specs.Served.{Conversation, IsAnswered, Ran, Told, receipts_told, told_in}
+use Rattle.script_threads.specs.Served.{Conversation, IsAnswered, Ran, Told, told_in}
 use Rattle.script_threads.specs.Sessions.{Asked, IsTold, IsToldBy, PartState, asked_in, asked_of, transcripts_of}
 
 -- a part as a conversation
@@ -97,9 +99,6 @@ all_of names hs (p ∷ ps) (s ∷ ss) all same =
     (ap (λ x. x ∷ map (λ (c : Conversation). c.said) (conversations ps (All-tail IsTold p ps all))) one.0 ∙ ap (λ xs. s ∷ xs) rest.0, All-cons (IsOf names hs) c (conversations ps (All-tail IsTold p ps all)) one.1 rest.1)
 
 -- the places of a transcript that has these answers
-abbrev places : List (Option Place) → List Place
-places told = filter_map (λ x. x) told
-
 places_noted : (t : TranscriptState) (told : List (Option Place)) → map (λ (i : Item). i.place) (noted_all t told).items ≡ map (λ (i : Item). i.place) t.items ++ places told
 places_noted t [] = sym (append-nil (map (λ (i : Item). i.place) t.items))
 places_noted t (None ∷ told) = places_noted (with_no_memory t) told
@@ -121,25 +120,18 @@ receipts_among [] = refl
 receipts_among (None ∷ told) = receipts_among told
 receipts_among (Some place ∷ told) = ap (cons_option (receipt_in place)) (receipts_among told)
 
--- what holds for all places of the items holds for those of the answers
-among : (P : Place → Type 0) (told : List (Option Place)) → All P (places told) → All (λ t. (place : Place) → t ≡ Some place → P place) told
-among P [] all = All-nil (λ (t : Option Place). (place : Place) → t ≡ Some place → P place)
-among P (None ∷ told) all = All-cons (λ (t : Option Place). (place : Place) → t ≡ Some place → P place) None told (λ place none. cc) (among P told all)
-among P (Some x ∷ told) all =
-    All-cons (λ (t : Option Place). (place : Place) → t ≡ Some place → P place) (Some x) told (λ place same. let e : x ≡ place = cc in subst P e (All-head P x (places told) all)) (among P told (All-tail P x (places told) all))
-
 -- a conversation has the answers that its transcript has
-abbrev FullNote : ServiceState → ℕ → Place → Type 0
-FullNote service id place = (n : Noted) → place ≡ Note n → (n.cause ≡ JournalFull) × (length (journal_of service id) ≡ 65536)
-
-abbrev Says : ServiceState → ℕ → Option Place → Type 0
-Says service id x = (place : Place) → x ≡ Some place → FullNote service id place
+record IsNoted (calls : List Call) (service : ServiceState) (c : Conversation) (told : List (Option Place)) : Type 0 where
+  each : AllZip (IsToldTo c.id) (items_of c.said.input) told
+  served : own_receipts c.id calls ≡ receipts_told told
+  notes : All (IsFullNote service c.id) (places told)
+  late : served_late false (places told) ≡ false
 
 abbrev Served : List Call → TranscriptState → Type 0
 Served calls t = own_receipts t.id calls ≡ receipts_of t.items
 
 abbrev Answers : List Call → ServiceState → Conversation → Type 0
-Answers calls service c = IfSome c.told (IsAnswered calls service c)
+Answers calls service c = IfSome c.told (IsNoted calls service c)
 
 to_zip : (id : ℕ) (items : List SessionLine) (told : List (Option Place)) → AreTold id items told → AllZip (IsToldTo id) items told
 to_zip id [] [] are = tt
@@ -154,12 +146,8 @@ one_answered calls service p (Some t) is ts served full late = (
   record {
     each = to_zip p.id _ is.told is.asked;
     served = ap (λ i. own_receipts i calls) (sym id) ∙ (All-head (Served calls) t ts served ∙ receipts);
-    full = λ before after n same.
-        let there : All (Says service p.id) (before ++ Some (Note n) ∷ after) = subst (All (Says service p.id)) same says in
-        let its = at_split (Says service p.id) before (Some (Note n)) after there (Note n) refl n refl in
-        let whole : places is.told ≡ places before ++ Note n ∷ places after = ap places same ∙ filter_map-append (λ (x : Option Place). x) before (Some (Note n) ∷ after) in
-        let rest : filter_map receipt_in (places after) ≡ [] = none_behind false (places before) n (places after) (ap (served_late false) (sym whole) ∙ none_late) in
-        (its.0, its.1, sym (receipts_among after) ∙ rest);
+    notes = notes;
+    late = none_late_told;
   },
   All-tail (Served calls) t ts served,
   All-tail (AreFullNotes service) t ts full,
@@ -178,17 +166,14 @@ one_answered calls service p (Some t) is ts served full late = (
     receipts : receipts_of t.items ≡ receipts_told is.told
     receipts = receipts_in t.items ∙ (ap (filter_map receipt_in) there ∙ receipts_among is.told)
 
-    none_late : served_late false (places is.told) ≡ false
-    none_late = ap (served_late false) (sym there) ∙ All-head NoneLate t ts late
+    none_late_told : served_late false (places is.told) ≡ false
+    none_late_told = ap (served_late false) (sym there) ∙ All-head NoneLate t ts late
 
-    notes : All (FullNote service p.id) (places is.told)
+    notes : All (IsFullNote service p.id) (places is.told)
     notes =
-        let own : All (λ (i : Item). FullNote service t.id i.place) t.items = All-head (AreFullNotes service) t ts full in
-        let all : All (FullNote service t.id) (places is.told) = subst (All (FullNote service t.id)) there (All-map (FullNote service t.id) (λ (i : Item). i.place) t.items own) in
+        let own : All (λ (i : Item). IsFullNote service t.id i.place) t.items = All-head (AreFullNotes service) t ts full in
+        let all : All (IsFullNote service t.id) (places is.told) = subst (All (IsFullNote service t.id)) there (All-map (IsFullNote service t.id) (λ (i : Item). i.place) t.items own) in
         rw id at all
-
-    says : All (Says service p.id) is.told
-    says = among (FullNote service p.id) is.told notes
 
 all_answered : (calls : List Call) (service : ServiceState) (ps : List PartState) (all : All IsTold ps) → All (Served calls) (transcripts_of ps) → All (AreFullNotes service) (transcripts_of ps) → All NoneLate (transcripts_of ps) → All (Answers calls service) (conversations ps all)
 all_answered calls service [] all served full late = All-nil (Answers calls service)
@@ -252,20 +237,113 @@ all_absent id (p ∷ ps) all other =
     let more = conversations ps (All-tail IsTold p ps all) in
     one_absent id p p.transcript (All-head IsTold p ps all) (transcripts_of ps) (All-head (IsNotOf id) c more other) (all_absent id ps (All-tail IsTold p ps all) (All-tail (IsNotOf id) c more other))
 
+-- the commands that were refused, as turns after all others
+abbrev refusals_of : ℕ → List SessionLine → Option (List (Option Place)) → List Call
+refusals_of id items None = []
+refusals_of id items (Some told) = refused_calls id (told_answers items told)
+
+abbrev refusals : List Conversation → List Call
+refusals [] = []
+refusals (c ∷ cs) = refusals_of c.id (items_of c.said.input) c.told ++ refusals cs
+
+abbrev IsLiveIn : ServiceState → Conversation → Type 0
+IsLiveIn service c = is_some c.told ≡ true → is_some (live_of service.histories c.id) ≡ true
+
+one_idle : (calls : List Call) (service : ServiceState) (c : Conversation) (o : Option (List (Option Place))) → (is_some o ≡ true → is_some (live_of service.histories c.id) ≡ true) → IfSome o (IsNoted calls service c) →
+    All (IsIdle service) (refusals_of c.id (items_of c.said.input) o)
+one_idle calls service c None live is = All-nil (IsIdle service)
+one_idle calls service c (Some told) live is =
+    let items : List SessionLine = items_of c.said.input in
+    are_idle service c.id (told_answers items told) (live refl) (are_answers c.id items told is.each) (all_places (IsFullNote service c.id) items told is.notes)
+
+all_idle : (calls : List Call) (service : ServiceState) (cs : List Conversation) → All (IsLiveIn service) cs → All (Answers calls service) cs → All (IsIdle service) (refusals cs)
+all_idle calls service [] live all = All-nil (IsIdle service)
+all_idle calls service (c ∷ cs) live all =
+    All-append (IsIdle service) (refusals_of c.id (items_of c.said.input) c.told) (refusals cs) (one_idle calls service c c.told (All-head (IsLiveIn service) c cs live) (All-head (Answers calls service) c cs all))
+    (all_idle calls service cs (All-tail (IsLiveIn service) c cs live) (All-tail (Answers calls service) c cs all))
+
+-- each conversation has its own among them
+one_none : (id : ℕ) (c : Conversation) (o : Option (List (Option Place))) → (is_some o ≡ true → c.id ≢ id) → own_answers id (refusals_of c.id (items_of c.said.input) o) ≡ []
+one_none id c None differ = refl
+one_none id c (Some told) differ = other_notes id c.id (λ same. differ refl (sym same)) (told_answers (items_of c.said.input) told)
+
+all_none : (id : ℕ) (cs : List Conversation) → All (IsNotOf id) cs → own_answers id (refusals cs) ≡ []
+all_none id [] other = refl
+all_none id (c ∷ cs) other =
+    let first : List Call = refusals_of c.id (items_of c.said.input) c.told in
+    filter_map-append (own_answer id) first (refusals cs) ∙ (ap (λ xs. xs ++ own_answers id (refusals cs)) (one_none id c c.told (All-head (IsNotOf id) c cs other)) ∙ all_none id cs (All-tail (IsNotOf id) c cs other))
+
+abbrev HasOwn : List Call → Conversation → Type 0
+HasOwn calls c = (told : List (Option Place)) → c.told ≡ Some told → own_answers c.id calls ≡ notes_of (told_answers (items_of c.said.input) told)
+
+its_own : (id : ℕ) (items : List SessionLine) (o : Option (List (Option Place))) (told : List (Option Place)) → o ≡ Some told → own_answers id (refusals_of id items o) ≡ notes_of (told_answers items told)
+its_own id items None told is = cc
+its_own id items (Some x) told is = let same : x ≡ told = cc in own_notes id (told_answers items x) ∙ ap (λ t. notes_of (told_answers items t)) same
+
+abbrev first_of : Conversation → List Call
+first_of c = refusals_of c.id (items_of c.said.input) c.told
+
+abbrev AreOthers : Conversation → List Conversation → Type 0
+AreOthers c cs = (k : ℕ) (d : Conversation) → k < length cs → AreOther c (get_or cs k d)
+
+own_first : (c : Conversation) (cs : List Conversation) → AreOthers c cs → HasOwn (refusals (c ∷ cs)) c
+own_first c cs others = λ told is.
+    let live : is_some c.told ≡ true = ap is_some is in
+    let none : own_answers c.id (refusals cs) ≡ [] = all_none c.id cs (λ k d within some same. others k d within live some (sym same)) in
+    filter_map-append (own_answer c.id) (first_of c) (refusals cs) ∙ (ap (λ xs. own_answers c.id (first_of c) ++ xs) none ∙ (append-nil (own_answers c.id (first_of c)) ∙ its_own c.id (items_of c.said.input) c.told told is))
+
+own_later : (c : Conversation) (cs : List Conversation) → AreOthers c cs → All (HasOwn (refusals cs)) cs → All (HasOwn (refusals (c ∷ cs))) cs
+own_later c cs others rest = λ k d within told is.
+    let e : Conversation = get_or cs k d in
+    let none : own_answers e.id (first_of c) ≡ [] = one_none e.id c c.told (λ live. others k d within live (ap is_some is)) in
+    filter_map-append (own_answer e.id) (first_of c) (refusals cs) ∙ (ap (λ xs. xs ++ own_answers e.id (refusals cs)) none ∙ rest k d within told is)
+
+have_own : (cs : List Conversation) → AllPairs AreOther cs → All (HasOwn (refusals cs)) cs
+have_own [] apart = All-nil (HasOwn [])
+have_own (c ∷ cs) apart =
+    let others : AreOthers c cs = λ k d within. apart zero (suc k) d (omega arith) (omega arith) in
+    let rest : All (HasOwn (refusals cs)) cs = have_own cs (λ i j d below within. apart (suc i) (suc j) d (omega arith) (omega arith)) in
+    All-cons (HasOwn (refusals (c ∷ cs))) c cs (own_first c cs others) (own_later c cs others rest)
+
+-- so the answers in all turns are those of the conversation
+one_asked : (begun : ServiceState) (calls : List Call) (service : ServiceState) (more : List Call) (c : Conversation) (o : Option (List (Option Place))) → c.told ≡ o → All IsOfThreads calls → Run begun calls service → HasOwn more c → IfSome o (IsNoted calls service c) →
+    IfSome o (IsAnswered (calls ++ more) c)
+one_asked begun calls service more c None same kinds run own is = tt
+one_asked begun calls service more c (Some told) same kinds run own is =
+    let items : List SessionLine = items_of c.said.input in
+    let answers : List Answer = told_answers items told in
+    let receipts : own_receipts c.id calls ≡ filter_map receipt_by answers = is.served ∙ sym (receipts_are c.id items told is.each) in
+    let first : own_answers c.id calls ≡ map of_receipt (filter_map receipt_by answers) = own_served c.id begun calls service kinds run ∙ ap (map of_receipt) receipts in
+    let whole : answers ≡ map of_receipt (filter_map receipt_by answers) ++ notes_of answers = parted c.id answers (are_answers c.id items told is.each) (none_late c.id false items told is.each is.late) in
+    record {
+      each = is.each;
+      asked = filter_map-append (own_answer c.id) calls more ∙ (ap (λ xs. xs ++ own_answers c.id more) first ∙ (ap (λ xs. map of_receipt (filter_map receipt_by answers) ++ xs) (own told same) ∙ sym whole));
+    }
+
 -- the sessions that have their answers ran
 pub sessions_ran : (names : List (List ℕ)) (begun : ServiceState) (ps : List PartState) (ss : List Said) (sections : List Told) (service : ServiceState) → map asked_in ps ≡ map (asked_of names begun.histories) ss → Finishes begun ps sections service →
     Ran names begun ss sections service
 sessions_ran names begun ps ss sections service asked is =
     let whose = all_of names begun.histories ps ss is.each asked in
+    let cs : List Conversation = conversations ps is.each in
+    let calls : List Call = is.calls.calls in
+    let noted : All (Answers calls service) cs = all_answered calls service ps is.each is.calls.told is.notes is.none_late in
+    let apart : AllPairs AreOther cs = all_apart ps is.each is.apart in
+    let stays = (run_goes_on begun calls service is.calls.kinds is.calls.run).1 in
+    let live : All (IsLiveIn service) cs = λ k d within some. stays.live (get_or cs k d).id ∙ (sym (whose.1 k d within).1 ∙ some) in
+    let idle : All (IsIdle service) (refusals cs) = all_idle calls service cs live noted in
+    let own : All (HasOwn (refusals cs)) cs = have_own cs apart in
     record {
-      conversations = conversations ps is.each;
-      calls = is.calls.calls;
-      run = is.calls.run;
-      kinds = is.calls.kinds;
+      conversations = cs;
+      calls = calls ++ refusals cs;
+      run = Run-append begun calls service (refusals cs) service is.calls.run (idle_run service (refusals cs) idle);
+      kinds = All-append IsTurn calls (refusals cs) (All-weaker IsOfThreads IsTurn kind_turn calls is.calls.kinds) (All-weaker (IsIdle service) IsTurn (λ call i. i.turn) (refusals cs) idle);
       said = whose.0;
       live = whose.1;
-      answered = all_answered is.calls.calls service ps is.each is.calls.told is.notes is.none_late;
-      apart = all_apart ps is.each is.apart;
-      no_other = λ id none. is.calls.no_other id (all_absent id ps is.each none);
+      answered = λ k d within. one_asked begun calls service (refusals cs) (get_or cs k d) (get_or cs k d).told refl is.calls.kinds is.calls.run (own k d within) (noted k d within);
+      apart = apart;
+      no_other = λ id none.
+          let no_receipts : own_receipts id calls ≡ [] = is.calls.no_other id (all_absent id ps is.each none) in
+          filter_map-append (own_answer id) calls (refusals cs) ∙ (ap (λ xs. xs ++ own_answers id (refusals cs)) (own_served id begun calls service is.calls.kinds is.calls.run ∙ ap (map of_receipt) no_receipts) ∙ all_none id cs none);
       sections_are = is.sections_are ∙ all_told ps is.each;
     }

@@ -1,13 +1,7 @@
 -- Receipts after a note.
 use Rattle.std.proofs.Common.{◌≡◌, ◌<◌, ◌+◌, ℕ, zero, suc, List, [], ◌∷◌, ◌++◌, length, get_or, Bool, true, false, refl, sym, ap, ◌∙◌, drop, arith}
-use Rattle.std.specs.Prelude.{All, ◌&&◌, ◌||◌}
-use Rattle.std.specs.List.{filter_map}
-use Rattle.std.proofs.lemmas.List.Elements.{All-head, All-tail}
-use Rattle.service_core.specs.Receipt.{Noted}
+use Rattle.std.specs.Prelude.{◌&&◌, ◌||◌}
 use Rattle.transcripts.specs.declared.item.Item.{Item}
-use Rattle.transcripts.specs.declared.item.Place.{Place}
-use Rattle.transcripts.specs.declared.item.Place.TheVariants.{Receipt, Note, Refused}
-use Rattle.transcripts.specs.Transcripts.{receipt_in}
 use Rattle.script_threads.specs.Refusals.{is_note, is_receipt, places_in, served_late}
 
 -- the items from a place on
@@ -33,23 +27,3 @@ drop-all (x ∷ items) = drop-all items
 
 pub at_end : (items : List Item) (i : ℕ) (refused : Bool) → i ≡ length items → served_late refused (places_in (drop i items)) ≡ false
 at_end items i refused ends = ap (λ n. served_late refused (places_in (drop n items))) ends ∙ ap (λ xs. served_late refused (places_in xs)) (drop-all items)
-
--- no receipt follows a note
-or_false : (a b : Bool) → (a || b) ≡ false → b ≡ false
-or_false true b is = cc
-or_false false b is = is
-
-none_after : (places : List Place) → served_late true places ≡ false → filter_map receipt_in places ≡ []
-none_after [] fine = refl
-none_after (Receipt r ∷ places) fine = cc
-none_after (Note n ∷ places) fine = none_after places fine
-none_after (Refused f ∷ places) fine = none_after places fine
-
-pub none_behind : (refused : Bool) (before : List Place) (n : Noted) (after : List Place) → served_late refused (before ++ Note n ∷ after) ≡ false → filter_map receipt_in after ≡ []
-none_behind refused [] n after fine = none_after after fine
-none_behind refused (place ∷ before) n after fine = none_behind (is_note place || refused) before n after (or_false (is_receipt place && refused) (served_late (is_note place || refused) (before ++ Note n ∷ after)) fine)
-
--- what holds for all holds for one of them
-pub at_split : {A : Type 0} (P : A → Type 0) (before : List A) (x : A) (after : List A) → All P (before ++ x ∷ after) → P x
-at_split P [] x after all = All-head P x after all
-at_split P (y ∷ before) x after all = at_split P before x after (All-tail P y (before ++ x ∷ after) all)

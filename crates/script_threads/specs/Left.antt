@@ -9,14 +9,15 @@ use Rattle.service_core.specs.Run.Call.{Take, Put, GiveBack}
 use Rattle.service_core.specs.Service.{ServiceState, live_of}
 use Rattle.sessions.specs.Fitting.{own_graph}
 use Rattle.shared_core.specs.Reaching.{is_of_threads, own_receipts}
+use Rattle.script_threads.specs.Turns.{own_answers}
 
--- the jobs that are left make their steps, and no command is served. On the device's own graph each
+-- the jobs that are left make their steps, and no command is asked. On the device's own graph each
 -- tenancy has no step to take after that, unless its job was given back since memory ran out
 pub record MakesSteps (graph : Basis) (old new : ServiceState) : Type 0 where
   pub calls : List Call
   pub run : Run old calls new
   pub kinds : All (λ call. is_of_threads call ≡ true) calls
-  pub none_served : (id : ℕ) → own_receipts id calls ≡ []
+  pub none_asked : (id : ℕ) → own_answers id calls ≡ []
   pub ended : graph ≡ own_graph old.device → (id : ℕ) → (takeable_in (live_of new.histories id) ≡ false) ⊎ ((job : JobState) × (job.step.id ≡ id) × Contains calls (GiveBack job))
 
 -- private: a call takes, puts or gives back a job of that tenancy

@@ -6,3 +6,4 @@ pub mod Seats
 pub mod Refusals
 pub mod Served
 pub mod Sessions
+pub mod Turns

@@ -1,20 +1,15 @@
 -- The answers to a script whose sessions run on threads.
-use Rattle.std.specs.Prelude.{ℕ, ◌≡◌, ◌≢◌, List, [], ◌∷◌, ◌++◌, length, map, All, AllPairs, true, Option, Some, IfSome, is_some, option_and_then}
-use Rattle.std.specs.List.{AllZip, filter_map}
+use Rattle.std.specs.Prelude.{ℕ, ◌≡◌, ◌≢◌, List, [], ◌∷◌, ◌++◌, map, All, AllPairs, true, Option, IfSome, is_some}
+use Rattle.std.specs.List.{AllZip}
 use Rattle.std.specs.Option.{option_map_or}
 use Rattle.rr_graph.specs.Graph.{Basis}
 use Rattle.service_core.specs.declared.device.Device.{Device}
-use Rattle.service_core.specs.declared.not_served.NoteCause.TheVariants.{JournalFull}
-use Rattle.service_core.specs.Receipt.{Noted, Receipted}
 use Rattle.service_core.specs.Run.{Call, Run}
-use Rattle.service_core.specs.Service.{ServiceState, empty, journal_of, live_of}
+use Rattle.service_core.specs.Service.{ServiceState, empty, live_of}
 use Rattle.sessions.specs.Fitting.{own_graph}
 use Rattle.sessions.specs.Items.{items_of}
-use Rattle.shared_core.specs.Reaching.{is_of_threads, own_receipts}
 use Rattle.session_threads.specs.Told.{IsTold, told_texts}
 use Rattle.transcripts.specs.declared.item.Place.{Place}
-use Rattle.transcripts.specs.declared.item.Place.TheVariants.{Note}
-use Rattle.transcripts.specs.Transcripts.{receipt_in}
 use Rattle.operator.specs.OperatorText.{last_id}
 use Rattle.script_text.specs.declared.operator_line.OperatorLine.{OperatorLine}
 use Rattle.script_text.specs.Threaded.{Parts as Script, Said}
@@ -23,6 +18,7 @@ use Rattle.script_threads.specs.declared.answered.Section.{Section}
 use Rattle.script_threads.specs.Left.{MakesSteps}
 use Rattle.script_threads.specs.Lines.{Replies, Serves}
 use Rattle.script_threads.specs.Sessions.{evicted_text}
+use Rattle.script_threads.specs.Turns.{is_turn, own_answers, told_answers}
 
 -- a name and the answers to its session
 pub record Told : Type 0 where
@@ -43,30 +39,25 @@ pub record Conversation : Type 0 where
 abbrev pub told_in : Conversation → Told
 told_in c = record { name = c.said.name; text = option_map_or told_texts c.told (evicted_text c.said.input) }
 
--- the receipts among answers
-abbrev pub receipts_told : List (Option Place) → List Receipted
-receipts_told told = filter_map (option_and_then receipt_in) told
-
--- each item has its answer; the commands that are served in the tenancy's name are exactly those of
--- the receipts, in order; and if a command is not served, then the answer says that the journal is
--- full, it is full, and no later command is served
-pub record IsAnswered (calls : List Call) (service : ServiceState) (c : Conversation) (told : List (Option Place)) : Type 0 where
+-- each item has its answer; and the commands that are asked in the tenancy's name, with the answers
+-- to them, are exactly those of the items, in order
+pub record IsAnswered (calls : List Call) (c : Conversation) (told : List (Option Place)) : Type 0 where
   pub each : AllZip (IsTold c.id) (items_of c.said.input) told
-  pub served : own_receipts c.id calls ≡ receipts_told told
-  pub full : (before after : List (Option Place)) (n : Noted) → told ≡ before ++ Some (Note n) ∷ after → (n.cause ≡ JournalFull) × (length (journal_of service c.id) ≡ 65536) × (receipts_told after ≡ [])
+  pub asked : own_answers c.id calls ≡ told_answers (items_of c.said.input) told
 
--- the sessions of live tenancies, each of another tenancy, ran on threads, whose calls led from one
--- service to the other. In these calls no other tenancy's command is served
+-- the sessions of live tenancies, each of another tenancy, ran on threads, whose turns led from one
+-- service to the other. A command is refused only in a turn in which its journal is full. No other
+-- tenancy is asked a command in these turns
 pub record Ran (names : List (List ℕ)) (begun : ServiceState) (sessions : List Said) (sections : List Told) (service : ServiceState) : Type 0 where
   pub conversations : List Conversation
   pub calls : List Call
   pub run : Run begun calls service
-  pub kinds : All (λ call. is_of_threads call ≡ true) calls
+  pub kinds : All (λ call. is_turn call ≡ true) calls
   pub said : map (λ c. c.said) conversations ≡ sessions
   pub live : All (λ c. (c.id ≡ last_id names c.said.name) × (is_some c.told ≡ is_some (live_of begun.histories c.id))) conversations
-  pub answered : All (λ c. IfSome c.told (IsAnswered calls service c)) conversations
+  pub answered : All (λ c. IfSome c.told (IsAnswered calls c)) conversations
   pub apart : AllPairs (λ c d. is_some c.told ≡ true → is_some d.told ≡ true → c.id ≢ d.id) conversations
-  pub no_other : (id : ℕ) → All (λ c. is_some c.told ≡ true → c.id ≢ id) conversations → own_receipts id calls ≡ []
+  pub no_other : (id : ℕ) → All (λ c. is_some c.told ≡ true → c.id ≢ id) conversations → own_answers id calls ≡ []
   pub sections_are : sections ≡ map told_in conversations
 
 -- the operator's lines before the sessions are served from that state of the core, over that graph;

@@ -1,4 +1,4 @@
-ghost use Rattle.std.specs.Prelude.{◌≡◌, ◌⊎◌, ℕ, false, All, IfSome, Some, slice_get};
+ghost use Rattle.std.specs.Prelude.{◌≡◌, ◌⊎◌, ◌++◌, ◌∷◌, [], List, Option, length, ℕ, false, All, IfSome, Some, slice_get};
 ghost use Rattle.std.specs.List.{Contains};
 ghost use Rattle.job_state.specs.Job.{JobState};
 ghost use Rattle.service_core.specs.Calls.{takeable_in};
@@ -9,7 +9,12 @@ ghost use Rattle.settling.specs.Settling.{entry_of};
 ghost use Rattle.script_text.specs.Threaded.{Parts as Script};
 ghost use Rattle.script_threads.specs.declared.answered.Answered.{Answered};
 ghost use Rattle.script_threads.specs.OneRun.{IsOneRun, calls_of};
-ghost use Rattle.script_threads.specs.Served.{IsServedOnThreads, receipts_told};
+ghost use Rattle.script_threads.specs.Served.{IsServedOnThreads};
+ghost use Rattle.script_threads.specs.Turns.{receipts_told};
+ghost use Rattle.service_core.specs.Receipt.{Noted};
+ghost use Rattle.service_core.specs.declared.not_served.NoteCause.TheVariants.{JournalFull};
+ghost use Rattle.transcripts.specs.declared.item.Place.{Place};
+ghost use Rattle.transcripts.specs.declared.item.Place.TheVariants.{Note};
 ghost use Rattle.shared_core.specs.Following.{Follows, Stays};
 
 /// With workers as without, all calls of a script are one run of the core from the empty device on.
@@ -38,6 +43,17 @@ pub fn receipts_stand()
         All (λ c. IfSome c.told (λ told. All (λ r. (r.id ≡ c.id)
         × (slice_get (journal_of is.settled c.id) r.place ≡ Some (entry_of r)))
         (receipts_told told))) is.ran.conversations }
+{}
+
+/// If a command is not served, then the answer says that the journal is full, it is full from then
+/// on, and no later command of the session is served.
+pub fn full_stays()
+    ensures { (device : Device) (script : Script) (answered : Answered)
+        (is : IsServedOnThreads device script answered) →
+        All (λ c. IfSome c.told (λ told. (before after : List (Option Place)) (n : Noted) →
+        told ≡ before ++ Some (Note n) ∷ after → (n.cause ≡ JournalFull)
+        × (length (journal_of is.settled c.id) ≡ 65536) × (receipts_told after ≡ [])))
+        is.ran.conversations }
 {}
 
 /// When the operator's other lines are served, no tenancy has a step to take, unless memory ran out

@@ -22,5 +22,5 @@ mod serving;
 mod workers;
 
 pub use answered::{Answered, Section, Unserved};
-pub use law::{none_is_left, one_run, receipts_stand, threads_go_on};
+pub use law::{full_stays, none_is_left, one_run, receipts_stand, threads_go_on};
 pub use serving::serve_on_threads;

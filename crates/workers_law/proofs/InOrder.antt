@@ -22,6 +22,8 @@ use Rattle.service_core.specs.Receipt.{Receipted}
 use Rattle.service_core.specs.Run.{Call, Run}
 use Rattle.service_core.specs.Run.Call.{Admit, Evict, Move, Tenant, Take, Put, GiveBack, Owners}
 use Rattle.service_core.specs.Service.{ServiceState, empty, live_width, strip_on}
+use Rattle.service_core.proofs.Effects.{Kept, run_keeps}
+use Rattle.service_core.proofs.Keeps.{IsService-empty}
 use Rattle.sessions.specs.declared.line.SessionLine.{SessionLine}
 use Rattle.sessions.specs.declared.line.SessionLine.TheVariants.{Blank, Command, Wait, Refused}
 use Rattle.sessions.specs.declared.steps.StepOutcome.{StepOutcome}
@@ -34,7 +36,8 @@ use Rattle.sessions.specs.Steps.{MadeStep, MakesStep, Waits}
 use Rattle.sessions.specs.WholeSession.{IsOthers, Turn, Turns, Item, Meanwhile, written}
 use Rattle.sessions.proofs.StepLemmas.{Run-append}
 use Rattle.workers_law.specs.Waited.{after_command, begins_job, ended, waited_text, waits_for_each}
-use Rattle.workers_law.specs.Workers.{AreReplied, IsReplied, items_in}
+use Rattle.workers_law.specs.Workers.{AreReplied, items_in}
+use Rattle.workers_law.proofs.Replied.{AreAllReplied, IsReplied, are_replied, first_here}
 use Rattle.workers_law.proofs.Ahead.{NoneAsked, NotAsked, step_none}
 use Rattle.workers_law.proofs.States.{AreAlike, alike-name, ended-rests, status_rests}
 use Rattle.workers_law.proofs.Waiting.{Agree, Exchanges, Shows, agree_steps, agree_stepped, answered, both_hold, free_alike, none_asked_steps, shows_rest}
@@ -133,7 +136,7 @@ no_calls id s calls more none shows = subst (λ cs. Shows s (own_exchanges id (c
 abbrev receipt_of : TenantCommand → Receipted → Receipted
 receipt_of command r = record r { command = command }
 
-pub turns_text : (id : ℕ) (turns : List Turn) (s t : State) (begun : Bool) (old new : ServiceState) → Turns id old turns new → AreReplied turns → waits_for_each begun (items_in turns) ≡ true → Agree begun s t →
+pub turns_text : (id : ℕ) (turns : List Turn) (s t : State) (begun : Bool) (old new : ServiceState) → Turns id old turns new → AreAllReplied turns → waits_for_each begun (items_in turns) ≡ true → Agree begun s t →
     Shows s (own_exchanges id (calls_in turns)) → written turns ≡ waited_text t (items_in turns)
 turns_text id [] s t begun old new is replied waits agree shows = refl
 turns_text id (Meanwhile call ∷ turns) s t begun old new is replied waits agree shows =
@@ -172,8 +175,10 @@ turns_text id (Item Wait calls answer ∷ turns) s t begun old new is replied wa
 
 -- the whole session
 pub same_text : (device : Device) (before : List Call) (old new : ServiceState) (id width : ℕ) (turns : List Turn) → Run (empty device) before old → own_events id before ≡ [] → live_width old.histories id ≡ Some width → Turns id old turns new →
-    waits_for_each false (items_in turns) ≡ true → AreReplied turns → written turns ≡ waited_text (start device.arch (strip_on device width)) (items_in turns)
-same_text device before old new id width turns first nothing live is waits replied =
+    waits_for_each false (items_in turns) ≡ true → AreReplied id turns → written turns ≡ waited_text (start device.arch (strip_on device width)) (items_in turns)
+same_text device before old new id width turns first nothing live is waits fair =
     let begin : State = start device.arch (strip_on device width) in
+    let kept : Kept old = run_keeps (empty device) before old first (IsService-empty device) in
+    let replied : AreAllReplied turns = are_replied id old turns new is kept (first_here device before old id width first nothing live) fair in
     let shows : Shows (state_after begin (own_events id before)) (own_exchanges id (calls_in turns)) = shows_after device before (calls_in turns) old new id width first (turns_run id old turns new is) live in
     turns_text id turns begin begin false old new is replied waits (record { alike = refl; rest = λ free. (refl, refl) }) (subst (λ events. Shows (state_after begin events) (own_exchanges id (calls_in turns))) nothing shows)

@@ -1,6 +1,10 @@
 mod Ahead
+mod Endings
 mod Examples
+mod Here
 mod InOrder
+mod Replied
+mod SameScript
 mod Sizes
 mod States
 mod Waiting

@@ -249,11 +249,16 @@ status-lawful Routing = refl
 status-lawful Routed = refl
 status-lawful Unrouted = refl
 
-pub status_rests : (s : State) (reply : Reply) → (step s (Asked Status)).1 ≡ Some reply → IsAtRest reply → running s.name ≡ None
-status_rests s reply told rests =
+status_reply : (s : State) (reply : Reply) → (step s (Asked Status)).1 ≡ Some reply → reply ≡ (serve s Status).1
+status_reply s reply told =
     let room : s.entries ≢ 65536 = (step-served s (Asked Status) reply told).1 in
     let both = step-room s (Asked Status) room in
     let served : answer_to s (Asked Status) ≡ serve s Status = ap (λ b. if b then serve s Status else (None, Refused (WrongState s.name))) (status-lawful s.name) in
     let same : Some reply ≡ Some (serve s Status).1 = sym told ∙ (ap (λ (p : State × Option Reply). p.1) both ∙ ap (λ (a : Answer). Some a.1) served) in
-    let its : reply ≡ (serve s Status).1 = cc in
-    subst IsAtRest its rests
+    cc
+
+pub status_rests : (s : State) (reply : Reply) → (step s (Asked Status)).1 ≡ Some reply → IsAtRest reply → running s.name ≡ None
+status_rests s reply told rests = subst IsAtRest (status_reply s reply told) rests
+
+pub rests_status : (s : State) (reply : Reply) → (step s (Asked Status)).1 ≡ Some reply → running s.name ≡ None → IsAtRest reply
+rests_status s reply told rests = subst IsAtRest (sym (status_reply s reply told)) rests

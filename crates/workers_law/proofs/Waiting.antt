@@ -27,7 +27,7 @@ use Rattle.shared_core.proofs.Reaching.{IsOfThreads}
 use Rattle.transcripts.specs.declared.item.Place.{Place}
 use Rattle.transcripts.specs.declared.item.Place.TheVariants.{Receipt, Note, Refused as RefusedPlace}
 use Rattle.session_threads.specs.Told.{IsTold, note_text, place_text, told_text, told_texts}
-use Rattle.script_threads.specs.Served.{receipts_told}
+use Rattle.script_threads.specs.Turns.{receipts_told}
 use Rattle.workers_law.specs.Waited.{IsReply, after_command, begins_job, ended, waited_text, waits_for_each}
 use Rattle.workers_law.proofs.Ahead.{NoneAsked, NotAsked}
 use Rattle.workers_law.proofs.States.{AreAlike, alike-ended, alike-name, alike-trans, asked_alike, command_rests, ended-rests, status_rests, stepped_alike, stepped_rests}

@@ -1,5 +1,5 @@
 -- With any number of workers, the text of a session that waits is one function of its input.
-use Rattle.std.proofs.Common.{◌≡◌, ℕ, List, ◌++◌, length, get_or, true, false, Option, Some, None, refl, sym, ap, ◌∙◌, subst, [], ◌∷◌}
+use Rattle.std.proofs.Common.{◌≡◌, ℕ, List, ◌++◌, get_or, true, false, Option, Some, None, refl, sym, ap, ◌∙◌, subst, [], ◌∷◌}
 use Rattle.std.specs.Prelude.{All, IfSome, IsSomeAnd, is_some, option_map}
 use Rattle.std.specs.Option.{option_map_or}
 use Rattle.std.proofs.lemmas.Grind.{flat_map-append}
@@ -13,14 +13,14 @@ use Rattle.service_core.specs.Headline.{EachIsAlone}
 use Rattle.service_core.specs.History.{History, state_of}
 use Rattle.service_core.specs.OwnEvents.{own_events, own_exchange, own_exchanges, own_replies}
 use Rattle.service_core.specs.Run.{Call, Run}
-use Rattle.service_core.specs.Service.{ServiceState, empty, history_of, journal_of, live_of, live_width, strip_on}
+use Rattle.service_core.specs.Service.{ServiceState, empty, history_of, live_of, live_width, strip_on}
 use Rattle.service_core.proofs.Alone.{each_alone}
-use Rattle.service_core.proofs.Keeps.{if_live_some}
+use Rattle.service_core.proofs.Effects.{Kept, run_keeps}
+use Rattle.service_core.proofs.Keeps.{IsService-empty, if_live_some}
 use Rattle.sessions.specs.Fitting.{own_graph}
 use Rattle.sessions.specs.Items.{items_of}
 use Rattle.sessions.proofs.Counted.{some_and}
 use Rattle.sessions.proofs.StepLemmas.{Run-append}
-use Rattle.shared_core.proofs.Reaching.{IsOfThreads}
 use Rattle.service_core.specs.declared.not_served.NoteCause.TheVariants.{JournalFull}
 use Rattle.service_core.specs.Receipt.{Noted}
 use Rattle.transcripts.specs.declared.item.Place.{Place}
@@ -31,6 +31,7 @@ use Rattle.script_threads.specs.Lines.{with_give_backs}
 use Rattle.script_threads.specs.Served.{Conversation, IsAnswered, IsServedFrom, Told, told_in}
 use Rattle.script_threads.specs.Sessions.{evicted_text}
 use Rattle.script_threads.proofs.OneRunLemmas.{serves_run}
+use Rattle.script_threads.proofs.TurnLemmas.{IsTurn, full_from, served_told, without_refused}
 use Rattle.workers_law.specs.Waited.{IsReply, waited_text, waits_for_each}
 use Rattle.workers_law.specs.Workers.{Waits}
 use Rattle.workers_law.proofs.Ahead.{NoneAsked, ahead_none}
@@ -77,15 +78,17 @@ only_full (x ∷ told) each =
     All-cons TellsOnlyFull x told (λ n same. each [] told n (ap (λ y. y ∷ told) same)) (only_full told (λ before after n same. each (x ∷ before) after n (ap (λ ys. x ∷ ys) same)))
 
 -- one session
-one_text : (device : Device) (before calls : List Call) (mid new : ServiceState) (width : ℕ) (c : Conversation) (o : Option (List (Option Place))) → IfSome o (IsAnswered calls new c) → IfSome o (All (λ t. IsReply (told_text t))) → is_some o ≡ true →
-    waits_for_each false (items_of c.said.input) ≡ true → Run (empty device) before mid → NoneAsked before → Run mid calls new → live_width mid.histories c.id ≡ Some width → All IsOfThreads calls →
+one_text : (device : Device) (before calls : List Call) (mid new : ServiceState) (width : ℕ) (c : Conversation) (o : Option (List (Option Place))) → IfSome o (IsAnswered calls c) → IfSome o (All (λ t. IsReply (told_text t))) → is_some o ≡ true →
+    waits_for_each false (items_of c.said.input) ≡ true → Run (empty device) before mid → NoneAsked before → Run mid calls new → live_width mid.histories c.id ≡ Some width → All IsTurn calls →
     option_map_or told_texts o (evicted_text c.said.input) ≡ waited_text (start device.arch (strip_on device width)) (items_of c.said.input)
 one_text device before calls mid new width c None answered replies live waits first none later size kinds = cc
 one_text device before calls mid new width c (Some told) answered replies live waits first none later size kinds =
     let begin : State = start device.arch (strip_on device width) in
-    let full : All TellsOnlyFull told = only_full told (λ before after n same. (answered.full before after n same).0) in
-    whole_text c.id (items_of c.said.input) told calls (state_after begin (own_events c.id before)) begin false answered.each (are_given told full replies) waits (at_start device before c.id width none)
-    (fair_calls mid calls new kinds later) (shows_after device before calls mid new c.id width first later size) answered.served
+    let serving = without_refused mid calls new kinds later in
+    let kept : Kept mid = run_keeps (empty device) before mid first (IsService-empty device) in
+    let full : All TellsOnlyFull told = only_full told (λ before after n same. (full_from mid calls new c told kept kinds later answered before after n same).0) in
+    whole_text c.id (items_of c.said.input) told serving.served (state_after begin (own_events c.id before)) begin false answered.each (are_given told full replies) waits (at_start device before c.id width none)
+    (fair_calls mid serving.served new serving.kinds serving.run) (shows_after device before serving.served mid new c.id width first serving.run size) (serving.receipts c.id ∙ served_told calls c told answered)
 
 live_some : (o : Option History) (width : ℕ) → option_map (λ (h : History). h.strip.width) o ≡ Some width → is_some o ≡ true
 live_some None width is = cc

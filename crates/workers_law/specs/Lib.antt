@@ -1,2 +1,3 @@
+pub mod SameScript
 pub mod Waited
 pub mod Workers

@@ -3,4 +3,4 @@
 
 mod law;
 
-pub use law::{same_with_workers, same_without_workers};
+pub use law::{read_the_same, same_with_workers, same_without_workers};
