@@ -26,7 +26,7 @@ digit_more n ds big h =
 pub digits_told : (n : ℕ) → n < 2 ^ 64 → (list_all is_digit (decimal n) ≡ true) × (value_of (decimal n) ≡ n)
 digits_told n small = decimal_by_steps (λ m ds. (list_all is_digit ds ≡ true) × (value_of ds ≡ m)) digit_one digit_more n small
 
-decimal_is : (n : ℕ) → n < 2 ^ 32 → decimal_of 32 (decimal n) ≡ Some n
+pub decimal_is : (n : ℕ) → n < 2 ^ 32 → decimal_of 32 (decimal n) ≡ Some n
 decimal_is n fits =
     let told = digits_told n (omega arith) in
     let ds : List ℕ = decimal n in

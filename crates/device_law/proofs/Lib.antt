@@ -1,3 +1,4 @@
 pub mod FieldLemmas
 pub mod LineLemmas
 pub mod ListLemmas
+pub mod OwnerLemmas

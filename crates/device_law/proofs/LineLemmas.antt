@@ -55,7 +55,7 @@ digit_first [] rest all some = absurd (omega arith)
 digit_first (d ∷ ds) rest all some = (and_parts (is_digit d) (list_all is_digit ds) all).0
 
 -- and has no line feed
-abbrev is_solid : ℕ → Bool
+abbrev pub is_solid : ℕ → Bool
 is_solid b = not (is_feed b)
 
 solid_from : (p : ℕ → Bool) → p 10 ≡ false → (bytes : List ℕ) → list_all p bytes ≡ true → list_all is_solid bytes ≡ true
@@ -68,10 +68,10 @@ solid_from p feed (b ∷ bytes) all =
     by true e passes = absurd (true≢false (sym passes ∙ ap p (eqb-true b 10 e) ∙ feed))
     by false e passes = refl
 
-solid_append : (x y : List ℕ) → list_all is_solid x ≡ true → list_all is_solid y ≡ true → list_all is_solid (x ++ y) ≡ true
+pub solid_append : (x y : List ℕ) → list_all is_solid x ≡ true → list_all is_solid y ≡ true → list_all is_solid (x ++ y) ≡ true
 solid_append x y first second = list_all-append is_solid x y ∙ and_from _ _ first second
 
-decimal_solid : (n : ℕ) → n < 2 ^ 32 → list_all is_solid (decimal n) ≡ true
+pub decimal_solid : (n : ℕ) → n < 2 ^ 32 → list_all is_solid (decimal n) ≡ true
 decimal_solid n small = solid_from is_digit refl (decimal n) (digits_told n (omega arith)).0
 
 not_feed : (x : Bool) → not x ≡ true → x ≡ false

@@ -1,1 +1,2 @@
+pub mod OwnersBack
 pub mod ReadBack

@@ -1,6 +1,6 @@
-//! The law that what the service prints for `op list` is read back.
+//! The laws that what the service prints for `op list` and `op owners` is read back.
 #![tactic(auto)]
 
 mod law;
 
-pub use law::list_is_read;
+pub use law::{list_is_read, owners_are_read};
