@@ -1,5 +1,5 @@
 //! The command line.
-ghost use Rattle.std.specs.Prelude.{◌≡◌, ◌≤◌, IfSome, IfNone};
+ghost use Rattle.std.specs.Prelude.{◌≡◌, ◌≤◌, ◌*◌, IfSome, IfNone};
 
 use arch_file::Arch;
 use clap::Error;
@@ -67,6 +67,13 @@ const PROGRAM: Program = Program {
             default: Some("0"),
         },
         OptionWord {
+            name: "tenant-memory",
+            value_name: "MIB",
+            help: "MiB of texts that one tenancy's journal may hold, 1 to 1048576",
+            takes: Takes::Number(1, MAX_TENANT_MEMORY),
+            default: Some("256"),
+        },
+        OptionWord {
             name: "log",
             value_name: "FILE",
             help: "Keeps the input in FILE before it is answered, and goes on from it at the start",
@@ -76,13 +83,23 @@ const PROGRAM: Program = Program {
     ],
 };
 
+/// The greatest limit of the texts of a journal, in MiB.
+const MAX_TENANT_MEMORY: u32 = 1_048_576;
+
+/// The limit that a live service has if none is given, in MiB.
+pub(crate) const TENANT_MEMORY: u32 = 256;
+
+/// The bytes of a MiB.
+const MIB: u64 = 1_048_576;
+
 const BEYOND: &str = "a number is beyond its limits";
 
 const NO_ARCH: &str = "--arch FILE is missing";
 
 const WORKERS: &str = "--workers must be 0: a live service has no workers yet";
 
-/// The size of the device and of its channels, within their limits.
+/// The size of the device and of its channels, and of what a tenancy's journal may hold, within
+/// their limits.
 #[derive(Clone, Copy)]
 pub struct Options {
     /// Tracks of each channel, 1 to 64.
@@ -91,15 +108,18 @@ pub struct Options {
     pub columns: u32,
     /// Rows of the device, 1 to 64.
     pub rows: u32,
+    /// MiB of texts that one tenancy's journal may hold, 1 to 1,048,576.
+    pub tenant_memory: u32,
     ghost tracks_lawful: { (1 ≤ tracks) × (tracks ≤ 64) },
     ghost columns_lawful: { (1 ≤ columns) × (columns ≤ 256) },
     ghost rows_lawful: { (1 ≤ rows) × (rows ≤ 64) },
+    ghost tenant_memory_lawful: { (1 ≤ tenant_memory) × (tenant_memory ≤ 1048576) },
 }
 
 impl Options {
     ghost use Rattle.live_run.specs.Limits.{AreLawful, Holds, device_of};
 
-    /// Options of those sizes. None if a number is beyond its limits.
+    /// Options of those sizes; a journal may hold 256 MiB. None if a number is beyond its limits.
     pub fn new(tracks: u32, columns: u32, rows: u32) -> Option<Self>
         ensures some { IfSome result (λ options. Holds options tracks columns rows) }
         ensures none { IfNone result (AreLawful tracks columns rows → ⊥) }
@@ -111,11 +131,37 @@ impl Options {
             tracks,
             columns,
             rows,
+            tenant_memory: TENANT_MEMORY,
         })
     }
 
+    /// The options with this memory for the texts of a journal, in MiB. None if it is beyond its
+    /// limits.
+    pub fn with_tenant_memory(self, mib: u32) -> Option<Self>
+        ensures some { IfSome result (λ options. (options.tenant_memory ≡ mib)
+            × Holds options self.tracks self.columns self.rows) }
+        ensures none { IfNone result ((1 ≤ mib) × (mib ≤ 1048576) → ⊥) }
+    {
+        if mib < 1 || mib > MAX_TENANT_MEMORY {
+            return None;
+        }
+        Some(Options {
+            tracks: self.tracks,
+            columns: self.columns,
+            rows: self.rows,
+            tenant_memory: mib,
+        })
+    }
+
+    /// The most bytes of texts that one tenancy's journal may hold.
+    pub fn text_limit(&self) -> u64
+        ensures { result ≡ self.now.tenant_memory * 1048576 }
+    {
+        u64::from(self.tenant_memory) * MIB
+    }
+
     /// The device of these sizes and of that architecture.
-    pub(crate) fn device(&self, arch: Arch) -> Device
+    pub fn device(&self, arch: Arch) -> Device
         ensures { result ≡ device_of self.now arch }
     {
         Device {
@@ -156,6 +202,8 @@ fn line_of<'a>(given: &Given<'a>) -> Result<CommandLine<'a>, &'static str> {
         return Err(WORKERS);
     }
     let options = Options::new(tracks, columns, rows).ok_or(BEYOND)?;
+    let tenant_memory = given.number("tenant-memory")?;
+    let options = options.with_tenant_memory(tenant_memory).ok_or(BEYOND)?;
     Ok(CommandLine {
         options,
         arch: given.text("arch").ok_or(NO_ARCH)?,

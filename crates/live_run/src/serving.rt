@@ -33,19 +33,23 @@ pub fn serve<H: Wait + AllocGlobal, P: Source + Drop, D: Dialogue>(
         (D.view dialogue.old) (D.view dialogue.new) result }
 {
     match read_arch(rt.alloc(), architecture, options.tracks) {
-        Ok(arch) => match serve_device(rt, options.device(arch), past, dialogue) {
-            Ok(outcome) => outcome,
-            Err(_) => Outcome::NoMemory,
-        },
+        Ok(arch) => {
+            let device = options.device(arch);
+            match serve_device(rt, device, options.text_limit(), past, dialogue) {
+                Ok(outcome) => outcome,
+                Err(_) => Outcome::NoMemory,
+            }
+        }
         Err(ArchError::Fault(fault)) => Outcome::ArchRefused(fault),
         Err(ArchError::NoMemory) => Outcome::NoMemory,
     }
 }
 
-/// Serves the lines on that device.
+/// Serves the lines on that device. The texts of a journal may have at most `text_limit` bytes.
 fn serve_device<H: Wait + AllocGlobal, P: Source + Drop, D: Dialogue>(
     rt: &H,
     device: Device,
+    text_limit: u64,
     past: Option<P>,
     dialogue: &mut D,
 ) -> Result<Outcome, AllocError>
@@ -56,7 +60,7 @@ fn serve_device<H: Wait + AllocGlobal, P: Source + Drop, D: Dialogue>(
         (λ _. D.view dialogue.new ≡ D.view dialogue.old) }
 {
     let graph = device_graph(rt.alloc(), &device)?;
-    let core = Service::new(rt.alloc(), device)?;
+    let core = Service::with_text_limit(rt.alloc(), device, text_limit)?;
     let mut lines = LiveLines::new(rt.alloc(), &graph, core);
     let outcome = serve_past(rt, &mut lines, past, dialogue);
     lines.close();

@@ -4,6 +4,7 @@ pub mod Held
 pub mod Holdings
 pub mod Exact
 pub mod Columns
+pub mod JournalTexts
 pub mod Histories
 pub mod Keeps
 pub mod Slots

@@ -1,4 +1,5 @@
 pub mod History
+pub mod Texts
 pub mod Receipt
 pub mod Names
 pub mod Service

@@ -1,5 +1,5 @@
 -- Private: a tenancy's invariant, and what its calls do.
-use Rattle.std.specs.Prelude.{ℕ, ◌≡◌, ◌<◌, ◌⊎◌, List, [], length, map, Bool, true, false, Result, Ok, Err, Option, Some, None, IfSome, option_and_then, if◌then◌else◌}
+use Rattle.std.specs.Prelude.{ℕ, ◌≡◌, ◌<◌, ◌≤◌, ◌⊎◌, List, [], length, map, Bool, true, false, Result, Ok, Err, Option, Some, None, IfSome, option_and_then, if◌then◌else◌}
 use Rattle.std.specs.declared.alloc.AllocError.{AllocError}
 use Rattle.arch_file.specs.declared.arch.Arch.{Arch}
 use Rattle.grid.specs.declared.Strip.{Strip}
@@ -22,6 +22,7 @@ use Rattle.tenant_slot.specs.Slot.{GivesBack, SlotState, is_takeable, next_job}
 use Rattle.service_core.specs.declared.entry.Entry.{Entry}
 use Rattle.service_core.specs.History.{History, IsReplayed, events_of, slot_of, state_of, with_entry, with_here}
 use Rattle.service_core.specs.Run.{IsStepOf, step_entry}
+use Rattle.service_core.specs.Texts.{FitInto}
 
 -- whether its next step is here
 abbrev pub slot_here : Option SlotState → Option Bool
@@ -35,12 +36,14 @@ closed h = record h { live = false; here = Some false }
 abbrev pub if_live : Option History → Option History
 if_live o = option_and_then (λ h. if h.live then Some h else None) o
 
--- the journal is that of the tenancy alone, and a live tenancy's slot is in the state that it
--- results in
-pub record IsHistory (id : ℕ) (arch : Arch) (strip : Strip) (slot : Option SlotState) (entries : List Entry) : Type 0 where
+-- the journal is that of the tenancy alone, a live tenancy's slot is in the state that it results
+-- in, and the journal's texts fit into the bytes that they are counted as, which are within a limit
+pub record IsHistory (id : ℕ) (arch : Arch) (strip : Strip) (slot : Option SlotState) (entries : List Entry) (held limit : ℕ) : Type 0 where
   pub replayed : IsReplayed arch strip entries
   pub same_id : IfSome slot (λ s. s.id ≡ id)
   pub state : IfSome slot (λ s. s.state ≡ state_after (start arch strip) (events_of entries))
+  pub fits : FitInto held entries
+  pub within : held ≤ limit
 
 -- the possible results of a live tenancy's command: the command with its reply, which is one more
 -- entry

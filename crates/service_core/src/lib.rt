@@ -23,6 +23,7 @@ mod put_reply;
 mod receipt;
 mod service;
 mod tenancy;
+mod texts;
 
 pub use device::Device;
 pub use device_book::Owned;

@@ -1,7 +1,8 @@
-ghost use Rattle.std.specs.Prelude.{◌≡◌, ◌≤◌, ◌+◌, IfOk, None, MatchBool, length, option_map, option_copied, slice_get};
+ghost use Rattle.std.specs.Prelude.{◌≡◌, ◌≤◌, ◌+◌, IfOk, IfSome, None, MatchBool, is_some, length, option_map, option_copied, slice_get};
 ghost use Rattle.strips.specs.Plan.{IsLaidOut, offset_of};
 ghost use Rattle.service_core.specs.History.{state_of};
-ghost use Rattle.service_core.specs.Service.{AreAlone, empty, journal_of, live_of};
+ghost use Rattle.service_core.specs.Service.{AreAlone, empty, history_of, journal_of, live_of};
+ghost use Rattle.service_core.specs.Texts.{FitInto};
 ghost use Rattle.service_core.specs.Calls.{IsAdmitted, IsEvicted, IsGivenBack, IsMoved, IsOriginIn, IsServed, IsTaken, Puts, takeable_in};
 ghost use Rattle.service_core.specs.Kept.{CanTakeUp, ChecksAdmission, IsDevice, IsLiveIn, IsPlaceOf, TakesUp};
 ghost use Rattle.service_core.specs.Owners.{HasOneOwner, ListsOwnersOf};
@@ -37,6 +38,8 @@ pub struct Service {
     layout: Layout,
     tenancies: Vec<Tenancy>,
     book: Book,
+    /// The most bytes that the texts of one journal may have.
+    text_limit: u64,
 }
 
 impl Model for Service {
@@ -57,9 +60,23 @@ impl Model for Service {
 }
 
 impl Service {
-    /// Returns the service of a device without tenancies. Fails with [`AllocError`] if memory runs
-    /// out.
+    /// Returns the service of a device without tenancies. The texts of a journal have no limit.
+    /// Fails with [`AllocError`] if memory runs out.
     pub fn new(alloc: Global, device: Device) -> Result<Self, AllocError>
+        requires { IsDevice device }
+        ensures { IfOk result (λ service. service ≡ empty device) }
+    {
+        Service::with_text_limit(alloc, device, u64::MAX)
+    }
+
+    /// Returns the service of a device without tenancies. The texts of a journal may have at most
+    /// `text_limit` bytes; a text that many entries share counts once. A command that would exceed
+    /// the limit is answered [`NotServed::NoMemory`]. Fails with [`AllocError`] if memory runs out.
+    pub fn with_text_limit(
+        alloc: Global,
+        device: Device,
+        text_limit: u64,
+    ) -> Result<Self, AllocError>
         requires { IsDevice device }
         ensures { IfOk result (λ service. service ≡ empty device) }
     {
@@ -76,6 +93,7 @@ impl Service {
             layout: Layout::new(columns),
             tenancies: Vec::new(alloc),
             book,
+            text_limit,
         })
     }
 
@@ -149,6 +167,19 @@ impl Service {
         self.tenancies[id as usize - 1].entry(place)
     }
 
+    /// The most bytes that the texts of a journal may have, also of a closed tenancy: they never
+    /// have more. `None` if there is no such journal.
+    #[tactic(auto, using(crate::proofs::Lists::by_id))]
+    pub fn text_limit(&self, id: u32) -> Option<u64>
+        ensures some { is_some result ≡ is_some (history_of self.now.histories id) }
+        ensures fits { IfSome result (λ limit. FitInto limit (journal_of self.now id)) }
+    {
+        if id == 0 || id as usize > self.tenancies.len() {
+            return None;
+        }
+        Some(self.tenancies[id as usize - 1].text_limit())
+    }
+
     /// Lists each pin, wire and pad of the device that is owned, with its owner, in node order:
     /// what the tenancy has routed, at its strip's offset. Nothing has two owners. Fails with
     /// [`AllocError`] if memory runs out.
@@ -184,7 +215,7 @@ impl Service {
             io_rat: self.arch.arch().io_rat,
         };
         self.tenancies.reserve(1)?;
-        let tenancy = Tenancy::new(self.alloc, id, &self.arch, strip)?;
+        let tenancy = Tenancy::new(self.alloc, id, &self.arch, strip, self.text_limit)?;
         self.layout.place(PlacedStrip { id, offset, width });
         self.tenancies.push(tenancy).unwrap();
         Ok((id, offset))

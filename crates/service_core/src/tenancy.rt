@@ -1,4 +1,4 @@
-ghost use Rattle.std.specs.Prelude.{◌≡◌, ◌<◌, [], Some, true, false, All, IfErr, IfOk, length, map, option_copied, slice_get};
+ghost use Rattle.std.specs.Prelude.{◌≡◌, ◌<◌, ◌≤◌, [], Ok, Err, Some, true, false, All, IfErr, IfOk, length, map, option_copied, slice_get};
 ghost use Rattle.rr_graph.specs.declared.resource.Resource.{Resource};
 ghost use Rattle.rr_graph.specs.Resources.{has, is_there, moved_resource};
 ghost use Rattle.grid.specs.Sizes.{IsStripSize};
@@ -6,9 +6,11 @@ ghost use Rattle.tenant_slot.specs.Answer.{Answers};
 ghost use Rattle.tenant_slot.specs.Slot.{IsOrigin, is_takeable};
 ghost use Rattle.service_core.specs.History.{slot_of, state_of};
 ghost use Rattle.tenant_slot.specs.RoutedSet.{routed_set};
+ghost use Rattle.service_core.specs.Texts.{Adds, FitInto};
 ghost use Rattle.service_core.specs.Tenancy.{GivesHistoryBack, GivesUp, GivesUpOrKeeps, PutsHistory, ServesHistory, StandsIn, TakesHistory, closed};
 
 use crate::entry::Entry;
+use crate::texts::{LastTexts, command_bytes, kept_reply};
 use arch_file::SharedArch;
 use device_book::Book;
 use grid::Strip;
@@ -28,6 +30,11 @@ pub(crate) struct Tenancy {
     strip: Strip,
     slot: Option<Slot>,
     journal: Vec<Entry>,
+    last_texts: LastTexts,
+    /// The bytes of the journal's texts. A text that many entries share counts once.
+    held: u64,
+    /// The most bytes that the journal's texts may have.
+    text_limit: u64,
 }
 
 impl Model for Tenancy {
@@ -39,16 +46,17 @@ impl Model for Tenancy {
 
     ghost view = { λ t. record { id = t.id; arch = t.arch; strip = t.strip; live = is_some t.slot; here = slot_here t.slot; entries = t.journal.items } };
 
-    ghost invariant = { λ t. IsHistory t.id t.arch t.strip t.slot t.journal.items };
+    ghost invariant = { λ t. IsHistory t.id t.arch t.strip t.slot t.journal.items t.held t.text_limit };
 }
 
 impl Tenancy {
-    /// A tenancy at its admission.
+    /// A tenancy at its admission. The texts of its journal may have at most `text_limit` bytes.
     pub(crate) fn new(
         alloc: Global,
         id: u32,
         arch: &SharedArch,
         strip: Strip,
+        text_limit: u64,
     ) -> Result<Self, AllocError>
         requires { IsStripSize strip }
         ensures { IfOk result (λ t. t ≡ record {
@@ -66,6 +74,9 @@ impl Tenancy {
             strip,
             slot: Some(Slot::new(alloc, id, arch.clone()?, strip)),
             journal: Vec::new(alloc),
+            last_texts: LastTexts::none(),
+            held: 0,
+            text_limit,
         })
     }
 
@@ -92,6 +103,13 @@ impl Tenancy {
         ensures { option_copied result ≡ slice_get self.now.entries place }
     {
         self.journal.get(place as usize)
+    }
+
+    /// The most bytes that the journal's texts may have, which they never exceed.
+    pub(crate) fn text_limit(&self) -> u64
+        ensures { FitInto result self.now.entries }
+    {
+        self.text_limit
     }
 
     pub(crate) fn state(&self) -> StateName
@@ -130,7 +148,8 @@ impl Tenancy {
     }
 
     /// Serves a command, records it with its reply, and returns copies of both. What the tenancy
-    /// occupies is released if its state changes.
+    /// occupies is released if its state changes. If the texts of both have more bytes than are
+    /// left for the journal, it fails with `NoMemory`.
     pub(crate) fn serve(
         &mut self,
         book: &mut Book,
@@ -149,14 +168,19 @@ impl Tenancy {
             drop(command);
             return Err(NotServed::JournalFull);
         }
-        if self.journal.reserve(1).is_err() {
+        let spare = self.text_limit - self.held;
+        if spare < command_bytes(&command) || self.journal.reserve(1).is_err() {
             drop(command);
             return Err(NotServed::NoMemory);
         }
-        match answered(slot, &command) {
-            Ok((answer, told)) => {
-                give_up(book, offset, slot, answer.reply());
-                let reply = slot.accept(answer);
+        let journal = self.journal.as_slice();
+        match answered(slot, journal, &self.last_texts, spare, &command) {
+            Ok((answer, recorded)) => {
+                let Recorded { reply, told, bytes } = recorded;
+                give_up(book, offset, slot, &reply);
+                drop(slot.accept(answer));
+                self.last_texts.note(&reply, self.journal.len() as u32);
+                self.held += bytes;
                 let event = Event::Command(command);
                 self.journal.push(Entry { event, reply }).unwrap();
                 Ok(told)
@@ -238,27 +262,80 @@ fn give_up(book: &mut Book, offset: u32, slot: &Slot, reply: &Reply)
     }
 }
 
-/// The answer to a command, with copies of the command and of the reply. Nothing changes yet.
-fn answered(slot: &Slot, command: &Command) -> Result<(Answer, (Command, Reply)), NotServed>
-    ensures ok { IfOk result (λ r. Answers slot.now command.now (Ok r.0) × (r.1.0 ≡ command.now)
-        × (r.1.1 ≡ r.0.reply)) }
+/// A command's reply before it is recorded.
+struct Recorded {
+    /// The reply as the journal keeps it.
+    reply: Reply,
+    /// Copies of the command and of the reply.
+    told: (Command, Reply),
+    /// The bytes by which the journal's texts grow.
+    bytes: u64,
+}
+
+/// The answer to a command, and what is recorded of it, if its texts add at most `spare` bytes to
+/// those of the journal. Nothing changes yet.
+fn answered(
+    slot: &Slot,
+    journal: &[Entry],
+    last_texts: &LastTexts,
+    spare: u64,
+    command: &Command,
+) -> Result<(Answer, Recorded), NotServed>
+    ensures answer { IfOk result (λ r. Answers slot.now command.now (Ok r.0)) }
+    ensures reply { IfOk result (λ r. r.1.reply ≡ r.0.reply) }
+    ensures told { IfOk result (λ r. (r.1.told.0 ≡ command.now) × (r.1.told.1 ≡ r.0.reply)) }
+    ensures within { IfOk result (λ r. r.1.bytes ≤ spare) }
+    ensures adds { IfOk result (λ r. Adds journal.now command.now r.0.reply r.1.bytes) }
     ensures err { IfErr result (λ e. Answers slot.now command.now (Err e)) }
 {
     let answer = slot.answer(command)?;
-    match told(command, &answer) {
-        Ok(told) => Ok((answer, told)),
-        Err(error) => {
+    match prepare(journal, last_texts, spare, command, answer.reply()) {
+        Ok(recorded) => Ok((answer, recorded)),
+        Err(_) => {
             drop(answer);
-            Err(NotServed::from(error))
+            Err(NotServed::NoMemory)
+        }
+    }
+}
+
+/// What is recorded of a command and its reply. Fails if their texts add more than `spare` bytes to
+/// those of the journal, or if memory runs out.
+fn prepare(
+    journal: &[Entry],
+    last_texts: &LastTexts,
+    spare: u64,
+    command: &Command,
+    reply: &Reply,
+) -> Result<Recorded, AllocError>
+    ensures same { IfOk result (λ r. (r.reply ≡ reply.now) × (r.told.0 ≡ command.now)
+        × (r.told.1 ≡ reply.now)) }
+    ensures within { IfOk result (λ r. r.bytes ≤ spare) }
+    ensures adds { IfOk result (λ r. Adds journal.now command.now reply.now r.bytes) }
+{
+    let (kept, added) = kept_reply(journal, last_texts.index_for(reply), reply)?;
+    let bytes = command_bytes(command) + added;
+    if spare < bytes {
+        drop(kept);
+        return Err(AllocError);
+    }
+    match told(command, &kept) {
+        Ok(told) => Ok(Recorded {
+            reply: kept,
+            told,
+            bytes,
+        }),
+        Err(error) => {
+            drop(kept);
+            Err(error)
         }
     }
 }
 
 /// A copy of a command and of its reply.
-fn told(command: &Command, answer: &Answer) -> Result<(Command, Reply), AllocError>
-    ensures { IfOk result (λ told. (told.0 ≡ command.now) × (told.1 ≡ answer.now.reply)) }
+fn told(command: &Command, reply: &Reply) -> Result<(Command, Reply), AllocError>
+    ensures { IfOk result (λ told. (told.0 ≡ command.now) × (told.1 ≡ reply.now)) }
 {
-    let reply = answer.reply().clone()?;
+    let reply = reply.clone()?;
     match command.clone() {
         Ok(command) => Ok((command, reply)),
         Err(error) => {

@@ -41,6 +41,22 @@ pub(crate) fn new_core(alloc: Global, columns: u32) -> Option<Service>
     }
 }
 
+/// The core of a device with nine columns and one row, in which the texts of a journal may have at
+/// most `text_limit` bytes.
+pub(crate) fn limited_core(alloc: Global, text_limit: u64) -> Option<Service> {
+    match architecture(alloc) {
+        Some(arch) => {
+            let device = Device {
+                arch,
+                columns: 9,
+                rows: 1,
+            };
+            Service::with_text_limit(alloc, device, text_limit).ok()
+        }
+        None => None,
+    }
+}
+
 /// The graph of that device.
 pub(crate) fn new_graph(alloc: Global, columns: u32) -> Option<DeviceGraph>
     requires some { 1 ≤ columns }

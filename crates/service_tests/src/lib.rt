@@ -8,6 +8,7 @@
 //! - `slots`: a slot to be tested, and a job that leaves it and comes back.
 //! - `cores`: a core to be tested, and calls of it.
 //! - `admissions`: tenancies that come and go.
+//! - `journal_texts`: the limit of a journal's texts.
 //! - `other_cores`: jobs of another core.
 //! - `windows`: steps through windows at other offsets.
 //! - `layouts`: the offsets of strips, and who owns what.
@@ -21,6 +22,8 @@ mod admissions;
 mod commands;
 #[cfg(test)]
 mod cores;
+#[cfg(test)]
+mod journal_texts;
 #[cfg(test)]
 mod layouts;
 #[cfg(test)]

@@ -1,5 +1,5 @@
 //! The first line of a log.
-use crate::options::Options;
+use crate::options::{Options, TENANT_MEMORY};
 use itoa::Buffer;
 use line_text::{MemorySink, write_parts};
 use std::alloc::{AllocError, Global};
@@ -9,8 +9,9 @@ const SUM_BEGINS: u64 = 0xcbf2_9ce4_8422_2325;
 
 const SUM_TIMES: u64 = 0x0000_0100_0000_01b3;
 
-/// The line that a log of these options and that architecture begins with.
-pub(crate) fn first_line(
+/// The line that a log of these options and that architecture begins with. It names what counts for
+/// the replies: the sizes, and the memory of a tenancy if that isn't the usual one.
+pub fn first_line(
     alloc: Global,
     options: &Options,
     architecture: &[u8],
@@ -19,7 +20,16 @@ pub(crate) fn first_line(
     let mut tracks = Buffer::new();
     let mut columns = Buffer::new();
     let mut rows = Buffer::new();
+    let mut memory = Buffer::new();
     let mut sum = Buffer::new();
+    let (memory_name, memory): (&[u8], &[u8]) = if options.tenant_memory == TENANT_MEMORY {
+        (b"", b"")
+    } else {
+        (
+            b" --tenant-memory ",
+            memory.format(options.tenant_memory).as_bytes(),
+        )
+    };
     let parts = write_parts(
         &mut line,
         &[
@@ -29,6 +39,8 @@ pub(crate) fn first_line(
             columns.format(options.columns).as_bytes(),
             b" --rows ",
             rows.format(options.rows).as_bytes(),
+            memory_name,
+            memory,
             b", architecture ",
             sum.format(sum_of(architecture)).as_bytes(),
             b"\n",

@@ -1,0 +1,58 @@
+-- The texts of a journal with one more entry.
+use Rattle.std.proofs.Common.{◌≡◌, ℕ, ◌+◌, ◌≤◌, List, [], ◌∷◌, ◌++◌, length, Some, inl, inr, subst, arith}
+use Rattle.std.specs.Prelude.{All, Contains, slice_get}
+use Rattle.std.proofs.lemmas.List.Elements.{All-append, All-contains_itself, All-get_or, All-nil, All-push, All-weaker, Contains-append_left, Contains-append_right}
+use Rattle.std.proofs.lemmas.List.Sums.{sum_by-append}
+use Rattle.std.proofs.lemmas.Option.{get_or_from_slice_get, slice_get_within}
+use Rattle.cluster.proofs.Pairs.{all_back}
+use Rattle.tenant_slot.specs.declared.command.Command.{Command}
+use Rattle.tenant_slot.specs.declared.event.Event.TheVariants.{Command as Asked}
+use Rattle.tenant_slot.specs.declared.reply.Reply.{Reply}
+use Rattle.service_core.specs.declared.entry.Entry.{Entry}
+use Rattle.service_core.specs.Texts.{Adds, AddsBytes, FitInto, bytes_of, command_texts, entry_texts, event_texts, reply_texts}
+
+-- an empty journal has no texts
+pub FitInto-none : FitInto 0 []
+FitInto-none = record { texts = []; total = omega arith; each = All-nil (λ (entry : Entry). All (Contains []) (entry_texts entry)) }
+
+-- texts that fit into some bytes fit into more
+pub FitInto-more : (held limit : ℕ) (entries : List Entry) → FitInto held entries → held ≤ limit → FitInto limit entries
+FitInto-more held limit entries fits le = record { texts = fits.texts; total = omega (arith, fits.total); each = fits.each }
+
+-- an entry whose texts are there, or among some that are added
+FitInto-with : (held bytes : ℕ) (entries : List Entry) (e : Entry) (own : List (List ℕ)) (fits : FitInto held entries) → bytes_of own ≤ bytes → All (Contains (fits.texts ++ own)) (entry_texts e) → FitInto (held + bytes) (entries ++ e ∷ [])
+FitInto-with held bytes entries e own fits few has =
+    let P : Entry → Type 0 = λ entry. All (Contains (fits.texts ++ own)) (entry_texts entry) in
+    let old : All P entries = All-weaker (λ (entry : Entry). All (Contains fits.texts) (entry_texts entry)) P (λ entry h. All-weaker (Contains fits.texts) (Contains (fits.texts ++ own)) (λ text there. Contains-append_left fits.texts own text there) (entry_texts entry) h) entries fits.each in
+    record {
+      texts = fits.texts ++ own;
+      total = omega (arith, sum_by-append length fits.texts own, fits.total);
+      each = All-push P entries e old has;
+    }
+
+-- an entry without texts
+pub FitInto-push : (held : ℕ) (entries : List Entry) (e : Entry) → FitInto held entries → entry_texts e ≡ [] → FitInto held (entries ++ e ∷ [])
+FitInto-push held entries e fits none =
+    let P : Entry → Type 0 = λ entry. All (Contains fits.texts) (entry_texts entry) in
+    record { texts = fits.texts; total = fits.total; each = All-push P entries e fits.each (rw none (All-nil (Contains fits.texts))) }
+
+-- texts contain themselves
+own_there : (before own : List (List ℕ)) → All (Contains (before ++ own)) own
+own_there before own = All-weaker (Contains own) (Contains (before ++ own)) (λ text there. Contains-append_right before own text there) own (All-contains_itself own)
+
+-- what holds of each entry holds of the one at that index
+all_at : (P : Entry → Type 0) (entries : List Entry) (k : ℕ) (entry : Entry) → All P entries → slice_get entries k ≡ Some entry → P entry
+all_at P entries k entry all there = subst P (get_or_from_slice_get entries k entry entry there) (All-get_or P entries k entry (slice_get_within entries k entry there) all)
+
+-- a command and its reply, whose text is counted unless it is there
+pub Adds-reply : (entries : List Entry) (command : Command) (reply : Reply) (added : ℕ) → AddsBytes entries reply added → Adds entries command reply (bytes_of (command_texts command) + added)
+Adds-reply entries command reply added (inl is) held fits =
+    let e : Entry = record { event = Asked command; reply = reply } in
+    FitInto-with held (bytes_of (command_texts command) + added) entries e (command_texts command ++ reply_texts reply) fits (omega (arith, is, sum_by-append length (command_texts command) (reply_texts reply))) (own_there fits.texts (command_texts command ++ reply_texts reply))
+Adds-reply entries command reply added (inr again) held fits =
+    let e : Entry = record { event = Asked command; reply = reply } in
+    let found : Entry = again.1.1 in
+    let all : All (Contains fits.texts) (entry_texts found) = all_at (λ (entry : Entry). All (Contains fits.texts) (entry_texts entry)) entries again.1.0 found fits.each again.1.2 in
+    let texts : All (Contains fits.texts) (reply_texts reply) = subst (λ r. All (Contains fits.texts) (reply_texts r)) again.1.3 (all_back (Contains fits.texts) (event_texts found.event) (reply_texts found.reply) all) in
+    let old : All (Contains (fits.texts ++ command_texts command)) (reply_texts reply) = All-weaker (Contains fits.texts) (Contains (fits.texts ++ command_texts command)) (λ text there. Contains-append_left fits.texts (command_texts command) text there) (reply_texts reply) texts in
+    FitInto-with held (bytes_of (command_texts command) + added) entries e (command_texts command) fits (omega arith) (All-append (Contains (fits.texts ++ command_texts command)) (command_texts command) (reply_texts reply) (own_there fits.texts (command_texts command)) old)
