@@ -69,14 +69,14 @@ impl Frame {
 
     /// The distance of the device's lower end from the top.
     fn ground(&self) -> u32
-        ensures { result ≤ 35_000 }
+        ensures { result ≤ 36_000 }
     {
-        3 * self.font + self.geometry.height()
+        4 * self.font + self.geometry.height()
     }
 
     /// The distance of the legend from the top.
     pub(crate) fn legend(&self) -> u32
-        ensures { result ≤ 37_000 }
+        ensures { result ≤ 38_000 }
     {
         self.ground() + 4 * self.font
     }
@@ -157,6 +157,17 @@ impl Frame {
             self.left(),
             base,
             " scale(1 -1)\">\n",
+        );
+    }
+
+    /// Begins the group of texts above the device, whose column 0 begins at 0.
+    pub(crate) fn begin_names<K: Sink>(&self, pen: &mut Pen<'_, K>) {
+        begin_group(
+            pen,
+            self.geometry.lattice,
+            self.left(),
+            4 * self.font,
+            "\" text-anchor=\"middle\">\n",
         );
     }
 

@@ -2,6 +2,7 @@
 
 use crate::colours::write_colour;
 use crate::frame::Frame;
+use crate::strip_names::write_name;
 use device_lines::{Device, Tenancy};
 use line_text::Sink;
 use picture_lines::write_swatch;
@@ -32,16 +33,16 @@ fn write_tenancy<K: Sink>(pen: &mut Pen<'_, K>, frame: Frame, tenancy: Tenancy<'
     write_colour(pen, place);
     pen.text("\">");
     write_entry(pen, frame, place, "o");
+    write_name(pen, tenancy.name);
     pen.write(&[
-        Part::Bytes(tenancy.name),
         Part::Text(": offset "),
         Part::Number(tenancy.offset),
         Part::Text(", width "),
         Part::Number(tenancy.width),
         Part::Text(", "),
-        Part::Bytes(tenancy.state),
-        Part::Text("</text>\n</g></g>\n"),
     ]);
+    write_name(pen, tenancy.state);
+    pen.text("</text>\n</g></g>\n");
 }
 
 /// Writes a square of a class at a place of the legend, and begins the text beside it.

@@ -15,6 +15,7 @@ mod legend;
 mod marks;
 mod picture;
 mod runs;
+mod strip_names;
 mod view;
 mod wires;
 

@@ -6,6 +6,7 @@ use crate::ground::{write_column, write_ground};
 use crate::legend::write_legend;
 use crate::marks::write_marks;
 use crate::runs::Runs;
+use crate::strip_names::{write_name, write_strip_names};
 use crate::view::owned_by;
 use crate::wires::write_wires;
 use device_lines::{Device, Owned, Tenancy};
@@ -13,7 +14,7 @@ use line_text::Sink;
 use picture_lines::{Direction, DrawError, end_group};
 use rr_graph::ResourceKind;
 use std::alloc::Global;
-use text_parts::{Part, Pen};
+use text_parts::Pen;
 
 /// The largest number of runs of horizontal wires that may grow at one time: the channels over 65
 /// rows, with 65 places each.
@@ -27,6 +28,7 @@ const LANES: usize = 4225;
 /// - Each owned wire, pin and pad has its owner's colour. Adjoining wires of one owner and track
 ///   are one line. A block's pins are arranged in a square in the order of their numbers, from its
 ///   lower left corner; the sides that they face are not shown.
+/// - Each tenancy's name is above its strip.
 /// - The legend has each tenancy's name, offset, width and state.
 pub fn draw<K: Sink>(alloc: Global, device: &Device<'_>, sink: &mut K) -> Result<(), DrawError> {
     let mut runs = Runs::new(alloc, LANES)?;
@@ -46,6 +48,7 @@ fn draw_with<K: Sink>(device: &Device<'_>, pen: &mut Pen<'_, K>, runs: &mut Runs
     write_ground(pen, frame.geometry, device);
     write_tenancies(pen, frame.geometry, device, runs);
     end_group(pen);
+    write_strip_names(pen, frame, device);
     frame.write_columns(pen);
     frame.write_rows(pen);
     write_legend(pen, frame, device);
@@ -71,11 +74,9 @@ fn write_tenancies<K: Sink>(
 fn begin_tenancy<K: Sink>(pen: &mut Pen<'_, K>, tenancy: Tenancy<'_>, place: usize) {
     pen.text("<g color=\"");
     write_colour(pen, place);
-    pen.write(&[
-        Part::Text("\"><title>"),
-        Part::Bytes(tenancy.name),
-        Part::Text("</title>\n"),
-    ]);
+    pen.text("\"><title>");
+    write_name(pen, tenancy.name);
+    pen.text("</title>\n");
 }
 
 /// Writes what a tenancy owns.

@@ -1,6 +1,7 @@
 -- The longest path of a circuit.
-use Rattle.std.proofs.Common.{ℕ, ◌≡◌, ◌+◌, ◌<◌, ◌≤◌, ◌∙◌, List, [], ◌∷◌, ◌++◌, length, map, get_or, sym, refl, ap, subst, arith}
+use Rattle.std.proofs.Common.{ℕ, Result, Ok, Err, ◌≡◌, ◌+◌, ◌<◌, ◌≤◌, List, [], ◌∷◌, length, map, get_or, subst, arith}
 use Rattle.std.specs.List.{All}
+use Rattle.std.specs.Result.{IfOk}
 use Rattle.std.proofs.lemmas.List.Elements.{All-append, All-map, All-weaker}
 use Rattle.blif.specs.LookupTables.{LookupTable}
 use Rattle.blif.specs.LawfulCircuits.{IsCircuit, IsLatchWithin, IsTableWithin}
@@ -11,7 +12,7 @@ use Rattle.longest_path.specs.declared.longest.Longest.TheVariants.{Path, NoPath
 use Rattle.longest_path.specs.declared.reach.Reach.{Reach}
 use Rattle.longest_path.specs.Ends.{IsEnd}
 use Rattle.longest_path.specs.Paths.{HasLoop, IsIn, IsLongest, IsPath, IsWay, ends_of, starts_of}
-use Rattle.longest_path.specs.Reaches.{far, steps_to}
+use Rattle.longest_path.specs.Reaches.{IsFound, far, steps_to}
 use Rattle.longest_path.specs.Settled.{IsSettled}
 use Rattle.longest_path.proofs.Raising.{table_within}
 
@@ -49,26 +50,34 @@ path_steps circuit nets reach settled from tables to path =
     let long : steps_to reach from + length tables ≤ steps_to reach to = settled.settled from tables to reached path.way in
     omega arith
 
+-- a net at one step is a start
+first_start : (tables : List LookupTable) (starts : List ℕ) (nets : ℕ) (reach : List Reach) (net : ℕ) → IsSettled nets tables starts reach → steps_to reach net ≡ 1 → IsIn starts net
+first_start tables starts nets reach net settled one =
+    let found : IsFound tables starts net (far reach net) = settled.found net (omega arith) in
+    by found.1.0 found.1.1 (let e : length found.1.0 + 1 ≡ steps_to reach net = found.1.2 in omega arith) found.0
+  where
+    by : (through : List LookupTable) → IsWay tables (far reach net).start through net → length through ≡ 0 → IsIn starts (far reach net).start → IsIn starts net
+    by [] way none start = subst (IsIn starts) way start
+    by (table ∷ others) way none start = absurd (omega (arith, none))
+
 -- what was found to the farthest end is the longest path
 pub longest : (circuit : Circuit) (nets : ℕ) (reach : List Reach) (found : Longest) → (HasLoop circuit.tables → ⊥) → IsSettled nets circuit.tables (starts_of circuit) reach
-    → IsEnd reach (ends_of circuit) found → IsLongest circuit found
+    → IsEnd circuit.tables reach (ends_of circuit) found → IsLongest circuit found
 longest circuit nets reach (Path path) none settled end =
-    let led = settled.found path.to end.0.reached in
-    let start : (far reach path.to).start ≡ path.from = sym end.2 in
-    let steps : path.tables + 1 ≡ steps_to reach path.to = end.1 in (
+    let steps : length path.tables.items + 1 ≡ steps_to reach path.to = end.count in (
       none,
       λ from tables to other. (
           let a : length tables + 1 ≤ steps_to reach to = path_steps circuit nets reach settled from tables to other in
-          let b : steps_to reach to ≤ steps_to reach path.to = subst (λ n. steps_to reach n ≤ steps_to reach path.to) other.end.2 (end.0.most other.end.0 other.end.1) in
+          let b : steps_to reach to ≤ steps_to reach path.to = subst (λ n. steps_to reach n ≤ steps_to reach path.to) other.end.2 (end.farthest.most other.end.0 other.end.1) in
           omega arith),
       (
-        led.1.0,
+        end.through.through,
         record {
-          start = subst (IsIn (starts_of circuit)) start led.0;
-          end = end.0.among;
-          way = subst (λ n. IsWay circuit.tables n led.1.0 path.to) start led.1.1;
+          start = first_start circuit.tables (starts_of circuit) nets reach path.from settled end.first;
+          end = end.farthest.among;
+          way = end.through.way;
         },
-        (let e : length led.1.0 + 1 ≡ steps_to reach path.to = led.1.2 in omega arith),
+        end.through.at,
       ),
     )
 longest circuit nets reach NoPath none settled end = (
@@ -79,3 +88,9 @@ longest circuit nets reach NoPath none settled end = (
       omega arith),
 )
 longest circuit nets reach Loop none settled end = absurd end
+
+-- if one was found
+pub if_longest : {E : Type 0} (circuit : Circuit) (nets : ℕ) (reach : List Reach) (found : Result Longest E) → (HasLoop circuit.tables → ⊥) → IsSettled nets circuit.tables (starts_of circuit) reach
+    → IfOk found (IsEnd circuit.tables reach (ends_of circuit)) → IfOk found (IsLongest circuit)
+if_longest circuit nets reach (Ok found) none settled end = longest circuit nets reach found none settled end
+if_longest circuit nets reach (Err error) none settled end = tt

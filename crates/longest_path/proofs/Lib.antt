@@ -2,3 +2,4 @@ mod Ways
 mod Raising
 mod Starting
 mod Ending
+mod Tracing

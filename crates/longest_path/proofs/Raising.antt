@@ -4,7 +4,7 @@ use Rattle.std.specs.List.{All, slice_get}
 use Rattle.blif.specs.LawfulCircuits.{IsTableWithin}
 use Rattle.blif.specs.LookupTables.{LookupTable}
 use Rattle.longest_path.specs.declared.reach.Reach.{Reach}
-use Rattle.longest_path.specs.Paths.{HasLoop, IsIn, IsTable, IsWay}
+use Rattle.longest_path.specs.Paths.{HasLoop, IsIn, IsWay}
 use Rattle.longest_path.specs.Passes.{AreRaised, IsPassed, IsFarther}
 use Rattle.longest_path.specs.Reaches.{AreFound, AreSmall, IsBegun, IsFarthest, IsFound, far, none, steps_to}
 use Rattle.longest_path.specs.Settled.{IsOnTheWay, IsSettled}

@@ -1,10 +1,10 @@
 -- Ways through tables, and loops.
-use Rattle.std.proofs.Common.{ℕ, ◌≡◌, ◌+◌, ◌<◌, ◌≤◌, ◌∙◌, Bool, true, false, List, [], ◌∷◌, length, map, get_or, eqb, ◌||◌, ◌⊎◌, inl, inr, Some, sym, refl, ap, subst, arith, suc}
-use Rattle.std.specs.List.{IsDistinct, AllByRecursion, list_any, slice_get}
+use Rattle.std.proofs.Common.{ℕ, ◌≡◌, ◌<◌, ◌≤◌, ◌∙◌, Bool, true, false, List, [], ◌∷◌, length, map, eqb, ◌||◌, ◌⊎◌, inl, inr, sym, refl, ap, subst, arith, suc}
+use Rattle.std.specs.List.{IsDistinct, AllByRecursion, list_any}
 use Rattle.std.proofs.lemmas.Bool.Decides.{eqb_tells}
 use Rattle.std.proofs.lemmas.Map.Steps.{length-le_from_distinct_below}
 use Rattle.blif.specs.LookupTables.{LookupTable}
-use Rattle.longest_path.specs.Paths.{HasLoop, IsIn, IsTable, IsWay}
+use Rattle.longest_path.specs.Paths.{HasLoop, IsTable, IsWay}
 
 -- the nets that tables drive
 abbrev pub outputs : List LookupTable → List ℕ

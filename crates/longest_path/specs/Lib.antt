@@ -3,3 +3,4 @@ pub mod Reaches
 pub mod Passes
 pub mod Settled
 pub mod Ends
+pub mod Tracing

@@ -9,6 +9,10 @@ use Rattle.longest_path.specs.declared.longest.Longest.TheVariants.{Path, NoPath
 abbrev pub IsIn : List ℕ → ℕ → Type 0
 IsIn nets net = (k : ℕ) × (k < length nets) × (slice_index nets k ≡ net)
 
+-- these tables have these numbers
+abbrev pub AreAt : List LookupTable → List ℕ → List LookupTable → Type 0
+AreAt tables numbers through = map (slice_get tables) numbers ≡ map Some through
+
 -- the table is one of these
 abbrev pub IsTable : List LookupTable → LookupTable → Type 0
 IsTable tables table = (number : ℕ) × (slice_get tables number ≡ Some table)
@@ -42,12 +46,12 @@ pub record IsPath (circuit : Circuit) (from : ℕ) (tables : List LookupTable) (
 abbrev pub IsMost : Circuit → ℕ → Type 0
 IsMost circuit most = (from : ℕ) (tables : List LookupTable) (to : ℕ) → IsPath circuit from tables to → length tables ≤ most
 
--- the longest path of a circuit: one with that number of tables between those nets, and none has
--- more; or there is no path; or some tables form a loop
+-- the longest path of a circuit: one between those nets through the tables of those numbers, the
+-- last one first, and none has more tables; or there is no path; or some tables form a loop
 abbrev pub IsLongest : Circuit → Longest → Type 0
 IsLongest circuit (Path path) =
-    (HasLoop circuit.tables → ⊥) × IsMost circuit path.tables
-    × ((tables : List LookupTable) × IsPath circuit path.from tables path.to × (length tables ≡ path.tables))
+    (HasLoop circuit.tables → ⊥) × IsMost circuit (length path.tables.items)
+    × ((tables : List LookupTable) × IsPath circuit path.from tables path.to × AreAt circuit.tables path.tables.items tables)
 IsLongest circuit NoPath =
     (HasLoop circuit.tables → ⊥) × ((from : ℕ) (tables : List LookupTable) (to : ℕ) → IsPath circuit from tables to → ⊥)
 IsLongest circuit Loop = HasLoop circuit.tables

@@ -14,5 +14,6 @@ mod longest;
 mod pass;
 mod reach;
 mod settle;
+mod trace;
 
 pub use longest::{Longest, LongestPath, longest_path};

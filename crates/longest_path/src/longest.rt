@@ -1,16 +1,18 @@
 //! The longest path of a circuit.
 ghost use Rattle.std.specs.Prelude.{◌≡◌, ◌<◌, All, IfOk, IsTrue, ◌↔◌, length};
-ghost use Rattle.blif.specs.LawfulCircuits.{IsCircuit};
+ghost use Rattle.blif.specs.LawfulCircuits.{IsCircuit, IsTableWithin};
 ghost use Rattle.longest_path.specs.Paths.{IsLongest, HasLoop, ends_of, starts_of};
 ghost use Rattle.longest_path.specs.Ends.{IsEnd};
+ghost use Rattle.longest_path.specs.Tracing.{CanTrace};
 
 use crate::reach::{Reach, farthest};
 use crate::settle::settled;
-use blif::Circuit;
+use crate::trace::{Way, traced};
+use blif::{Circuit, Tables};
 use std::alloc::{AllocError, Global};
 
 /// The longest path of a circuit.
-#[derive(Clone, Copy, PartialEq, Eq)]
+#[derive(Drop)]
 pub enum Longest {
     /// This one: no other has more tables.
     Path(LongestPath),
@@ -21,10 +23,10 @@ pub enum Longest {
 }
 
 /// A path with the most tables.
-#[derive(Clone, Copy, PartialEq, Eq)]
+#[derive(Drop)]
 pub struct LongestPath {
-    /// The number of its tables.
-    pub tables: usize,
+    /// The numbers of its tables, the last one first.
+    pub tables: Vec<usize>,
     /// The net at which it begins: an input, or the output of a latch.
     pub from: u32,
     /// The net at which it ends: an output, or the input of a latch.
@@ -45,29 +47,32 @@ pub fn longest_path(alloc: Global, circuit: &Circuit) -> Result<Longest, AllocEr
     let found = settled(alloc, nets, &starts, &circuit.tables)?;
     match found {
         Some(reach) => {
-            let longest = longest_in(&reach, &ends);
+            let longest = longest_in(alloc, &reach, &circuit.tables, &ends);
             drop(reach);
-            Ok(longest)
+            longest
         }
         None => unreachable!(),
     }
 }
 
 /// The longest path to one of these ends.
-fn longest_in(reach: &[Reach], ends: &[u32]) -> Longest
-    requires { All (λ net. net < length reach.now) ends.now }
-    ensures { IsEnd reach.now ends.now result }
+fn longest_in(
+    alloc: Global,
+    reach: &[Reach],
+    tables: &Tables,
+    ends: &[u32],
+) -> Result<Longest, AllocError>
+    requires ends { All (λ net. net < length reach.now) ends.now }
+    requires within { All (IsTableWithin (length reach.now)) tables.now }
+    requires settled { CanTrace tables.now reach.now }
+    ensures { IfOk result (IsEnd tables.now reach.now ends.now) }
 {
     match farthest(reach, ends) {
         Some(to) => {
-            let found = reach[to as usize];
-            Longest::Path(LongestPath {
-                tables: found.steps - 1,
-                from: found.start,
-                to,
-            })
+            let Way { from, tables } = traced(alloc, reach, tables, to)?;
+            Ok(Longest::Path(LongestPath { tables, from, to }))
         }
-        None => Longest::NoPath,
+        None => Ok(Longest::NoPath),
     }
 }
 

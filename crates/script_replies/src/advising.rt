@@ -1,4 +1,6 @@
 //! From a reply to advice.
+ghost use Rattle.std.specs.Prelude.{◌≡◌};
+ghost use Rattle.script_replies.specs.Usage.{first_word, is_refusal};
 
 use crate::advice::{
     Advice, NetlistAdvice, OperatorAdvice, RoutingAdvice, SessionAdvice, StateAdvice, TenantAdvice,
@@ -28,8 +30,10 @@ pub fn advice_for(is_operator: bool, reply: &[u8]) -> Option<Advice> {
     None
 }
 
-/// Returns whether a line of a reply is a refusal.
-pub(crate) fn is_refusal(reply: &[u8]) -> bool {
+/// Returns whether a reply is a refusal, by its first word.
+pub fn is_refusal(reply: &[u8]) -> bool
+    ensures { result ≡ is_refusal reply.now }
+{
     let (first, _) = next_word(reply);
     is_word(first, "refused") || is_word(first, "line")
 }
@@ -50,7 +54,9 @@ pub(crate) fn netlist_line(reply: &[u8]) -> Option<u32> {
 }
 
 /// The next word and the rest after it; empty at the end of the line.
-fn next_word(line: &[u8]) -> (&[u8], &[u8]) {
+fn next_word(line: &[u8]) -> (&[u8], &[u8])
+    ensures { result.0.now ≡ first_word line.now }
+{
     split_word(skip_blanks(line))
 }
 

@@ -9,6 +9,8 @@
 //! - [`script_lines`] finds the line of each act, and [`write_told`] writes each line with the
 //!   first line of its reply; a refusal is explained in words, with what may be done ([`Advice`]),
 //!   the first time that a name has it.
+//! - [`usage_of`] counts what a name used: its columns, lines, refusals, jobs and steps, over the
+//!   replies that were read.
 #![tactic(auto)]
 
 mod advice;
@@ -17,13 +19,15 @@ mod asking;
 mod lines;
 mod listing;
 mod report;
+mod usage;
 
 pub use advice::{
     Advice, NetlistAdvice, OperatorAdvice, RoutingAdvice, SessionAdvice, StateAdvice, TenantAdvice,
 };
-pub use advising::advice_for;
+pub use advising::{advice_for, is_refusal};
 pub use asking::{file_of, read_replies, session_names};
 pub use lines::{ScriptLine, script_lines};
 pub use listing::{ToldLine, told_lines};
 pub use printed_replies::{ReadError, Replies};
 pub use report::write_told;
+pub use usage::{Usage, is_own, usage_of};

@@ -162,6 +162,28 @@ pub(crate) fn write_ends<K: Sink>(
     pen.text("\"/>\n");
 }
 
+/// Writes boxes around the blocks of these numbers: around the first one as a driver, around the
+/// others as readers.
+pub(crate) fn write_end_blocks<K: Sink>(
+    pen: &mut Pen<'_, K>,
+    plan: Plan,
+    strip: &RoutedStrip<'_>,
+    ends: &[usize],
+) {
+    for (place, number) in ends.iter().enumerate() {
+        if let Some(block) = strip.blocks.get(*number) {
+            let start = if place == 0 {
+                "<path class=\"s\" d=\""
+            } else {
+                "<path class=\"t\" d=\""
+            };
+            pen.text(start);
+            write_place(pen, plan, *block);
+            pen.text("\"/>\n");
+        }
+    }
+}
+
 /// Writes the box of the block or pad of a pin.
 fn write_end_box<K: Sink>(pen: &mut Pen<'_, K>, plan: Plan, read: RouteNode) {
     let node = read.node;

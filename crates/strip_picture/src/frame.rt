@@ -176,14 +176,16 @@ impl Frame {
     )
         requires { entry ≤ 8 }
     {
-        let font = self.plan.font;
-        write_swatch(
-            pen,
-            font + entry * 9 * font,
-            self.ground() + 4 * font,
-            font,
-            class,
-        );
+        self.begin_mark(pen, 1 + 9 * entry, class);
         pen.write(&[Part::Text(words), Part::Text("</text></g>\n")]);
+    }
+
+    /// Writes a square of a class into the legend, that many letters from the left, and begins the
+    /// text beside it.
+    pub(crate) fn begin_mark<K: Sink>(&self, pen: &mut Pen<'_, K>, letters: u32, class: &str)
+        requires { letters ≤ 80 }
+    {
+        let font = self.plan.font;
+        write_swatch(pen, letters * font, self.ground() + 4 * font, font, class);
     }
 }

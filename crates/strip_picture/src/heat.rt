@@ -6,6 +6,7 @@ ghost use Rattle.line_text.specs.Writing.{Writes};
 ghost use Rattle.strip_picture.specs.Numbers.{goes_across, goes_up, middle, number_text, text_at};
 
 use crate::channels::{ChannelUse, Channels};
+use crate::frame::Frame;
 use crate::plan::Plan;
 use line_text::{Failed, Sink};
 use picture_lines::{Direction, Lattice, write_box};
@@ -14,7 +15,31 @@ use text_parts::{Part, Pen, write_parts};
 /// The number of colours of bars, without that of an unused channel.
 const LEVELS: usize = 8;
 
-/// Writes the bars of all channels, the emptier ones first.
+/// The classes of bars, by level.
+const CLASSES: [&str; 5] = ["h h0", "h h2", "h h4", "h h6", "h h8"];
+
+/// Writes the scale of the bars into the legend: for each second level its colour, and the largest
+/// number of used tracks that it stands for, if a channel is full with `full` of them. A number is
+/// written once.
+pub(crate) fn write_scale<K: Sink>(pen: &mut Pen<'_, K>, frame: Frame, full: usize) {
+    for (step, class) in CLASSES.iter().enumerate() {
+        let step = step.min(4);
+        let tracks = full.saturating_mul(step) / 4;
+        let before = full.saturating_mul(step.saturating_sub(1)) / 4;
+        if step == 0 || tracks > before {
+            frame.begin_mark(pen, 28 + 4 * step as u32, class);
+            let word = if step == 4 { " tracks" } else { "" };
+            pen.write(&[
+                Part::Long(tracks as u64),
+                Part::Text(word),
+                Part::Text("</text></g>\n"),
+            ]);
+        }
+    }
+}
+
+/// Writes the bars of all channels, the emptier ones first. A channel with `fullest` used tracks
+/// has the darkest colour.
 pub(crate) fn write_bars<K: Sink>(
     pen: &mut Pen<'_, K>,
     plan: Plan,

@@ -23,6 +23,5 @@ mod routes;
 
 pub use channels::{ChannelUse, Channels, channels_of};
 pub use heat::write_number;
-pub use names::write_escaped;
-pub use picture::{View, draw};
+pub use picture::{Full, View, draw, draw_with_ends};
 pub use picture_lines::DrawError;

@@ -1,8 +1,10 @@
 //! The picture, from its first byte to its last.
-use crate::blocks::{write_blocks, write_cluster_names, write_ends, write_pad_names, write_places};
+use crate::blocks::{
+    write_blocks, write_cluster_names, write_end_blocks, write_ends, write_pad_names, write_places,
+};
 use crate::channels::{ChannelUse, Channels, channels_of};
 use crate::frame::Frame;
-use crate::heat::{write_bars, write_numbers};
+use crate::heat::{write_bars, write_numbers, write_scale};
 use crate::names::write_beginning;
 use crate::plan::Plan;
 use crate::routes::{Detail, TOLD_LETTERS, write_routes};
@@ -21,7 +23,16 @@ pub enum View {
     /// The net of that number in front of the others, which are pale.
     Net(usize),
     /// The number of used tracks of each channel.
-    Channels,
+    Channels(Full),
+}
+
+/// The number of used tracks at which a channel has the darkest colour.
+#[derive(Clone, Copy, PartialEq, Eq)]
+pub enum Full {
+    /// That of the fullest channel.
+    Fullest,
+    /// The number of tracks that a channel has.
+    Tracks(u32),
 }
 
 /// A strip, the use of its channels, and how it is drawn.
@@ -34,6 +45,8 @@ struct Sheet<'a, 't> {
     detail: Detail,
     /// The number of used tracks of the fullest channel.
     fullest: usize,
+    /// The driver and the readers of the net in front, by block, if it has no route.
+    ends: &'a [usize],
 }
 
 /// Writes the picture of a strip as an SVG. Fails if memory runs out, before it writes anything, or
@@ -45,7 +58,7 @@ struct Sheet<'a, 't> {
 ///   wire, with a dot at the wire. Its side is that of the channel, and its place on the side
 ///   follows from the pin's number.
 /// - For channels by use, each channel is a bar, darker if it is fuller, with the number of its
-///   used tracks.
+///   used tracks; the legend has the scale.
 /// - The heading has the size, the nets, the wires and the fullest channel.
 ///
 /// If the lines of all nets would make the picture too large, pins are left out, and if that is not
@@ -56,39 +69,61 @@ pub fn draw<K: Sink>(
     view: View,
     sink: &mut K,
 ) -> Result<(), DrawError> {
+    draw_with_ends(alloc, strip, view, &[], sink)
+}
+
+/// Writes the picture as [`draw`] does. The blocks of these numbers are marked as the ends of the
+/// net in front, the first one as its driver and the others as its readers: a net that goes by the
+/// global network has no route that shows them.
+pub fn draw_with_ends<K: Sink>(
+    alloc: Global,
+    strip: &RoutedStrip<'_>,
+    view: View,
+    ends: &[usize],
+    sink: &mut K,
+) -> Result<(), DrawError> {
     let channels = channels_of(alloc, strip)?;
     let mut pen = Pen::new(sink);
-    write_sheet(&mut pen, Sheet::of(strip, &channels, view));
+    write_sheet(&mut pen, Sheet::of(strip, &channels, view, ends));
     drop(channels);
     Ok(pen.end()?)
 }
 
 impl<'a, 't> Sheet<'a, 't> {
     /// The sheet of a strip.
-    fn of(strip: &'a RoutedStrip<'t>, channels: &'a Channels, view: View) -> Self {
+    fn of(
+        strip: &'a RoutedStrip<'t>,
+        channels: &'a Channels,
+        view: View,
+        ends: &'a [usize],
+    ) -> Self {
         let tracks = Plan::of_tracks(strip);
-        let detail = Detail::of(strip, tracks);
-        let by_use = match view {
-            View::Channels => true,
-            View::Nets => detail == Detail::Nothing,
-            View::Net(_) => false,
+        let all = Detail::of(strip, tracks);
+        let (view, detail) = match view {
+            View::Channels(_) => (view, Detail::Pins),
+            View::Nets if all == Detail::Nothing => (View::Channels(Full::Fullest), all),
+            View::Nets | View::Net(_) => (view, all),
         };
-        let plan = if by_use {
-            Plan::of_numbers(strip)
-        } else {
-            tracks
+        let plan = match view {
+            View::Channels(_) => Plan::of_numbers(strip),
+            View::Nets | View::Net(_) => tracks,
         };
         Sheet {
             strip,
             channels,
             frame: Frame::of(plan),
-            view: if by_use { View::Channels } else { view },
-            detail: if view == View::Channels {
-                Detail::Pins
-            } else {
-                detail
-            },
+            view,
+            detail,
             fullest: fullest(&channels.across).max(fullest(&channels.up)),
+            ends,
+        }
+    }
+
+    /// The number of used tracks at which a channel has the darkest colour.
+    fn full_at(&self, full: Full) -> usize {
+        match full {
+            Full::Fullest => self.fullest,
+            Full::Tracks(tracks) => tracks as usize,
         }
     }
 }
@@ -151,7 +186,11 @@ fn write_second_heading<K: Sink>(pen: &mut Pen<'_, K>, sheet: &Sheet<'_, '_>) {
     match sheet.view {
         View::Nets => pen.text("nets in colours, by number"),
         View::Net(net) => write_picked(pen, sheet.strip, net),
-        View::Channels => pen.text("used tracks of each channel"),
+        View::Channels(Full::Fullest) => pen.text("used tracks of each channel"),
+        View::Channels(Full::Tracks(tracks)) => pen.write(&[
+            Part::Text("used tracks of each channel, of "),
+            Part::Number(tracks),
+        ]),
     }
     let missing = match sheet.detail {
         Detail::Pins => "",
@@ -190,9 +229,10 @@ fn write_shapes<K: Sink>(pen: &mut Pen<'_, K>, sheet: &Sheet<'_, '_>) {
             let nodes = strip.nodes_of(net);
             write_ends(pen, plan, nodes, NodeKind::Ipin, "t");
             write_ends(pen, plan, nodes, NodeKind::Opin, "s");
+            write_end_blocks(pen, plan, strip, sheet.ends);
             write_routes(pen, plan, strip, Some(net), sheet.detail);
         }
-        View::Channels => write_bars(pen, plan, sheet.channels, sheet.fullest),
+        View::Channels(full) => write_bars(pen, plan, sheet.channels, sheet.full_at(full)),
     }
 }
 
@@ -206,7 +246,7 @@ fn write_texts<K: Sink>(pen: &mut Pen<'_, K>, sheet: &Sheet<'_, '_>) {
     frame.begin_texts(pen, "m", plan.pad_font, " rotate(-90)");
     write_pad_names(pen, plan, sheet.strip);
     end_group(pen);
-    if sheet.view == View::Channels {
+    if let View::Channels(_) = sheet.view {
         frame.begin_texts(pen, "n", 5 * plan.lattice.channel, "");
         let channels = sheet.channels;
         pen.lend(|sink| write_numbers(sink, plan.lattice, &channels.across));
@@ -226,9 +266,6 @@ fn write_legend<K: Sink>(pen: &mut Pen<'_, K>, sheet: &Sheet<'_, '_>) {
             frame.write_entry(pen, 3, "s", "driver");
             frame.write_entry(pen, 4, "t", "reader");
         }
-        View::Channels => {
-            frame.write_entry(pen, 3, "h h0", "unused");
-            frame.write_entry(pen, 4, "h h8", "fullest");
-        }
+        View::Channels(full) => write_scale(pen, frame, sheet.full_at(full)),
     }
 }

@@ -1,12 +1,14 @@
 use Rattle.std.proofs.Common.{ℕ, ◌≡◌, ◌<◌, List, length, subst, sym, ap, arith, ◌∙◌}
 use Rattle.std.specs.List.{All}
+use Rattle.std.specs.Result.{IfOk}
 use Rattle.std.proofs.lemmas.Option.{MatchOption-at_some}
+use Rattle.blif.specs.LawfulCircuits.{IsTableWithin}
 use Rattle.blif.specs.declared.circuit.Circuit.{Circuit}
 use Rattle.longest_path.specs.declared.reach.Reach.{Reach}
 use Rattle.longest_path.specs.Ends.{IsEnd}
-use Rattle.longest_path.specs.Paths.{HasLoop, ends_of, starts_of}
+use Rattle.longest_path.specs.Paths.{HasLoop, starts_of}
 use Rattle.longest_path.specs.Settled.{IsSettled}
-use Rattle.longest_path.proofs.Ending.{ends_within, longest, starts_within}
+use Rattle.longest_path.proofs.Ending.{ends_within, if_longest, starts_within}
 use Rattle.longest_path.proofs.longest.longest_path.Goals as goal
 
 pub settled-requires-clause-starts : goal.settled-requires-clause-starts
@@ -14,8 +16,8 @@ settled-requires-clause-starts c =
     subst (λ n. All (λ net. net < n) c.deref.result.now) (sym c.len-nets.ensures)
     (subst (λ (nets : List ℕ). All (λ net. net < length c.args.circuit.now.nets) nets) (sym (c.deref.ensures.value ∙ c.in_ok-starts.ensures)) (starts_within c.args.circuit.now c.requires))
 
-pub longest_in-longest-requires : goal.longest_in-longest-requires
-longest_in-longest-requires c =
+pub longest_in-longest-requires-clause-ends : goal.longest_in-longest-requires-clause-ends
+longest_in-longest-requires-clause-ends c =
     let circuit : Circuit = c.args.circuit.now in
     let nets : ℕ = c.len-nets.result in
     let same : nets ≡ length circuit.nets = c.len-nets.ensures in
@@ -24,6 +26,27 @@ longest_in-longest-requires c =
     let long : length circuit.nets ≡ length c.deref-in-Some.result.now = sym (ap length c.deref-in-Some.ensures.value ∙ (settled.long ∙ same)) in
     subst (λ n. All (λ net. net < n) c.deref-in-Some-2.result.now) long
     (subst (λ (nets : List ℕ). All (λ net. net < length circuit.nets) nets) (sym (c.deref-in-Some-2.ensures.value ∙ c.in_ok-ends.ensures)) (ends_within circuit c.requires))
+
+pub longest_in-longest-requires-clause-within : goal.longest_in-longest-requires-clause-within
+longest_in-longest-requires-clause-within c =
+    let circuit : Circuit = c.args.circuit.now in
+    let nets : ℕ = c.len-nets.result in
+    let same : nets ≡ length circuit.nets = c.len-nets.ensures in
+    let settled : IsSettled nets circuit.tables c.deref.result.now c.in-Some.reach.items =
+    MatchOption-at_some (HasLoop circuit.tables) (λ reach. IsSettled nets circuit.tables c.deref.result.now reach.items) c.in-Some.reach c.in-Some.is c.in_ok-found.ensures in
+    let long : length circuit.nets ≡ length c.deref-in-Some.result.now = sym (ap length c.deref-in-Some.ensures.value ∙ (settled.long ∙ same)) in
+    subst (λ n. All (IsTableWithin n) circuit.tables) long c.requires.tables
+
+pub longest_in-longest-requires-clause-settled : goal.longest_in-longest-requires-clause-settled
+longest_in-longest-requires-clause-settled c =
+    let circuit : Circuit = c.args.circuit.now in
+    let nets : ℕ = c.len-nets.result in
+    let settled : IsSettled nets circuit.tables c.deref.result.now c.in-Some.reach.items =
+    MatchOption-at_some (HasLoop circuit.tables) (λ reach. IsSettled nets circuit.tables c.deref.result.now reach.items) c.in-Some.reach c.in-Some.is c.in_ok-found.ensures in (
+      c.deref.result.now,
+      subst (λ (reach : List Reach). IsSettled (length reach) circuit.tables c.deref.result.now reach) (sym c.deref-in-Some.ensures.value)
+          (subst (λ n. IsSettled n circuit.tables c.deref.result.now c.in-Some.reach.items) (sym settled.long) settled),
+    )
 
 pub returns : goal.returns
 returns c =
@@ -34,7 +57,6 @@ returns c =
     let settled : IsSettled nets circuit.tables c.deref.result.now reach =
     MatchOption-at_some (HasLoop circuit.tables) (λ reach. IsSettled nets circuit.tables c.deref.result.now reach.items) c.in-Some.reach c.in-Some.is c.in_ok-found.ensures in
     let here : IsSettled nets circuit.tables (starts_of circuit) reach = subst (λ (starts : List ℕ). IsSettled nets circuit.tables starts reach) (c.deref.ensures.value ∙ c.in_ok-starts.ensures) settled in
-    let end : IsEnd reach (ends_of circuit) c.longest_in-longest.result =
-    subst (λ (ends : List ℕ). IsEnd reach ends c.longest_in-longest.result) (c.deref-in-Some-2.ensures.value ∙ c.in_ok-ends.ensures)
-    (subst (λ (r : List Reach). IsEnd r c.deref-in-Some-2.result.now c.longest_in-longest.result) c.deref-in-Some.ensures.value c.longest_in-longest.ensures) in
-    longest circuit nets reach c.longest_in-longest.result none here end
+    if_longest circuit nets reach c.longest_in-longest.result none here
+    (subst (λ (ends : List ℕ). IfOk c.longest_in-longest.result (IsEnd circuit.tables reach ends)) (c.deref-in-Some-2.ensures.value ∙ c.in_ok-ends.ensures)
+    (subst (λ (r : List Reach). IfOk c.longest_in-longest.result (IsEnd circuit.tables r c.deref-in-Some-2.result.now)) c.deref-in-Some.ensures.value c.longest_in-longest.ensures))

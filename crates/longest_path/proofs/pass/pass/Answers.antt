@@ -1,4 +1,4 @@
-use Rattle.std.proofs.Common.{ℕ, ◌≡◌, ◌+◌, ◌<◌, ◌≤◌, List, Some, get_or, length, length-set, subst, sym, arith, ap, ◌∙◌}
+use Rattle.std.proofs.Common.{ℕ, ◌≡◌, ◌+◌, ◌<◌, ◌≤◌, List, Some, get_or, length, length-set, subst, arith, ap, ◌∙◌}
 use Rattle.std.specs.List.{slice_get}
 use Rattle.blif.specs.LookupTables.{LookupTable}
 use Rattle.longest_path.specs.declared.reach.Reach.{Reach}

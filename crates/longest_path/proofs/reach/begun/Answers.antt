@@ -1,6 +1,3 @@
-use Rattle.std.proofs.Common.{ℕ, ◌≡◌, List, set, get_or, take}
-use Rattle.longest_path.specs.declared.reach.Reach.{Reach}
-use Rattle.longest_path.specs.Reaches.{IsBegun}
 use Rattle.longest_path.proofs.Starting.{one_more}
 use Rattle.longest_path.proofs.reach.begun.Goals as goal
 

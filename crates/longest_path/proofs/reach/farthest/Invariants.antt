@@ -1,4 +1,4 @@
-use Rattle.std.proofs.Common.{ℕ, ◌≡◌, ◌<◌, ◌≤◌, length, get_or}
+use Rattle.std.proofs.Common.{ℕ, ◌≡◌, ◌<◌, ◌≤◌, get_or}
 use Rattle.std.specs.Option.{MatchOption}
 use Rattle.longest_path.specs.Paths.{IsIn}
 use Rattle.longest_path.specs.Reaches.{steps_to}

@@ -1,4 +1,4 @@
-use Rattle.std.proofs.Common.{ℕ, ◌≡◌, ◌+◌, ◌<◌, ◌≤◌, List, length, subst, sym, arith}
+use Rattle.std.proofs.Common.{◌≡◌, ◌+◌, ◌≤◌, List, length, subst, sym, arith}
 use Rattle.std.specs.List.{All}
 use Rattle.blif.specs.LawfulCircuits.{IsTableWithin}
 use Rattle.longest_path.specs.declared.reach.Reach.{Reach}

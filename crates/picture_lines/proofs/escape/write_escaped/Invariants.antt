@@ -1,8 +1,8 @@
 use Rattle.std.proofs.Common.{take}
 use Rattle.std.specs.List.{flat_map}
 use Rattle.line_text.specs.Writing.{TakesAll}
-use Rattle.strip_picture.specs.Escapes.{escaped}
-use Rattle.strip_picture.proofs.names.write_escaped.Given as goal
+use Rattle.picture_lines.specs.Escapes.{escaped}
+use Rattle.picture_lines.proofs.escape.write_escaped.Given as goal
 
 -- the bytes before this one are written
 abbrev pub invariant-loop-byte : goal.invariant-loop-byte

@@ -1,7 +1,7 @@
 use Rattle.std.proofs.lemmas.Option.{slice_get-get_or}
 use Rattle.line_text.proofs.WritingLemmas.{part_loop, writes_part}
-use Rattle.strip_picture.specs.Escapes.{escaped}
-use Rattle.strip_picture.proofs.names.write_escaped.Goals as goal
+use Rattle.picture_lines.specs.Escapes.{escaped}
+use Rattle.picture_lines.proofs.escape.write_escaped.Goals as goal
 
 pub returns-in_err-write_byte : goal.returns-in_err-write_byte
 returns-in_err-write_byte g c =

@@ -1,0 +1,8 @@
+use Rattle.std.proofs.Common.{ℕ, ◌≡◌, ◌^◌, ◌-◌, List, min, take}
+use Rattle.std.specs.List.{sum}
+use Rattle.path_wires.specs.Wires.{AreCounts}
+use Rattle.path_wires.proofs.hops.wires_along.Given as goal
+
+-- the hops before this one
+abbrev pub invariant-loop-hop : goal.invariant-loop-hop
+invariant-loop-hop l = (counts : List ℕ) × AreCounts (take l.hop-index l.hops) counts × (l.wires ≡ min (sum counts) (2 ^ 64 - 1))
