@@ -4,6 +4,7 @@ ghost use Rattle.line_text.specs.Writing.{Writes};
 ghost use Rattle.desk.specs.Fields.{doubled, quote, quoted};
 
 use line_text::{Failed, Sink, write_all};
+use text_parts::{Part, write_parts};
 
 /// Writes a field of a CSV file: the bytes in quotes, each quote among them twice.
 pub(crate) fn write_quoted<K: Sink>(sink: &mut K, bytes: &[u8]) -> Result<(), Failed>
@@ -38,4 +39,12 @@ fn write_byte<K: Sink>(sink: &mut K, byte: u8) -> Result<(), Failed>
         b'"' => write_all(sink, b"\"\""),
         _ => write_all(sink, &[byte]),
     }
+}
+
+/// Writes numbers, each after a comma.
+pub(crate) fn write_numbers<W: Sink>(writer: &mut W, numbers: &[u64]) -> Result<(), Failed> {
+    for number in numbers {
+        write_parts(writer, &[Part::Text(","), Part::Long(*number)])?;
+    }
+    Ok(())
 }

@@ -74,7 +74,7 @@ fn with_options<'a>(
 
 /// Returns whether a tool takes that option of a device.
 fn takes(tool: &str, option: &[u8]) -> bool {
-    let routes = tool == "route";
+    let routes = tool == "route" || tool == "check" || tool == "configure" || tool == "log";
     let shows = tool == "picture" || tool == "report";
     if option == b"--arch".as_slice() {
         return routes || tool == "files" || tool == "page";
@@ -83,6 +83,9 @@ fn takes(tool: &str, option: &[u8]) -> bool {
         return routes || shows;
     }
     let has_number = option == b"--tracks".as_slice() || option == b"--columns".as_slice();
+    if option == b"--tracks".as_slice() && tool == "strip" {
+        return true;
+    }
     has_number && (routes || shows || tool == "page")
 }
 

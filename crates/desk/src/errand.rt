@@ -1,6 +1,10 @@
 //! Reads the program's words to an errand.
+use crate::layout_input::{LayoutPaths, paths_of};
 use crate::size::size_of;
-use crate::{files, page_tool, picture, random, report, route_wishes, script, strip};
+use crate::{
+    check, configure, files, log_tool, page_tool, picture, random, report, route_wishes, script,
+    strip,
+};
 use clap::Error;
 use device_lines::DeviceSize;
 use option_words::{Call, Toolbox, call_refusal, read_call};
@@ -15,7 +19,7 @@ const ABOUT: &str = "Tools for fpgad: they write its scripts and read its output
 const AFTER_HELP: &str = "\
 Each tool has its own help: fpgad_desk TOOL --help, or fpgad_desk help TOOL. The version: fpgad_desk --version
 
-Status: 0 done; 1 a file could not be read or written, or `files` found a refused line; 2 the command line is wrong; 3 the input is wrong (standard error names the line); 4 out of memory
+Status: 0 done; 1 a file could not be read or written, `files` found a refused line, or `check` or `configure` found that the files do not implement the netlist; 2 the command line is wrong; 3 the input is wrong (standard error names the line); 4 out of memory
 
 Example: fpgad_desk script --name T --width 2 < t.blif | fpgad --arch my.arch --tracks 8 --columns 10 --rows 10";
 
@@ -28,11 +32,14 @@ const TOOLBOX: Toolbox = Toolbox {
         script::TOOL,
         files::TOOL,
         route_wishes::TOOL,
+        check::NAMED,
+        configure::NAMED,
         strip::NAMED,
         picture::NAMED,
         report::NAMED,
         page_tool::NAMED,
         random::TOOL,
+        log_tool::TOOL,
     ],
 };
 
@@ -42,6 +49,14 @@ const VIEWS: Toolbox = Toolbox {
     about: ABOUT,
     after_help: AFTER_HELP,
     tools: &[strip::TOOL, picture::TOOL, report::TOOL, page_tool::TOOL],
+};
+
+/// The tools that read a layout and its netlist, with their options.
+const LAYOUTS: Toolbox = Toolbox {
+    name: "fpgad_desk",
+    about: ABOUT,
+    after_help: AFTER_HELP,
+    tools: &[check::TOOL, configure::TOOL],
 };
 
 /// Why the name of a tool is refused that the desk doesn't have.
@@ -54,6 +69,8 @@ pub(crate) enum View {
     Picture,
     /// How full it is.
     Report,
+    /// What its tenancies use, as a table.
+    Table,
 }
 
 /// What is asked of the desk.
@@ -65,6 +82,10 @@ pub(crate) enum Errand<'a> {
     Files(files::Wishes<'a>),
     /// A netlist on a device of its own.
     Route(route_wishes::Wishes<'a>),
+    /// A layout against its netlist.
+    Check(LayoutPaths<'a>),
+    /// The configuration of a layout.
+    Configure(LayoutPaths<'a>),
     /// A picture of a tenancy.
     Strip(strip::Wishes<'a>),
     /// What is shown of a device, and the device's size.
@@ -73,6 +94,8 @@ pub(crate) enum Errand<'a> {
     Page(page_tool::Wishes<'a>),
     /// A script with random circuits.
     Random(random::Wanted),
+    /// A shorter log of a live service.
+    Log(log_tool::Wishes<'a>),
 }
 
 /// What these words ask, the first being the program's name. An error is clap's; a request for help
@@ -83,6 +106,7 @@ pub(crate) fn read_errand<'a, S: AsStr>(
 ) -> Result<Errand<'a>, Error> {
     match words.get(1).map_or("", |word| word.as_str()) {
         "strip" | "picture" | "report" | "page" => read_view(alloc, words),
+        "check" | "configure" => read_layout_errand(alloc, words),
         _ => read_other(alloc, words),
     }
 }
@@ -90,6 +114,11 @@ pub(crate) fn read_errand<'a, S: AsStr>(
 /// What words ask that call a tool that draws or reports.
 fn read_view<'a, S: AsStr>(alloc: Global, words: &'a [S]) -> Result<Errand<'a>, Error> {
     errand_by(alloc, &VIEWS, words)
+}
+
+/// What words ask that call a tool which reads a layout.
+fn read_layout_errand<'a, S: AsStr>(alloc: Global, words: &'a [S]) -> Result<Errand<'a>, Error> {
+    errand_by(alloc, &LAYOUTS, words)
 }
 
 /// What other words ask.
@@ -119,11 +148,18 @@ fn errand_of<'a>(call: &Call<'a>) -> Result<Errand<'a>, &'static str> {
         "script" => Ok(Errand::Script(script::wishes_of(&call.given)?)),
         "files" => Ok(Errand::Files(files::wishes_of(&call.given)?)),
         "route" => Ok(Errand::Route(route_wishes::wishes_of(&call.given)?)),
+        "check" => Ok(Errand::Check(paths_of(&call.given)?)),
+        "configure" => Ok(Errand::Configure(paths_of(&call.given)?)),
         "strip" => Ok(Errand::Strip(strip::wishes_of(&call.given)?)),
         "picture" => Ok(Errand::View(size_of(&call.given)?, View::Picture)),
-        "report" => Ok(Errand::View(size_of(&call.given)?, View::Report)),
+        "report" => {
+            let is_table = call.given.is_given("csv");
+            let view = if is_table { View::Table } else { View::Report };
+            Ok(Errand::View(size_of(&call.given)?, view))
+        }
         "page" => Ok(Errand::Page(page_tool::wishes_of(&call.given)?)),
         "random" => Ok(Errand::Random(random::wanted_of(&call.given)?)),
+        "log" => Ok(Errand::Log(log_tool::wishes_of(&call.given)?)),
         _ => Err(NO_TOOL),
     }
 }

@@ -5,6 +5,7 @@ use crate::device_file::DEVICE;
 use crate::outcome::Outcome;
 use crate::paths::{FileRole, ResultFile, make_folder, read_file, tell_stale, write_file};
 use crate::tenants::save_replies;
+use crate::usages::print_usages;
 use crate::words::FOLDER;
 use line_text::{Failed, NameSet, Sink, Source, read_all};
 use option_words::{Given, OptionWord, Program, Takes};
@@ -28,6 +29,10 @@ For each name, the last .net, .place and .route file that the service printed is
 says where a file ends, whatever it contains. Each refusal is explained, with advice. The last line counts the served lines, the
 refused lines and the files. The status is 1 if a line was refused. A file left in the folder by an earlier run is named on standard error.
 
+A line for each name counts what the replies say of it: the columns of its last admission, its lines, the refused ones, the jobs that
+began, and the steps for which the operator asked by `op step`. A line after it tells the longest path of its last netlist that was not
+refused, in tables, and, if all three files were printed for it, in wires. With --csv only a table is printed, with a row for each name.
+
 Example: fpgad --arch my.arch --tracks 8 --columns 10 < my.script | fpgad_desk files --arch my.arch my.script results",
     options: &[
         OptionWord {
@@ -44,6 +49,13 @@ Example: fpgad --arch my.arch --tracks 8 --columns 10 < my.script | fpgad_desk f
             takes: Takes::Alone,
             default: None,
         },
+        OptionWord {
+            name: "csv",
+            value_name: "",
+            help: "Prints only what each name used, as a line of headings and a line for each name",
+            takes: Takes::Nothing,
+            default: None,
+        },
         DEVICE,
         FOLDER,
     ],
@@ -53,9 +65,11 @@ Example: fpgad --arch my.arch --tracks 8 --columns 10 < my.script | fpgad_desk f
 #[derive(Clone, Copy)]
 pub(crate) struct Wishes<'a> {
     script: &'a str,
-    folder: &'a str,
+    pub(crate) folder: &'a str,
     /// Whether the script begins with the architecture.
     has_architecture: bool,
+    /// Whether what each name used is printed as a table, and nothing else.
+    pub(crate) is_table: bool,
 }
 
 /// What the options ask for, or why they are refused.
@@ -64,6 +78,7 @@ pub(crate) fn wishes_of<'a>(given: &Given<'a>) -> Result<Wishes<'a>, &'static st
         script: given.text("script").ok_or(NO_FILE)?,
         folder: given.text("folder").ok_or(NO_FILE)?,
         has_architecture: given.text("arch").is_none(),
+        is_table: given.is_given("csv"),
     })
 }
 
@@ -107,7 +122,7 @@ pub(crate) fn run<H: Files + AllocGlobal, R: Source, W: Sink, E: Sink>(
 ) -> Result<(), Outcome> {
     let script = read_file(rt, FileRole::Script, wishes.script, u64::MAX, teller)?;
     let lines = lines_of(script.as_slice(), wishes.has_architecture);
-    let outcome = run_on_lines(rt, wishes.folder, lines, reader, writer, teller);
+    let outcome = run_on_lines(rt, wishes, lines, reader, writer, teller);
     drop(script);
     outcome
 }
@@ -115,7 +130,7 @@ pub(crate) fn run<H: Files + AllocGlobal, R: Source, W: Sink, E: Sink>(
 /// Reads what was printed for the lines, writes the files and prints the lines.
 fn run_on_lines<H: Files + AllocGlobal, R: Source, W: Sink, E: Sink>(
     rt: &H,
-    folder: &str,
+    wishes: Wishes<'_>,
     lines: Lines<'_>,
     reader: &mut R,
     writer: &mut W,
@@ -123,7 +138,7 @@ fn run_on_lines<H: Files + AllocGlobal, R: Source, W: Sink, E: Sink>(
 ) -> Result<(), Outcome> {
     match read_all(rt.alloc(), reader) {
         Ok(printed) => {
-            let outcome = run_on_texts(rt, folder, lines, printed.as_slice(), writer, teller);
+            let outcome = run_on_texts(rt, wishes, lines, printed.as_slice(), writer, teller);
             drop(printed);
             outcome
         }
@@ -134,7 +149,7 @@ fn run_on_lines<H: Files + AllocGlobal, R: Source, W: Sink, E: Sink>(
 /// Reads the replies from the printed text, writes the files and prints the lines.
 fn run_on_texts<H: Files + AllocGlobal, W: Sink, E: Sink>(
     rt: &H,
-    folder: &str,
+    wishes: Wishes<'_>,
     lines: Lines<'_>,
     printed: &[u8],
     writer: &mut W,
@@ -148,9 +163,9 @@ fn run_on_texts<H: Files + AllocGlobal, W: Sink, E: Sink>(
     let acts = script.into_acts();
     let outcome = match read_replies(rt.alloc(), &acts, printed) {
         Ok(replies) => {
-            let saved = save_files(rt, folder, &acts, &replies, teller);
+            let saved = save_files(rt, wishes.folder, &acts, &replies, teller);
             let outcome = match saved {
-                Ok(files) => print(rt, folder, lines, &acts, &replies, files, writer, teller),
+                Ok(files) => print(rt, wishes, lines, &acts, &replies, files, writer, teller),
                 Err(outcome) => Err(outcome),
             };
             drop(replies);
@@ -231,7 +246,7 @@ pub(crate) const KINDS: [FileKind; 3] = [FileKind::Net, FileKind::Place, FileKin
 /// Prints the lines beside their replies, and their numbers.
 fn print<H: Files + AllocGlobal, W: Sink, E: Sink>(
     rt: &H,
-    folder: &str,
+    wishes: Wishes<'_>,
     lines: Lines<'_>,
     acts: &[Act<&[u8]>],
     replies: &Replies<'_, '_>,
@@ -246,7 +261,7 @@ fn print<H: Files + AllocGlobal, W: Sink, E: Sink>(
     drop(asked);
     match told {
         Ok(told) => {
-            let outcome = print_told(rt, folder, acts, &told, files, writer, teller);
+            let outcome = print_told(rt, wishes, acts, replies, &told, files, writer, teller);
             drop(told);
             outcome
         }
@@ -258,8 +273,9 @@ fn print<H: Files + AllocGlobal, W: Sink, E: Sink>(
 /// many were served and refused.
 fn print_told<H: Files + AllocGlobal, W: Sink, E: Sink>(
     rt: &H,
-    folder: &str,
+    wishes: Wishes<'_>,
     acts: &[Act<&[u8]>],
+    replies: &Replies<'_, '_>,
     told: &[ToldLine<'_>],
     files: u32,
     writer: &mut W,
@@ -267,9 +283,13 @@ fn print_told<H: Files + AllocGlobal, W: Sink, E: Sink>(
 ) -> Result<(), Outcome> {
     let refused = told.iter().filter(|line| line.is_refused()).count();
     let served = told.len().saturating_sub(refused);
-    write_told(writer, told).or(Err(Outcome::OutputFailed))?;
-    save_told(rt, folder, acts, told, writer, teller)?;
-    write_summary(writer, served, refused, files).or(Err(Outcome::OutputFailed))?;
+    if !wishes.is_table {
+        write_told(writer, told).or(Err(Outcome::OutputFailed))?;
+    }
+    save_told(rt, wishes, acts, replies, told, writer, teller)?;
+    if !wishes.is_table {
+        write_summary(writer, served, refused, files).or(Err(Outcome::OutputFailed))?;
+    }
     if refused > 0 {
         return Err(Outcome::LinesRefused(refused));
     }
@@ -279,8 +299,9 @@ fn print_told<H: Files + AllocGlobal, W: Sink, E: Sink>(
 /// Writes the lines of each name into the folder, and prints what each used.
 fn save_told<H: Files + AllocGlobal, W: Sink, E: Sink>(
     rt: &H,
-    folder: &str,
+    wishes: Wishes<'_>,
     acts: &[Act<&[u8]>],
+    replies: &Replies<'_, '_>,
     told: &[ToldLine<'_>],
     writer: &mut W,
     teller: &mut E,
@@ -288,7 +309,11 @@ fn save_told<H: Files + AllocGlobal, W: Sink, E: Sink>(
     let Ok(names) = session_names(rt.alloc(), acts) else {
         return Err(Outcome::NoMemory);
     };
-    let saved = save_replies(rt, folder, &names, acts, told, writer, teller);
+    let mut saved = save_replies(rt, wishes.folder, &names, acts, told, teller);
+    if let Ok(()) = saved {
+        let printed = print_usages(rt.alloc(), wishes.is_table, &names, acts, replies, writer);
+        saved = printed.or(Err(Outcome::OutputFailed));
+    }
     drop(names);
     saved
 }

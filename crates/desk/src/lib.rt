@@ -6,24 +6,34 @@
 //! - `files` saves the result files which the service printed for a script, and prints each line
 //!   beside its reply.
 //! - `route` packs, places and routes one netlist on a device of its own, and writes its files.
+//! - `check` says whether three files, whoever wrote them, implement a netlist.
+//! - `configure` prints what a device is loaded with so that it runs the netlist, from such files.
 //! - `strip` draws one tenancy from its three files.
 //! - `picture` draws the device from what the service printed, and `report` says how full it is.
 //! - `page` prints one HTML file with the device and its tenancies, for a browser.
 //! - `random` prints a script with random circuits, to measure the service with.
+//! - `log` makes the log of a live service shorter.
 //!
 //! [`run_words`] reads a program's words and does what they ask, over any input and output.
 //! [`Outcome`] says how it ended, by a status and a message.
 #![tactic(auto)]
 
 mod arch_words;
+mod check;
+mod configure;
 mod csv;
 mod device_file;
 mod errand;
 mod files;
+mod last_files;
 mod latches;
+mod layout_input;
+mod log_tool;
 mod longest;
 mod outcome;
+mod overuse;
 mod page_tool;
+mod path_hops;
 mod paths;
 mod picture;
 mod random;
@@ -37,7 +47,9 @@ mod script;
 mod silence;
 mod size;
 mod strip;
+mod tenancy_table;
 mod tenants;
+mod usages;
 mod words;
 
 pub use outcome::Outcome;

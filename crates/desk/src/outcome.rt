@@ -5,6 +5,7 @@ ghost use Rattle.desk.specs.Outcomes.{status_of, written_so};
 use crate::paths::FileRole;
 use arch_file::ArchFault;
 use device_lines::InputFault;
+use layout_files::LayoutFault;
 use line_text::{Failed, ReadError};
 use std::fmt;
 use strip_files::FileFault;
@@ -37,8 +38,15 @@ pub enum Outcome {
     Unrouted,
     /// A file isn't one that the service wrote for a tenancy.
     StripRefused(FileFault),
+    /// The three files are the print of no layout of the netlist.
+    LayoutRefused(LayoutFault),
+    /// The three files are a layout that does not implement the netlist. The cause is written to
+    /// standard error.
+    OtherCircuit,
     /// No net has the name.
     NoNet,
+    /// The first line of a log names other options, or another architecture.
+    LogDiffers,
     NoMemory,
 }
 
@@ -50,7 +58,7 @@ impl Outcome {
         match self {
             Outcome::Done => 0,
             Outcome::InputFailed | Outcome::OutputFailed | Outcome::FileFailed(_) => 1,
-            Outcome::LinesRefused(_) => 1,
+            Outcome::LinesRefused(_) | Outcome::LayoutRefused(_) | Outcome::OtherCircuit => 1,
             Outcome::NoMemory => 4,
             _ => 3,
         }
@@ -101,7 +109,10 @@ impl fmt::Display for Outcome {
             Outcome::NetlistRefused => write!(f, "netlist: refused"),
             Outcome::Unrouted => write!(f, "netlist: not routed"),
             Outcome::StripRefused(fault) => write!(f, "{fault}"),
+            Outcome::LayoutRefused(fault) => write!(f, "{fault}"),
+            Outcome::OtherCircuit => write!(f, "the files do not implement the netlist"),
             Outcome::NoNet => write!(f, "there is no net with this name"),
+            Outcome::LogDiffers => write!(f, "log: its first line names other options"),
             Outcome::NoMemory => write!(f, "out of memory"),
         }
     }

@@ -4,6 +4,7 @@ ghost use Rattle.std.specs.Prelude.{◌≤◌};
 use crate::arch_words::write_arch_fault;
 use crate::latches::warn_of_latches;
 use crate::outcome::Outcome;
+use crate::overuse::tell_overuse;
 use crate::paths::{FileRole, ResultFile, make_folder, read_file, tell_stale, write_file};
 use crate::route_size::{Sized, size_for};
 use crate::route_wishes::{GivenSize, Tracks, Wishes};
@@ -19,6 +20,7 @@ use script_replies::advice_for;
 use sessions::write_reply;
 use std::alloc::Global;
 use std::rt::Files;
+use strip_files::StripTexts;
 use tenant_slot::{Refusal, Reply, SharedText, StateName, Status};
 
 /// The most bytes of a text that are read: one more than it may have.
@@ -93,7 +95,9 @@ fn run_on_size<H: Files + AllocGlobal, W: Sink, E: Sink>(
     };
     let outcome = match trial {
         Ok(Trial::Decided(run)) => {
-            tell_overuse(&run, quiet.as_bytes(), teller);
+            if let End::Unrouted(_) = run.outcome {
+                tell_overuse(rt.alloc(), quiet.as_bytes(), teller);
+            }
             ended(rt, wishes, size, request, run, writer, teller)
         }
         Ok(Trial::NeverRouted) => Err(Outcome::Unrouted),
@@ -101,30 +105,6 @@ fn run_on_size<H: Files + AllocGlobal, W: Sink, E: Sink>(
     };
     drop(quiet);
     outcome
-}
-
-/// Writes, of a run that was left without routes, the last of these lines that counts overused
-/// nodes.
-fn tell_overuse<E: Sink>(run: &Run, lines: &[u8], teller: &mut E) {
-    if let End::Unrouted(_) = run.outcome {
-        if let Some(line) = last_overuse(lines) {
-            let _ = write_parts(teller, &[line, b"\n"]);
-        }
-    }
-}
-
-/// The last of these lines that counts overused nodes.
-fn last_overuse(lines: &[u8]) -> Option<&[u8]> {
-    let mut last = None;
-    let mut rest = lines;
-    while !rest.is_empty() {
-        let (line, later) = split_line(rest);
-        if line.starts_with(b"iteration ") && line.ends_with(b")") {
-            last = Some(line);
-        }
-        rest = later;
-    }
-    last
 }
 
 /// Writes what is wrong with the architecture, and returns how the errand ended.
@@ -227,10 +207,12 @@ fn ended<H: Files + AllocGlobal, W: Sink, E: Sink>(
     let Run { outcome, figures } = run;
     match outcome {
         End::Routed(files) => {
-            let saved = saved(rt, wishes, &files, teller);
+            let mut saved = saved(rt, wishes, &files, teller);
+            if let Ok(()) = saved {
+                saved = print_known(rt.alloc(), wishes, size, request, figures, &files, writer);
+            }
             drop(files);
-            saved?;
-            print_known(rt.alloc(), wishes, size, request, figures, writer)
+            saved
         }
         End::Unrouted(left) => {
             let saved = saved_left(rt, wishes, &left, teller);
@@ -249,6 +231,7 @@ fn print_known<W: Sink>(
     size: GivenSize,
     request: Request<'_>,
     figures: Option<Figures>,
+    files: &Results,
     writer: &mut W,
 ) -> Result<(), Outcome> {
     match figures {
@@ -256,6 +239,11 @@ fn print_known<W: Sink>(
             let routed = Routed {
                 name: stem_of(wishes.netlist).as_bytes(),
                 netlist: request.netlist.as_bytes(),
+                texts: StripTexts {
+                    net: files.net.as_bytes(),
+                    place: files.places.as_bytes(),
+                    route: files.routes.as_bytes(),
+                },
                 size,
                 figures,
             };
@@ -326,7 +314,7 @@ fn told_unrouted<E: Sink>(alloc: Global, left: Unrouted, teller: &mut E) -> Outc
 }
 
 /// Writes why the netlist is refused, as the service would reply, and returns how the errand ended.
-fn told_refused<E: Sink>(alloc: Global, refusal: Refusal, teller: &mut E) -> Outcome {
+pub(crate) fn told_refused<E: Sink>(alloc: Global, refusal: Refusal, teller: &mut E) -> Outcome {
     tell(alloc, Reply::Refused(refusal), teller);
     Outcome::NetlistRefused
 }

@@ -1,11 +1,12 @@
 //! What a routed netlist uses, as lines or as a table.
-use crate::csv::write_quoted;
-use crate::longest::{longest_of, write_longest};
+use crate::csv::{write_numbers, write_quoted};
+use crate::longest::measured;
 use crate::route_wishes::{GivenSize, Size, Wishes};
+use crate::usages::write_path;
 use line_text::{Failed, Sink};
-use longest_path::Longest;
 use one_user::{Figures, write_figures};
 use std::alloc::Global;
+use strip_files::StripTexts;
 use text_parts::{Part, write_parts};
 
 /// A netlist that was routed.
@@ -13,13 +14,14 @@ use text_parts::{Part, write_parts};
 pub(crate) struct Routed<'a> {
     pub(crate) name: &'a [u8],
     pub(crate) netlist: &'a [u8],
+    pub(crate) texts: StripTexts<'a>,
     pub(crate) size: GivenSize,
     pub(crate) figures: Figures,
 }
 
 /// The headings of the table.
 const HEADINGS: &str =
-    "netlist,columns,rows,tracks,logic_blocks,pads,nets,wire_length,wires,iterations,fullest_tracks,longest_path\n";
+    "netlist,columns,rows,tracks,logic_blocks,pads,nets,wire_length,wires,iterations,fullest_tracks,longest_path,longest_path_wires\n";
 
 /// Prints what a netlist uses.
 pub(crate) fn print_routed<W: Sink>(
@@ -39,7 +41,20 @@ pub(crate) fn print_routed<W: Sink>(
     let tracks = Part::Number(routed.figures.tracks);
     write_parts(writer, &[Part::Text("tracks "), tracks, Part::Text("\n")])?;
     write_figures(writer, &routed.figures)?;
-    write_longest(alloc, routed.netlist, writer)
+    write_longest(alloc, routed, writer)
+}
+
+/// Writes the line of the longest path. A netlist with a fault has no line, and if memory runs out
+/// none is written.
+fn write_longest<W: Sink>(alloc: Global, routed: Routed<'_>, writer: &mut W) -> Result<(), Failed> {
+    match measured(alloc, routed.netlist, Some(routed.texts)) {
+        Some(circuit) => {
+            let written = circuit.write_line(writer);
+            drop(circuit);
+            written
+        }
+        None => Ok(()),
+    }
 }
 
 /// Prints the size of the device that was taken.
@@ -74,17 +89,8 @@ fn write_row<W: Sink>(alloc: Global, routed: Routed<'_>, writer: &mut W) -> Resu
             figures.fullest.map_or(0, |channel| channel.wires as u64),
         ],
     )?;
-    match longest_of(alloc, routed.netlist) {
-        Some(Longest::Path(path)) => write_numbers(writer, &[path.tables as u64])?,
-        _ => write_parts(writer, &[Part::Text(",")])?,
-    }
-    write_parts(writer, &[Part::Text("\n")])
-}
-
-/// Writes numbers, each after a comma.
-fn write_numbers<W: Sink>(writer: &mut W, numbers: &[u64]) -> Result<(), Failed> {
-    for number in numbers {
-        write_parts(writer, &[Part::Text(","), Part::Long(*number)])?;
-    }
-    Ok(())
+    let circuit = measured(alloc, routed.netlist, Some(routed.texts));
+    let written = write_path(writer, &circuit);
+    drop(circuit);
+    written
 }

@@ -4,11 +4,13 @@ use crate::errand::{Errand, View, read_errand};
 use crate::latches::warn_of_latches;
 use crate::outcome::Outcome;
 use crate::paths::{FileRole, read_file};
-use crate::{files, page_tool, picture, random, report, route, script, strip};
+use crate::{
+    check, configure, files, log_tool, page_tool, picture, random, report, route, script, strip,
+};
 use clap::Error;
 use clap::error::ErrorKind;
 use device_lines::{DeviceSize, ReadError, read_device};
-use line_text::{Sink, Source, read_all, write_all};
+use line_text::{Sink, Source, read_all, write_all, write_parts};
 use std::alloc::Global;
 use std::convert::AsStr;
 use std::rt::Files;
@@ -23,13 +25,15 @@ pub struct Streams<'a, R: Source, W: Sink, E: Sink> {
     pub teller: &'a mut E,
     /// Whether that is a terminal: then progress is written without being asked for.
     pub is_terminal: bool,
+    /// What the program was built from, for its version; empty if that is not known.
+    pub built_from: &'a str,
 }
 
 /// The most bytes of a device file that are read.
 const MAX_DEVICE: u64 = 65_536;
 
-/// What `--version` prints.
-const VERSION: &str = "fpgad_desk 1.0\n";
+/// The beginning of what `--version` prints.
+const VERSION: &str = "fpgad_desk 1.0";
 
 /// Does what a program's words ask, the first being its name. Help and the version are printed to
 /// the writer. An error is clap's: the words are refused.
@@ -93,7 +97,8 @@ fn run_plain<H: Files + AllocGlobal, S: AsStr, R: Source, W: Sink, E: Sink>(
     match asked {
         "help" if words.len() < 4 => run_read(rt, &[name, tool, "--help"], streams),
         "--version" | "-V" if words.len() == 2 => {
-            Ok(Outcome::of_writing(write_all(streams.writer, VERSION.as_bytes())))
+            let parts = [VERSION.as_bytes(), streams.built_from.as_bytes(), b"\n"];
+            Ok(Outcome::of_writing(write_parts(streams.writer, &parts)))
         }
         _ => run_read(rt, words, streams),
     }
@@ -138,15 +143,19 @@ fn run<H: Files + AllocGlobal, R: Source, W: Sink, E: Sink>(
         writer,
         teller,
         is_terminal,
+        built_from: _,
     } = streams;
     match errand {
         Errand::Script(wishes) => print_script(rt.alloc(), wishes, reader, writer, teller),
         Errand::Files(wishes) => Outcome::of(files::run(rt, wishes, reader, writer, teller)),
         Errand::Route(wishes) => Outcome::of(route::run(rt, wishes, writer, teller, is_terminal)),
+        Errand::Check(paths) => Outcome::of(check::run(rt, paths, writer, teller)),
+        Errand::Configure(paths) => Outcome::of(configure::run(rt, paths, writer, teller)),
         Errand::Strip(wishes) => Outcome::of(strip::print(rt, wishes, writer, teller)),
         Errand::View(size, view) => show(rt.alloc(), size, view, reader, writer),
         Errand::Page(wishes) => Outcome::of(page_tool::run(rt, wishes, reader, writer, teller)),
         Errand::Random(wanted) => random::print(wanted, writer),
+        Errand::Log(wishes) => Outcome::of(log_tool::run(rt, wishes, writer, teller)),
     }
 }
 
@@ -204,7 +213,8 @@ fn show_text<W: Sink>(
     };
     let outcome = match view {
         View::Picture => picture::print(alloc, &device, writer),
-        View::Report => report::print(alloc, &device, writer),
+        View::Report => report::print(alloc, &device, false, writer),
+        View::Table => report::print(alloc, &device, true, writer),
     };
     drop(device);
     outcome

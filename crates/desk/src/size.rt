@@ -4,26 +4,24 @@ use crate::words::{COLUMNS, NO_DEVICE, ROWS};
 use device_lines::DeviceSize;
 use option_words::{Given, OptionWord, Takes};
 
+pub(crate) const TRACKS: OptionWord = OptionWord {
+    name: "tracks",
+    value_name: "W",
+    help: "Tracks of each channel, 1 to 64",
+    takes: Takes::Number(1, 64),
+    default: Some("2"),
+};
+
+pub(crate) const PADS: OptionWord = OptionWord {
+    name: "pads",
+    value_name: "P",
+    help: "Pads at each end of a column, 1 to 8: the architecture's io_rat",
+    takes: Takes::Number(1, 8),
+    default: Some("2"),
+};
+
 /// The options with a device's size.
-pub(crate) const SIZES: &[OptionWord] = &[
-    OptionWord {
-        name: "tracks",
-        value_name: "W",
-        help: "Tracks of each channel, 1 to 64",
-        takes: Takes::Number(1, 64),
-        default: Some("2"),
-    },
-    COLUMNS,
-    ROWS,
-    DEVICE,
-    OptionWord {
-        name: "pads",
-        value_name: "P",
-        help: "Pads at each end of a column, 1 to 8: the architecture's io_rat",
-        takes: Takes::Number(1, 8),
-        default: Some("2"),
-    },
-];
+pub(crate) const SIZES: &[OptionWord] = &[TRACKS, COLUMNS, ROWS, DEVICE, PADS];
 
 /// The size that the options give, or why they are refused.
 pub(crate) fn size_of(given: &Given<'_>) -> Result<DeviceSize, &'static str> {

@@ -1,13 +1,15 @@
 //! The tool that draws one tenancy.
+use crate::device_file::DEVICE;
 use crate::outcome::Outcome;
 use crate::paths::{FileRole, read_file};
+use crate::words::NO_DEVICE;
 use line_text::{MemorySink, Sink, TextError, split_line, write_parts};
 use option_words::{Given, OptionWord, Program, Takes};
 use page::{Item, viewer, write_page};
 use std::alloc::{AllocError, Global};
 use std::rt::Files;
-use strip_files::{RoutedStrip, StripTexts, read_strip};
-use strip_picture::{DrawError, View, draw};
+use strip_files::{RoutedStrip, StripTexts, block_in, net_in, read_strip};
+use strip_picture::{DrawError, Full, View, draw, draw_with_ends};
 
 /// The word for a file that is not there.
 const NONE: &str = "-";
@@ -29,12 +31,13 @@ pub(crate) const TOOL: Program = Program {
     name: "strip",
     about: ABOUT,
     after_help: "\
-Shows the blocks with their names, and each net in a colour; with --net one net in front of the others, with --heat how many
-tracks of each channel are used. A malformed line is refused with its number and status 3, and so is a route that no device of
+Shows the blocks with their names, and each net in a colour; with --net one net in front of the others, with its driver and its
+readers, with --heat how many tracks of each channel are used, in colours up to that of the fullest channel, or, with --tracks W,
+up to that of W used tracks. A malformed line is refused with its number and status 3, and so is a route that no device of
 this size has: each node follows the node before it by an edge, a pin being joined with the wires beside its block, whatever its
 sides and tracks; the first path of a net begins at a source, a later one at a node of an earlier one, and each ends at a sink;
 a route joins just the blocks that have its net on a pin. Not checked: the sides, tracks and classes of pins, wires that two
-nets share, global nets, and BLEs.
+nets share, global nets, and BLEs; `fpgad_desk check` checks all of it, against the netlist.
 
 Example: fpgad_desk strip T.net T.place T.route --heat > t.svg",
     options: &[
@@ -74,6 +77,14 @@ Example: fpgad_desk strip T.net T.place T.route --heat > t.svg",
             default: None,
         },
         OptionWord {
+            name: "tracks",
+            value_name: "W",
+            help: "For --heat: the tracks of each channel, 1 to 64",
+            takes: Takes::Number(1, 64),
+            default: None,
+        },
+        DEVICE,
+        OptionWord {
             name: "page",
             value_name: "",
             help: "Prints one HTML file for a browser, with search, zoom and clicks, in place of the SVG",
@@ -97,7 +108,7 @@ pub(crate) struct Wishes<'a> {
 enum Shown<'a> {
     Nets,
     Net(&'a str),
-    Channels,
+    Channels(Full),
     /// All of them, on a page for a browser.
     Page,
 }
@@ -120,9 +131,21 @@ fn shown_of<'a>(given: &Given<'a>) -> Result<Shown<'a>, &'static str> {
     match (given.text("net"), given.is_given("heat")) {
         (Some(_), true) => Err("--net and --heat draw different pictures: give only one of them"),
         (Some(name), false) => Ok(Shown::Net(name)),
-        (None, true) => Ok(Shown::Channels),
+        (None, true) => Ok(Shown::Channels(full_of(given)?)),
         (None, false) => Ok(Shown::Nets),
     }
+}
+
+/// The number of used tracks of a full channel.
+fn full_of(given: &Given<'_>) -> Result<Full, &'static str> {
+    if given.text("tracks").is_none() {
+        return Ok(Full::Fullest);
+    }
+    let tracks = given.number("tracks")?;
+    if !(1..=64).contains(&tracks) {
+        return Err(NO_DEVICE);
+    }
+    Ok(Full::Tracks(tracks))
 }
 
 /// Draws a tenancy from its files.
@@ -264,6 +287,7 @@ fn drawn<W: Sink>(
     };
     let outcome = match (shown, view_of(&strip, shown)) {
         (Shown::Page, _) => print_page(texts, writer),
+        (_, Some(View::Net(net))) => drawn_net(alloc, texts.route, &strip, net, writer),
         (_, Some(view)) => written(draw(alloc, &strip, view, writer)),
         (_, None) => Err(Outcome::NoNet),
     };
@@ -271,11 +295,51 @@ fn drawn<W: Sink>(
     outcome
 }
 
+/// Draws a net in front of the others, with its ends.
+fn drawn_net<W: Sink>(
+    alloc: Global,
+    route: &[u8],
+    strip: &RoutedStrip<'_>,
+    net: usize,
+    writer: &mut W,
+) -> Result<(), Outcome> {
+    match global_ends(alloc, route, net) {
+        Ok(ends) => {
+            let drawn = draw_with_ends(alloc, strip, View::Net(net), &ends, writer);
+            drop(ends);
+            written(drawn)
+        }
+        Err(_) => Err(Outcome::NoMemory),
+    }
+}
+
+/// The numbers of the blocks that the text of a `.route` file lists for the net of that number, the
+/// driver first: those that a global net connects. A net with a route has none. Fails if memory
+/// runs out.
+fn global_ends(alloc: Global, route: &[u8], net: usize) -> Result<Vec<usize>, AllocError> {
+    let mut ends = Vec::new(alloc);
+    let mut is_in = false;
+    let mut rest = route;
+    while !rest.is_empty() {
+        let (line, later) = split_line(rest);
+        if let Some((number, _, _)) = net_in(line) {
+            is_in = number as usize == net;
+        }
+        if let Some(block) = block_in(line) {
+            if is_in {
+                ends.push(block as usize)?;
+            }
+        }
+        rest = later;
+    }
+    Ok(ends)
+}
+
 /// The view that is asked for. None if no net has the name.
 fn view_of(strip: &RoutedStrip<'_>, shown: Shown<'_>) -> Option<View> {
     match shown {
         Shown::Nets => Some(View::Nets),
-        Shown::Channels => Some(View::Channels),
+        Shown::Channels(full) => Some(View::Channels(full)),
         Shown::Page => None,
         Shown::Net(name) => Some(View::Net(strip.net_named(name.as_bytes())?)),
     }

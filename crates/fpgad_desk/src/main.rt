@@ -1,11 +1,14 @@
-//! The program: tools beside the service, each called by its name: `script`, `files`, `route`,
-//! `strip`, `picture`, `report`, `random`.
+//! The program: tools beside the service, each called by its name. `fpgad_desk help` lists them.
 //!
-//! Statuses: 0; 1 if a file, standard input or standard output failed, or `files` found a refused
-//! line; 2 if the words are refused; 3 if the input is, with its line; 4 if memory runs out. Help
-//! and the version go to standard output. With 2 and 3 nothing else is written there.
+//! Statuses: 0; 1 if a file, standard input or standard output failed, `files` found a refused
+//! line, or `check` does not accept its files; 2 if the words are refused; 3 if the input is, with
+//! its line; 4 if memory runs out. Help and the version go to standard output. With 2 and 3 nothing
+//! else is written there.
 #![tactic(auto)]
 
+mod built_from;
+
+use built_from::BUILT_FROM;
 use desk::{Outcome, Streams, run_words};
 use line_text::{StdSink, StdSource};
 use std::fmt::Display;
@@ -32,6 +35,7 @@ fn main(rt: HostRuntime) -> ExitCode {
         writer: &mut writer,
         teller: &mut teller,
         is_terminal: rt.stderr().is_terminal(),
+        built_from: BUILT_FROM,
     };
     let outcome = run_words(&rt, words.as_slice(), streams);
     let flushed = writer.into_writer().flush().is_ok();
