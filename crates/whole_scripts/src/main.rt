@@ -1,12 +1,13 @@
 //! The program: runs the worked scripts as the service's program and the desk do, and compares the
 //! output, the messages and the status of each.
 //!
-//! Standard input lists the runs, one a line: `NAME STATUS WORDS`. The words are those of a command
-//! line: `fpgad WORDS`, `fpgad_live WORDS`, `fpgad_desk WORDS`, or `cmp FILE FILE`, which ends with
-//! 0 if the files have equal bytes. A run reads NAME.script; it must end with that status, write
-//! NAME.stdout to standard output and NAME.stderr to standard error, byte for byte. A file that
-//! does not exist counts as empty. Each line is printed with its result. The status is 0 if all
-//! agree, and 1 if one does not, or if input or output failed.
+//! Standard input lists the runs, one a line: `NAME STATUS WORDS`. A line that begins with `#` says
+//! what the runs below it show. The words are those of a command line: `fpgad WORDS`,
+//! `fpgad_live WORDS`, `fpgad_desk WORDS`, or `cmp FILE FILE`, which ends with 0 if the files have
+//! equal bytes. A run reads NAME.script; it must end with that status, write NAME.stdout to
+//! standard output and NAME.stderr to standard error, byte for byte. A file that does not exist
+//! counts as empty. Each run that does not agree is printed with what differs, and then how many
+//! agree. The status is 0 if all agree, and 1 if one does not, or if input or output failed.
 #![tactic(auto)]
 
 mod difference;
@@ -41,17 +42,20 @@ fn run_all<H: Input + Print + Files + Threads + Wait + Clock + AllocGlobal + Syn
     let mut runs = 0u64;
     let mut agreeing = 0u64;
     for line in rt.lines(rt.alloc()) {
-        runs = runs.saturating_add(1);
-        if tell(rt, line?.as_str())? {
-            agreeing = agreeing.saturating_add(1);
+        let line = line?;
+        if !line.as_str().starts_with('#') {
+            runs = runs.saturating_add(1);
+            if agrees(rt, line.as_str())? {
+                agreeing = agreeing.saturating_add(1);
+            }
         }
     }
     println!(rt; "{agreeing} of {runs} agree")?;
     Ok(agreeing == runs)
 }
 
-/// Runs one line of the list, prints it with its result, and returns whether it agrees.
-fn tell<H: Print + Files + Threads + Wait + Clock + AllocGlobal + Sync>(
+/// Runs one line of the list, prints it if it does not agree, and returns whether it does.
+fn agrees<H: Print + Files + Threads + Wait + Clock + AllocGlobal + Sync>(
     rt: &H,
     line: &str,
 ) -> io::Result<bool> {
@@ -59,6 +63,8 @@ fn tell<H: Print + Files + Threads + Wait + Clock + AllocGlobal + Sync>(
         Some(row) => verdict_on(rt, row)?,
         None => Verdict::NoRow,
     };
-    println!(rt; "{line}: {verdict}")?;
+    if !verdict.agrees() {
+        println!(rt; "{line}: {verdict}")?;
+    }
     Ok(verdict.agrees())
 }

@@ -115,6 +115,7 @@ fn run_tool<H: Files + AllocGlobal>(
         writer: &mut writer,
         teller: &mut teller,
         is_terminal: false,
+        built_from: "",
     };
     let outcome = desk::run_words(rt, words, streams);
     let status = match &outcome {

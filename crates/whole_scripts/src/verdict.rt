@@ -26,7 +26,7 @@ impl fmt::Display for Verdict {
     fn fmt<W: fmt::Write>(&self, f: &mut fmt::Formatter<W>) -> fmt::Result {
         match self {
             Verdict::Agrees => write!(f, "ok"),
-            Verdict::NoRow => write!(f, "is no row"),
+            Verdict::NoRow => write!(f, "is not a row"),
             Verdict::EndsWith(status) => write!(f, "ends with status {status}"),
             Verdict::WritesOther(byte) => write!(f, "differs at byte {byte}"),
             Verdict::TellsOther(byte) => write!(f, "standard error differs at byte {byte}"),
