@@ -74,7 +74,7 @@ fn with_options<'a>(
 
 /// Returns whether a tool takes that option of a device.
 fn takes(tool: &str, option: &[u8]) -> bool {
-    let routes = tool == "route";
+    let routes = tool == "route" || tool == "log";
     let shows = tool == "picture" || tool == "report";
     if option == b"--arch".as_slice() {
         return routes || tool == "files" || tool == "page";

@@ -1,6 +1,6 @@
 //! Reads the program's words to an errand.
 use crate::size::size_of;
-use crate::{files, page_tool, picture, random, report, route_wishes, script, strip};
+use crate::{files, log_tool, page_tool, picture, random, report, route_wishes, script, strip};
 use clap::Error;
 use device_lines::DeviceSize;
 use option_words::{Call, Toolbox, call_refusal, read_call};
@@ -33,6 +33,7 @@ const TOOLBOX: Toolbox = Toolbox {
         report::NAMED,
         page_tool::NAMED,
         random::TOOL,
+        log_tool::TOOL,
     ],
 };
 
@@ -73,6 +74,8 @@ pub(crate) enum Errand<'a> {
     Page(page_tool::Wishes<'a>),
     /// A script with random circuits.
     Random(random::Wanted),
+    /// A shorter log of a live service.
+    Log(log_tool::Wishes<'a>),
 }
 
 /// What these words ask, the first being the program's name. An error is clap's; a request for help
@@ -124,6 +127,7 @@ fn errand_of<'a>(call: &Call<'a>) -> Result<Errand<'a>, &'static str> {
         "report" => Ok(Errand::View(size_of(&call.given)?, View::Report)),
         "page" => Ok(Errand::Page(page_tool::wishes_of(&call.given)?)),
         "random" => Ok(Errand::Random(random::wanted_of(&call.given)?)),
+        "log" => Ok(Errand::Log(log_tool::wishes_of(&call.given)?)),
         _ => Err(NO_TOOL),
     }
 }

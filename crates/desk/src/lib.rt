@@ -10,6 +10,7 @@
 //! - `picture` draws the device from what the service printed, and `report` says how full it is.
 //! - `page` prints one HTML file with the device and its tenancies, for a browser.
 //! - `random` prints a script with random circuits, to measure the service with.
+//! - `log` makes the log of a live service shorter.
 //!
 //! [`run_words`] reads a program's words and does what they ask, over any input and output.
 //! [`Outcome`] says how it ended, by a status and a message.
@@ -21,6 +22,7 @@ mod device_file;
 mod errand;
 mod files;
 mod latches;
+mod log_tool;
 mod longest;
 mod outcome;
 mod page_tool;

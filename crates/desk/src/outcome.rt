@@ -39,6 +39,8 @@ pub enum Outcome {
     StripRefused(FileFault),
     /// No net has the name.
     NoNet,
+    /// The first line of a log names other options, or another architecture.
+    LogDiffers,
     NoMemory,
 }
 
@@ -102,6 +104,7 @@ impl fmt::Display for Outcome {
             Outcome::Unrouted => write!(f, "netlist: not routed"),
             Outcome::StripRefused(fault) => write!(f, "{fault}"),
             Outcome::NoNet => write!(f, "there is no net with this name"),
+            Outcome::LogDiffers => write!(f, "log: its first line names other options"),
             Outcome::NoMemory => write!(f, "out of memory"),
         }
     }

@@ -17,6 +17,7 @@ pub enum FileRole {
     Places,
     Routes,
     Device,
+    Log,
     Folder,
 }
 
@@ -30,6 +31,7 @@ impl fmt::Display for FileRole {
             FileRole::Places => write!(f, ".place file"),
             FileRole::Routes => write!(f, ".route file"),
             FileRole::Device => write!(f, "device file"),
+            FileRole::Log => write!(f, "log"),
             FileRole::Folder => write!(f, "folder"),
         }
     }

@@ -4,7 +4,7 @@ use crate::errand::{Errand, View, read_errand};
 use crate::latches::warn_of_latches;
 use crate::outcome::Outcome;
 use crate::paths::{FileRole, read_file};
-use crate::{files, page_tool, picture, random, report, route, script, strip};
+use crate::{files, log_tool, page_tool, picture, random, report, route, script, strip};
 use clap::Error;
 use clap::error::ErrorKind;
 use device_lines::{DeviceSize, ReadError, read_device};
@@ -147,6 +147,7 @@ fn run<H: Files + AllocGlobal, R: Source, W: Sink, E: Sink>(
         Errand::View(size, view) => show(rt.alloc(), size, view, reader, writer),
         Errand::Page(wishes) => Outcome::of(page_tool::run(rt, wishes, reader, writer, teller)),
         Errand::Random(wanted) => random::print(wanted, writer),
+        Errand::Log(wishes) => Outcome::of(log_tool::run(rt, wishes, writer, teller)),
     }
 }
 

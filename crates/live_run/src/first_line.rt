@@ -10,7 +10,7 @@ const SUM_BEGINS: u64 = 0xcbf2_9ce4_8422_2325;
 const SUM_TIMES: u64 = 0x0000_0100_0000_01b3;
 
 /// The line that a log of these options and that architecture begins with.
-pub(crate) fn first_line(
+pub fn first_line(
     alloc: Global,
     options: &Options,
     architecture: &[u8],

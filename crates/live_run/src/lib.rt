@@ -13,6 +13,7 @@ mod outcome;
 mod program;
 mod serving;
 
+pub use first_line::first_line;
 pub use options::{CommandLine, Options, read_options};
 pub use outcome::Outcome;
 pub use program::{run_program, run_words};

@@ -115,7 +115,7 @@ impl Options {
     }
 
     /// The device of these sizes and of that architecture.
-    pub(crate) fn device(&self, arch: Arch) -> Device
+    pub fn device(&self, arch: Arch) -> Device
         ensures { result ≡ device_of self.now arch }
     {
         Device {

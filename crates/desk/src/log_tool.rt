@@ -1,0 +1,123 @@
+//! The tool that makes the log of a live service shorter.
+use crate::arch_words::write_arch_fault;
+use crate::device_file::DEVICE;
+use crate::outcome::Outcome;
+use crate::paths::{FileRole, read_file};
+use crate::words::{COLUMNS, NO_DEVICE, ROWS};
+use line_text::{MAX_TEXT, Sink};
+use live_log::{LogError, shorten_log};
+use live_run::Options;
+use option_words::{Given, OptionWord, Program, Takes};
+use std::alloc::Global;
+use std::rt::Files;
+
+const NO_FILE: &str = "give an architecture and a log";
+
+pub(crate) const TOOL: Program = Program {
+    name: "log",
+    about: "Prints a shorter log for fpgad_live, with which it goes on as with the whole one",
+    after_help: "\
+The options are those that fpgad_live runs with. The service must not be running. Left out are the lines of evicted tenancies,
+what a later `withdraw` made void, `status`, `net`, `placefile`, `routefile`, `op list`, `op owners`, and what was refused.
+Ids and offsets stay. Journals have fewer entries then, and `? N` counts the lines of the shorter log.
+
+Example: fpgad_desk log --arch my.arch --tracks 8 --columns 20 --rows 10 day.log > short.log && mv short.log day.log",
+    options: &[
+        OptionWord {
+            name: "arch",
+            value_name: "FILE",
+            help: "The architecture",
+            takes: Takes::GivenText,
+            default: None,
+        },
+        OptionWord {
+            name: "tracks",
+            value_name: "W",
+            help: "Tracks of each channel, 1 to 64",
+            takes: Takes::Number(1, 64),
+            default: Some("2"),
+        },
+        COLUMNS,
+        ROWS,
+        DEVICE,
+        OptionWord {
+            name: "log",
+            value_name: "LOG",
+            help: "The log",
+            takes: Takes::Alone,
+            default: None,
+        },
+    ],
+};
+
+/// The log, and the options of the service that it is of.
+#[derive(Clone, Copy)]
+pub(crate) struct Wishes<'a> {
+    arch: &'a str,
+    options: Options,
+    log: &'a str,
+}
+
+/// What the options ask for, or why they are refused.
+pub(crate) fn wishes_of<'a>(given: &Given<'a>) -> Result<Wishes<'a>, &'static str> {
+    let tracks = given.number("tracks")?;
+    let columns = given.number("columns")?;
+    let rows = given.number("rows")?;
+    Ok(Wishes {
+        arch: given.text("arch").ok_or(NO_FILE)?,
+        options: Options::new(tracks, columns, rows).ok_or(NO_DEVICE)?,
+        log: given.text("log").ok_or(NO_FILE)?,
+    })
+}
+
+/// Prints the shorter log.
+pub(crate) fn run<H: Files + AllocGlobal, W: Sink, E: Sink>(
+    rt: &H,
+    wishes: Wishes<'_>,
+    writer: &mut W,
+    teller: &mut E,
+) -> Result<(), Outcome> {
+    let most = MAX_TEXT as u64 + 1;
+    let arch = read_file(rt, FileRole::Architecture, wishes.arch, most, teller)?;
+    let done = run_with_arch(rt, wishes, arch.as_slice(), writer, teller);
+    drop(arch);
+    done
+}
+
+/// Prints the shorter log of a service over that architecture.
+fn run_with_arch<H: Files + AllocGlobal, W: Sink, E: Sink>(
+    rt: &H,
+    wishes: Wishes<'_>,
+    arch: &[u8],
+    writer: &mut W,
+    teller: &mut E,
+) -> Result<(), Outcome> {
+    let log = read_file(rt, FileRole::Log, wishes.log, u64::MAX, teller)?;
+    let done = print(rt.alloc(), wishes, arch, log.as_slice(), writer, teller);
+    drop(log);
+    done
+}
+
+/// Prints the shorter log of that log.
+fn print<W: Sink, E: Sink>(
+    alloc: Global,
+    wishes: Wishes<'_>,
+    arch: &[u8],
+    log: &[u8],
+    writer: &mut W,
+    teller: &mut E,
+) -> Result<(), Outcome> {
+    match shorten_log(alloc, &wishes.options, arch, log) {
+        Ok(short) => {
+            let written = short.write(writer);
+            drop(short);
+            written.or(Err(Outcome::OutputFailed))
+        }
+        Err(LogError::NoMemory) => Err(Outcome::NoMemory),
+        Err(LogError::Differs) => Err(Outcome::LogDiffers),
+        Err(LogError::ArchRefused(fault)) => {
+            let _ = write_arch_fault(teller, wishes.arch, fault);
+            Err(Outcome::ArchRefused(fault))
+        }
+    }
+}

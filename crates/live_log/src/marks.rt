@@ -1,0 +1,98 @@
+//! Lines in groups that are kept or dropped together.
+use std::alloc::{AllocError, Global};
+
+/// The group of lines that are kept whatever follows.
+pub(crate) const KEPT: usize = 0;
+
+/// The group of lines that are dropped.
+pub(crate) const DROPPED: usize = 1;
+
+/// A group of lines.
+#[derive(Clone, Copy)]
+struct Group {
+    /// Whether its lines are kept, if those of the group around it are.
+    stands: bool,
+    /// The group around it.
+    around: usize,
+}
+
+/// Lines in groups that are kept or dropped together.
+#[derive(Drop)]
+pub(crate) struct Marks {
+    groups: Vec<Group>,
+    lines: Vec<usize>,
+}
+
+impl Marks {
+    /// Marks without lines.
+    pub(crate) fn new(alloc: Global) -> Result<Self, AllocError> {
+        let mut groups = Vec::with_capacity(alloc, 2)?;
+        groups.push(Group {
+            stands: true,
+            around: KEPT,
+        })?;
+        groups.push(Group {
+            stands: false,
+            around: KEPT,
+        })?;
+        Ok(Marks {
+            groups,
+            lines: Vec::new(alloc),
+        })
+    }
+
+    /// Adds a line, which belongs to that group.
+    pub(crate) fn add_line(&mut self, group: usize) -> Result<(), AllocError> {
+        self.lines.push(group)?;
+        Ok(())
+    }
+
+    /// A new group, whose lines are kept for now.
+    pub(crate) fn begin(&mut self) -> Result<usize, AllocError> {
+        let group = self.groups.len();
+        self.groups.push(Group {
+            stands: true,
+            around: KEPT,
+        })?;
+        Ok(group)
+    }
+
+    /// Drops the lines of a group.
+    pub(crate) fn drop_group(&mut self, group: usize) {
+        if let Some(dropped) = self.groups.get_mut(group) {
+            dropped.stands = false;
+        }
+    }
+
+    /// Puts a group into another one: its lines are kept only if those of the other one are.
+    pub(crate) fn put_into(&mut self, group: usize, around: usize) {
+        if let Some(put) = self.groups.get_mut(group) {
+            put.around = around;
+        }
+    }
+
+    /// Whether the lines of a group are kept, if those of the group around it are.
+    fn stands(&self, group: usize) -> bool {
+        match self.groups.get(group) {
+            Some(group) => group.stands,
+            None => false,
+        }
+    }
+
+    /// The group around a group.
+    fn around(&self, group: usize) -> usize {
+        match self.groups.get(group) {
+            Some(group) => group.around,
+            None => DROPPED,
+        }
+    }
+
+    /// For each line, whether it is kept.
+    pub(crate) fn kept(&self, alloc: Global) -> Result<Vec<bool>, AllocError> {
+        let mut kept = Vec::with_capacity(alloc, self.lines.len())?;
+        for group in self.lines.as_slice() {
+            kept.push(self.stands(*group) && self.stands(self.around(*group)))?;
+        }
+        Ok(kept)
+    }
+}
