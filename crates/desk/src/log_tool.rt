@@ -1,14 +1,20 @@
 //! The tool that makes the log of a live service shorter.
+ghost use Rattle.service_core.specs.Kept.{IsDevice};
+
 use crate::arch_words::write_arch_fault;
 use crate::device_file::DEVICE;
 use crate::outcome::Outcome;
 use crate::paths::{FileRole, read_file};
 use crate::words::{COLUMNS, NO_DEVICE, ROWS};
+use arch_file::{ArchError, read_arch};
 use line_text::{MAX_TEXT, Sink};
-use live_log::{LogError, shorten_log};
-use live_run::Options;
+use live_input::LiveLines;
+use live_log::{ShortLog, shorten};
+use live_run::{Options, first_line};
 use option_words::{Given, OptionWord, Program, Takes};
-use std::alloc::Global;
+use service_core::{Device, Service};
+use sessions::device_graph;
+use std::alloc::{AllocError, Global};
 use std::rt::Files;
 
 const NO_FILE: &str = "give an architecture and a log";
@@ -49,6 +55,9 @@ Example: fpgad_desk log --arch my.arch --tracks 8 --columns 20 --rows 10 day.log
         },
     ],
 };
+
+/// What the first line of a log begins with that `fpgad_live` made.
+const FIRST: &[u8] = b"# fpgad_live ";
 
 /// The log, and the options of the service that it is of.
 #[derive(Clone, Copy)]
@@ -107,17 +116,72 @@ fn print<W: Sink, E: Sink>(
     writer: &mut W,
     teller: &mut E,
 ) -> Result<(), Outcome> {
-    match shorten_log(alloc, &wishes.options, arch, log) {
+    let log = whole_lines(log);
+    if log.starts_with(FIRST) && !begins_so(alloc, wishes, arch, log)? {
+        return Err(Outcome::LogDiffers);
+    }
+    match read_arch(alloc, arch, wishes.options.tracks) {
+        Ok(arch) => print_over(alloc, wishes.options.device(arch), log, writer),
+        Err(ArchError::NoMemory) => Err(Outcome::NoMemory),
+        Err(ArchError::Fault(fault)) => {
+            let _ = write_arch_fault(teller, wishes.arch, fault);
+            Err(Outcome::ArchRefused(fault))
+        }
+    }
+}
+
+/// The whole lines of a log: a last line without its end is not part of it.
+fn whole_lines(log: &[u8]) -> &[u8] {
+    match log.iter().rposition(|byte| *byte == b'\n') {
+        Some(place) => &log[..place + 1],
+        None => b"",
+    }
+}
+
+/// Returns whether a log begins with the line that names the options and the architecture.
+fn begins_so(
+    alloc: Global,
+    wishes: Wishes<'_>,
+    arch: &[u8],
+    log: &[u8],
+) -> Result<bool, Outcome> {
+    match first_line(alloc, &wishes.options, arch) {
+        Ok(first) => {
+            let begins = log.starts_with(first.as_slice());
+            drop(first);
+            Ok(begins)
+        }
+        Err(_) => Err(Outcome::NoMemory),
+    }
+}
+
+/// Prints the shorter log of a service over that device.
+fn print_over<W: Sink>(
+    alloc: Global,
+    device: Device,
+    log: &[u8],
+    writer: &mut W,
+) -> Result<(), Outcome>
+    requires { IsDevice device }
+{
+    match shortened(alloc, device, log) {
         Ok(short) => {
             let written = short.write(writer);
             drop(short);
             written.or(Err(Outcome::OutputFailed))
         }
-        Err(LogError::NoMemory) => Err(Outcome::NoMemory),
-        Err(LogError::Differs) => Err(Outcome::LogDiffers),
-        Err(LogError::ArchRefused(fault)) => {
-            let _ = write_arch_fault(teller, wishes.arch, fault);
-            Err(Outcome::ArchRefused(fault))
-        }
+        Err(_) => Err(Outcome::NoMemory),
     }
+}
+
+/// The shorter log of a service over that device.
+fn shortened<'l>(alloc: Global, device: Device, log: &'l [u8]) -> Result<ShortLog<'l>, AllocError>
+    requires { IsDevice device }
+{
+    let graph = device_graph(alloc, &device)?;
+    let core = Service::new(alloc, device)?;
+    let mut lines = LiveLines::new(alloc, &graph, core);
+    let short = shorten(alloc, &mut lines, log);
+    lines.close();
+    short
 }

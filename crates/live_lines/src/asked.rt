@@ -11,8 +11,7 @@ use std::alloc::{AllocError, Global};
 use tagged_lines::split_tag;
 
 /// What a line asks.
-pub enum Asked<'l> {
-    /// It is a comment, or has no word.
+pub(crate) enum Asked<'l> {
     Nothing,
     NoForm,
     Operates(OperatorLine<&'l [u8]>),
@@ -20,8 +19,8 @@ pub enum Asked<'l> {
     Says(&'l [u8], &'l [u8], &'l [u8]),
 }
 
-/// What a line asks, without its end. An error if memory runs out.
-pub fn asked_of(alloc: Global, line: &[u8]) -> Result<Asked<'_>, AllocError>
+/// What a line asks.
+pub(crate) fn asked_of(alloc: Global, line: &[u8]) -> Result<Asked<'_>, AllocError>
     requires { length line.now < 2 ^ 63 }
     ensures asks { IfOk result (λ asked. asks asked ≡ asked_of line.now) }
     ensures tag { IfOk result HasTag }

@@ -1,8 +1,7 @@
 //! A live service without workers: lines of many clients come one by one, each with a tag in front
 //! that says whose it is, and each is answered before the next one is taken.
 //!
-//! - [`Live`] takes a line and writes the reply, each line of it with its tag. [`asked_of`] returns
-//!   what a line asks.
+//! - [`Live`] takes a line and writes the reply, each line of it with its tag.
 //! - [`live_law`] says what this means for each name: its items are those of its own lines, and the
 //!   lines that are written with its tag are exactly its replies.
 //! - In `specs/`, `Live` says what a line asks and what is done for it, `Said` which text each name
@@ -17,7 +16,6 @@ mod live;
 mod said;
 mod trouble;
 
-pub use asked::{Asked, asked_of};
 pub use law::live_law;
 pub use live::Live;
 pub use trouble::Trouble;

@@ -1,9 +1,14 @@
 -- The lines of a log that are kept.
-use Rattle.std.specs.Prelude.{ℕ, Bool, List, [], ◌∷◌, ◌++◌, if◌then◌else◌}
+use Rattle.std.specs.Prelude.{ℕ, Bool, true, false, List, [], ◌∷◌, ◌++◌}
 use Rattle.tagged_lines.specs.Tags.{ended}
+
+-- a line with its end, if it is kept
+abbrev pub line_if : Bool → List ℕ → List ℕ
+line_if true line = ended line
+line_if false line = []
 
 -- the lines that are kept, each ended by LF
 abbrev pub kept_lines : List Bool → List (List ℕ) → List ℕ
 kept_lines [] lines = []
 kept_lines (kept ∷ others) [] = []
-kept_lines (kept ∷ others) (line ∷ lines) = (if kept then ended line else []) ++ kept_lines others lines
+kept_lines (kept ∷ others) (line ∷ lines) = line_if kept line ++ kept_lines others lines

@@ -1,52 +1,63 @@
 //! Which lines of a log are kept.
+ghost use Rattle.std.specs.Prelude.{◌≡◌, ◌+◌, length, IfOk, OnOk};
+
 use crate::marks::{DROPPED, KEPT, Marks};
 use crate::names::{Names, Who};
-use crate::replies::{changes, is_done, shows_rest, shows_running};
-use live_lines::{Asked, asked_of};
-use script_text::OperatorLine;
-use sessions::{LineForm, SessionLine, is_point, line_form, without_cr};
+use crate::replies::{
+    has_no_form, has_step, is_at_rest, is_begun, is_blank, is_done, is_put, is_wait, is_withdrawn,
+    two_words,
+};
+use line_text::is_word;
 use std::alloc::{AllocError, Global};
-use tenant_slot::Command;
+use tagged_lines::split_tag;
 
-/// Notes the lines of a log with their replies, and decides which of them are kept. A session's
-/// line is kept if it was accepted and its tenancy is live, unless a `withdraw` followed; a `wait`
-/// if a job may have been running. A line of the operator is kept if it changed something; one that
-/// made steps, only as long as the session's lines before it. A text that is open at the end is
-/// kept.
+/// Notes the lines of a log with their replies, and decides which of them are kept:
+///
+/// - the first line, if it is a comment;
+/// - each admission, eviction and move that was done, so that ids and offsets stay;
+/// - of a session a command that was done and a `wait` for a job, unless its tenancy was evicted or
+///   a `withdraw` followed;
+/// - a line of the operator that made steps of a job, as long as the session's lines before it;
+/// - each job that the operator took or put; nothing of such a tenancy is dropped later;
+/// - a text that is open at the end.
 #[derive(Drop)]
 pub(crate) struct Keeper<'l> {
-    alloc: Global,
     marks: Marks,
     names: Names<'l>,
 }
 
 impl<'l> Keeper<'l> {
     /// A keeper that has noted no line.
-    pub(crate) fn new(alloc: Global) -> Result<Self, AllocError> {
+    pub(crate) fn new(alloc: Global) -> Result<Self, AllocError>
+        ensures { IfOk result (λ keeper. length keeper.marks.lines.items ≡ 0) }
+    {
         Ok(Keeper {
-            alloc,
             marks: Marks::new(alloc)?,
             names: Names::new(alloc),
         })
     }
 
-    /// Notes a line and its reply. The first line is kept if it is a comment.
-    pub(crate) fn note(
-        &mut self,
-        number: u64,
-        line: &'l [u8],
-        reply: &[u8],
-    ) -> Result<(), AllocError> {
-        match asked_of(self.alloc, line)? {
-            Asked::Nothing if number == 1 && line.starts_with(b"#") => self.marks.add_line(KEPT),
-            Asked::Nothing | Asked::NoForm => self.marks.add_line(DROPPED),
-            Asked::Operates(asked) => self.note_operator(asked, reply),
-            Asked::Says(_, name, said) => self.note_session(name, without_cr(said), reply),
+    /// Notes the next line and its reply.
+    pub(crate) fn note(&mut self, line: &'l [u8], reply: &[u8]) -> Result<(), AllocError>
+        ensures { OnOk result (length self.new.marks.lines.items
+            ≡ length self.old.marks.lines.items + 1) }
+    {
+        if has_no_form(reply) {
+            return self.marks.add_line(DROPPED);
+        }
+        let (tag, said) = split_tag(line);
+        match tag {
+            [b'@', name @ ..] => self.note_session(name, said, reply),
+            [b'#', ..] if self.marks.is_empty() => self.marks.add_line(KEPT),
+            _ if is_word(tag, "op") => self.note_operator(said, reply),
+            _ => self.marks.add_line(DROPPED),
         }
     }
 
     /// What is known of a name, which is noted from now on.
-    fn who(&mut self, name: &'l [u8]) -> Result<Who, AllocError> {
+    fn who(&mut self, name: &'l [u8]) -> Result<Who, AllocError>
+        ensures { self.new.marks.lines ≡ self.old.marks.lines }
+    {
         if let Some(who) = self.names.known(name) {
             return Ok(who);
         }
@@ -61,39 +72,56 @@ impl<'l> Keeper<'l> {
     }
 
     /// Notes a line of the operator.
-    fn note_operator(
-        &mut self,
-        line: OperatorLine<&'l [u8]>,
-        reply: &[u8],
-    ) -> Result<(), AllocError> {
-        if !changes(&line, reply) {
+    fn note_operator(&mut self, said: &'l [u8], reply: &[u8]) -> Result<(), AllocError>
+        ensures { OnOk result (length self.new.marks.lines.items
+            ≡ length self.old.marks.lines.items + 1) }
+    {
+        let (verb, name) = two_words(said);
+        if is_word(verb, "step") {
+            return self.note_steps(name, reply);
+        }
+        if is_word(verb, "put") {
+            let group = if is_put(reply) { KEPT } else { DROPPED };
+            return self.marks.add_line(group);
+        }
+        if !is_done(reply) {
             return self.marks.add_line(DROPPED);
         }
-        match line {
-            OperatorLine::Admit(name, _) => {
-                self.begin_life(name)?;
-                self.marks.add_line(KEPT)
-            }
-            OperatorLine::Evict(name) => {
-                self.end_life(name)?;
-                self.marks.add_line(KEPT)
-            }
-            OperatorLine::Take(name) => {
-                let mut who = self.who(name)?;
-                who.is_taken = true;
-                self.names.note(name, who)?;
-                self.marks.add_line(KEPT)
-            }
-            OperatorLine::Step(name, _) => {
-                let who = self.who(name)?;
-                self.marks.add_line(who.life)
-            }
-            _ => self.marks.add_line(KEPT),
+        if is_word(verb, "admit") {
+            self.begin_life(name)?;
+        } else if is_word(verb, "evict") {
+            self.end_life(name)?;
+        } else if is_word(verb, "take") {
+            self.note_taken(name)?;
         }
+        self.marks.add_line(KEPT)
     }
 
-    /// A name begins anew: nothing of its tenancy was kept so far.
-    fn begin_life(&mut self, name: &'l [u8]) -> Result<(), AllocError> {
+    /// Notes a line that makes steps.
+    fn note_steps(&mut self, name: &'l [u8], reply: &[u8]) -> Result<(), AllocError>
+        ensures { OnOk result (length self.new.marks.lines.items
+            ≡ length self.old.marks.lines.items + 1) }
+    {
+        if !has_step(reply) {
+            return self.marks.add_line(DROPPED);
+        }
+        let who = self.who(name)?;
+        self.marks.add_line(who.life)
+    }
+
+    /// Notes that the operator took a job of a name's tenancy.
+    fn note_taken(&mut self, name: &'l [u8]) -> Result<(), AllocError>
+        ensures { self.new.marks.lines ≡ self.old.marks.lines }
+    {
+        let mut who = self.who(name)?;
+        who.is_taken = true;
+        self.names.note(name, who)
+    }
+
+    /// A name's tenancy begins: nothing of it was kept so far.
+    fn begin_life(&mut self, name: &'l [u8]) -> Result<(), AllocError>
+        ensures { self.new.marks.lines ≡ self.old.marks.lines }
+    {
         let mut who = self.who(name)?;
         who.life = self.marks.begin()?;
         who.is_busy = false;
@@ -101,9 +129,11 @@ impl<'l> Keeper<'l> {
         self.names.note(name, who)
     }
 
-    /// What a name did is dropped, and it begins anew; but not if the operator took one of its
-    /// jobs.
-    fn end_life(&mut self, name: &'l [u8]) -> Result<(), AllocError> {
+    /// What made a tenancy what it was is dropped, and it begins anew. It is kept if the operator
+    /// took one of its jobs.
+    fn end_life(&mut self, name: &'l [u8]) -> Result<(), AllocError>
+        ensures { self.new.marks.lines ≡ self.old.marks.lines }
+    {
         let who = self.who(name)?;
         if !who.is_taken {
             self.marks.drop_group(who.life);
@@ -111,52 +141,46 @@ impl<'l> Keeper<'l> {
         self.begin_life(name)
     }
 
-    /// Notes a line of a name's session.
-    fn note_session(
-        &mut self,
-        name: &'l [u8],
-        line: &[u8],
-        reply: &[u8],
-    ) -> Result<(), AllocError> {
+    /// Notes a line of a name's session. Outside of texts a line has no reply only if it has no
+    /// word or begins a text; in a text, only its last line has one.
+    fn note_session(&mut self, name: &'l [u8], said: &[u8], reply: &[u8]) -> Result<(), AllocError>
+        ensures { OnOk result (length self.new.marks.lines.items
+            ≡ length self.old.marks.lines.items + 1) }
+    {
         let who = self.who(name)?;
         match who.text {
-            Some(text) => self.note_text(name, who, text, line, reply),
-            None => match line_form(line) {
-                LineForm::Begins(_) => self.begin_text(name, who),
-                LineForm::Asks(SessionLine::Command(Command::Withdraw)) if is_done(reply) => {
-                    self.note_withdraw(name, who, reply)
-                }
-                LineForm::Asks(SessionLine::Command(command)) => {
-                    drop(command);
-                    self.note_command(name, who, reply)
-                }
-                LineForm::Asks(SessionLine::Wait) => self.note_wait(name, who, reply),
-                LineForm::Asks(_) => self.marks.add_line(DROPPED),
-            },
+            Some(text) if reply.is_empty() => self.marks.add_line(text),
+            Some(text) => self.end_text(name, who, text, reply),
+            None if reply.is_empty() && is_blank(said) => self.marks.add_line(DROPPED),
+            None if reply.is_empty() => self.begin_text(name, who),
+            None if is_done(reply) => self.note_command(name, who, reply),
+            None if is_wait(said) && who.is_busy => self.note_wait(name, who, reply),
+            None => self.marks.add_line(DROPPED),
         }
     }
 
     /// Notes the first line of a text.
-    fn begin_text(&mut self, name: &'l [u8], mut who: Who) -> Result<(), AllocError> {
+    fn begin_text(&mut self, name: &'l [u8], mut who: Who) -> Result<(), AllocError>
+        ensures { OnOk result (length self.new.marks.lines.items
+            ≡ length self.old.marks.lines.items + 1) }
+    {
         let text = self.marks.begin()?;
         who.text = Some(text);
         self.names.note(name, who)?;
         self.marks.add_line(text)
     }
 
-    /// Notes another line of a text.
-    fn note_text(
+    /// Notes the last line of a text.
+    fn end_text(
         &mut self,
         name: &'l [u8],
         mut who: Who,
         text: usize,
-        line: &[u8],
         reply: &[u8],
-    ) -> Result<(), AllocError> {
-        self.marks.add_line(text)?;
-        if !is_point(line) {
-            return Ok(());
-        }
+    ) -> Result<(), AllocError>
+        ensures { OnOk result (length self.new.marks.lines.items
+            ≡ length self.old.marks.lines.items + 1) }
+    {
         if is_done(reply) {
             self.marks.put_into(text, who.life);
             who.is_busy = false;
@@ -164,51 +188,39 @@ impl<'l> Keeper<'l> {
             self.marks.drop_group(text);
         }
         who.text = None;
-        self.names.note(name, who)
+        self.names.note(name, who)?;
+        self.marks.add_line(text)
     }
 
-    /// Notes a withdrawal that was accepted: what the name did before is void. If the operator took
-    /// one of its jobs, all is kept.
-    fn note_withdraw(
-        &mut self,
-        name: &'l [u8],
-        who: Who,
-        reply: &[u8],
-    ) -> Result<(), AllocError> {
-        if who.is_taken {
-            return self.note_command(name, who, reply);
+    /// Notes a command that was done. After a `withdraw`, what the name did before is void, and the
+    /// `withdraw` too.
+    fn note_command(&mut self, name: &'l [u8], mut who: Who, reply: &[u8]) -> Result<(), AllocError>
+        ensures { OnOk result (length self.new.marks.lines.items
+            ≡ length self.old.marks.lines.items + 1) }
+    {
+        if is_withdrawn(reply) && !who.is_taken {
+            self.marks.add_line(DROPPED)?;
+            return self.end_life(name);
         }
-        self.marks.add_line(DROPPED)?;
-        self.end_life(name)
-    }
-
-    /// Notes another command.
-    fn note_command(
-        &mut self,
-        name: &'l [u8],
-        mut who: Who,
-        reply: &[u8],
-    ) -> Result<(), AllocError> {
-        if !is_done(reply) {
-            return self.marks.add_line(DROPPED);
-        }
-        who.is_busy = shows_running(reply);
+        who.is_busy = is_begun(reply);
         self.names.note(name, who)?;
         self.marks.add_line(who.life)
     }
 
-    /// Notes a wait.
-    fn note_wait(&mut self, name: &'l [u8], mut who: Who, reply: &[u8]) -> Result<(), AllocError> {
-        if !who.is_busy {
-            return self.marks.add_line(DROPPED);
-        }
-        who.is_busy = !shows_rest(reply);
+    /// Notes a wait for a job.
+    fn note_wait(&mut self, name: &'l [u8], mut who: Who, reply: &[u8]) -> Result<(), AllocError>
+        ensures { OnOk result (length self.new.marks.lines.items
+            ≡ length self.old.marks.lines.items + 1) }
+    {
+        who.is_busy = !is_at_rest(reply);
         self.names.note(name, who)?;
         self.marks.add_line(who.life)
     }
 
     /// For each line, whether it is kept.
-    pub(crate) fn kept(&self) -> Result<Vec<bool>, AllocError> {
-        self.marks.kept(self.alloc)
+    pub(crate) fn kept(&self, alloc: Global) -> Result<Vec<bool>, AllocError>
+        ensures { IfOk result (λ kept. length kept.items ≡ length self.now.marks.lines.items) }
+    {
+        self.marks.kept(alloc)
     }
 }

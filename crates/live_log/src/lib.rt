@@ -1,7 +1,7 @@
 //! A shorter log for a live service, with which it goes on as with the longer one.
 //!
-//! - [`shorten`] has a service answer the lines of a log, and returns which of them a run that goes
-//!   on from the log needs. [`shorten_log`] does so with a new service over a device.
+//! - [`shorten`] has a service answer the lines of a log, and returns a [`ShortLog`]: those lines
+//!   that a run needs which goes on from there.
 //! - [`ShortLog`] writes these lines.
 //! - In `specs/`, `Kept` says what is written.
 #![tactic(auto)]
@@ -10,8 +10,8 @@ mod keeper;
 mod marks;
 mod names;
 mod replies;
-mod running;
 mod short_log;
+mod shortening;
 
-pub use running::{LogError, shorten, shorten_log};
 pub use short_log::ShortLog;
+pub use shortening::shorten;

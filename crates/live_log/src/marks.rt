@@ -1,4 +1,6 @@
 //! Lines in groups that are kept or dropped together.
+ghost use Rattle.std.specs.Prelude.{◌≡◌, ◌+◌, length, IfOk, OnOk};
+
 use std::alloc::{AllocError, Global};
 
 /// The group of lines that are kept whatever follows.
@@ -25,7 +27,9 @@ pub(crate) struct Marks {
 
 impl Marks {
     /// Marks without lines.
-    pub(crate) fn new(alloc: Global) -> Result<Self, AllocError> {
+    pub(crate) fn new(alloc: Global) -> Result<Self, AllocError>
+        ensures { IfOk result (λ marks. length marks.lines.items ≡ 0) }
+    {
         let mut groups = Vec::with_capacity(alloc, 2)?;
         groups.push(Group {
             stands: true,
@@ -41,14 +45,23 @@ impl Marks {
         })
     }
 
+    /// Whether no line was added.
+    pub(crate) fn is_empty(&self) -> bool {
+        self.lines.is_empty()
+    }
+
     /// Adds a line, which belongs to that group.
-    pub(crate) fn add_line(&mut self, group: usize) -> Result<(), AllocError> {
+    pub(crate) fn add_line(&mut self, group: usize) -> Result<(), AllocError>
+        ensures { OnOk result (length self.new.lines.items ≡ length self.old.lines.items + 1) }
+    {
         self.lines.push(group)?;
         Ok(())
     }
 
     /// A new group, whose lines are kept for now.
-    pub(crate) fn begin(&mut self) -> Result<usize, AllocError> {
+    pub(crate) fn begin(&mut self) -> Result<usize, AllocError>
+        ensures { self.new.lines ≡ self.old.lines }
+    {
         let group = self.groups.len();
         self.groups.push(Group {
             stands: true,
@@ -58,14 +71,18 @@ impl Marks {
     }
 
     /// Drops the lines of a group.
-    pub(crate) fn drop_group(&mut self, group: usize) {
+    pub(crate) fn drop_group(&mut self, group: usize)
+        ensures { self.new.lines ≡ self.old.lines }
+    {
         if let Some(dropped) = self.groups.get_mut(group) {
             dropped.stands = false;
         }
     }
 
     /// Puts a group into another one: its lines are kept only if those of the other one are.
-    pub(crate) fn put_into(&mut self, group: usize, around: usize) {
+    pub(crate) fn put_into(&mut self, group: usize, around: usize)
+        ensures { self.new.lines ≡ self.old.lines }
+    {
         if let Some(put) = self.groups.get_mut(group) {
             put.around = around;
         }
@@ -88,7 +105,9 @@ impl Marks {
     }
 
     /// For each line, whether it is kept.
-    pub(crate) fn kept(&self, alloc: Global) -> Result<Vec<bool>, AllocError> {
+    pub(crate) fn kept(&self, alloc: Global) -> Result<Vec<bool>, AllocError>
+        ensures { IfOk result (λ kept. length kept.items ≡ length self.now.lines.items) }
+    {
         let mut kept = Vec::with_capacity(alloc, self.lines.len())?;
         for group in self.lines.as_slice() {
             kept.push(self.stands(*group) && self.stands(self.around(*group)))?;

@@ -1,24 +1,52 @@
-//! What replies say, each line of them with its tag.
-use line_text::split_line;
-use script_text::OperatorLine;
+//! What lines and replies say.
+use line_text::{is_word, skip_blanks, split_line, split_word};
 use tagged_lines::split_tag;
 
-/// Whether a reply says that what was asked is done.
+/// The first two words of what a line says.
+pub(crate) fn two_words(said: &[u8]) -> (&[u8], &[u8]) {
+    let (first, rest) = split_word(skip_blanks(said));
+    let (second, _) = split_word(skip_blanks(rest));
+    (first, second)
+}
+
+/// Whether a line says `wait`.
+pub(crate) fn is_wait(said: &[u8]) -> bool {
+    let (first, _) = two_words(said);
+    is_word(first, "wait")
+}
+
+/// Whether a line has no word.
+pub(crate) fn is_blank(said: &[u8]) -> bool {
+    skip_blanks(said).is_empty()
+}
+
+/// Whether a reply says that a line has no form.
+pub(crate) fn has_no_form(reply: &[u8]) -> bool {
+    reply.starts_with(b"? ")
+}
+
+/// Whether what was asked is done.
 pub(crate) fn is_done(reply: &[u8]) -> bool {
     let (_, said) = split_tag(reply);
     said.starts_with(b"ok")
 }
 
-/// Whether a reply says that a job goes on.
-pub(crate) fn shows_running(reply: &[u8]) -> bool {
+/// Whether everything was given up.
+pub(crate) fn is_withdrawn(reply: &[u8]) -> bool {
+    let (_, said) = split_tag(reply);
+    said.starts_with(b"ok Empty")
+}
+
+/// Whether a job began.
+pub(crate) fn is_begun(reply: &[u8]) -> bool {
     let (_, said) = split_tag(reply);
     said.starts_with(b"ok Packing")
         || said.starts_with(b"ok Placing")
         || said.starts_with(b"ok Routing")
 }
 
-/// Whether a reply says that no job runs.
-pub(crate) fn shows_rest(reply: &[u8]) -> bool {
+/// Whether no job runs.
+pub(crate) fn is_at_rest(reply: &[u8]) -> bool {
     let (_, said) = split_tag(reply);
     said.starts_with(b"status ")
         && !said.starts_with(b"status Packing")
@@ -26,21 +54,8 @@ pub(crate) fn shows_rest(reply: &[u8]) -> bool {
         && !said.starts_with(b"status Routing")
 }
 
-/// Whether a line of the operator with that reply changed something.
-pub(crate) fn changes(line: &OperatorLine<&[u8]>, reply: &[u8]) -> bool {
-    match line {
-        OperatorLine::List | OperatorLine::Owners => false,
-        OperatorLine::Step(..) => has_step(reply),
-        OperatorLine::Put(_) => !reply.starts_with(b"op none"),
-        OperatorLine::Admit(..)
-        | OperatorLine::Evict(_)
-        | OperatorLine::Move(..)
-        | OperatorLine::Take(_) => is_done(reply),
-    }
-}
-
 /// Whether one of the lines says that a step was made.
-fn has_step(reply: &[u8]) -> bool {
+pub(crate) fn has_step(reply: &[u8]) -> bool {
     let mut rest = reply;
     while !rest.is_empty() {
         let (line, after) = split_line(rest);
@@ -50,4 +65,9 @@ fn has_step(reply: &[u8]) -> bool {
         rest = after;
     }
     false
+}
+
+/// Whether a job that the operator held was put, or is gone.
+pub(crate) fn is_put(reply: &[u8]) -> bool {
+    !reply.starts_with(b"op none")
 }

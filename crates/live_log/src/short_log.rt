@@ -2,7 +2,7 @@
 ghost use Rattle.std.specs.Prelude.{◌≡◌};
 ghost use Rattle.line_text.specs.Lines.{physical_lines};
 ghost use Rattle.line_text.specs.Writing.{Writes};
-ghost use Rattle.live_log.specs.Kept.{kept_lines};
+ghost use Rattle.live_log.specs.Kept.{kept_lines, line_if};
 
 use line_text::{Failed, Sink, split_line, write_parts};
 
@@ -23,13 +23,15 @@ impl<'l> ShortLog<'l> {
             (kept_lines self.now.kept.items (physical_lines self.now.log.now)) result }
     {
         let mut rest = self.log;
-        for kept in self.kept.as_slice() {
-            if rest.is_empty() {
+        let mut marks = self.kept.as_slice();
+        while !rest.is_empty() {
+            let Some((kept, others)) = marks.split_first() else {
                 return Ok(());
-            }
+            };
             let (line, after) = split_line(rest);
             write_line(sink, *kept, line)?;
             rest = after;
+            marks = others;
         }
         Ok(())
     }
@@ -38,7 +40,7 @@ impl<'l> ShortLog<'l> {
 /// Writes a line with its end, if it is kept.
 fn write_line<W: Sink>(sink: &mut W, kept: bool, line: &[u8]) -> Result<(), Failed>
     ensures { Writes W.contents W.has_failed sink.old sink.new
-        (kept_lines (kept ∷ []) (line.now ∷ [])) result }
+        (line_if kept line.now) result }
 {
     if kept {
         write_parts(sink, &[line, b"\n"])

@@ -1,6 +1,6 @@
 //! The live service as a program over a dialogue.
 //!
-//! - [`read_options`] reads the command line.
+//! - [`read_options`] reads the command line. [`first_line`] is the line that a log begins with.
 //! - [`serve`] serves the lines of a dialogue as they come, after those of a log if there is one.
 //! - [`run_program`] is the program: it reads its words, serves, and returns the status.
 //!   [`Outcome`] says how a service ended.
