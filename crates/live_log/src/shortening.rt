@@ -1,6 +1,5 @@
 //! A log that is answered, line by line, to see which of its lines are kept.
 ghost use Rattle.std.specs.Prelude.{◌≡◌, IfOk, length, take};
-ghost use Rattle.line_feed.specs.Pieces.{kept_of};
 ghost use Rattle.line_text.specs.Lines.{physical_lines};
 
 use crate::keeper::Keeper;
@@ -31,7 +30,7 @@ pub fn shorten<'l, A: Answers>(
     let mut rest = log;
     while !rest.is_empty() {
         let (line, after) = split_line(rest);
-        let line = first_bytes(line);
+        let line = first_bytes(line, MAX_LINE);
         number += 1;
         let reply = service.answer(number, line)?;
         keeper.note(line, reply.as_slice())?;
@@ -43,13 +42,13 @@ pub fn shorten<'l, A: Answers>(
     })
 }
 
-/// The first [`MAX_LINE`] bytes of a line, which are those that the service is given.
-fn first_bytes(line: &[u8]) -> &[u8]
-    ensures { result.now ≡ kept_of line.now }
+/// The first bytes, at most that many.
+fn first_bytes(bytes: &[u8], count: usize) -> &[u8]
+    ensures { result.now ≡ take count bytes.now }
 {
-    if line.len() > MAX_LINE {
-        &line[..MAX_LINE]
+    if count < bytes.len() {
+        &bytes[..count]
     } else {
-        line
+        bytes
     }
 }

@@ -6,14 +6,14 @@
 //!   [`Outcome`] says how a service ended.
 #![tactic(auto)]
 
-mod first_line;
+mod beginning;
 mod kept_log;
 mod options;
 mod outcome;
 mod program;
 mod serving;
 
-pub use first_line::first_line;
+pub use beginning::first_line;
 pub use options::{CommandLine, Options, read_options};
 pub use outcome::Outcome;
 pub use program::{run_program, run_words};

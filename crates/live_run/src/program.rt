@@ -4,7 +4,7 @@ ghost use Rattle.std.specs.Process.{exit_status};
 ghost use Rattle.live_run.specs.Commands.{Begins, Exits, RunsLine, RunsWords};
 ghost use Rattle.live_run.specs.Outcomes.{status_of};
 
-use crate::first_line::first_line;
+use crate::beginning::first_line;
 use crate::kept_log::{KeptLog, open_log};
 use crate::options::{CommandLine, read_options};
 use crate::outcome::Outcome;
