@@ -16,8 +16,8 @@ has_seed Packing = false
 has_seed Packed = false
 has_seed name = true
 
--- two states are alike but for the number of generations and entries before them, and for a seed and
--- an effort on which nothing depends
+-- two states are alike but for the number of generations and entries before them, and for a seed
+-- and an effort on which nothing depends
 pub record StandAlike (s t : State) : Type 0 where
   pub rest : s ≡ record t { seed = s.seed; effort = s.effort; generation = s.generation; entries = s.entries }
   pub seeds : has_seed t.name ≡ true → (s.seed ≡ t.seed) × (s.effort ≡ t.effort)
