@@ -3,7 +3,8 @@ ghost use Rattle.std.specs.Prelude.{◌≡◌, [], IfOk, OnOk};
 
 use line_service::Answers;
 use line_text::MemorySink;
-use live_lines::Live;
+use live_lines::{Live, Said};
+use operator::Operator;
 use service_core::Service;
 use std::alloc::{AllocError, Global};
 use strips::DeviceGraph;
@@ -42,6 +43,12 @@ impl<'g> LiveLines<'g> {
             Ok(()) => Ok(reply.into_bytes()),
             Err(_) => Err(AllocError),
         }
+    }
+
+    /// Takes the service apart. Jobs that the operator holds are given back first.
+    pub fn into_parts(self) -> (Service, Operator<'static>, Said) {
+        let LiveLines { alloc: _, live } = self;
+        live.into_parts()
     }
 
     /// Ends the service. Jobs that the operator holds are given back first.

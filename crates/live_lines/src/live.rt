@@ -191,6 +191,22 @@ impl<'g> Live<'g> {
         }
     }
 
+    /// Takes the service apart. Jobs that the operator holds are given back first.
+    pub fn into_parts(self) -> (Service, Operator<'static>, Said) {
+        let Live {
+            alloc: _,
+            graph: _,
+            mut core,
+            operator,
+            jobs,
+            lasting,
+            said,
+        } = self;
+        jobs.give_back(&mut core);
+        drop(lasting);
+        (core, operator, said)
+    }
+
     /// Ends the service. Jobs that the operator holds are given back first.
     pub fn close(self) {
         let Live {

@@ -62,9 +62,9 @@ const PROGRAM: Program = Program {
         OptionWord {
             name: "workers",
             value_name: "K",
-            help: "Threads that make the jobs' steps: 0, each step is made by a wait or an op step",
+            help: "Threads that make the jobs' steps; 0: each step is made by a wait or an op step",
             takes: Takes::Number(0, 16),
-            default: Some("0"),
+            default: Some("4"),
         },
         OptionWord {
             name: "log",
@@ -79,8 +79,6 @@ const PROGRAM: Program = Program {
 const BEYOND: &str = "a number is beyond its limits";
 
 const NO_ARCH: &str = "--arch FILE is missing";
-
-const WORKERS: &str = "--workers must be 0: a live service has no workers yet";
 
 /// The size of the device and of its channels, within their limits.
 #[derive(Clone, Copy)]
@@ -133,6 +131,8 @@ pub struct CommandLine<'a> {
     pub options: Options,
     pub arch: &'a str,
     pub log: Option<&'a str>,
+    /// The number of workers, 0 to 16.
+    pub workers: u32,
 }
 
 /// The options that these words give, the first being the program's name. An error is clap's; a
@@ -152,13 +152,11 @@ fn line_of<'a>(given: &Given<'a>) -> Result<CommandLine<'a>, &'static str> {
     let tracks = given.number("tracks")?;
     let columns = given.number("columns")?;
     let rows = given.number("rows")?;
-    if given.number("workers")? != 0 {
-        return Err(WORKERS);
-    }
     let options = Options::new(tracks, columns, rows).ok_or(BEYOND)?;
     Ok(CommandLine {
         options,
         arch: given.text("arch").ok_or(NO_ARCH)?,
         log: given.text("log"),
+        workers: given.number("workers")?,
     })
 }

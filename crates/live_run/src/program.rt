@@ -126,7 +126,7 @@ fn run_over<H: Files + Wait + AllocGlobal, R: Source + Drop, W: Sink + Drop>(
 }
 
 /// The log at that path, of these options and that architecture.
-fn log_at<H: Files + AllocGlobal>(
+pub fn log_at<H: Files + AllocGlobal>(
     rt: &H,
     line: &CommandLine<'_>,
     path: &str,
@@ -142,7 +142,7 @@ fn log_at<H: Files + AllocGlobal>(
 
 /// The text of the architecture's file. Of a file that is longer than a text may be, the first byte
 /// above that is the last that is read: it is refused whatever else it holds.
-fn read_architecture<H: Files + AllocGlobal>(rt: &H, path: &str) -> Result<Vec<u8>, ReadError> {
+pub fn read_architecture<H: Files + AllocGlobal>(rt: &H, path: &str) -> Result<Vec<u8>, ReadError> {
     match File::open(rt, path) {
         Ok(file) => read_all(
             rt.alloc(),

@@ -51,6 +51,14 @@ impl<'t> Operator<'t> {
         }
     }
 
+    /// The name of an id. None if it was not given.
+    pub fn name_of(&self, id: u32) -> Option<&'t [u8]> {
+        if id == 0 {
+            return None;
+        }
+        self.admitted.get(id as usize - 1).copied()
+    }
+
     /// The last id that the name was given, or 0.
     pub fn last_id(&self, name: &[u8]) -> u32
         ensures { result ≡ last_id self.now name.now }
