@@ -1,0 +1,79 @@
+-- What a search of a plane with a bypass finds.
+use Rattle.std.proofs.Common.{◌≡◌, ℕ, refl, ◌+◌, ◌<◌, ◌≤◌, Bool, true, false, Option, Some, None, List, [], ◌∷◌, ◌++◌, length, get_or, arith, ◌∙◌, sym, ap, subst}
+use Rattle.std.specs.List.{All, Contains}
+use Rattle.std.specs.Prelude.{if◌then◌else◌}
+use Rattle.std.proofs.lemmas.List.Elements.{All-push, Contains-get_or}
+use Rattle.least_path.specs.Graph.{Graph}
+use Rattle.least_path.specs.Path.{IsPath, cost_of}
+use Rattle.least_path.specs.LeastPath.{IsLeastPath, TellsLeastPath, HasNoPath, least_path}
+use Rattle.least_path.specs.declared.path.Path.{Path}
+use Rattle.plane_search.specs.Planes.{Family, IsPlace, IsPlane, IsFamily}
+use Rattle.plane_search.specs.Bypass.{bypassed}
+use Rattle.plane_search.specs.Best.{IsLeastOn, IsKnown, IsBestSoFar}
+use Rattle.plane_search.proofs.Detour.{AreStartsOf, least_out, cost_out_of, path_in, none_within}
+use Rattle.plane_search.proofs.Split.{least_of_all, none_of_all, path_within}
+
+pub first_in : (g : Graph) (starts : List ℕ) (goal places : ℕ) (nodes : List ℕ) → IsPath g starts goal nodes → ((x : ℕ) → Contains starts x → x < places) → get_or nodes 0 0 < places
+first_in g starts goal places [] p below = absurd p
+first_in g starts goal places (x ∷ xs) p below = below x p.0
+
+pub some_first : (g : Graph) (starts : List ℕ) (goal : ℕ) (nodes : List ℕ) → IsPath g starts goal nodes → 0 < length nodes
+some_first g starts goal [] p = absurd p
+some_first g starts goal (x ∷ xs) p = omega arith
+
+module _ {f : Family} {track : ℕ} (plane : IsPlane f track) (places exit over : ℕ) (starts : List ℕ) (same : places ≡ f.places) (goal : exit ≡ f.exit) (own : AreStartsOf places (f.entries track) starts) where
+  counted : (f.plane track).count ≡ places
+  counted = plane.count ∙ sym same
+
+  there : f.exit < places
+  there = omega (arith, plane.exit_there.within, same)
+
+  at_exit : (path : List ℕ) → IsLeastPath (bypassed (f.plane track) places f.exit over) starts exit path → IsLeastPath (bypassed (f.plane track) places f.exit over) starts f.exit path
+  at_exit path i = subst (λ (to : ℕ). IsLeastPath (bypassed (f.plane track) places f.exit over) starts to path) goal i
+
+  pub found_on : (path : Path) → TellsLeastPath (bypassed (f.plane track) places f.exit over) starts exit path → get_or path.nodes.items 0 0 < places → IsLeastOn f track path
+  found_on path t l = record {
+    least = least_out plane.lawful counted there own over path.nodes.items (at_exit path.nodes.items t.least) l;
+    cost = t.cost ∙ cost_out_of plane.lawful counted there own over path.nodes.items (at_exit path.nodes.items t.least) l;
+  }
+
+  pub none_on : HasNoPath (bypassed (f.plane track) places f.exit over) starts exit → (path : List ℕ) → IsPath (f.plane track) (f.entries track) f.exit path → ⊥
+  none_on none path p = none path (subst (λ (to : ℕ). IsPath (bypassed (f.plane track) places f.exit over) starts to path) (sym goal) (path_in plane.lawful counted there own over path p))
+
+  pub beyond_on : (path : Path) → TellsLeastPath (bypassed (f.plane track) places f.exit over) starts exit path → places ≤ get_or path.nodes.items 0 0 → ((x : ℕ) → Contains starts x → places ≤ x → x ≡ places)
+      → (other : List ℕ) → IsPath (f.plane track) (f.entries track) f.exit other → over + (f.plane track).cost f.exit < cost_of (f.plane track) other
+  beyond_on path t l beyond other o = none_within plane.lawful counted there own over beyond path.nodes.items (at_exit path.nodes.items t.least) l other o
+
+-- ---- the starts of a search
+
+module _ {f : Family} {track : ℕ} (plane : IsPlane f track) (places : ℕ) (same : places ≡ f.places) where
+  pub entries_below : (x : ℕ) → Contains (f.entries track) x → x < places
+  entries_below x c = omega (arith, same, (plane.entries_there x c).within)
+
+  pub entries_within : All (λ (x : ℕ). x < places + 2) (f.entries track)
+  entries_within = λ k d l. omega (arith, entries_below (get_or (f.entries track) k d) (Contains-get_or (f.entries track) k d l))
+
+  pub starts_within : All (λ (x : ℕ). x < places + 2) (f.entries track ++ places ∷ [])
+  starts_within = All-push (λ (x : ℕ). x < places + 2) (f.entries track) places entries_within (omega arith)
+
+-- ---- the best path of all planes
+
+module _ {f : Family} (family : IsFamily f) (count : ℕ) (all : f.tracks ≤ count) (path : Path) where
+  pub best_found : (b : Bool) → b ≡ true → IsBestSoFar f count b path → TellsLeastPath f.whole f.starts f.goal path
+  best_found true e best = record {
+    least = least_of_all family path.nodes.items best.0.is_path (λ track l. best.1 track (omega (arith, l, all)));
+    within = path_within family path.nodes.items best.0.is_path;
+    cost = best.0.cost;
+  }
+  best_found false e best = cc
+
+  pub best_none : (b : Bool) → b ≡ false → IsBestSoFar f count b path → HasNoPath f.whole f.starts f.goal
+  best_none true e best = cc
+  best_none false e best = none_of_all family (λ track l. best track (omega (arith, l, all)))
+
+  pub best_exact : (b : Bool) → IsBestSoFar f count b path
+      → ((p : List ℕ) → IsLeastPath f.whole f.starts f.goal p → least_path f.whole f.starts f.goal ≡ Some p)
+      → (HasNoPath f.whole f.starts f.goal → least_path f.whole f.starts f.goal ≡ None)
+      → least_path f.whole f.starts f.goal ≡ (if b then Some path.nodes.items else None)
+  best_exact true best is none = is path.nodes.items (best_found true refl best).least
+  best_exact false best is none = none (best_none false refl best)

@@ -1,0 +1,21 @@
+//! Least paths in a graph that consists of planes, plane by plane.
+//!
+//! In a fabric whose switch blocks keep the track, a path never leaves the track of its first wire.
+//! So the graph consists of planes, one for each track: its wires, with the pins before and after
+//! them. [`Planes`] is such a graph, with some starts and a goal. A [`PlaneSearch`] finds the same
+//! path as a search of the whole graph would: the least by cost, and then in the lexicographic
+//! order of the nodes.
+//!
+//! A plane is searched only if it may hold a path that is less than the best one so far, and then
+//! no further than to the cost of that one. Often the best one is known beforehand: the path that a
+//! net had before. Whether a plane may hold a lesser path is decided by lower bounds alone: at the
+//! starts, and along the best path, where another way branches off to a lesser node.
+#![tactic(auto)]
+
+mod bypass;
+mod planes;
+mod rivals;
+mod search;
+
+pub use planes::Planes;
+pub use search::PlaneSearch;

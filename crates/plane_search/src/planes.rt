@@ -1,0 +1,65 @@
+//! A graph that consists of planes, as a search uses it.
+ghost use Rattle.std.specs.Prelude.{◌≡◌, ◌+◌, ◌<◌, ℕ, Option, List, Some, map};
+ghost use Rattle.least_path.specs.Graph.{Graph};
+ghost use Rattle.least_path.specs.Path.{IsPath};
+ghost use Rattle.least_path.specs.LowerBound.{IsLowerBound};
+ghost use Rattle.plane_search.specs.Planes.{Family, IsFamily, IsPlace, IsInPlane};
+
+use least_path::Ends;
+
+/// A graph that consists of planes, one for each track, with some starts and a goal. The nodes of a
+/// plane are places, which are numbered from 0 in each plane.
+pub trait Planes {
+    ghost family: { Self → Family };
+
+    /// The number of tracks, at least 1.
+    fn tracks(&self) -> usize
+        ensures value { result ≡ (family self.now).tracks }
+        ensures lawful { IsFamily (family self.now) };
+
+    /// The number of places of each plane, at most 2^22.
+    fn places(&self) -> usize
+        ensures { result ≡ (family self.now).places };
+
+    /// The places of the starts that are in a track's plane.
+    fn entries(&self, track: usize) -> &[usize]
+        requires { track < (family self.now).tracks }
+        ensures { result.now ≡ (family self.now).entries track };
+
+    /// The place of the goal, the same in each plane.
+    fn exit(&self) -> usize
+        ensures { result ≡ (family self.now).exit };
+
+    /// The number of a place's node in the whole graph.
+    fn number(&self, track: usize, place: usize) -> usize
+        requires track { track < (family self.now).tracks }
+        requires place { IsPlace (family self.now) track place }
+        ensures { result ≡ (family self.now).number track place };
+
+    /// The ends of the edges from a place in its plane: fewer than 2^32.
+    fn ends(&self, track: usize, place: usize) -> Ends<'_>
+        requires track { track < (family self.now).tracks }
+        requires place { place < (family self.now).places }
+        ensures { map (λ end. end + result.base) result.list.now
+            ≡ ((family self.now).plane track).ends place };
+
+    /// The cost of entering a place, from 1 to 2^36.
+    fn cost(&self, track: usize, place: usize) -> u64
+        requires track { track < (family self.now).tracks }
+        requires place { place < (family self.now).places }
+        ensures { result ≡ ((family self.now).plane track).cost place };
+
+    /// A lower bound of the cost of any way from the place to the goal in its plane; `None` only if
+    /// there is no way. A greater bound makes a search faster and changes no result.
+    fn at_least(&self, track: usize, place: usize) -> Option<u64>
+        requires track { track < (family self.now).tracks }
+        requires place { place < (family self.now).places }
+        ensures { IsLowerBound ((family self.now).plane track) (family self.now).exit place
+            result };
+}
+
+/// Each path of the whole graph from a start to the goal is a path of one of its planes.
+pub fn split_law()
+    ensures { (f : Family) (path : List ℕ) → IsFamily f → IsPath f.whole f.starts f.goal path →
+        IsInPlane f path }
+{}
