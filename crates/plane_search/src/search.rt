@@ -10,13 +10,31 @@ ghost use Rattle.plane_search.specs.Best.{IsKnown, IsBestSoFar, IsLeastIn, IsLea
 
 use crate::bypass::Bypassed;
 use crate::planes::Planes;
-use crate::rivals::may_hold_less;
+use crate::rivals::most_of_less;
 use least_path::{Path, Search, least_path_law};
 use std::alloc::{AllocError, Global};
 use std::mem;
 
 /// The largest cost of a node.
 const MOST: u64 = 1 << 36;
+
+/// A track, and a lower bound of the costs of the paths in its plane.
+#[derive(Clone, Copy, PartialEq, Eq, PartialOrd, Ord)]
+struct Ranked {
+    bound: u64,
+    track: usize,
+}
+
+/// A lower bound of the costs of the paths in a plane.
+fn bound_of<P: Planes>(planes: &P, track: usize) -> u64 {
+    let mut bound = u64::MAX;
+    for entry in planes.entries(track) {
+        if let Some(ahead) = planes.at_least(track, *entry) {
+            bound = bound.min(ahead);
+        }
+    }
+    bound
+}
 
 /// A search that reuses its memory from one search to the next.
 #[derive(Drop)]
@@ -26,6 +44,7 @@ pub struct PlaneSearch {
     starts: Vec<usize>,
     /// The path that was found in it.
     found: Path,
+    order: Vec<Ranked>,
 }
 
 /// What the bypass's second node must cost so that a path over it costs `most`; `None` if no node
@@ -71,6 +90,7 @@ impl PlaneSearch {
             search: Search::new(alloc),
             starts: Vec::new(alloc),
             found: Path { nodes, cost: 0 },
+            order: Vec::new(alloc),
         }
     }
 
@@ -95,8 +115,17 @@ impl PlaneSearch {
     {
         least_path_law();
         let mut is_found = is_known;
+        self.order.clear();
         for track in 0..planes.tracks() {
-            is_found = self.improve(planes, track, is_found, path)?;
+            let bound = bound_of(planes, track);
+            self.order.push(Ranked { bound, track })?;
+        }
+        self.order.sort_unstable();
+        for index in 0..self.order.len() {
+            let ranked = self.order[index];
+            if !is_found || ranked.bound <= path.cost {
+                is_found = self.improve(planes, ranked.track, is_found, path)?;
+            }
         }
         Ok(is_found)
     }
@@ -118,8 +147,9 @@ impl PlaneSearch {
         if !is_found {
             return self.begin(planes, track, path);
         }
-        if may_hold_less(planes, track, path) {
-            self.replace_known(planes, track, path)?;
+        let most = most_of_less(planes, track, path);
+        if most > 0 {
+            self.replace_known(planes, track, most, path)?;
         }
         Ok(true)
     }
@@ -149,14 +179,14 @@ impl PlaneSearch {
         &mut self,
         planes: &P,
         track: usize,
+        most: u64,
         path: &mut Path,
     ) -> Result<(), AllocError>
         requires track { track < (P.family planes.now).tracks }
         requires before { IsBestSoFar (P.family planes.now) track true path.old }
         ensures { OnOk result (IsBestSoFar (P.family planes.now) (track + 1) true path.new) }
     {
-        let _tracks = planes.tracks();
-        if !self.find_nodes(planes, track, Some(path.cost))? {
+        if !self.find_nodes(planes, track, Some(most))? {
             return Ok(());
         }
         if is_less(&self.found, path) {
@@ -253,11 +283,7 @@ impl PlaneSearch {
             over: 1,
             most: None,
         };
-        self.search.least_into(
-            &roads,
-            planes.entries(track),
-            planes.exit(),
-            &mut self.found,
-        )
+        self.search
+            .least_into(&roads, planes.entries(track), planes.exit(), &mut self.found)
     }
 }
