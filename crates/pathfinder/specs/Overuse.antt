@@ -1,11 +1,15 @@
 -- The progress of a routing: the nodes that are in more trees than they can carry.
-use Rattle.std.specs.Prelude.{ℕ, ◌≡◌, ◌-◌, ◌<◌, ◌≤◌, List, Option, Some, None, option_map, map, count_by, nat_lt, slice_index}
-use Rattle.std.specs.List.{range_with_len}
+use Rattle.std.specs.Prelude.{ℕ, ◌≡◌, ◌==◌, ◌-◌, ◌<◌, ◌≤◌, Bool, List, Option, Some, None, option_map, map, count_by, nat_lt, slice_index}
+use Rattle.std.specs.List.{concat, list_any, range_with_len}
 use Rattle.rr_graph.specs.Graph.{Basis, graph_of}
 use Rattle.pathfinder.specs.declared.overuse.Overuse.{Overuse}
 use Rattle.pathfinder.specs.Negotiation.{Tree, occupancy}
 use Rattle.pathfinder.specs.PlacedNets.{wiring_of}
 use Rattle.pathfinder.specs.Wiring.{Wiring}
+
+-- a path of the tree has the node
+abbrev pub has_node : Tree → ℕ → Bool
+has_node tree node = list_any (λ other. other == node) (concat tree)
 
 -- the number of trees by which the node is overused
 abbrev pub overuse_at : Wiring → List Tree → ℕ → ℕ

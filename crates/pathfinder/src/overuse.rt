@@ -1,8 +1,8 @@
 //! The progress of a routing: the nodes that are in more trees than they can carry.
-ghost use Rattle.std.specs.Prelude.{◌≡◌, ◌<◌, length, option_map, IfSome};
+ghost use Rattle.std.specs.Prelude.{◌≡◌, ◌<◌, ℕ, [], length, option_map, slice_index, slice_index_or, IfSome};
 ghost use Rattle.rr_graph.specs.Graph.{graph_of};
-ghost use Rattle.pathfinder.specs.Negotiation.{More};
-ghost use Rattle.pathfinder.specs.Overuse.{IsMost, IsOveruse, count_over, over_in};
+ghost use Rattle.pathfinder.specs.Negotiation.{More, occupancy};
+ghost use Rattle.pathfinder.specs.Overuse.{IsMost, IsOveruse, count_over, has_node, over_in};
 ghost use Rattle.pathfinder.specs.PlacedNets.{wiring_of};
 ghost use Rattle.pathfinder.specs.Routings.{IsAfter};
 
@@ -31,6 +31,30 @@ impl Routing {
             nodes: counts.overused(),
             most: node_of(graph, counts.most_overused()),
         }
+    }
+
+    /// The number of nets, each of which has a tree.
+    pub fn net_count(&self) -> usize
+        ensures { result ≡ length self.now.trees }
+    {
+        self.routes.len()
+    }
+
+    /// The occupancy of each node by the current trees, by node number.
+    pub fn occupancies(&self) -> &[u32]
+        ensures long { length result.now ≡ length self.now.history }
+        ensures each { (node : ℕ) → node < length self.now.history →
+            slice_index result.now node ≡ occupancy self.now.trees node }
+    {
+        self.held.as_slice()
+    }
+
+    /// Returns whether the current tree of a net has the node with this number.
+    pub fn has_node(&self, net: usize, node: usize) -> bool
+        requires { net < length self.now.trees }
+        ensures { result ≡ has_node (slice_index_or self.now.trees net []) node }
+    {
+        self.routes[net].nodes().contains(&node)
     }
 }
 
