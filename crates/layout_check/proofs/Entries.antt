@@ -3,12 +3,12 @@ use Rattle.std.proofs.Common.{◌≡◌, ℕ, ◌+◌, ◌<◌, ◌≤◌, Bool,
 use Rattle.std.specs.Prelude.{All, Contains, count_by}
 use Rattle.std.specs.List.{enumerate_from, flat_map, list_any}
 use Rattle.std.specs.Option.{option_to_list}
-use Rattle.std.proofs.lemmas.Bool.{eqb-true, false≢true}
+use Rattle.std.proofs.lemmas.Bool.{eqb-true, false_from_ne_true, false≢true}
 use Rattle.std.proofs.lemmas.Option.{get_or_from_slice_get, same_Some, slice_get-get_or}
-use Rattle.std.proofs.lemmas.List.{get_or_default, take_all}
+use Rattle.std.proofs.lemmas.List.{get_or_default}
+use Rattle.std.proofs.lemmas.List.Elements.{All-contains}
 use Rattle.implements.proofs.Between.{same_truth}
-use Rattle.implements.proofs.Inside.{enumerated}
-use Rattle.implements.proofs.Members.{from_any, from_append, from_has, in_none, only_one, one_only, to_any, to_append_left, to_append_right, to_flat_map, to_has}
+use Rattle.implements.proofs.Members.{from_any, from_append, from_get, from_has, in_none, only_one, one_only, to_any, to_append_left, to_append_right, to_flat_map, to_has}
 use Rattle.blif.specs.declared.circuit.Circuit.{Circuit}
 use Rattle.blif.specs.declared.latches.Latch.{Latch}
 use Rattle.ble_cluster.specs.Nets.{has}
@@ -31,9 +31,10 @@ use Rattle.layout_check.specs.declared.fault.EntryFault.{EntryFault}
 use Rattle.layout_check.specs.declared.fault.EntryFault.TheVariants.{NoDriver, TwoDrivers, Listed, Paths}
 use Rattle.layout_check.specs.EntryFaults.{AreUsedBy, IsEntryFault, IsOnlyDriver, is_on}
 use Rattle.layout_check.specs.Marks.{IsSetOf, is_in}
+use Rattle.layout_check.specs.NetBlocks.{numbers_of, sinks_at}
 use Rattle.layout_check.specs.TreeTests.{AreNumbers}
+use Rattle.layout_check.proofs.ByNet.{from_numbers, others_by_number, sinks_by_number, to_numbers}
 use Rattle.layout_check.proofs.ByNumber.{from_number, to_number}
-use Rattle.layout_check.proofs.Kept.{kept_no, kept_yes}
 use Rattle.layout_check.proofs.Numbers.{flat_more, number_again}
 use Rattle.layout_check.proofs.Refute.{paths_refuted}
 
@@ -111,51 +112,49 @@ pub control_at : (xs latches : List Latch) → xs ≡ latches → (i : ℕ) (d :
 control_at xs latches same i d net small is =
     subst (λ ls. true ≡ has (flat_map (λ (latch : Latch). option_to_list latch.control) ls) net) same (control_here xs i (get_or xs i d) net small (get_or_default xs i (get_or xs i d) d small) is)
 
--- ---- what is listed, and the sinks
+-- ---- the blocks by net, in place of all blocks
 
-length_enumerated : {X : Type 0} (start : ℕ) (xs : List X) → length (enumerate_from start xs) ≡ length xs
-length_enumerated start [] = refl
-length_enumerated start (x ∷ xs) = ap (λ n. suc n) (length_enumerated (start + 1) xs)
+-- the block whose number is first in the list
+pub first_of : (test : LaidBlock → Bool) (blocks : List LaidBlock) (row : List ℕ) (driver : ℕ) → row ≡ numbers_of test blocks → slice_get row 0 ≡ Some driver → (block : LaidBlock) × (slice_get blocks driver ≡ Some block) × (test block ≡ true)
+first_of test blocks row driver is at = from_numbers test blocks driver (subst (λ (ks : List ℕ). Contains ks driver) is (from_get row 0 driver at).1)
 
-numbered_at : (blocks : List LaidBlock) (k : ℕ) (block : LaidBlock) → k < length blocks → get_or blocks k block ≡ block → get_or (enumerate_from 0 blocks) k (k, block) ≡ (k, block)
-numbered_at blocks k block small item =
-    let there : slice_get blocks k ≡ Some block = slice_get-get_or blocks k block small ∙ ap (λ b. Some b) item in
-    let e : 0 + k ≡ k = omega arith in
-    get_or_from_slice_get (enumerate_from 0 blocks) k (0 + k, block) (k, block) (enumerated 0 blocks k block there) ∙ ap (λ n. (n, block)) e
+pub never_driven : (net : ℕ) (blocks : List LaidBlock) (row : List ℕ) → row ≡ numbers_of (drives net) blocks → slice_get row 0 ≡ None → (k : ℕ) (block : LaidBlock) → slice_get blocks k ≡ Some block → drives net block ≡ false
+never_driven net blocks row is none k block there =
+    false_from_ne_true (drives net block) (λ yes. empty row none k (subst (λ (ks : List ℕ). Contains ks k) (sym is) (to_numbers (drives net) blocks k block there yes)))
+  where
+    empty : (row : List ℕ) → slice_get row 0 ≡ None → (k : ℕ) → Contains row k → ⊥
+    empty [] none k c = in_none k c
+    empty (x ∷ row) none k c = absurd cc
 
--- one more block
-pub readers_yes : (arch : Arch) (net driver : ℕ) (blocks : List LaidBlock) (k : ℕ) (block : LaidBlock) (old now next : List ℕ) → k < length blocks → get_or blocks k block ≡ block → (not (eqb k driver) && wants arch net block) ≡ true →
-    now ≡ old ++ map (λ block. block.0) (filter (λ block. not (eqb block.0 driver) && wants arch net block.1) (take k (enumerate_from 0 blocks))) → next ≡ now ++ k ∷ [] →
-    next ≡ old ++ map (λ block. block.0) (filter (λ block. not (eqb block.0 driver) && wants arch net block.1) (take (k + 1) (enumerate_from 0 blocks)))
-readers_yes arch net driver blocks k block old now next small item passes is next_is =
-    kept_yes (λ (b : ℕ × LaidBlock). b.0) (λ (b : ℕ × LaidBlock). not (eqb b.0 driver) && wants arch net b.1) (enumerate_from 0 blocks) k (k, block) old now next
-    (let long = length_enumerated 0 blocks in omega (arith, long, small)) (numbered_at blocks k block small item) passes is next_is
+pub two_drivers : (net : ℕ) (blocks : List LaidBlock) (row : List ℕ) (driver other : ℕ) → row ≡ numbers_of (drives net) blocks → slice_get row 0 ≡ Some driver → Contains row other × (other ≡ driver → ⊥) →
+    (other ≡ driver → ⊥) × ((block : LaidBlock) × (slice_get blocks driver ≡ Some block) × (drives net block ≡ true)) × ((block : LaidBlock) × (slice_get blocks other ≡ Some block) × (drives net block ≡ true))
+two_drivers net blocks row driver other is at told = (told.1, first_of (drives net) blocks row driver is at, from_numbers (drives net) blocks other (subst (λ (ks : List ℕ). Contains ks other) is told.0))
 
-pub readers_no : (arch : Arch) (net driver : ℕ) (blocks : List LaidBlock) (k : ℕ) (block : LaidBlock) (old now : List ℕ) → k < length blocks → get_or blocks k block ≡ block → (not (eqb k driver) && wants arch net block) ≡ false →
-    now ≡ old ++ map (λ block. block.0) (filter (λ block. not (eqb block.0 driver) && wants arch net block.1) (take k (enumerate_from 0 blocks))) →
-    now ≡ old ++ map (λ block. block.0) (filter (λ block. not (eqb block.0 driver) && wants arch net block.1) (take (k + 1) (enumerate_from 0 blocks)))
-readers_no arch net driver blocks k block old now small item fails is =
-    kept_no (λ (b : ℕ × LaidBlock). b.0) (λ (b : ℕ × LaidBlock). not (eqb b.0 driver) && wants arch net b.1) (enumerate_from 0 blocks) k (k, block) old now
-    (let long = length_enumerated 0 blocks in omega (arith, long, small)) (numbered_at blocks k block small item) fails is
+pub only_driver : (layout : Layout) (net : ℕ) (row : List ℕ) (driver : ℕ) → row ≡ numbers_of (drives net) layout.blocks → slice_get row 0 ≡ Some driver → All (λ k. k ≡ driver) row → (block : LaidBlock) × IsOnlyDriver layout net driver block
+only_driver layout net row driver is at only =
+    let found = first_of (drives net) layout.blocks row driver is at in (
+      found.0,
+      record {
+        there = found.1;
+        driven = found.2;
+        only = λ k other there yes. All-contains (λ n. n ≡ driver) row k only (subst (λ (ks : List ℕ). Contains ks k) (sym is) (to_numbers (drives net) layout.blocks k other there yes));
+      },
+    )
 
-pub readers_all : (blocks : List LaidBlock) (k : ℕ) → length blocks ≤ k → take k (enumerate_from 0 blocks) ≡ enumerate_from 0 blocks
-readers_all blocks k end = let long = length_enumerated 0 blocks in take_all k (enumerate_from 0 blocks) (omega (arith, long, end))
+pub listed_same : (circuit : Circuit) (arch : Arch) (layout : Layout) (driver net : ℕ) (g : Bool) (readers : List ℕ) → g ≡ is_global circuit net → readers ≡ numbers_of (wants arch net) layout.blocks →
+    cond g (driver ∷ filter (λ reader. not (eqb reader driver)) readers) [] ≡ listed_with circuit arch layout driver net
+listed_same circuit arch layout driver net g readers g_is readers_are =
+    ap (λ (b : Bool). cond {A = List ℕ} b (driver ∷ filter (λ reader. not (eqb reader driver)) readers) []) g_is
+    ∙ ap (λ (rs : List ℕ). cond {A = List ℕ} (is_global circuit net) (driver ∷ filter (λ reader. not (eqb reader driver)) rs) []) readers_are
+    ∙ ap (λ (ks : List ℕ). cond {A = List ℕ} (is_global circuit net) (driver ∷ ks) []) (others_by_number (λ reader. not (eqb reader driver)) (wants arch net) layout.blocks)
 
-pub sinks_same : (circuit : Circuit) (layout : Layout) (arch a : Arch) (net n : ℕ) (g : Bool) (bs : List LaidBlock) → g ≡ is_global circuit n → n ≡ net → a ≡ arch → bs ≡ layout.blocks →
-    cond g [] (map (λ laid. sink_at laid.block laid.place) (filter (wants a n) bs)) ≡ sinks_of circuit arch layout net
-sinks_same circuit layout arch a net n g bs g_is n_is a_is bs_is =
-    ap (λ (b : Bool). cond {A = List Node} b [] (map (λ (laid : LaidBlock). sink_at laid.block laid.place) (filter (wants a n) bs))) g_is
-    ∙ ap (λ (m : ℕ). cond {A = List Node} (is_global circuit m) [] (map (λ (laid : LaidBlock). sink_at laid.block laid.place) (filter (wants a m) bs))) n_is
-    ∙ ap (λ (r : Arch). cond {A = List Node} (is_global circuit net) [] (map (λ (laid : LaidBlock). sink_at laid.block laid.place) (filter (wants r net) bs))) a_is
-    ∙ ap (λ (xs : List LaidBlock). cond {A = List Node} (is_global circuit net) [] (map (λ (laid : LaidBlock). sink_at laid.block laid.place) (filter (wants arch net) xs))) bs_is
-
-pub listed_same : (circuit : Circuit) (layout : Layout) (driver : ℕ) (arch a : Arch) (net n : ℕ) (g : Bool) (bs : List LaidBlock) → g ≡ is_global circuit n → n ≡ net → a ≡ arch → bs ≡ layout.blocks →
-    cond g (driver ∷ map (λ block. block.0) (filter (λ block. not (eqb block.0 driver) && wants a n block.1) (enumerate_from 0 bs))) [] ≡ listed_with circuit arch layout driver net
-listed_same circuit layout driver arch a net n g bs g_is n_is a_is bs_is =
-    ap (λ (b : Bool). cond {A = List ℕ} b (driver ∷ map (λ (block : ℕ × LaidBlock). block.0) (filter (λ (block : ℕ × LaidBlock). not (eqb block.0 driver) && wants a n block.1) (enumerate_from 0 bs))) []) g_is
-    ∙ ap (λ (m : ℕ). cond {A = List ℕ} (is_global circuit m) (driver ∷ map (λ (block : ℕ × LaidBlock). block.0) (filter (λ (block : ℕ × LaidBlock). not (eqb block.0 driver) && wants a m block.1) (enumerate_from 0 bs))) []) n_is
-    ∙ ap (λ (r : Arch). cond {A = List ℕ} (is_global circuit net) (driver ∷ map (λ (block : ℕ × LaidBlock). block.0) (filter (λ (block : ℕ × LaidBlock). not (eqb block.0 driver) && wants r net block.1) (enumerate_from 0 bs))) []) a_is
-    ∙ ap (λ (xs : List LaidBlock). cond {A = List ℕ} (is_global circuit net) (driver ∷ map (λ (block : ℕ × LaidBlock). block.0) (filter (λ (block : ℕ × LaidBlock). not (eqb block.0 driver) && wants arch net block.1) (enumerate_from 0 xs))) []) bs_is
+pub sinks_same : (circuit : Circuit) (arch : Arch) (layout : Layout) (net : ℕ) (g : Bool) (readers : List ℕ) (blocks : List LaidBlock) → g ≡ is_global circuit net → readers ≡ numbers_of (wants arch net) layout.blocks → blocks ≡ layout.blocks →
+    cond g [] (sinks_at blocks readers) ≡ sinks_of circuit arch layout net
+sinks_same circuit arch layout net g readers blocks g_is readers_are same =
+    ap (λ (b : Bool). cond {A = List Node} b [] (sinks_at blocks readers)) g_is
+    ∙ ap (λ (rs : List ℕ). cond {A = List Node} (is_global circuit net) [] (sinks_at blocks rs)) readers_are
+    ∙ ap (λ (bs : List LaidBlock). cond {A = List Node} (is_global circuit net) [] (sinks_at bs (numbers_of (wants arch net) layout.blocks))) same
+    ∙ ap (λ (ns : List Node). cond {A = List Node} (is_global circuit net) [] ns) (sinks_by_number (wants arch net) layout.blocks)
 
 -- an entry is laid
 pub entry_laid : (circuit : Circuit) (basis : Basis) (layout : Layout) (laid : LaidNet) (driver : ℕ) (block : LaidBlock) → slice_get layout.blocks driver ≡ Some block → drives laid.net block ≡ true → (source : Node) → source ≡ source_at block.block block.place →

@@ -5,7 +5,6 @@ pub mod ByNumber
 pub mod Told
 pub mod Matches
 pub mod Refute
-pub mod Kept
 pub mod Entries
 pub mod Counted
 pub mod Sites
@@ -23,3 +22,4 @@ pub mod HeldTold
 pub mod LatchTold
 pub mod Decided
 pub mod Never
+pub mod ByNet

@@ -1,18 +1,16 @@
 -- The nets of entries as a set, and the nets that are wanted.
-use Rattle.std.proofs.Common.{◌≡◌, ℕ, ◌<◌, ◌≤◌, Bool, true, false, ◌||◌, cond, List, Option, Some, None, map, length, slice_get, sym, ap, refl, ◌∙◌, eq-eqb, subst, arith}
+use Rattle.std.proofs.Common.{◌≡◌, ℕ, ◌<◌, ◌≤◌, Bool, true, false, List, Option, Some, None, map, length, slice_get, sym, ap, refl, ◌∙◌, eq-eqb, subst, arith}
 use Rattle.std.specs.Prelude.{All, Contains, MatchOption}
 use Rattle.std.specs.List.{list_any, range_with_len}
-use Rattle.std.specs.Option.{option_and_then, option_map_or}
-use Rattle.std.proofs.lemmas.Bool.{false_from_ne_true, false≢true}
+use Rattle.std.specs.Option.{option_map_or}
+use Rattle.std.proofs.lemmas.Bool.{false≢true}
 use Rattle.std.proofs.lemmas.List.Elements.{All-weaker}
 use Rattle.std.proofs.lemmas.List.FromFn.{get_or-range_with_len, length-range_with_len}
 use Rattle.std.proofs.lemmas.Option.{slice_get-get_or}
 use Rattle.implements.proofs.Inside.{is_some_net}
-use Rattle.implements.proofs.Members.{from_any, from_get, from_has, from_map, in_range, to_any, to_has}
+use Rattle.implements.proofs.Members.{from_any, from_has, from_map, in_range, to_any, to_has}
 use Rattle.arch_file.specs.declared.arch.Arch.{Arch}
 use Rattle.arch_file.specs.declared.arch.PinClass.{PinClass}
-use Rattle.arch_file.specs.declared.arch.PinClass.TheVariants.{Input, Clock}
-use Rattle.cluster.specs.Blocks.{is_same_class}
 use Rattle.ble_cluster.specs.Nets.{has}
 use Rattle.implements.specs.Implements.{has_on, is_net, wants}
 use Rattle.implements.specs.Layouts.{LaidBlock, LaidNet, on_pin}
@@ -83,20 +81,3 @@ wanted_told arch blocks bs nets ns marks None same also exact all =
 wanted_told arch blocks bs nets ns marks (Some number) same also exact (laid, there, net, wanted, out) =
     let set = subst (λ xs. IsSetOf (map (λ (laid : LaidNet). laid.net) xs) marks) also exact in
     (laid, subst (λ xs. slice_get xs number ≡ Some laid) same there, net, wanted, has_not (map (λ (between : LaidNet). between.net) nets) marks set net out)
-
--- a net that is wanted on a pin is on one of the pins
-on_some_pin : (arch : Arch) (laid : LaidBlock) (class : PinClass) (net : ℕ) → has_on arch laid class net ≡ true → list_any (is_net net) laid.pins ≡ true
-on_some_pin arch laid class net has =
-    let q = from_any (λ pin. is_net net (on_pin arch laid class pin)) (range_with_len 0 (length arch.pins)) has in
-    by q.0 (option_map_or (λ found. is_same_class class found.class) (slice_get arch.pins q.0) false) (slice_get laid.pins q.0) refl q.2
-  where
-    by : (k : ℕ) (is_class : Bool) (o : Option (Option ℕ)) → slice_get laid.pins k ≡ o → is_net net (cond is_class (option_and_then (λ n. n) o) None) ≡ true → list_any (is_net net) laid.pins ≡ true
-    by k false o e h = absurd (false≢true h)
-    by k true None e h = absurd (false≢true h)
-    by k true (Some carried) e h = to_any (is_net net) laid.pins carried (from_get laid.pins k carried e).1 h
-
-pub never_wanted : (arch : Arch) (laid : LaidBlock) (net : ℕ) → list_any (is_net net) laid.pins ≡ false → false ≡ (has_on arch laid Input net || has_on arch laid Clock net)
-never_wanted arch laid net none =
-    let input : has_on arch laid Input net ≡ false = false_from_ne_true (has_on arch laid Input net) (λ is. false≢true (sym none ∙ on_some_pin arch laid Input net is)) in
-    let clock : has_on arch laid Clock net ≡ false = false_from_ne_true (has_on arch laid Clock net) (λ is. false≢true (sym none ∙ on_some_pin arch laid Clock net is)) in
-    sym (ap (λ b. b || has_on arch laid Clock net) input ∙ clock)

@@ -10,3 +10,4 @@ pub mod HoldFaults
 pub mod NetOwners
 pub mod Helds
 pub mod Wrongs
+pub mod NetBlocks

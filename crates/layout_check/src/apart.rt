@@ -41,7 +41,10 @@ fn entry_of(nets: &[LaidNet], end: usize, net: u32) -> Option<usize>
         (λ k. (k < end) × (laid : NetValue) × (slice_get nets.now k ≡ Some laid) × (laid.net ≡ net)) }
 {
     for (k, laid) in nets.iter().enumerate() {
-        if k < end && laid.net() == net {
+        if k >= end {
+            return None;
+        }
+        if laid.net() == net {
             return Some(k);
         }
     }

@@ -1,11 +1,9 @@
 //! The blocks that drive a net, and those at which it is wanted.
-ghost use Rattle.std.specs.Prelude.{◌≡◌, ◌++◌, ◌<◌, ℕ, List, OnOk, MatchOption, filter, length, map, slice_get, Some, true, false};
+ghost use Rattle.std.specs.Prelude.{◌≡◌, ◌++◌, ◌<◌, All, Contains, OnOk, MatchOption, Some, length, option_map, slice_get};
 ghost use Rattle.implements.specs.Layouts.{LaidBlock as BlockValue};
-ghost use Rattle.implements.specs.Implements.{drives, wants};
 ghost use Rattle.pathfinder.specs.Terminals.{sink_at, source_at, terminal_number};
+ghost use Rattle.layout_check.specs.NetBlocks.{sinks_at};
 
-use crate::inside::{drives, wants};
-use arch_file::Arch;
 use cluster::Block;
 use grid::Place;
 use layouts::LaidBlock;
@@ -35,10 +33,13 @@ fn source_at(block: Block, place: Place) -> Node
     }
 }
 
-/// The node at which the block on its place drives a net.
-pub(crate) fn source_of(block: &LaidBlock) -> Node
-    ensures { result ≡ source_at block.now.block block.now.place }
+/// The node at which the block with this number drives a net.
+pub(crate) fn source_of(blocks: &[LaidBlock], driver: usize) -> Node
+    requires { driver < length blocks.now }
+    ensures { (block : BlockValue) → slice_get blocks.now driver ≡ Some block →
+        result ≡ source_at block.block block.place }
 {
+    let block = &blocks[driver];
     source_at(block.block(), block.place())
 }
 
@@ -54,47 +55,51 @@ fn sink_at(block: Block, place: Place) -> Node
     }
 }
 
-/// The number of the first block that drives the net.
-pub(crate) fn first_driver(net: u32, blocks: &[LaidBlock]) -> Option<usize>
-    ensures { MatchOption result
-        ((k : ℕ) (block : BlockValue) → slice_get blocks.now k ≡ Some block → drives net block ≡ false)
-        (λ driver. (block : BlockValue) × (slice_get blocks.now driver ≡ Some block) × (drives net block ≡ true)) }
+/// The first of the numbers of the blocks that drive a net.
+pub(crate) fn first_driver(drivers: &[usize]) -> Option<usize>
+    ensures { result ≡ slice_get drivers.now 0 }
 {
-    for (k, block) in blocks.iter().enumerate() {
-        if drives(net, block) {
-            return Some(k);
+    match drivers.get(0) {
+        Some(driver) => Some(*driver),
+        None => None,
+    }
+}
+
+/// The first of the numbers that differs from the driver's.
+pub(crate) fn other_driver(drivers: &[usize], driver: usize) -> Option<usize>
+    ensures { MatchOption result
+        (All (λ k. k ≡ driver) drivers.now)
+        (λ other. Contains drivers.now other × (other ≡ driver → ⊥)) }
+{
+    for other in drivers {
+        if *other != driver {
+            return Some(*other);
         }
     }
     None
 }
 
-/// The number of the first other block that drives the net.
-pub(crate) fn other_driver(net: u32, blocks: &[LaidBlock], driver: usize) -> Option<usize>
-    ensures { MatchOption result
-        ((k : ℕ) (block : BlockValue) → slice_get blocks.now k ≡ Some block → drives net block ≡ true → k ≡ driver)
-        (λ other. (other ≡ driver → ⊥) × (block : BlockValue) × (slice_get blocks.now other ≡ Some block) × (drives net block ≡ true)) }
+/// The node at which the block with this number reads nets, if there is such a block.
+fn sink_of(blocks: &[LaidBlock], number: usize) -> Option<Node>
+    ensures { result ≡ option_map (λ laid. sink_at laid.block laid.place) (slice_get blocks.now number) }
 {
-    for (k, block) in blocks.iter().enumerate() {
-        if k != driver && drives(net, block) {
-            return Some(k);
-        }
+    match blocks.get(number) {
+        Some(block) => Some(sink_at(block.block(), block.place())),
+        None => None,
     }
-    None
 }
 
-/// Adds the sinks of the blocks at which the net is wanted, in the order of the blocks.
+/// Adds the sinks of the blocks with these numbers, in this order.
 pub(crate) fn add_sinks(
-    arch: &Arch,
-    net: u32,
     blocks: &[LaidBlock],
+    readers: &[usize],
     sinks: &mut Vec<Node>,
 ) -> Result<(), AllocError>
-    ensures { OnOk result (sinks.new.items ≡ sinks.old.items
-        ++ map (λ laid. sink_at laid.block laid.place) (filter (wants arch.now net) blocks.now)) }
+    ensures { OnOk result (sinks.new.items ≡ sinks.old.items ++ sinks_at blocks.now readers.now) }
 {
-    for block in blocks {
-        if wants(arch, net, block) {
-            sinks.push(sink_at(block.block(), block.place()))?;
+    for reader in readers {
+        if let Some(sink) = sink_of(blocks, *reader) {
+            sinks.push(sink)?;
         }
     }
     Ok(())

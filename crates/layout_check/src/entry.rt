@@ -1,22 +1,21 @@
 //! Whether the entry of a net between blocks is laid.
-ghost use Rattle.std.specs.Prelude.{◌≡◌, ◌++◌, ◌+◌, ◌<◌, ◌&&◌, ◌==◌, ◌^◌, [], ◌∷◌, ℕ, IfOk, IfNone, OnOk, MatchBool, MatchOption, filter, length, map, not, slice_index, if◌then◌else◌};
-ghost use Rattle.std.specs.List.{enumerate_from};
+ghost use Rattle.std.specs.Prelude.{◌≡◌, ◌++◌, ◌+◌, ◌<◌, ◌==◌, ◌^◌, [], ◌∷◌, ℕ, IfOk, IfNone, OnOk, MatchBool, MatchOption, filter, length, not, slice_index, if◌then◌else◌};
 ghost use Rattle.cluster.specs.Blocks.{is_global};
-ghost use Rattle.implements.specs.Implements.{IsLaid, wants};
+ghost use Rattle.implements.specs.Implements.{IsLaid};
 ghost use Rattle.pathfinder.specs.LegalRoutes.{IsRouted};
-ghost use Rattle.pathfinder.specs.Terminals.{sink_at};
 ghost use Rattle.rr_graph.specs.Graph.{graph_of};
-ghost use Rattle.layout_check.specs.EntryFaults.{AreUsedBy, IsEntryFault, is_on};
+ghost use Rattle.layout_check.specs.EntryFaults.{AreUsedBy, IsEntryFault};
+ghost use Rattle.layout_check.specs.NetBlocks.{AreBlocksOf, sinks_at};
 ghost use Rattle.layout_check.specs.RouteFaults.{IsPathFault};
 ghost use Rattle.layout_check.specs.TreeTests.{AreEmpty, HasRoom};
 
 use crate::drivers::{add_sinks, first_driver, other_driver, source_of};
 use crate::fault::{EntryFault, RouteFault};
-use crate::inside::{is_net, wants};
+use crate::inside::is_net;
+use crate::net_blocks::NetBlocks;
 use crate::paths::check_routed;
 use crate::uses::count_uses;
 use crate::work::{NetNumbers, Work, no_numbers};
-use arch_file::Arch;
 use blif::Circuit;
 use layouts::{LaidBlock, LaidNet, LaidPath, Layout};
 use rr_graph::{Fabric, Node, StripGraph};
@@ -34,27 +33,13 @@ pub(crate) fn is_global(circuit: &Circuit, net: u32) -> bool
     false
 }
 
-/// Whether the block with this number isn't the driver, and the net is wanted there.
-fn is_reader(arch: &Arch, net: u32, driver: usize, number: usize, block: &LaidBlock) -> bool
-    ensures { result ≡ (not (number == driver) && wants arch.now net block.now) }
+/// Adds the numbers of the blocks at which a net is wanted, except for its driver.
+fn add_readers(readers: &[usize], driver: usize, listed: &mut Vec<usize>) -> Result<(), AllocError>
+    ensures { OnOk result (listed.new.items ≡ listed.old.items ++ filter (λ reader. not (reader == driver)) readers.now) }
 {
-    number != driver && wants(arch, net, block)
-}
-
-/// Adds the numbers of the blocks at which the net is wanted, except for its driver.
-fn add_readers(
-    arch: &Arch,
-    net: u32,
-    blocks: &[LaidBlock],
-    driver: usize,
-    readers: &mut Vec<usize>,
-) -> Result<(), AllocError>
-    ensures { OnOk result (readers.new.items ≡ readers.old.items
-        ++ map (λ block. block.0) (filter (λ block. not (block.0 == driver) && wants arch.now net block.1) (enumerate_from 0 blocks.now))) }
-{
-    for (k, block) in blocks.iter().enumerate() {
-        if is_reader(arch, net, driver, k, block) {
-            readers.push(k)?;
+    for reader in readers {
+        if *reader != driver {
+            listed.push(*reader)?;
         }
     }
     Ok(())
@@ -77,20 +62,18 @@ fn same_numbers(numbers: &[u32], others: &[usize]) -> bool
 
 /// Adds the numbers of the blocks that are listed with a net.
 fn add_listed(
-    arch: &Arch,
-    net: u32,
     global: bool,
-    blocks: &[LaidBlock],
+    readers: &[usize],
     driver: usize,
     listed: &mut Vec<usize>,
 ) -> Result<(), AllocError>
     requires { listed.old.items ≡ [] }
-    ensures { OnOk result (listed.new.items ≡ (if global then driver
-        ∷ map (λ block. block.0) (filter (λ block. not (block.0 == driver) && wants arch.now net block.1) (enumerate_from 0 blocks.now)) else [])) }
+    ensures { OnOk result (listed.new.items
+        ≡ (if global then driver ∷ filter (λ reader. not (reader == driver)) readers.now else [])) }
 {
     if global {
         listed.push(driver)?;
-        add_readers(arch, net, blocks, driver, listed)?;
+        add_readers(readers, driver, listed)?;
     }
     Ok(())
 }
@@ -98,36 +81,32 @@ fn add_listed(
 /// Whether these are the blocks that are listed with a net.
 fn is_listed(
     alloc: Global,
-    arch: &Arch,
-    net: u32,
     global: bool,
-    blocks: &[LaidBlock],
+    readers: &[usize],
     driver: usize,
     numbers: &[u32],
 ) -> Result<bool, AllocError>
     ensures { IfOk result (λ is. MatchBool is
-        (numbers.now ≡ (if global then driver ∷ map (λ block. block.0) (filter (λ block. not (block.0 == driver) && wants arch.now net block.1) (enumerate_from 0 blocks.now)) else []))
-        (numbers.now ≡ (if global then driver ∷ map (λ block. block.0) (filter (λ block. not (block.0 == driver) && wants arch.now net block.1) (enumerate_from 0 blocks.now)) else []) → ⊥)) }
+        (numbers.now ≡ (if global then driver ∷ filter (λ reader. not (reader == driver)) readers.now else []))
+        (numbers.now ≡ (if global then driver ∷ filter (λ reader. not (reader == driver)) readers.now else []) → ⊥)) }
 {
     let mut listed = Vec::new(alloc);
-    add_listed(arch, net, global, blocks, driver, &mut listed)?;
+    add_listed(global, readers, driver, &mut listed)?;
     Ok(same_numbers(numbers, listed.as_slice()))
 }
 
 /// The sinks to which a net has to be led; none if it is global.
 fn sinks_of(
     alloc: Global,
-    arch: &Arch,
-    net: u32,
     global: bool,
     blocks: &[LaidBlock],
+    readers: &[usize],
 ) -> Result<Vec<Node>, AllocError>
-    ensures { IfOk result (λ sinks. sinks.items ≡ (if global then []
-        else map (λ laid. sink_at laid.block laid.place) (filter (wants arch.now net) blocks.now))) }
+    ensures { IfOk result (λ sinks. sinks.items ≡ (if global then [] else sinks_at blocks.now readers.now)) }
 {
     let mut sinks = Vec::new(alloc);
     if !global {
-        add_sinks(arch, net, blocks, &mut sinks)?;
+        add_sinks(blocks, readers, &mut sinks)?;
     }
     Ok(sinks)
 }
@@ -198,10 +177,13 @@ pub(crate) fn check_entry(
     graph: &Fabric,
     work: &mut Work,
     layout: &Layout,
+    index: &NetBlocks,
     laid: &LaidNet,
     uses: &mut Vec<u64>,
 ) -> Result<Option<EntryFault>, AllocError>
     requires room { HasRoom work.old (graph_of graph.now).count }
+    requires index { AreBlocksOf graph.now.arch layout.now.blocks layout.now.nets index.now }
+    requires within { laid.now.net < length index.now.drivers }
     requires uses { length uses.old.items ≡ (graph_of graph.now).count }
     requires few { (k : ℕ) → slice_index uses.old.items k + 1 < 2 ^ 64 }
     ensures room { HasRoom work.new (graph_of graph.now).count }
@@ -212,29 +194,23 @@ pub(crate) fn check_entry(
     ensures used { IfOk result (λ fault. IfNone fault
         (AreUsedBy graph.now laid.now.paths uses.old.items uses.new.items)) }
 {
-    let blocks = layout.blocks();
-    let net = laid.net();
-    let Some(driver) = first_driver(net, blocks) else {
+    let net = laid.net() as usize;
+    let drivers = index.drivers.list(net);
+    let Some(driver) = first_driver(drivers) else {
         return Ok(Some(EntryFault::NoDriver));
     };
-    if let Some(other) = other_driver(net, blocks, driver) {
+    if let Some(other) = other_driver(drivers, driver) {
         return Ok(Some(EntryFault::TwoDrivers(driver, other)));
     }
-    let global = is_global(circuit, net);
-    let listed = is_listed(
-        alloc,
-        graph.arch(),
-        net,
-        global,
-        blocks,
-        driver,
-        laid.listed(),
-    )?;
+    let blocks = layout.blocks();
+    let readers = index.readers.list(net);
+    let global = is_global(circuit, laid.net());
+    let listed = is_listed(alloc, global, readers, driver, laid.listed())?;
     if !listed {
         return Ok(Some(EntryFault::Listed(driver)));
     }
-    let sinks = sinks_of(alloc, graph.arch(), net, global, blocks)?;
-    let source = source_of(&blocks[driver]);
+    let sinks = sinks_of(alloc, global, blocks, readers)?;
+    let source = source_of(blocks, driver);
     let found = check_paths(
         alloc,
         graph,

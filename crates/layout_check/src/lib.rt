@@ -16,6 +16,9 @@
 //! found by the net that it drives, in a list of the tables and latches by net, so no BLE is
 //! compared with all tables.
 //!
+//! The blocks are grouped by the nets that they drive and that are wanted at them, in one pass over
+//! their pins and BLEs, so no net is looked for in all blocks.
+//!
 //! A net's paths are tested by the numbers of their nodes, with sets that are cleared at once:
 //! each node has one predecessor, the source leads to each node, one node is an output pin, and the
 //! nodes from which no path leads on are the sinks.
@@ -33,7 +36,9 @@ mod globals;
 mod held;
 mod holding;
 mod inside;
+mod lists;
 mod marks;
+mod net_blocks;
 mod nets;
 mod numbered;
 mod once;

@@ -4,12 +4,14 @@ ghost use Rattle.implements.specs.Implements.{IsLaid};
 ghost use Rattle.implements.specs.Layouts.{LaidNet as NetValue};
 ghost use Rattle.rr_graph.specs.Graph.{graph_of};
 ghost use Rattle.layout_check.specs.EntryFaults.{IsEntryFault};
+ghost use Rattle.layout_check.specs.NetBlocks.{AreBlocksOf};
 ghost use Rattle.layout_check.specs.NetFaults.{AreCarried, AreUses, IsNetFault};
 ghost use Rattle.layout_check.specs.TreeTests.{HasRoom};
 
 use crate::entry::check_entry;
 use crate::fault::{EntryFault, NetFault};
 use crate::marks::zeros;
+use crate::net_blocks::{NetBlocks, blocks_by_net};
 use crate::uses::first_overused;
 use crate::work::{Work, make_work};
 use blif::Circuit;
@@ -24,9 +26,11 @@ fn check_entries(
     graph: &Fabric,
     work: &mut Work,
     layout: &Layout,
+    index: &NetBlocks,
     uses: &mut Vec<u64>,
 ) -> Result<Option<(usize, EntryFault)>, AllocError>
     requires room { HasRoom work.old (graph_of graph.now).count }
+    requires index { AreBlocksOf graph.now.arch layout.now.blocks layout.now.nets index.now }
     requires uses { uses.old.items ≡ replicate (graph_of graph.now).count 0 }
     ensures exact { IfOk result (λ fault. MatchOption fault
         (All (IsLaid circuit.now graph.now.arch graph.now.strip layout.now) layout.now.nets)
@@ -36,7 +40,7 @@ fn check_entries(
     ensures used { IfOk result (λ fault. IfNone fault (AreUses graph.now layout.now.nets uses.new.items)) }
 {
     for (number, laid) in layout.nets().iter().enumerate() {
-        if let Some(fault) = check_entry(alloc, circuit, graph, work, layout, laid, uses)? {
+        if let Some(fault) = check_entry(alloc, circuit, graph, work, layout, index, laid, uses)? {
             return Ok(Some((number, fault)));
         }
     }
@@ -49,10 +53,12 @@ fn check_with(
     circuit: &Circuit,
     graph: &Fabric,
     layout: &Layout,
+    index: &NetBlocks,
     work: &mut Work,
     uses: &mut Vec<u64>,
 ) -> Result<Option<NetFault>, AllocError>
     requires room { HasRoom work.old (graph_of graph.now).count }
+    requires index { AreBlocksOf graph.now.arch layout.now.blocks layout.now.nets index.now }
     requires uses { uses.old.items ≡ replicate (graph_of graph.now).count 0 }
     ensures { IfOk result (λ fault. MatchOption fault
         (All (IsLaid circuit.now graph.now.arch graph.now.strip layout.now) layout.now.nets
@@ -60,13 +66,37 @@ fn check_with(
         (IsNetFault circuit.now graph.now layout.now)) }
 {
     let _count = graph.count();
-    if let Some(found) = check_entries(alloc, circuit, graph, work, layout, uses)? {
+    if let Some(found) = check_entries(alloc, circuit, graph, work, layout, index, uses)? {
         return Ok(Some(NetFault::Entry(found.0, found.1)));
     }
     match first_overused(graph, uses.as_slice()) {
         Some(node) => Ok(Some(NetFault::Overused(graph.node(node)))),
         None => Ok(None),
     }
+}
+
+/// Finds what is wrong with the nets between blocks, with the blocks by net. Takes memory for the
+/// nodes.
+fn check_indexed(
+    alloc: Global,
+    circuit: &Circuit,
+    graph: &Fabric,
+    layout: &Layout,
+    index: &NetBlocks,
+) -> Result<Option<NetFault>, AllocError>
+    requires { AreBlocksOf graph.now.arch layout.now.blocks layout.now.nets index.now }
+    ensures { IfOk result (λ fault. MatchOption fault
+        (All (IsLaid circuit.now graph.now.arch graph.now.strip layout.now) layout.now.nets
+        × AreCarried graph.now layout.now.nets)
+        (IsNetFault circuit.now graph.now layout.now)) }
+{
+    let count = graph.count();
+    let mut uses = zeros(alloc, count)?;
+    let mut work = make_work(alloc, count)?;
+    let found = check_with(alloc, circuit, graph, layout, index, &mut work, &mut uses);
+    drop(work);
+    drop(uses);
+    found
 }
 
 /// Finds what is wrong with the nets between blocks of a layout: an entry that isn't laid, or a
@@ -82,11 +112,8 @@ pub(crate) fn check_nets(
         × AreCarried graph.now layout.now.nets)
         (IsNetFault circuit.now graph.now layout.now)) }
 {
-    let count = graph.count();
-    let mut uses = zeros(alloc, count)?;
-    let mut work = make_work(alloc, count)?;
-    let found = check_with(alloc, circuit, graph, layout, &mut work, &mut uses);
-    drop(work);
-    drop(uses);
+    let index = blocks_by_net(alloc, graph.arch(), layout)?;
+    let found = check_indexed(alloc, circuit, graph, layout, &index);
+    drop(index);
     found
 }

@@ -14,7 +14,7 @@ use layouts::{LaidBlock, LaidNet, Layout};
 use std::alloc::{AllocError, Global};
 
 /// A number above those of all entries' nets.
-fn net_limit(nets: &[LaidNet]) -> usize
+pub(crate) fn net_limit(nets: &[LaidNet]) -> usize
     ensures { (k : ℕ) (laid : NetValue) → slice_get nets.now k ≡ Some laid → laid.net < result }
 {
     let mut limit = 0;

@@ -1,7 +1,6 @@
-use Rattle.std.proofs.Common.{◌≡◌, ◌<◌, ℕ, true, false, Some, slice_get}
-use Rattle.implements.specs.Layouts.{LaidBlock}
-use Rattle.implements.specs.Implements.{drives}
+use Rattle.std.proofs.Common.{◌≡◌, take}
+use Rattle.std.specs.Prelude.{All}
 use Rattle.layout_check.proofs.drivers.other_driver.Given as goal
 
-abbrev pub invariant-loop-k : goal.invariant-loop-k
-invariant-loop-k l = (j : ℕ) (block : LaidBlock) → j < l.k → slice_get l.blocks j ≡ Some block → drives l.net block ≡ true → j ≡ l.driver
+abbrev pub invariant-loop-other : goal.invariant-loop-other
+invariant-loop-other l = All (λ k. k ≡ l.driver) (take l.other-index l.drivers)

@@ -1,4 +1,4 @@
-use Rattle.std.proofs.Common.{◌<◌, ap, arith, sym, subst, ◌∙◌}
+use Rattle.std.proofs.Common.{◌<◌, arith, sym, subst, ◌∙◌}
 use Rattle.std.specs.Prelude.{All}
 use Rattle.pathfinder.specs.LegalRoutes.{path_nodes}
 use Rattle.layout_check.specs.Marks.{IsSetOf}

@@ -1,7 +1,15 @@
-use Rattle.std.proofs.Common.{◌≡◌, ◌<◌, ◌≤◌, List, ap, get_or, length, sym, subst, ◌∙◌}
+use Rattle.std.proofs.Common.{◌≡◌, ◌<◌, ◌≤◌, List, Some, ap, get_or, length, sym, subst, ◌∙◌}
+use Rattle.std.proofs.lemmas.Option.{slice_get-get_or}
 use Rattle.implements.specs.Layouts.{LaidNet}
 use Rattle.layout_check.proofs.Counted.{checked_all, checked_more}
 use Rattle.layout_check.proofs.nets.check_entries.Goals as goal
+
+pub check_entry-requires-clause-within : goal.check_entry-requires-clause-within
+check_entry-requires-clause-within c =
+    let small = subst (λ (nets : List LaidNet). c.loop-number.number < length nets) c.nets-laid-items.ensures c.loop-number-test.true in
+    let item = sym (c.laid-item.is ∙ ap (λ (nets : List LaidNet). get_or nets c.loop-number.number c.laid-item.result) c.nets-laid-items.ensures) in
+    c.requires.index.within c.loop-number.number c.laid-item.result
+    (slice_get-get_or c.args.layout.now.nets c.loop-number.number c.laid-item.result small ∙ ap (λ (laid : LaidNet). Some laid) item)
 
 pub loop-number-preserved : goal.loop-number-preserved
 loop-number-preserved c = (
