@@ -1,6 +1,7 @@
 //! The file of a log.
 ghost use Rattle.std.specs.Prelude.{◌≢◌, IfErr};
 
+use crate::log_lock::LockLog;
 use crate::outcome::Outcome;
 use dialogue::{Fault, FileLog, Log};
 use line_text::{ReadError, Source, StdSource, read_all};
@@ -18,19 +19,18 @@ pub(crate) struct KeptLog<F: Read + Write + OpenFile + Drop> {
     pub log: FileLog<F>,
 }
 
-/// Opens the log at that path, which begins with that line. A last line without its end is cut
-/// off. A new log gets the first line.
+/// Opens the log at that path, which begins with that line, and locks it. A last line without its
+/// end is cut off. A new log gets the first line.
 pub(crate) fn open_log<H: Files + AllocGlobal>(
     rt: &H,
     path: &str,
     first_line: &[u8],
 ) -> Result<KeptLog<H::File>, Outcome>
+where
+    H::File: LockLog,
     ensures { IfErr result (λ outcome. outcome ≢ Outcome.Done) }
 {
-    let (file, length) = match open_file(rt, path) {
-        Ok(opened) => opened,
-        Err(_) => return Err(Outcome::LogUnreadable),
-    };
+    let (file, length) = open_locked(rt, path)?;
     let whole = length_to_keep(rt, path, length, first_line)?;
     if whole < length && file.set_len(whole).is_err() {
         return Err(Outcome::LogUnreadable);
@@ -46,15 +46,29 @@ pub(crate) fn open_log<H: Files + AllocGlobal>(
     }
 }
 
-/// Opens a file for reading and appending, and returns its length too.
-fn open_file<H: Files>(rt: &H, path: &str) -> io::Result<(H::File, u64)> {
-    let file = OpenOptions::new()
+/// Opens a file for reading and appending, locks it, and returns its length too.
+fn open_locked<H: Files>(rt: &H, path: &str) -> Result<(H::File, u64), Outcome>
+where
+    H::File: LockLog,
+    ensures { IfErr result (λ outcome. outcome ≢ Outcome.Done) }
+{
+    let Ok(file) = open_file(rt, path) else {
+        return Err(Outcome::LogUnreadable);
+    };
+    file.lock_log()?;
+    match file.metadata() {
+        Ok(metadata) => Ok((file, metadata.len())),
+        Err(_) => Err(Outcome::LogUnreadable),
+    }
+}
+
+/// Opens a file for reading and appending.
+fn open_file<H: Files>(rt: &H, path: &str) -> io::Result<H::File> {
+    OpenOptions::new()
         .read(true)
         .append(true)
         .create(true)
-        .open(rt, path)?;
-    let length = file.metadata()?.len();
-    Ok((file, length))
+        .open(rt, path)
 }
 
 /// The first bytes of a file.

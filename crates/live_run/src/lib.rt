@@ -4,16 +4,19 @@
 //! - [`serve`] serves the lines of a dialogue as they come, after those of a log if there is one.
 //! - [`run_program`] is the program: it reads its words, serves, and returns the status.
 //!   [`Outcome`] says how a service ended.
+//! - [`LockLog`] keeps a log to one service at a time.
 #![tactic(auto)]
 
 mod beginning;
 mod kept_log;
+mod log_lock;
 mod options;
 mod outcome;
 mod program;
 mod serving;
 
 pub use beginning::first_line;
+pub use log_lock::LockLog;
 pub use options::{CommandLine, Options, read_options};
 pub use outcome::Outcome;
 pub use program::{run_program, run_words};

@@ -26,6 +26,8 @@ pub enum Outcome {
     Stopped(Fault),
     /// The log and the input have 2^64 lines or more.
     TooManyLines,
+    /// Another service uses the log.
+    LogInUse,
     /// Memory ran out for the program's own tables, or for a reply.
     NoMemory,
 }
@@ -42,6 +44,7 @@ impl Outcome {
             Outcome::ArchUnreadable
             | Outcome::ArchRefused(_)
             | Outcome::LogUnreadable
+            | Outcome::LogInUse
             | Outcome::Stopped(_)
             | Outcome::TooManyLines => 1,
         }
@@ -75,6 +78,7 @@ impl fmt::Display for Outcome {
             Outcome::ArchUnreadable => write!(f, "arch: unreadable"),
             Outcome::ArchRefused(fault) => write!(f, "arch: {fault}"),
             Outcome::LogUnreadable => write!(f, "log: unreadable"),
+            Outcome::LogInUse => write!(f, "log: another service uses it"),
             Outcome::LogDiffers => write!(f, "log: its first line names other options"),
             Outcome::Stopped(Fault::Input) => write!(f, "input: failed"),
             Outcome::Stopped(Fault::Log) => write!(f, "log: failed"),

@@ -6,6 +6,7 @@ ghost use Rattle.live_run.specs.Outcomes.{status_of};
 
 use crate::beginning::first_line;
 use crate::kept_log::{KeptLog, open_log};
+use crate::log_lock::LockLog;
 use crate::options::{CommandLine, read_options};
 use crate::outcome::Outcome;
 use crate::serving::serve;
@@ -29,6 +30,8 @@ pub fn run_program<H: Files + Wait + AllocGlobal + Eprint, R: Source + Drop, W: 
     words: io::Result<Vec<String>>,
     connection: &mut Connection<R, W, FileLog<H::File>>,
 ) -> ExitCode
+where
+    H::File: LockLog,
     requires { (⟦<Connection<R, W, FileLog<H::File>> as Dialogue>⟧.view connection.old).has_log
         ≡ false }
     ensures { Exits (⟦<Connection<R, W, FileLog<H::File>> as Dialogue>⟧.view connection.old)
@@ -48,6 +51,8 @@ fn run_called<H: Files + Wait + AllocGlobal + Eprint, R: Source + Drop, W: Sink 
     words: &[String],
     connection: &mut Connection<R, W, FileLog<H::File>>,
 ) -> ExitCode
+where
+    H::File: LockLog,
     requires { (⟦<Connection<R, W, FileLog<H::File>> as Dialogue>⟧.view connection.old).has_log
         ≡ false }
     ensures { Exits (⟦<Connection<R, W, FileLog<H::File>> as Dialogue>⟧.view connection.old)
@@ -68,6 +73,8 @@ pub fn run_words<H: Files + Wait + AllocGlobal, S: AsStr, R: Source + Drop, W: S
     words: &[S],
     connection: &mut Connection<R, W, FileLog<H::File>>,
 ) -> Result<Outcome, Error>
+where
+    H::File: LockLog,
     requires { (⟦<Connection<R, W, FileLog<H::File>> as Dialogue>⟧.view connection.old).has_log
         ≡ false }
     ensures { RunsWords (⟦<Connection<R, W, FileLog<H::File>> as Dialogue>⟧.view connection.old)
@@ -86,6 +93,8 @@ fn run_line<H: Files + Wait + AllocGlobal, R: Source + Drop, W: Sink + Drop>(
     line: &CommandLine<'_>,
     connection: &mut Connection<R, W, FileLog<H::File>>,
 ) -> Outcome
+where
+    H::File: LockLog,
     requires { (⟦<Connection<R, W, FileLog<H::File>> as Dialogue>⟧.view connection.old).has_log
         ≡ false }
     ensures { RunsLine line.now (⟦<Connection<R, W, FileLog<H::File>> as Dialogue>⟧.view connection.old)
@@ -105,6 +114,8 @@ fn run_over<H: Files + Wait + AllocGlobal, R: Source + Drop, W: Sink + Drop>(
     architecture: &[u8],
     connection: &mut Connection<R, W, FileLog<H::File>>,
 ) -> Outcome
+where
+    H::File: LockLog,
     requires { (⟦<Connection<R, W, FileLog<H::File>> as Dialogue>⟧.view connection.old).has_log
         ≡ false }
     ensures { RunsLine line.now (⟦<Connection<R, W, FileLog<H::File>> as Dialogue>⟧.view connection.old)
@@ -132,6 +143,8 @@ fn log_at<H: Files + AllocGlobal>(
     path: &str,
     architecture: &[u8],
 ) -> Result<KeptLog<H::File>, Outcome>
+where
+    H::File: LockLog,
     ensures { IfErr result (λ outcome. outcome ≢ Outcome.Done) }
 {
     match first_line(rt.alloc(), &line.options, architecture) {
