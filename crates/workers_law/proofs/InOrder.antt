@@ -36,7 +36,7 @@ use Rattle.sessions.specs.Steps.{MadeStep, MakesStep, Waits}
 use Rattle.sessions.specs.WholeSession.{IsOthers, Turn, Turns, Item, Meanwhile, written}
 use Rattle.sessions.proofs.StepLemmas.{Run-append}
 use Rattle.workers_law.specs.Waited.{after_command, begins_job, ended, waited_text, waits_for_each}
-use Rattle.workers_law.specs.Workers.{AreReplied, items_in}
+use Rattle.workers_law.specs.Workers.{AreReplied, OwnTurns, items_in}
 use Rattle.workers_law.proofs.Replied.{AreAllReplied, IsReplied, are_replied, first_here}
 use Rattle.workers_law.proofs.Ahead.{NoneAsked, NotAsked, step_none}
 use Rattle.workers_law.proofs.States.{AreAlike, alike-name, ended-rests, status_rests}
@@ -174,11 +174,17 @@ turns_text id (Item Wait calls answer ∷ turns) s t begun old new is replied wa
     (turns_text id turns (step s1 (Asked Status)).0 (after_command (ended t) Status) false is.0 new is.3 replied.1 waits one.agree line.3))
 
 -- the whole session
-pub same_text : (device : Device) (before : List Call) (old new : ServiceState) (id width : ℕ) (turns : List Turn) → Run (empty device) before old → own_events id before ≡ [] → live_width old.histories id ≡ Some width → Turns id old turns new →
+plain : (id : ℕ) (old : ServiceState) (turns : List Turn) (new : ServiceState) → OwnTurns id old turns new → Turns id old turns new
+plain id old [] new is = is
+plain id old (Item line calls answer ∷ turns) new is = (is.0, is.1, is.2, plain id is.0 turns new is.4)
+plain id old (Meanwhile call ∷ turns) new is = (is.0, is.1, is.2, plain id is.0 turns new is.3)
+
+pub same_text : (device : Device) (before : List Call) (old new : ServiceState) (id width : ℕ) (turns : List Turn) → Run (empty device) before old → own_events id before ≡ [] → live_width old.histories id ≡ Some width → OwnTurns id old turns new →
     waits_for_each false (items_in turns) ≡ true → AreReplied id turns → written turns ≡ waited_text (start device.arch (strip_on device width)) (items_in turns)
-same_text device before old new id width turns first nothing live is waits fair =
+same_text device before old new id width turns first nothing live own waits fair =
+    let is : Turns id old turns new = plain id old turns new own in
     let begin : State = start device.arch (strip_on device width) in
     let kept : Kept old = run_keeps (empty device) before old first (IsService-empty device) in
-    let replied : AreAllReplied turns = are_replied id old turns new is kept (first_here device before old id width first nothing live) fair in
+    let replied : AreAllReplied turns = are_replied id old turns new own kept (first_here device before old id width first nothing live) fair in
     let shows : Shows (state_after begin (own_events id before)) (own_exchanges id (calls_in turns)) = shows_after device before (calls_in turns) old new id width first (turns_run id old turns new is) live in
     turns_text id turns begin begin false old new is replied waits (record { alike = refl; rest = λ free. (refl, refl) }) (subst (λ events. Shows (state_after begin events) (own_exchanges id (calls_in turns))) nothing shows)

@@ -37,15 +37,15 @@ use Rattle.sessions.specs.declared.steps.StepOutcome.{StepOutcome}
 use Rattle.sessions.specs.declared.steps.StepOutcome.TheVariants.{Recorded as StepRecorded, Full as StepFull, Gone as StepGone, NoMemory as StepNoMemory, Nothing, Unfit}
 use Rattle.sessions.specs.declared.told.Answer.{Answer}
 use Rattle.sessions.specs.declared.told.Answer.TheVariants.{Served}
-use Rattle.sessions.specs.SessionAnswer.{AsksCommand, EndsWait, GivesNoneBack}
+use Rattle.sessions.specs.SessionAnswer.{AsksCommand, EndsWait, GivesNoneBack, LeavesNone}
 use Rattle.sessions.specs.SessionText.{answer_text}
 use Rattle.sessions.specs.Steps.{EndsSteps, IsOnePut, MadeStep, MakesStep, Waits}
-use Rattle.sessions.specs.WholeSession.{Turn, Turns, Item, Meanwhile}
+use Rattle.sessions.specs.WholeSession.{Turn, Item, Meanwhile}
 use Rattle.sessions.proofs.Counted.{some_and}
 use Rattle.sessions.proofs.EndToEndLemmas.{split}
 use Rattle.session_threads.specs.Told.{IsAtRest}
 use Rattle.workers_law.specs.Waited.{IsReply}
-use Rattle.workers_law.specs.Workers.{AreReplied, GivesNone}
+use Rattle.workers_law.specs.Workers.{AreReplied, OwnTurns}
 use Rattle.workers_law.proofs.Here.{HasHere, IsHere, asked_here, is_out, never_away, never_full, others_here, same_here, steps_here}
 use Rattle.workers_law.proofs.States.{rests_status}
 
@@ -154,6 +154,15 @@ status_ended mid new id more answer kept here none asks reply runs =
     let rest : IsAtRest ok.0.reply = status_replied mid run.0 id ok.0 kept here none served in
     (subst (IsReplied Wait) (sym (asks.2 ∙ ap Served ok.1)) rest, same_here run.0 new id run.2 (asked_here mid id Status ok.0 run.0 served here))
 
+-- a wait gives no job back, unless memory ran out for it
+abbrev GivesNone : SessionLine → List Call → Answer → Type 0
+GivesNone Wait calls answer = (answer ≡ Served (Err NoMemory)) ⊎ GivesNoneBack calls
+GivesNone line calls answer = ⊤
+
+gives_none : (id : ℕ) (calls : List Call) (answer : Answer) (new : ServiceState) → LeavesNone id Wait calls answer new → GivesNone Wait calls answer
+gives_none id calls answer new (inl none) = inl none
+gives_none id calls answer new (inr leaves) = inr leaves.0
+
 out_of_memory : (id : ℕ) (answer : Answer) → answer ≡ Served (Err NoMemory) → IsReply (answer_text answer) → ⊥
 out_of_memory id answer is reply = reply.0 (ap answer_text is)
 
@@ -214,14 +223,14 @@ wait_ended old mid new id steps more calls last answer kept here waits first end
 no_calls : (old mid : ServiceState) (calls : List Call) → calls ≡ [] → Run old calls mid → mid ≡ old
 no_calls old mid calls none runs = let P : List Call → Type 0 = λ cs. Run old cs mid in subst P none runs
 
-pub are_replied : (id : ℕ) (old : ServiceState) (turns : List Turn) (new : ServiceState) → Turns id old turns new → Kept old → IsHere old id → AreReplied id turns → AreAllReplied turns
+pub are_replied : (id : ℕ) (old : ServiceState) (turns : List Turn) (new : ServiceState) → OwnTurns id old turns new → Kept old → IsHere old id → AreReplied id turns → AreAllReplied turns
 are_replied id old [] new is kept here fair = tt
 are_replied id old (Meanwhile call ∷ turns) new is kept here fair =
     are_replied id is.0 turns new is.3 (kept_after old call is.0 is.2 kept) (others_here old call is.0 id is.1 fair.0 is.2 here) fair.1
 are_replied id old (Item Blank calls answer ∷ turns) new is kept here fair =
-    (subst (IsReplied Blank) (sym is.1.1) tt, are_replied id is.0 turns new is.3 (run_keeps old calls is.0 is.2 kept) (same_here old is.0 id (no_calls old is.0 calls is.1.0 is.2) here) fair.2)
+    (subst (IsReplied Blank) (sym is.1.1) tt, are_replied id is.0 turns new is.4 (run_keeps old calls is.0 is.2 kept) (same_here old is.0 id (no_calls old is.0 calls is.1.0 is.2) here) fair.1)
 are_replied id old (Item (Refused refusal) calls answer ∷ turns) new is kept here fair =
-    (subst (IsReplied (Refused refusal)) (sym is.1.1) tt, are_replied id is.0 turns new is.3 (run_keeps old calls is.0 is.2 kept) (same_here old is.0 id (no_calls old is.0 calls is.1.0 is.2) here) fair.2)
+    (subst (IsReplied (Refused refusal)) (sym is.1.1) tt, are_replied id is.0 turns new is.4 (run_keeps old calls is.0 is.2 kept) (same_here old is.0 id (no_calls old is.0 calls is.1.0 is.2) here) fair.1)
 are_replied id old (Item (Command command) calls answer ∷ turns) new is kept here fair =
     let asks : AsksCommand id command calls answer = is.1 in
     let run : Run old (Tenant id command asks.0 ∷ []) is.0 = (let P : List Call → Type 0 = λ cs. Run old cs is.0 in subst P asks.1 is.2) in
@@ -229,10 +238,10 @@ are_replied id old (Item (Command command) calls answer ∷ turns) new is kept h
     let ok = served_ok old run.0 id command asks.0 here its run.1 in
     let served : Happens old (Tenant id command (Ok ok.0)) run.0 = (let P : Result Receipted NotServed → Type 0 = λ s. Happens old (Tenant id command s) run.0 in subst P ok.1 run.1) in
     let later : IsHere is.0 id = same_here run.0 is.0 id run.2 (asked_here old id command ok.0 run.0 served here) in
-    (subst (IsReplied (Command command)) (sym (asks.2 ∙ ap Served ok.1)) tt, are_replied id is.0 turns new is.3 (run_keeps old calls is.0 is.2 kept) later fair.2)
+    (subst (IsReplied (Command command)) (sym (asks.2 ∙ ap Served ok.1)) tt, are_replied id is.0 turns new is.4 (run_keeps old calls is.0 is.2 kept) later fair.1)
 are_replied id old (Item Wait calls answer ∷ turns) new is kept here fair =
     let asks = is.1 in
     let whole : Run old (asks.1 ++ asks.2) is.0 = (let P : List Call → Type 0 = λ cs. Run old cs is.0 in subst P asks.5 is.2) in
     let parts = split old asks.1 asks.2 is.0 whole in
-    let ended = wait_ended old parts.0 is.0 id asks.1 asks.2 calls asks.0 answer kept here asks.3 parts.1 asks.4 parts.2 asks.5 fair.0 fair.1 in
-    (ended.0, are_replied id is.0 turns new is.3 (run_keeps old calls is.0 is.2 kept) ended.1 fair.2)
+    let ended = wait_ended old parts.0 is.0 id asks.1 asks.2 calls asks.0 answer kept here asks.3 parts.1 asks.4 parts.2 asks.5 fair.0 (gives_none id calls answer is.0 is.3) in
+    (ended.0, are_replied id is.0 turns new is.4 (run_keeps old calls is.0 is.2 kept) ended.1 fair.1)

@@ -1,20 +1,16 @@
 -- What a session is answered doesn't depend on the number of workers.
-use Rattle.std.specs.Prelude.{ℕ, ◌≡◌, ◌≢◌, ◌⊎◌, ⊤, List, [], ◌∷◌, All, IfSome, Some, Err, false, true}
+use Rattle.std.specs.Prelude.{ℕ, ◌≡◌, ◌≢◌, ⊤, List, [], ◌∷◌, All, IfSome, Some, false, true}
 use Rattle.tenant_slot.specs.SingleUser.{start}
 use Rattle.service_core.specs.declared.device.Device.{Device}
 use Rattle.service_core.specs.OwnEvents.{own_events}
-use Rattle.service_core.specs.declared.not_served.NotServed.TheVariants.{NoMemory}
-use Rattle.service_core.specs.Run.{Call, Run}
+use Rattle.service_core.specs.Run.{Call, Happens, Run}
 use Rattle.service_core.specs.Run.Call.{Take}
 use Rattle.service_core.specs.Service.{ServiceState, empty, live_width, strip_on}
 use Rattle.sessions.specs.declared.line.SessionLine.{SessionLine}
-use Rattle.sessions.specs.declared.line.SessionLine.TheVariants.{Wait}
-use Rattle.sessions.specs.declared.told.Answer.{Answer}
-use Rattle.sessions.specs.declared.told.Answer.TheVariants.{Served}
 use Rattle.sessions.specs.Items.{items_of}
-use Rattle.sessions.specs.SessionAnswer.{GivesNoneBack}
+use Rattle.sessions.specs.SessionAnswer.{Asks, LeavesNone}
 use Rattle.sessions.specs.SessionText.{answer_text}
-use Rattle.sessions.specs.WholeSession.{Turn, Turns, Item, Meanwhile, written}
+use Rattle.sessions.specs.WholeSession.{Turn, IsOthers, Item, Meanwhile, written}
 use Rattle.session_threads.specs.Told.{told_text}
 use Rattle.script_text.specs.Threaded.{Parts as Script}
 use Rattle.script_threads.specs.declared.answered.Answered.{Answered}
@@ -39,22 +35,23 @@ items_in [] = []
 items_in (Item line calls answer ∷ turns) = line ∷ items_in turns
 items_in (Meanwhile call ∷ turns) = items_in turns
 
--- a wait gives no job back, unless memory ran out for it. On the device's own graph that is so of
--- each wait
-abbrev pub GivesNone : SessionLine → List Call → Answer → Type 0
-GivesNone Wait calls answer = (answer ≡ Served (Err NoMemory)) ⊎ GivesNoneBack calls
-GivesNone line calls answer = ⊤
+-- the turns of a session, of which each wait leaves no step undone, unless memory ran out for it,
+-- as each wait on the device's own graph does
+abbrev pub OwnTurns : ℕ → ServiceState → List Turn → ServiceState → Type 0
+OwnTurns id old [] new = new ≡ old
+OwnTurns id old (Item line calls answer ∷ turns) new = (mid : ServiceState) × Asks id line calls answer × Run old calls mid × LeavesNone id line calls answer mid × OwnTurns id mid turns new
+OwnTurns id old (Meanwhile call ∷ turns) new = (mid : ServiceState) × IsOthers id call × Happens old call mid × OwnTurns id mid turns new
 
 -- a call takes no job of that tenancy
 abbrev pub TakesNone : ℕ → Call → Type 0
 TakesNone id (Take t job) = t ≢ id
 TakesNone id call = ⊤
 
--- no answer says that memory ran out or that the journal is full, no wait gives a job back, and
--- nobody else takes a job of the tenancy
+-- no answer says that memory ran out or that the journal is full, and nobody else takes a job of
+-- the tenancy
 abbrev pub AreReplied : ℕ → List Turn → Type 0
 AreReplied id [] = ⊤
-AreReplied id (Item line calls answer ∷ turns) = IsReply (answer_text answer) × GivesNone line calls answer × AreReplied id turns
+AreReplied id (Item line calls answer ∷ turns) = IsReply (answer_text answer) × AreReplied id turns
 AreReplied id (Meanwhile call ∷ turns) = TakesNone id call × AreReplied id turns
 
 -- Without workers it is the same function: whatever others do meanwhile, if they don't ask in the
@@ -62,5 +59,5 @@ AreReplied id (Meanwhile call ∷ turns) = TakesNone id call × AreReplied id tu
 -- session.
 abbrev pub HasSameText : Type 0
 HasSameText = (device : Device) (before : List Call) (old new : ServiceState) (id width : ℕ) (turns : List Turn) →
-    Run (empty device) before old → own_events id before ≡ [] → live_width old.histories id ≡ Some width → Turns id old turns new → waits_for_each false (items_in turns) ≡ true → AreReplied id turns →
+    Run (empty device) before old → own_events id before ≡ [] → live_width old.histories id ≡ Some width → OwnTurns id old turns new → waits_for_each false (items_in turns) ≡ true → AreReplied id turns →
     written turns ≡ waited_text (start device.arch (strip_on device width)) (items_in turns)
