@@ -1,2 +1,3 @@
 pub mod OwnersBack
 pub mod ReadBack
+pub mod Shown
