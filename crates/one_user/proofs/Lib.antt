@@ -6,3 +6,11 @@ mod Routings
 mod Courses
 mod Upward
 mod Coolings
+mod Crowdings
+mod SameNets
+mod LastResults
+mod Tries
+mod Told
+mod LastPass
+mod Placings
+mod Bases

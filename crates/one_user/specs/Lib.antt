@@ -6,3 +6,6 @@ pub mod Counting
 pub mod Steps
 pub mod Service
 pub mod Tracks
+pub mod Placing
+pub mod RoutingEnds
+pub mod Crowding

@@ -3,15 +3,25 @@ use Rattle.std.specs.Prelude.{ℕ, ◌≡◌, ◌+◌, ◌<◌, ◌≤◌, List,
 use Rattle.arch_file.specs.Arch.{IsWithin, arch_of}
 use Rattle.arch_file.specs.declared.arch.Arch.{Arch}
 use Rattle.arch_file.specs.declared.fault.ArchFault.{ArchFault}
+use Rattle.blif.specs.declared.circuit.Circuit.{Circuit}
+use Rattle.grid.specs.declared.place.Place.{Place}
+use Rattle.job_state.specs.JobValue.{pass_count, placing_at}
+use Rattle.strip_place.specs.Anneal.{places_by_block}
 use Rattle.strips.specs.Windows.{device_strip}
+use Rattle.one_user.specs.Crowding.{IsCrowdingOf}
 use Rattle.one_user.specs.Figures.{HasFigures}
-use Rattle.one_user.specs.Outcomes.{Task, outcome_of}
+use Rattle.one_user.specs.Outcomes.{Task, outcome_of, placing_of}
+use Rattle.one_user.specs.Placing.{IsPlacing}
+use Rattle.one_user.specs.declared.crowding.Crowding.{Crowding}
+use Rattle.one_user.specs.declared.placing.PlacedNetlist.{PlacedNetlist}
 use Rattle.one_user.specs.declared.device.Request.{Request}
 use Rattle.one_user.specs.declared.figures.Figures.{Figures}
 use Rattle.one_user.specs.declared.least.DevicePlan.{DevicePlan}
 use Rattle.one_user.specs.declared.least.Least.{Least}
 use Rattle.one_user.specs.declared.least.Least.TheVariants.{Routed, Refused, Unrouted}
 use Rattle.one_user.specs.declared.least.TheConstants.{MAX_TRACKS}
+use Rattle.one_user.specs.declared.least.Try.{Try}
+use Rattle.one_user.specs.declared.least.Try.TheVariants as tried
 use Rattle.one_user.specs.declared.outcome.Outcome.{Outcome}
 use Rattle.one_user.specs.declared.outcome.Outcome.TheVariants as outcome
 
@@ -64,3 +74,26 @@ abbrev pub IsLeast : DevicePlan → Request → Least → Type 0
 IsLeast plan request (Routed tracks run) = (1 ≤ tracks) × (tracks ≤ MAX_TRACKS) × ComesTo plan request tracks run.outcome × WasRouted run.outcome × AreUnroutedBelow plan request tracks
 IsLeast plan request (Refused run) = (tracks : ℕ) × (1 ≤ tracks) × (tracks ≤ MAX_TRACKS) × ComesTo plan request tracks run.outcome × WasRefused run.outcome × AreUnroutedBelow plan request tracks
 IsLeast plan request Unrouted = AreUnroutedBelow plan request (MAX_TRACKS + 1)
+
+-- with that number of tracks it is left unrouted
+abbrev pub StaysUnrouted : DevicePlan → Request → ℕ → Type 0
+StaysUnrouted plan request tracks = (told : Outcome) × ComesTo plan request tracks told × WasUnrouted told
+
+-- with that number of tracks, this is told of the routing's overused nodes
+abbrev pub IsCrowdingWith : DevicePlan → Request → ℕ → Option Crowding → Type 0
+IsCrowdingWith plan request tracks crowding = (arch : Arch) × (arch_of plan.text.now tracks ≡ Ok arch) × IsCrowdingOf (task_for plan arch request) crowding
+
+-- Private: the netlist is packed and placed for one of the numbers of tracks
+abbrev pub IsPlacedWith : DevicePlan → Request → PlacedNetlist → Type 0
+IsPlacedWith plan request placed = (tracks : ℕ) × (arch : Arch) × (arch_of plan.text.now tracks ≡ Ok arch) × IsPlacing (task_for plan arch request) placed
+
+-- Private: the result of a try with that number of tracks
+abbrev pub IsTry : DevicePlan → Request → ℕ → Try → Type 0
+IsTry plan request tracks tried.Unrouted = StaysUnrouted plan request tracks
+IsTry plan request tracks (tried.Routed run) = ComesTo plan request tracks run.outcome × WasRouted run.outcome
+IsTry plan request tracks (tried.Refused run) = ComesTo plan request tracks run.outcome × WasRefused run.outcome
+
+-- the places of a circuit's blocks, on a device of that architecture
+abbrev pub places_for : DevicePlan → Arch → Request → Circuit → List Place
+places_for plan arch request circuit =
+    places_by_block (placing_at (placing_of (task_for plan arch request)) circuit (pass_count (task_for plan arch request).strip))

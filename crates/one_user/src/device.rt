@@ -4,15 +4,28 @@ ghost use Rattle.arch_file.specs.Arch.{IsArch};
 ghost use Rattle.grid.specs.Sizes.{IsStripSize};
 ghost use Rattle.strips.specs.Windows.{device_strip};
 ghost use Rattle.one_user.specs.Figures.{HasFigures};
-ghost use Rattle.one_user.specs.Outcomes.{outcome_of, task_on};
+ghost use Rattle.one_user.specs.Outcomes.{Task, outcome_of, task_on};
 ghost use Rattle.one_user.specs.Counting.{IsCounted};
+ghost use Rattle.block_places.specs.Placed.{ArePlaced};
+ghost use Rattle.pathfinder.specs.Negotiation.{GaveUp};
+ghost use Rattle.pathfinder.specs.Overuse.{count_over, overuse_at};
+ghost use Rattle.pathfinder.specs.PlacedNets.{nets_to_route, wiring_of};
+ghost use Rattle.pathfinder.specs.Routings.{IsAfter};
+ghost use Rattle.rr_graph.specs.Graph.{graph_of};
+ghost use Rattle.one_user.specs.Crowding.{AreTold, IsCrowdingOf};
+ghost use Rattle.one_user.specs.Placing.{IsPlacing, IsPlacingOf};
+ghost use Rattle.one_user.specs.RoutingEnds.{IsRoutingEnd};
 
 use crate::counts::{Counted, count};
+use crate::crowding::{Crowding, crowded_nodes};
 use crate::outcome::Run;
+use crate::placing::{PlacedNetlist, place_netlist};
+use crate::routing_end::routing_end;
 use crate::stages::upload;
 use arch_file::{Arch, SharedArch};
 use grid::Strip;
 use line_text::Sink;
+use pathfinder::{IterEnd, Routing};
 use std::alloc::{AllocError, Global};
 use std::marker::Model;
 use strips::{DeviceGraph, Window};
@@ -121,5 +134,93 @@ impl OwnDevice {
         let counted = count(&mut slot, &window, request, teller);
         drop(slot);
         counted
+    }
+
+    /// Packs and places a netlist. `None` if it is refused. Fails with [`AllocError`] if memory
+    /// runs out.
+    pub(crate) fn place(&self, request: Request<'_>) -> Result<Option<PlacedNetlist>, AllocError>
+        requires { request.effort ≤ 100 }
+        ensures { IfOk result (IsPlacingOf
+            (task_on self.now request.entry.netlist.now request.entry.seed request.entry.effort)) }
+    {
+        place_netlist(self.alloc, &self.arch, self.strip, request)
+    }
+
+    /// Routes placed blocks. They may be packed for another number of tracks.
+    pub(crate) fn route(&self, placed: &PlacedNetlist) -> Result<IterEnd, AllocError>
+        requires { ArePlaced self.now.strip placed.now.packed placed.now.places.items }
+        ensures { IfOk result (IsRoutingEnd self.now
+            (nets_to_route self.now placed.now.packed placed.now.places.items)) }
+    {
+        let Some(window) = Window::new(&self.graph, 0, self.strip) else {
+            unreachable!()
+        };
+        let packed = placed.packed.packed();
+        routing_end(self.alloc, &window, packed, placed.places.as_slice())
+    }
+
+    /// Returns where the routing of a netlist is overused after its last iteration, and by which
+    /// nets. `None` if the routing is not given up. It packs, places and routes the netlist, and
+    /// writes no line. Fails with [`AllocError`] if memory runs out.
+    pub fn crowding(&self, request: Request<'_>) -> Result<Option<Crowding>, AllocError>
+        requires { request.effort ≤ 100 }
+        ensures { IfOk result (IsCrowdingOf
+            (task_on self.now request.entry.netlist.now request.entry.seed request.entry.effort)) }
+    {
+        let Some(placed) = self.place(request)? else {
+            return Ok(None);
+        };
+        let crowding = self.crowding_of(&placed);
+        drop(placed);
+        crowding
+    }
+
+    /// Where the routing of placed blocks is overused. `None` if it is not given up.
+    fn crowding_of(&self, placed: &PlacedNetlist) -> Result<Option<Crowding>, AllocError>
+        requires { (task : Task) × (self.now ≡ record { arch = task.arch; strip = task.strip })
+            × IsPlacing task placed.now }
+        ensures { (task : Task) → self.now ≡ record { arch = task.arch; strip = task.strip } →
+            IsPlacing task placed.now → IfOk result (IsCrowdingOf task) }
+    {
+        match self.route(placed)? {
+            IterEnd::GaveUp(routing) => {
+                let crowding = self.crowding_by(placed, &routing);
+                drop(routing);
+                Ok(Some(crowding?))
+            }
+            end => {
+                drop(end);
+                Ok(None)
+            }
+        }
+    }
+
+    /// Where a routing of placed blocks that was given up is overused.
+    fn crowding_by(&self, placed: &PlacedNetlist, routing: &Routing) -> Result<Crowding, AllocError>
+        requires { IsAfter (wiring_of self.now) routing.now GaveUp }
+        ensures packed { IfOk result (λ crowding. crowding.packed ≡ placed.now.packed) }
+        ensures rows { IfOk result (λ crowding. crowding.rows ≡ self.now.strip.rows) }
+        ensures overused { IfOk result (λ crowding. crowding.overused
+            ≡ count_over (overuse_at (wiring_of self.now) routing.now.trees)
+            (graph_of self.now).count) }
+        ensures nodes { IfOk result (λ crowding.
+            AreTold self.now routing.now.trees 10 crowding.nodes.items) }
+    {
+        let Some(window) = Window::new(&self.graph, 0, self.strip) else {
+            unreachable!()
+        };
+        let (overused, nodes) = crowded_nodes(self.alloc, &window, routing)?;
+        match placed.packed.clone() {
+            Ok(packed) => Ok(Crowding {
+                packed,
+                rows: self.strip.rows,
+                overused,
+                nodes,
+            }),
+            Err(error) => {
+                drop(nodes);
+                Err(error)
+            }
+        }
     }
 }

@@ -1,5 +1,11 @@
 //! How the files relate to the service.
-ghost use Rattle.std.specs.Prelude.{◌≡◌};
+ghost use Rattle.std.specs.Prelude.{◌≡◌, ℕ, Ok};
+ghost use Rattle.arch_file.specs.Arch.{arch_of};
+ghost use Rattle.arch_file.specs.declared.arch.Arch.{Arch};
+ghost use Rattle.blif.specs.declared.circuit.Circuit.{Circuit};
+ghost use Rattle.one_user.specs.declared.device.Request.{Request};
+ghost use Rattle.one_user.specs.declared.least.DevicePlan.{DevicePlan};
+ghost use Rattle.one_user.specs.Tracks.{places_for};
 ghost use Rattle.tenant_slot.specs.SingleUser.{State};
 ghost use Rattle.one_user.specs.declared.outcome.Files.{Files};
 ghost use Rattle.one_user.specs.declared.outcome.Outcome.TheVariants.{Routed};
@@ -10,4 +16,12 @@ ghost use Rattle.one_user.specs.Service.{AreTold, HasRouted};
 pub fn same_files()
     ensures { (task : Task) (files : Files) (state : State) → outcome_of task ≡ Routed files →
         HasRouted task state → AreTold files state }
+{}
+
+/// The blocks of a netlist have the same places with each number of tracks.
+pub fn places_for_all_tracks()
+    ensures { (plan : DevicePlan) (request : Request) (tracks others : ℕ) (arch other : Arch)
+        (circuit : Circuit) → arch_of plan.text.now tracks ≡ Ok arch →
+        arch_of plan.text.now others ≡ Ok other →
+        places_for plan other request circuit ≡ places_for plan arch request circuit }
 {}

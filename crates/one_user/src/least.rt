@@ -1,13 +1,17 @@
 //! The least number of tracks with which a netlist is routed.
-ghost use Rattle.std.specs.Prelude.{◌≡◌, ℕ, IfErr, IfOk, IfSome};
+ghost use Rattle.std.specs.Prelude.{◌≡◌, ◌↔◌, ℕ, true, IfErr, IfOk, IfSome, IsTrue};
 ghost use Rattle.arch_file.specs.Arch.{IsWithin, arch_of};
 ghost use Rattle.line_text.specs.TextErrors.{Fails};
-ghost use Rattle.one_user.specs.Tracks.{ComesTo, HasFiguresWith, IsLawful, IsLeast, fault_of};
+ghost use Rattle.one_user.specs.RoutingEnds.{IsRoutes};
+ghost use Rattle.one_user.specs.Tracks.{ComesTo, HasFiguresWith, IsCrowdingWith, IsLawful, IsLeast, IsPlacedWith, IsTry, StaysUnrouted, fault_of};
 
+use crate::crowding::Crowding;
 use crate::device::{OwnDevice, Request};
 use crate::outcome::{Outcome, Run};
+use crate::placing::PlacedNetlist;
 use arch_file::{ArchError, read_arch};
 use line_text::{Failed, Sink};
+use pathfinder::IterEnd;
 use std::alloc::Global;
 use text_parts::{Part, write_parts};
 
@@ -37,9 +41,11 @@ pub struct DevicePlan<'a> {
     pub rows: u32,
 }
 
-/// Runs a netlist with 1 track, then with 2, and so on, until it is routed or refused. Writes one
-/// line for each try to `tries`, and one for each step to `steps`; a line that can't be written is
-/// skipped. Fails if the architecture has a fault or memory runs out.
+/// Routes a netlist with 1 track, then with 2, and so on, until it is routed or refused. The netlist
+/// is packed and placed once for all tries, since neither depends on the tracks, and once more for
+/// the run that is returned. Writes one line for each try to `tries`, and one for each step of that
+/// run to `steps`; a line that can't be written is skipped. Fails if the architecture has a fault or
+/// memory runs out.
 pub fn least_tracks<T: Sink, S: Sink>(
     alloc: Global,
     plan: DevicePlan<'_>,
@@ -52,16 +58,135 @@ pub fn least_tracks<T: Sink, S: Sink>(
     ensures fault { IfErr result (λ error. (tracks : ℕ)
         × Fails (fault_of (arch_of plan.entry.text.now tracks)) error) }
 {
+    let placed = place_with(alloc, plan, request)?;
+    let least = least_for(alloc, plan, request, &placed, tries, steps);
+    drop(placed);
+    least
+}
+
+/// Tries one number of tracks after another.
+fn least_for<T: Sink, S: Sink>(
+    alloc: Global,
+    plan: DevicePlan<'_>,
+    request: Request<'_>,
+    placed: &Option<PlacedNetlist>,
+    tries: &mut T,
+    steps: &mut S,
+) -> Result<Least, ArchError>
+    requires lawful { IsLawful plan request }
+    requires placed { IfSome placed.now (IsPlacedWith plan request) }
+    ensures least { IfOk result (IsLeast plan.entry request.entry) }
+    ensures fault { IfErr result (λ error. (tracks : ℕ)
+        × Fails (fault_of (arch_of plan.entry.text.now tracks)) error) }
+{
     for tracks in 1..MAX_TRACKS + 1 {
-        let run = run_with(alloc, plan, tracks, request, steps)?;
-        let _told = tell_try(tries, tracks, word_for(&run.outcome));
-        match run.outcome {
-            Outcome::Unrouted(_) => drop(run),
-            Outcome::Routed(_) => return Ok(Least::Routed { tracks, run }),
-            Outcome::Refused(_) => return Ok(Least::Refused(run)),
+        match try_with(alloc, plan, tracks, request, placed, steps)? {
+            Try::Unrouted => {
+                let _told = tell_try(tries, tracks, "left without routes");
+            }
+            Try::Routed(run) => {
+                let _told = tell_try(tries, tracks, "routed");
+                return Ok(Least::Routed { tracks, run });
+            }
+            Try::Refused(run) => {
+                let _told = tell_try(tries, tracks, "refused");
+                return Ok(Least::Refused(run));
+            }
         }
     }
     Ok(Least::Unrouted)
+}
+
+/// The result of a try with a number of tracks.
+#[derive(Drop)]
+enum Try {
+    /// The netlist is left without routes.
+    Unrouted,
+    Routed(Run),
+    Refused(Run),
+}
+
+/// Tries a number of tracks. A placed netlist is run only if it is routed with that number.
+fn try_with<S: Sink>(
+    alloc: Global,
+    plan: DevicePlan<'_>,
+    tracks: u32,
+    request: Request<'_>,
+    placed: &Option<PlacedNetlist>,
+    steps: &mut S,
+) -> Result<Try, ArchError>
+    requires lawful { IsLawful plan request }
+    requires tracks { IsWithin 1 tracks 64 }
+    requires placed { IfSome placed.now (IsPlacedWith plan request) }
+    ensures tried { IfOk result (IsTry plan.entry request.entry tracks) }
+    ensures fault { IfErr result (Fails (fault_of (arch_of plan.entry.text.now tracks))) }
+{
+    if stays_unrouted(alloc, plan, tracks, request, placed)? {
+        return Ok(Try::Unrouted);
+    }
+    let run = run_with(alloc, plan, tracks, request, steps)?;
+    match run.outcome {
+        Outcome::Unrouted(_) => {
+            drop(run);
+            Ok(Try::Unrouted)
+        }
+        Outcome::Routed(_) => Ok(Try::Routed(run)),
+        Outcome::Refused(_) => Ok(Try::Refused(run)),
+    }
+}
+
+/// Packs and places a netlist for all numbers of tracks. `None` if it is refused.
+fn place_with(
+    alloc: Global,
+    plan: DevicePlan<'_>,
+    request: Request<'_>,
+) -> Result<Option<PlacedNetlist>, ArchError>
+    requires { IsLawful plan request }
+    ensures placed { IfOk result (λ placed.
+        IfSome placed (IsPlacedWith plan.entry request.entry)) }
+    ensures fault { IfErr result (Fails (fault_of (arch_of plan.entry.text.now 1))) }
+{
+    let arch = read_arch(alloc, plan.text, 1)?;
+    let device = OwnDevice::new(alloc, arch, plan.columns, plan.rows)?;
+    let placed = device.place(request);
+    drop(device);
+    Ok(placed?)
+}
+
+/// Returns whether a placed netlist is left without routes with that number of tracks. `false` also
+/// if the netlist isn't placed.
+fn stays_unrouted(
+    alloc: Global,
+    plan: DevicePlan<'_>,
+    tracks: u32,
+    request: Request<'_>,
+    placed: &Option<PlacedNetlist>,
+) -> Result<bool, ArchError>
+    requires lawful { IsLawful plan request }
+    requires tracks { IsWithin 1 tracks 64 }
+    requires placed { IfSome placed.now (IsPlacedWith plan request) }
+    ensures unrouted { IfOk result (λ unrouted. unrouted ≡ true →
+        StaysUnrouted plan.entry request.entry tracks) }
+    ensures fault { IfErr result (Fails (fault_of (arch_of plan.entry.text.now tracks))) }
+{
+    let Some(placed) = placed else {
+        return Ok(false);
+    };
+    let arch = read_arch(alloc, plan.text, tracks)?;
+    let device = OwnDevice::new(alloc, arch, plan.columns, plan.rows)?;
+    let end = device.route(placed);
+    drop(device);
+    let end = end?;
+    let unrouted = is_unrouted(&end);
+    drop(end);
+    Ok(unrouted)
+}
+
+/// Returns whether a routing ended without routes.
+fn is_unrouted(end: &IterEnd) -> bool
+    ensures { IsTrue result ↔ (IsRoutes end.now → ⊥) }
+{
+    !matches!(end, IterEnd::Done(_))
 }
 
 /// Writes the line of a try with a number of tracks, with its end.
@@ -76,15 +201,6 @@ fn tell_try<W: Sink>(sink: &mut W, tracks: u32, end: &str) -> Result<(), Failed>
             Part::Text("\n"),
         ],
     )
-}
-
-/// The end of a try in a word or two.
-fn word_for(outcome: &Outcome) -> &'static str {
-    match outcome {
-        Outcome::Routed(_) => "routed",
-        Outcome::Unrouted(_) => "left without routes",
-        Outcome::Refused(_) => "refused",
-    }
 }
 
 /// Runs a netlist with that number of tracks. Fails if the architecture has a fault or memory runs
@@ -108,4 +224,25 @@ pub fn run_with<W: Sink>(
     let run = device.run(request, teller);
     drop(device);
     Ok(run?)
+}
+
+/// Returns where the routing of a netlist with that number of tracks is overused after its last
+/// iteration, and by which nets; `None` if the routing is not given up. It packs, places and routes
+/// the netlist. Fails if the architecture has a fault or memory runs out.
+pub fn crowding_with(
+    alloc: Global,
+    plan: DevicePlan<'_>,
+    tracks: u32,
+    request: Request<'_>,
+) -> Result<Option<Crowding>, ArchError>
+    requires lawful { IsLawful plan request }
+    requires tracks { IsWithin 1 tracks 64 }
+    ensures crowding { IfOk result (IsCrowdingWith plan.entry request.entry tracks) }
+    ensures fault { IfErr result (Fails (fault_of (arch_of plan.entry.text.now tracks))) }
+{
+    let arch = read_arch(alloc, plan.text, tracks)?;
+    let device = OwnDevice::new(alloc, arch, plan.columns, plan.rows)?;
+    let crowding = device.crowding(request);
+    drop(device);
+    Ok(crowding?)
 }

@@ -7,6 +7,9 @@
 //! - [`Figures`] are what the routed circuit uses of the device; [`write_figures`] writes them.
 //! - [`OwnDevice::count`] packs a netlist and counts its blocks; [`least_side`] and
 //!   [`least_columns`] return the least device that has room for them.
+//! - [`OwnDevice::crowding`] and [`crowding_with`] return where a routing that was given up is
+//!   overused: a [`Crowding`] with the most overused nodes and the nets on them; [`write_crowding`] writes
+//!   it.
 //! - [`least_tracks`] finds the least number of tracks with which a netlist is routed. It searches
 //!   upward, since a circuit that is routed with some number of tracks may be left unrouted with a
 //!   larger one.
@@ -17,21 +20,27 @@
 #![tactic(auto)]
 
 mod counts;
+mod crowding;
+mod crowding_text;
 mod device;
 mod figures;
 mod law;
 mod least;
 mod outcome;
 mod passes;
+mod placing;
+mod routing_end;
 mod stages;
 mod steps;
 mod table;
 mod telling;
 
 pub use counts::{Counted, least_columns, least_side};
+pub use crowding::{CrowdedNode, Crowding};
+pub use crowding_text::write_crowding;
 pub use device::{OwnDevice, Request};
 pub use figures::{Figures, PackedCounts};
-pub use law::same_files;
-pub use least::{DevicePlan, Least, MAX_TRACKS, least_tracks, run_with};
+pub use law::{places_for_all_tracks, same_files};
+pub use least::{DevicePlan, Least, MAX_TRACKS, crowding_with, least_tracks, run_with};
 pub use outcome::{Files, Outcome, Run, Unrouted};
 pub use table::write_figures;

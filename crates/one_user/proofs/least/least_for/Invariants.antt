@@ -1,6 +1,6 @@
 use Rattle.std.proofs.Common.{◌≤◌}
 use Rattle.one_user.specs.Tracks.{AreUnroutedBelow}
-use Rattle.one_user.proofs.least.least_tracks.Given as goal
+use Rattle.one_user.proofs.least.least_for.Given as goal
 
 abbrev pub invariant-loop-tracks : goal.invariant-loop-tracks
 invariant-loop-tracks g l = record {

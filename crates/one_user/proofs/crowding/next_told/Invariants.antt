@@ -1,0 +1,10 @@
+use Rattle.std.proofs.Common.{◌<◌}
+use Rattle.std.specs.Prelude.{IfSome}
+use Rattle.one_user.specs.Crowding.{IsNextTold, over_of}
+use Rattle.one_user.proofs.crowding.next_told.Given as goal
+
+abbrev pub invariant-loop-node : goal.invariant-loop-node
+invariant-loop-node l = record {
+  is_next : IsNextTold (over_of l.overs) l.node l.last l.next;
+  within : IfSome l.next (λ next. next < l.node);
+}

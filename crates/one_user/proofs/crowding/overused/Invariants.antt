@@ -1,0 +1,10 @@
+use Rattle.std.proofs.Common.{◌≡◌, ◌≤◌}
+use Rattle.pathfinder.specs.Overuse.{count_over}
+use Rattle.one_user.specs.Crowding.{over_of}
+use Rattle.one_user.proofs.crowding.overused.Given as goal
+
+abbrev pub invariant-loop-node : goal.invariant-loop-node
+invariant-loop-node l = record {
+  is : l.nodes ≡ count_over (over_of l.overs) l.node;
+  small : l.nodes ≤ l.node;
+}

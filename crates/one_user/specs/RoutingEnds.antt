@@ -1,0 +1,32 @@
+-- How the routing of placed blocks ends.
+use Rattle.std.specs.Prelude.{◌≡◌, List}
+use Rattle.rr_graph.specs.Graph.{Basis}
+use Rattle.pathfinder.specs.Ends.{IsEnd}
+use Rattle.pathfinder.specs.Negotiation.{More}
+use Rattle.pathfinder.specs.PlacedNets.{wiring_of}
+use Rattle.pathfinder.specs.Routings.{IsAfter, RoutingState}
+use Rattle.pathfinder.specs.Wiring.{Net}
+use Rattle.pathfinder.specs.declared.routing.IterEnd.{IterEnd}
+use Rattle.pathfinder.specs.declared.routing.IterEnd.TheVariants.{Again, Done, GaveUp, NoPath}
+
+-- no iteration follows
+abbrev pub IsOver : IterEnd → Type 0
+IsOver (Again routing) = ⊥
+IsOver (Done routes) = Unit {0}
+IsOver (GaveUp routing) = Unit {0}
+IsOver (NoPath net) = Unit {0}
+
+-- it ended with routes
+abbrev pub IsRoutes : IterEnd → Type 0
+IsRoutes (Again routing) = ⊥
+IsRoutes (Done routes) = Unit {0}
+IsRoutes (GaveUp routing) = ⊥
+IsRoutes (NoPath net) = ⊥
+
+-- the result of the last iteration of a routing of these nets
+pub record IsRoutingEnd (basis : Basis) (nets : List Net) (end : IterEnd) : Type 0 where
+  pub before : RoutingState
+  pub nets_kept : before.nets ≡ nets
+  pub going : IsAfter (wiring_of basis) before More
+  pub is_end : IsEnd basis before end
+  pub over : IsOver end
