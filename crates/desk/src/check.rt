@@ -54,7 +54,7 @@ fn check<E: Sink>(
     teller: &mut E,
 ) -> Result<(), Outcome> {
     let texts = texts_of(paths, texts)?;
-    match laid_circuit(alloc, paths, &texts, teller) {
+    match laid_circuit(alloc, paths.arch, &texts, teller) {
         Ok(laid) => {
             drop(laid);
             Ok(())

@@ -62,7 +62,7 @@ fn print_checked<W: Sink, E: Sink>(
         return Err(Outcome::NoMemory);
     };
     let layout_texts = texts_of(paths, texts)?;
-    match laid_circuit(alloc, paths, &layout_texts, teller) {
+    match laid_circuit(alloc, paths.arch, &layout_texts, teller) {
         Ok(laid) => {
             let printed = print_laid(alloc, netlist.as_slice(), &laid, writer);
             drop(laid);

@@ -64,7 +64,7 @@ fn with_options<'a>(
     for word in text.split_ascii_whitespace() {
         if word.starts_with("--") {
             name = word;
-        } else if takes(tool, name.as_bytes()) && !has(&all, name) {
+        } else if takes(tool, name.as_bytes()) && !has_either(&all, name) {
             all.push(name)?;
             all.push(word)?;
         }
@@ -77,7 +77,7 @@ fn takes(tool: &str, option: &[u8]) -> bool {
     let routes = tool == "route" || tool == "check" || tool == "configure" || tool == "log";
     let shows = tool == "picture" || tool == "report";
     if option == b"--arch".as_slice() {
-        return routes || tool == "files" || tool == "page";
+        return routes || tool == "files" || tool == "page" || tool == "strip";
     }
     if option == b"--rows".as_slice() {
         return routes || shows;
@@ -87,6 +87,23 @@ fn takes(tool: &str, option: &[u8]) -> bool {
         return true;
     }
     has_number && (routes || shows || tool == "page")
+}
+
+/// Returns whether the option is among the words, or the one that asks for its least value.
+fn has_either(words: &[&str], option: &str) -> bool {
+    has(words, option) || has(words, least_of(option))
+}
+
+/// The option that asks for the least value of this one, or the option itself if there is none.
+fn least_of(option: &str) -> &str {
+    let name = option.as_bytes();
+    if name == b"--tracks".as_slice() {
+        return "--least-tracks";
+    }
+    if name == b"--columns".as_slice() {
+        return "--least-columns";
+    }
+    option
 }
 
 /// Returns whether the option is among the words, as `--name` or as `--name=VALUE`.

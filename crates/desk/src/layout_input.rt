@@ -24,7 +24,7 @@ const NO_FILE: &str = "give an architecture, a netlist and its .net, .place and 
 const NO_TRACKS: &str = "give --tracks W";
 
 /// The most bytes of a text that are read: one more than it may have.
-const MAX_READ: u64 = MAX_TEXT as u64 + 1;
+pub(crate) const MAX_READ: u64 = MAX_TEXT as u64 + 1;
 
 /// The options of a tool that reads a layout.
 pub(crate) const LAYOUT_OPTIONS: &[OptionWord] = &[
@@ -78,7 +78,7 @@ pub(crate) const LAYOUT_OPTIONS: &[OptionWord] = &[
 /// The paths of a layout's files, and the shape of its strip.
 #[derive(Clone, Copy)]
 pub(crate) struct LayoutPaths<'a> {
-    arch: &'a str,
+    pub(crate) arch: &'a str,
     netlist: &'a str,
     net: &'a str,
     place: &'a str,
@@ -175,10 +175,10 @@ pub(crate) fn texts_of<'t>(
 }
 
 /// The circuit and the layout that the texts describe, if the layout implements the circuit.
-/// Otherwise what is wrong is written to the teller.
+/// Otherwise what is wrong is written to the teller; the architecture is named by its path.
 pub(crate) fn laid_circuit<E: Sink>(
     alloc: Global,
-    paths: LayoutPaths<'_>,
+    arch: &str,
     texts: &LayoutTexts<'_>,
     teller: &mut E,
 ) -> Result<LaidCircuit, Outcome>
@@ -188,7 +188,7 @@ pub(crate) fn laid_circuit<E: Sink>(
         Verdict::Implements(laid) => Ok(laid),
         Verdict::Differs(laid, wrong) => Err(told_wrong(laid, wrong, teller)),
         Verdict::ArchRefused(fault) => {
-            let _ = write_arch_fault(teller, paths.arch, fault);
+            let _ = write_arch_fault(teller, arch, fault);
             Err(Outcome::ArchRefused(fault))
         }
         Verdict::NetlistRefused(fault) => {

@@ -47,6 +47,7 @@ mod script;
 mod silence;
 mod size;
 mod strip;
+mod strip_check;
 mod tenancy_table;
 mod tenants;
 mod usages;

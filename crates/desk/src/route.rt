@@ -21,7 +21,7 @@ use sessions::write_reply;
 use std::alloc::Global;
 use std::rt::Files;
 use strip_files::StripTexts;
-use tenant_slot::{Refusal, Reply, SharedText, StateName, Status};
+use tenant_slot::{Ending, Refusal, Reply, SharedText, StateName, Status};
 
 /// The most bytes of a text that are read: one more than it may have.
 const MAX_READ: u64 = MAX_TEXT as u64 + 1;
@@ -87,24 +87,29 @@ fn run_on_size<H: Files + AllocGlobal, W: Sink, E: Sink>(
 ) -> Result<(), Outcome>
     requires { request.effort ≤ 100 }
 {
-    let mut quiet = MemorySink::new(rt.alloc());
     let trial = if is_told {
         trial_with(rt.alloc(), wishes, arch, request, size, teller)
     } else {
-        trial_with(rt.alloc(), wishes, arch, request, size, &mut quiet)
+        trial_with(rt.alloc(), wishes, arch, request, size, &mut Silence)
     };
-    let outcome = match trial {
+    match trial {
         Ok(Trial::Decided(run)) => {
-            if let End::Unrouted(_) = run.outcome {
-                tell_overuse(rt.alloc(), quiet.as_bytes(), teller);
+            if is_given_up(&run.outcome) {
+                tell_overuse(rt.alloc(), wishes, arch, request, size, teller);
             }
             ended(rt, wishes, size, request, run, writer, teller)
         }
         Ok(Trial::NeverRouted) => Err(Outcome::Unrouted),
         Err(error) => Err(told_arch(error, wishes, teller)),
-    };
-    drop(quiet);
-    outcome
+    }
+}
+
+/// Returns whether the routing was given up after its last iteration.
+fn is_given_up(outcome: &End) -> bool {
+    match outcome {
+        End::Unrouted(left) => matches!(left.ending, Ending::GaveUp),
+        End::Routed(_) | End::Refused(_) => false,
+    }
 }
 
 /// Writes what is wrong with the architecture, and returns how the errand ended.

@@ -2,6 +2,7 @@
 use crate::device_file::DEVICE;
 use crate::outcome::Outcome;
 use crate::paths::{FileRole, read_file};
+use crate::strip_check::{Against, against_of, check_against};
 use crate::words::NO_DEVICE;
 use line_text::{MemorySink, Sink, TextError, split_line, write_parts};
 use option_words::{Given, OptionWord, Program, Takes};
@@ -15,6 +16,8 @@ use strip_picture::{DrawError, Full, View, draw, draw_with_ends};
 const NONE: &str = "-";
 
 const NO_FILE: &str = "give a .net, a .place and a .route file";
+
+const NO_ROUTES: &str = "--netlist needs a .route file";
 
 /// The beginning of its help.
 const ABOUT: &str = "Draws one tenancy as an SVG, from its three result files";
@@ -36,8 +39,10 @@ readers, with --heat how many tracks of each channel are used, in colours up to 
 up to that of W used tracks. A malformed line is refused with its number and status 3, and so is a route that no device of
 this size has: each node follows the node before it by an edge, a pin being joined with the wires beside its block, whatever its
 sides and tracks; the first path of a net begins at a source, a later one at a node of an earlier one, and each ends at a sink;
-a route joins just the blocks that have its net on a pin. Not checked: the sides, tracks and classes of pins, wires that two
-nets share, global nets, and BLEs; `fpgad_desk check` checks all of it, against the netlist.
+a route joins just the blocks that have its net on a pin. It is a tree over one output pin, a SOURCE has class 1 and a SINK class 0,
+and no two nets share a wire or a pin. Not checked are the sides, tracks and classes of pins, global nets and BLEs, which the three
+files do not tell. With --netlist, --arch and --tracks all of it is checked first, as `fpgad_desk check` does, with its messages and
+its status 1.
 
 Example: fpgad_desk strip T.net T.place T.route --heat > t.svg",
     options: &[
@@ -79,8 +84,22 @@ Example: fpgad_desk strip T.net T.place T.route --heat > t.svg",
         OptionWord {
             name: "tracks",
             value_name: "W",
-            help: "For --heat: the tracks of each channel, 1 to 64",
+            help: "For --heat and --netlist: the tracks of each channel, 1 to 64",
             takes: Takes::Number(1, 64),
+            default: None,
+        },
+        OptionWord {
+            name: "netlist",
+            value_name: "FILE",
+            help: "Checks the layout first against this netlist, as `fpgad_desk check` does",
+            takes: Takes::Text,
+            default: None,
+        },
+        OptionWord {
+            name: "arch",
+            value_name: "FILE",
+            help: "For --netlist: the architecture",
+            takes: Takes::Text,
             default: None,
         },
         DEVICE,
@@ -100,6 +119,7 @@ pub(crate) struct Wishes<'a> {
     net_file: &'a str,
     place_file: &'a str,
     route_file: &'a str,
+    against: Option<Against<'a>>,
     shown: Shown<'a>,
 }
 
@@ -115,10 +135,16 @@ enum Shown<'a> {
 
 /// What the options ask for, or why they are refused.
 pub(crate) fn wishes_of<'a>(given: &Given<'a>) -> Result<Wishes<'a>, &'static str> {
+    let against = against_of(given)?;
+    let route_file = given.text("routes").ok_or(NO_FILE)?;
+    if against.is_some() && route_file == NONE {
+        return Err(NO_ROUTES);
+    }
     Ok(Wishes {
         net_file: given.text("packing").ok_or(NO_FILE)?,
         place_file: given.text("places").ok_or(NO_FILE)?,
-        route_file: given.text("routes").ok_or(NO_FILE)?,
+        route_file,
+        against,
         shown: shown_of(given)?,
     })
 }
@@ -193,9 +219,23 @@ fn print_placed<H: Files + AllocGlobal, W: Sink, E: Sink>(
         place,
         route: route.as_slice(),
     };
-    let outcome = drawn(rt.alloc(), texts, wishes.shown, writer);
+    let outcome = checked_and_drawn(rt, wishes, texts, writer, teller);
     drop(route);
     outcome
+}
+
+/// Draws a tenancy from the texts of its files. If a netlist is given, it is checked first.
+fn checked_and_drawn<H: Files + AllocGlobal, W: Sink, E: Sink>(
+    rt: &H,
+    wishes: Wishes<'_>,
+    texts: StripTexts<'_>,
+    writer: &mut W,
+    teller: &mut E,
+) -> Result<(), Outcome> {
+    if let Some(against) = wishes.against {
+        check_against(rt, against, texts, teller)?;
+    }
+    drawn(rt.alloc(), texts, wishes.shown, writer)
 }
 
 /// Draws a tenancy without routes from the texts of its packing and placement.

@@ -123,7 +123,7 @@ fn is_end(node: Node) -> bool {
 }
 
 /// The nodes of a net's route.
-fn nodes_of<'a>(files: PinsAndRoutes<'a, '_>, net: usize) -> &'a [RouteNode] {
+pub(crate) fn nodes_of<'a>(files: PinsAndRoutes<'a, '_>, net: usize) -> &'a [RouteNode] {
     let first = |net: usize| files
         .nets
         .get(net)
@@ -151,18 +151,27 @@ fn check_counts(files: PinsAndRoutes<'_, '_>, users: &[usize]) -> Result<(), Tex
     Ok(())
 }
 
-/// The number of sinks that are not at the place of the first node, and one for that node.
+/// The number of sinks that are not at the place of the first node, each once, and one for that
+/// node.
 fn end_count(rows: u32, nodes: &[RouteNode]) -> usize {
     let Some(first) = nodes.first() else {
         return 0;
     };
-    let sinks = nodes
-        .iter()
-        .filter(|read| {
-            read.node.kind == NodeKind::Sink && !is_same_block(rows, first.node, read.node)
-        })
-        .count();
-    sinks.saturating_add(1)
+    let mut count = 1usize;
+    for (place, read) in nodes.iter().enumerate() {
+        let is_other = read.node.kind == NodeKind::Sink
+            && !is_same_block(rows, first.node, read.node);
+        if is_other && !is_among(nodes, place, read.node) {
+            count = count.saturating_add(1);
+        }
+    }
+    count
+}
+
+/// Whether the node is one of the nodes before this place.
+fn is_among(nodes: &[RouteNode], place: usize, node: Node) -> bool {
+    let (front, _) = nodes.split_at(place.min(nodes.len()));
+    front.iter().any(|earlier| earlier.node == node)
 }
 
 /// Whether a source and a sink are of one logic block. No pad has both.
@@ -171,6 +180,6 @@ fn is_same_block(rows: u32, source: Node, sink: Node) -> bool {
 }
 
 /// A fault of that line.
-fn fault_of(file: File, line: usize, fault: Fault) -> TextError<FileFault> {
+pub(crate) fn fault_of(file: File, line: usize, fault: Fault) -> TextError<FileFault> {
     TextError::Fault(FileFault { file, line, fault })
 }

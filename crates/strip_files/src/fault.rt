@@ -55,6 +55,14 @@ pub enum Fault {
     NoRoute,
     /// A net whose route does not lead between just the blocks that have it on a pin.
     OtherEnds,
+    /// A source of a logic block that is not of class 1, or a sink that is not of class 0.
+    WrongClass,
+    /// A net whose route leads to a node in two ways.
+    TwoWays,
+    /// A net whose route has two output pins.
+    TwoPins,
+    /// A net whose route has a wire or a pin of an earlier net's.
+    SharedNode,
     /// A line different from the one that the service writes of what was read.
     OtherText,
 }
@@ -85,6 +93,11 @@ impl Fault {
             Fault::NoRoute => "the .route file has no net of that name",
             Fault::OtherEnds =>
                 "its route does not join just the blocks that have this net on a pin",
+            Fault::WrongClass =>
+                "its route has a SOURCE of another class than 1, or a SINK of another class than 0",
+            Fault::TwoWays => "its route leads to one node in two ways",
+            Fault::TwoPins => "its route has two output pins",
+            Fault::SharedNode => "its route has a wire or a pin of an earlier net",
             Fault::OtherText =>
                 "not what the service writes of this layout: a name, number, place or blank differs",
         }

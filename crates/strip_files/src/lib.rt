@@ -21,6 +21,7 @@ mod route_node;
 mod route_text;
 mod size;
 mod steps;
+mod trees;
 
 pub use block::{Block, BlockKind};
 pub use fault::{Fault, File, FileFault, in_file};

@@ -10,6 +10,7 @@ use crate::place_text::Placed;
 use crate::route_node::RouteNode;
 use crate::route_text::{Net, Routed};
 use crate::size::StripSize;
+use crate::trees::check_trees;
 use line_text::TextError;
 use std::alloc::Global;
 
@@ -92,7 +93,8 @@ fn stretch<T>(all: &[T], start: usize, end: usize) -> &[T] {
 /// Each node of a path must follow the node before it by an edge that some architecture has: a pin
 /// is joined with the wires beside its block, whatever its sides and tracks. The first path of a
 /// net begins at a source, a later one at a node of an earlier one, and each ends at a sink. A
-/// route joins just the blocks that have its net on a pin.
+/// route joins just the blocks that have its net on a pin. It is a tree: it leads to each of its
+/// nodes in one way, and has one output pin. No two routes have a wire or a pin in common.
 ///
 /// Empty lines are skipped, as are global nets' blocks and headings. The fault is
 /// that of the first faulty file, in this order, at its first faulty line; a fault that only shows
@@ -140,6 +142,7 @@ fn read_all<'t>(
         nodes: &routed.nodes,
     };
     check_ends(alloc, files)?;
+    check_trees(alloc, files)?;
     Ok(size)
 }
 

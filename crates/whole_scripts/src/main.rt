@@ -19,6 +19,7 @@ mod verdict;
 use crate::row::row_in;
 use crate::run::verdict_on;
 use crate::verdict::Verdict;
+use live_run::LockLog;
 use std::alloc::AllocGlobal;
 use std::io;
 use std::io::{Input, Print};
@@ -38,7 +39,10 @@ fn main(rt: HostRuntime) -> ExitCode {
 /// Runs the lines of standard input, and returns whether all agree.
 fn run_all<H: Input + Print + Files + Threads + Wait + Clock + AllocGlobal + Sync>(
     rt: &H,
-) -> io::Result<bool> {
+) -> io::Result<bool>
+where
+    H::File: LockLog,
+{
     let mut runs = 0u64;
     let mut agreeing = 0u64;
     for line in rt.lines(rt.alloc()) {
@@ -58,7 +62,10 @@ fn run_all<H: Input + Print + Files + Threads + Wait + Clock + AllocGlobal + Syn
 fn agrees<H: Print + Files + Threads + Wait + Clock + AllocGlobal + Sync>(
     rt: &H,
     line: &str,
-) -> io::Result<bool> {
+) -> io::Result<bool>
+where
+    H::File: LockLog,
+{
     let verdict = match row_in(line) {
         Some(row) => verdict_on(rt, row)?,
         None => Verdict::NoRow,

@@ -6,6 +6,7 @@ use crate::verdict::Verdict;
 use desk::Streams;
 use dialogue::Connection;
 use line_text::{MemorySink, MemorySource, ReadError, StdSource, read_all};
+use live_run::LockLog;
 use std::alloc::{AllocError, AllocGlobal, Global};
 use std::fs::File;
 use std::io::Read;
@@ -18,7 +19,10 @@ use std::time::Clock;
 pub(crate) fn verdict_on<H: Files + Threads + Wait + Clock + AllocGlobal + Sync>(
     rt: &H,
     row: Row<'_>,
-) -> Result<Verdict, AllocError> {
+) -> Result<Verdict, AllocError>
+where
+    H::File: LockLog,
+{
     let words = words(rt.alloc(), row.words)?;
     let ended = run_words(rt, row.name, words.as_slice());
     drop(words);
@@ -33,7 +37,10 @@ fn run_words<H: Files + Threads + Wait + Clock + AllocGlobal + Sync>(
     rt: &H,
     name: &str,
     words: &[&str],
-) -> Result<Ended, AllocError> {
+) -> Result<Ended, AllocError>
+where
+    H::File: LockLog,
+{
     if let ["cmp", left, right] = words {
         return compare_files(rt, left, right);
     }
@@ -48,7 +55,10 @@ fn run_program<H: Files + Threads + Wait + Clock + AllocGlobal + Sync>(
     rt: &H,
     words: &[&str],
     input: &[u8],
-) -> Result<Ended, AllocError> {
+) -> Result<Ended, AllocError>
+where
+    H::File: LockLog,
+{
     match words.first() {
         Some(&"fpgad_desk") => run_tool(rt, words, input),
         Some(&"fpgad_live") => run_live(rt, words, input),
@@ -83,7 +93,10 @@ fn run_live<H: Files + Wait + AllocGlobal>(
     rt: &H,
     words: &[&str],
     lines: &[u8],
-) -> Result<Ended, AllocError> {
+) -> Result<Ended, AllocError>
+where
+    H::File: LockLog,
+{
     let reader = MemorySource::new(lines);
     let mut connection = Connection::new(reader, MemorySink::new(rt.alloc()));
     let outcome = live_run::run_words(rt, words, &mut connection);
