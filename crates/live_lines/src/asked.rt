@@ -11,7 +11,8 @@ use std::alloc::{AllocError, Global};
 use tagged_lines::split_tag;
 
 /// What a line asks.
-pub(crate) enum Asked<'l> {
+pub enum Asked<'l> {
+    /// It is a comment, or has no word.
     Nothing,
     NoForm,
     Operates(OperatorLine<&'l [u8]>),
@@ -20,7 +21,7 @@ pub(crate) enum Asked<'l> {
 }
 
 /// What a line asks.
-pub(crate) fn asked_of(alloc: Global, line: &[u8]) -> Result<Asked<'_>, AllocError>
+pub fn asked_of(alloc: Global, line: &[u8]) -> Result<Asked<'_>, AllocError>
     requires { length line.now < 2 ^ 63 }
     ensures asks { IfOk result (λ asked. asks asked ≡ asked_of line.now) }
     ensures tag { IfOk result HasTag }

@@ -5,6 +5,8 @@ ghost use Rattle.script_text.specs.Script.{named_operator};
 ghost use Rattle.tagged_lines.specs.Tags.{output_of, tagged};
 ghost use Rattle.sessions.specs.SessionText.{session_refusal_text};
 ghost use Rattle.sessions.specs.declared.refusal.SessionRefusal.TheVariants.{UnfinishedUpload};
+ghost use Rattle.service_core.specs.Run.{Run};
+ghost use Rattle.operator.specs.HeldJobs.{give_backs};
 ghost use Rattle.live_lines.specs.Live.{asked_of as what_asks, count_text, for_name, is_open as is_open_line, told_by};
 
 use crate::asked::{Asked, asked_of};
@@ -37,7 +39,7 @@ pub struct Live<'g> {
 impl<'g> Live<'g> {
     ghost use Rattle.live_lines.specs.Ends.{Ends};
     ghost use Rattle.live_lines.specs.Live.{IsSteady, TakesItem, TakesLine, TakesOperator, stage_of, state_of};
-    ghost use Rattle.live_lines.specs.Said.{no_texts};
+    ghost use Rattle.live_lines.specs.Said.{IsEven, no_texts, texts_of};
 
     /// A service that has taken no line. The core must have admitted no tenancy.
     pub fn new(alloc: Global, graph: &'g DeviceGraph, core: Service) -> Self
@@ -189,6 +191,29 @@ impl<'g> Live<'g> {
                 LastName::Unfinished(name) => refuse_text(self.alloc, writer, name)?,
             }
         }
+    }
+
+    /// Takes the service apart. Jobs that the operator holds are given back first, the last one
+    /// first.
+    pub fn into_parts(self) -> (Service, Operator<'static>, Said)
+        ensures core { Run (stage_of self.entry).service (give_backs (stage_of self.entry).jobs)
+            result.0 }
+        ensures names { result.1 ≡ (stage_of self.entry).names }
+        ensures texts { texts_of result.2 ≡ (state_of self.entry).texts }
+        ensures even { IsSteady self.entry → IsEven result.2 }
+    {
+        let Live {
+            alloc: _,
+            graph: _,
+            mut core,
+            operator,
+            jobs,
+            lasting,
+            said,
+        } = self;
+        jobs.give_back(&mut core);
+        drop(lasting);
+        (core, operator, said)
     }
 
     /// Ends the service. Jobs that the operator holds are given back first.

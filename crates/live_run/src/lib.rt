@@ -14,7 +14,8 @@ mod program;
 mod serving;
 
 pub use beginning::first_line;
+pub use kept_log::KeptLog;
 pub use options::{CommandLine, Options, read_options};
 pub use outcome::Outcome;
-pub use program::{run_program, run_words};
+pub use program::{log_at, read_architecture, run_program, run_words};
 pub use serving::serve;

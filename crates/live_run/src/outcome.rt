@@ -28,6 +28,8 @@ pub enum Outcome {
     TooManyLines,
     /// Memory ran out for the program's own tables, or for a reply.
     NoMemory,
+    /// With workers: what the sessions were told is not what the journals say.
+    NotSettled,
 }
 
 impl Outcome {
@@ -39,6 +41,7 @@ impl Outcome {
             Outcome::Done => 0,
             Outcome::LogDiffers => 2,
             Outcome::NoMemory => 4,
+            Outcome::NotSettled => 5,
             Outcome::ArchUnreadable
             | Outcome::ArchRefused(_)
             | Outcome::LogUnreadable
@@ -81,6 +84,7 @@ impl fmt::Display for Outcome {
             Outcome::Stopped(Fault::Output) => write!(f, "output: failed"),
             Outcome::TooManyLines => write!(f, "input: too many lines"),
             Outcome::NoMemory => write!(f, "memory"),
+            Outcome::NotSettled => write!(f, "settle"),
         }
     }
 }

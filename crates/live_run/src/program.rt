@@ -6,7 +6,7 @@ ghost use Rattle.live_run.specs.Outcomes.{status_of};
 
 use crate::beginning::first_line;
 use crate::kept_log::{KeptLog, open_log};
-use crate::options::{CommandLine, read_options};
+use crate::options::{CommandLine, read_options, refuse_workers};
 use crate::outcome::Outcome;
 use crate::serving::serve;
 use clap::Error;
@@ -74,6 +74,7 @@ pub fn run_words<H: Files + Wait + AllocGlobal, S: AsStr, R: Source + Drop, W: S
         (⟦<Connection<R, W, FileLog<H::File>> as Dialogue>⟧.view connection.new) result }
 {
     match read_options(rt.alloc(), words) {
+        Ok(line) if line.workers != 0 => Err(refuse_workers(rt.alloc(), words)),
         Ok(line) => Ok(run_line(rt, &line, connection)),
         Err(error) if error.kind() == ErrorKind::OutOfMemory => Ok(Outcome::NoMemory),
         Err(error) => Err(error),
@@ -126,7 +127,7 @@ fn run_over<H: Files + Wait + AllocGlobal, R: Source + Drop, W: Sink + Drop>(
 }
 
 /// The log at that path, of these options and that architecture.
-fn log_at<H: Files + AllocGlobal>(
+pub fn log_at<H: Files + AllocGlobal>(
     rt: &H,
     line: &CommandLine<'_>,
     path: &str,
@@ -142,7 +143,7 @@ fn log_at<H: Files + AllocGlobal>(
 
 /// The text of the architecture's file. Of a file that is longer than a text may be, the first byte
 /// above that is the last that is read: it is refused whatever else it holds.
-fn read_architecture<H: Files + AllocGlobal>(rt: &H, path: &str) -> Result<Vec<u8>, ReadError> {
+pub fn read_architecture<H: Files + AllocGlobal>(rt: &H, path: &str) -> Result<Vec<u8>, ReadError> {
     match File::open(rt, path) {
         Ok(file) => read_all(
             rt.alloc(),

@@ -1,11 +1,12 @@
 -- The names of all ids, and the last id of each.
 use Rattle.std.proofs.Common.{◌≡◌, ℕ, suc, add-one, ◌+◌, ◌-◌, eqb, if◌then◌else◌, Result, Ok, Err, None, codes, length-append, List, [], ◌∷◌, ◌++◌, true, false, cond, Option, Some, length, refl, sym, ap, ◌∙◌, subst}
-use Rattle.std.specs.Prelude.{reverse, unwrap_or, option_map, is_some, OnErr, OnOk}
+use Rattle.std.specs.Prelude.{reverse, unwrap_or, option_copied, option_map, slice_get, is_some, OnErr, OnOk}
 use Rattle.std.specs.Borrow.{Bor}
 use Rattle.std.specs.Map.{lookup}
 use Rattle.std.specs.Str.{bytes_eq}
 use Rattle.std.proofs.lemmas.Bool.{false≢true}
-use Rattle.std.proofs.lemmas.List.{map_push, reverse-append, length-reverse, length-map}
+use Rattle.std.proofs.lemmas.List.{map_push, reverse-append, reverse-reverse, length-reverse, length-map}
+use Rattle.std.proofs.lemmas.Option.{slice_get-map}
 use Rattle.rr_graph.specs.Graph.{Basis}
 use Rattle.tenant_slot.specs.declared.reply.StateName.{StateName}
 use Rattle.service_core.specs.declared.op_refusal.OpRefusal.{OpRefusal}
@@ -27,6 +28,10 @@ newest_first-push admitted name = ap reverse (map_push (λ slice. slice.now) adm
 
 pub length-newest_first : (admitted : List (Bor (List ℕ))) → length (newest_first admitted) ≡ length admitted
 length-newest_first admitted = length-reverse (texts admitted) ∙ length-map admitted (λ slice. slice.now)
+
+-- the name of an id, from the names in the order of admission
+pub named : (admitted : List (Bor (List ℕ))) (k : ℕ) → slice_get (reverse (newest_first admitted)) k ≡ option_copied (slice_get admitted k)
+named admitted k = ap (λ names. slice_get names k) (reverse-reverse (texts admitted)) ∙ slice_get-map (λ slice. slice.now) admitted k
 
 -- the list with one more id's line
 pub list_text-push : (service : ServiceState) (admitted : List (Bor (List ℕ))) (name : Bor (List ℕ)) →

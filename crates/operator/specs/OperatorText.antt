@@ -1,5 +1,5 @@
 -- The texts of the replies to the operator, and the names under which tenancies were admitted.
-use Rattle.std.specs.Prelude.{ℕ, ◌+◌, List, [], ◌∷◌, ◌++◌, length, codes, decimal, Result, Ok, Err, Option, Some, None, unwrap_or, if◌then◌else◌}
+use Rattle.std.specs.Prelude.{ℕ, ◌+◌, ◌-◌, ◌==◌, List, [], ◌∷◌, ◌++◌, length, reverse, slice_get, codes, decimal, Result, Ok, Err, Option, Some, None, unwrap_or, if◌then◌else◌}
 use Rattle.std.specs.Option.{option_map_or}
 use Rattle.std.specs.Str.{bytes_eq}
 use Rattle.sessions.specs.declared.steps.StepOutcome.{StepOutcome}
@@ -49,6 +49,10 @@ taken_text number = option_map_or (λ n. codes "ok job" ++ blank_word (decimal n
 abbrev pub last_id : List (List ℕ) → List ℕ → ℕ
 last_id [] name = 0
 last_id (newest ∷ older) name = if bytes_eq newest name then length older + 1 else last_id older name
+
+-- the name of an id, if the id was given
+abbrev pub name_of : List (List ℕ) → ℕ → Option (List ℕ)
+name_of names id = if id == 0 then None else slice_get (reverse names) (id - 1)
 
 -- the names after an admission with that answer
 abbrev pub names_after : List (List ℕ) → List ℕ → Result (ℕ × ℕ) OpRefusal → List (List ℕ)

@@ -1,5 +1,5 @@
-ghost use Rattle.std.specs.Prelude.{◌≡◌, ◌+◌, ◌<◌, ◌∷◌, ◌++◌, ◌↔◌, [], length, vec_capacity, vec_len, IsTrue, OnErr, OnOk};
-ghost use Rattle.operator.specs.OperatorText.{last_id, list_text};
+ghost use Rattle.std.specs.Prelude.{◌≡◌, ◌+◌, ◌<◌, ◌∷◌, ◌++◌, ◌↔◌, [], length, vec_capacity, vec_len, option_copied, IsTrue, OnErr, OnOk};
+ghost use Rattle.operator.specs.OperatorText.{last_id, list_text, name_of};
 ghost use Rattle.indexmap.specs.IndexMap.{spare};
 ghost use Rattle.operator.specs.Held.{held};
 ghost use Rattle.operator.specs.Ids.{AreLastIds, newest_first};
@@ -49,6 +49,16 @@ impl<'t> Operator<'t> {
             ids: IndexMap::new(alloc),
             admitted: Vec::new(alloc),
         }
+    }
+
+    /// The name of an id. None if it was not given.
+    pub fn name_of(&self, id: u32) -> Option<&'t [u8]>
+        ensures { option_copied result ≡ name_of self.now id }
+    {
+        if id == 0 {
+            return None;
+        }
+        self.admitted.get(id as usize - 1).copied()
     }
 
     /// The last id that the name was given, or 0.

@@ -14,11 +14,7 @@ use std::alloc::AllocError;
 use vpr_files::write_node;
 
 /// Appends the number of owned resources on a device with `rows` rows, and one line for each.
-pub(crate) fn push_owners(
-    reply: &mut MemorySink,
-    rows: u32,
-    owners: &[Owned],
-) -> Result<(), AllocError>
+pub fn push_owners(reply: &mut MemorySink, rows: u32, owners: &[Owned]) -> Result<(), AllocError>
     ensures { OnOk result (held reply.new ≡ held reply.old ++ owners_text rows owners.now) }
 {
     let mut digits = Buffer::new();

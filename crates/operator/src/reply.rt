@@ -12,7 +12,7 @@ use sessions::{StepOutcome, step_word, write_refused};
 use std::alloc::AllocError;
 
 /// Appends the line of a tenancy, if it is live.
-pub(crate) fn push_listed(
+pub fn push_listed(
     reply: &mut MemorySink,
     core: &Service,
     id: u32,
@@ -55,7 +55,7 @@ fn push_row<'t>(
 }
 
 /// Appends the reply to an admission with that answer.
-pub(crate) fn push_admitted(
+pub fn push_admitted(
     reply: &mut MemorySink,
     answer: &Result<(u32, u32), OpRefusal>,
 ) -> Result<(), AllocError>
@@ -73,7 +73,7 @@ pub(crate) fn push_admitted(
 }
 
 /// Appends the reply to a move of a strip to that offset, with that answer.
-pub(crate) fn push_moved(
+pub fn push_moved(
     reply: &mut MemorySink,
     offset: u32,
     answer: &Result<(), OpRefusal>,
@@ -91,7 +91,7 @@ pub(crate) fn push_moved(
 }
 
 /// Appends the reply to an eviction with that answer.
-pub(crate) fn push_evicted(
+pub fn push_evicted(
     reply: &mut MemorySink,
     answer: &Result<(), OpRefusal>,
 ) -> Result<(), AllocError>
@@ -149,11 +149,7 @@ pub(crate) fn push_parts(reply: &mut MemorySink, parts: &[&[u8]]) -> Result<(), 
 }
 
 /// Appends the line of a refusal.
-pub(crate) fn push_refused(
-    reply: &mut MemorySink,
-    number: u32,
-    name: &str,
-) -> Result<(), AllocError>
+pub fn push_refused(reply: &mut MemorySink, number: u32, name: &str) -> Result<(), AllocError>
     ensures { OnOk result (held reply.new ≡ held reply.old ++ refused_text number name.now) }
 {
     match write_refused(reply, number, name) {

@@ -11,7 +11,7 @@ use std::mem;
 
 /// The outcome of a line.
 #[derive(Drop)]
-pub(crate) enum Outcome {
+pub enum Outcome {
     /// No item ends with it.
     Nothing,
     Item(SessionLine),

@@ -1,11 +1,11 @@
 //! A session on a thread of its own.
-ghost use Rattle.std.specs.Prelude.{◌≡◌, IfSome, true};
+ghost use Rattle.std.specs.Prelude.{◌≡◌, IfSome, Some, true};
 ghost use Rattle.std.specs.Io.KnownBytes.{prepend_known};
 ghost use Rattle.line_text.specs.Writing.{Writes};
 ghost use Rattle.sessions.specs.declared.line.SessionLine.TheVariants.{Wait};
 ghost use Rattle.session_threads.specs.Outcomes.{IsItem, is_item};
 ghost use Rattle.session_threads.specs.Told.{AnswersCommand, AnswersItem, NotesBy};
-ghost use Rattle.session_threads.specs.WholeSession.{EndsInput, EndsReading, Finishes, IsSession, KeepsNoneAhead, Serves, ServesLine, TellsItem, Turns, WholeSession, Wrote};
+ghost use Rattle.session_threads.specs.WholeSession.{EndsInput, EndsReading, Finishes, IsSession, KeepsNoneAhead, Serves, ServesLine, TellsItem, Turns, WholeSession, Wrote, fresh};
 
 use crate::items::{ItemReader, Outcome};
 use crate::line::Line;
@@ -16,7 +16,7 @@ use job_queue::{Pass, Ready};
 use line_text::{Failed, Sink, Source};
 use sessions::SessionLine;
 use shared_core::{Begun, Lease, Shared};
-use std::alloc::AllocGlobal;
+use std::alloc::{AllocGlobal, Global};
 use std::sync::Wait;
 use std::sync::ledger::Ledger;
 use tenant_slot::{Command, Reply, StateName};
@@ -42,28 +42,52 @@ pub fn run_session<C: Begun, P: Ledger, S: Source, W: Sink, R: Wait + AllocGloba
     ensures reader { IfSome result.end (λ end.
         EndsReading (S.remaining reader.new) (S.has_failed reader.new) end) }
 {
-    let mut session = Session {
-        pass,
-        transcript: Transcript::new(rt.alloc(), lease),
-    };
+    let mut session = Session::new(rt.alloc(), pass, lease);
     let end = session.read_all(rt, shared, ready, reader, writer);
-    session.push_ready(rt, shared, ready);
-    let Session {
-        pass: _,
-        mut transcript,
-    } = session;
-    transcript.finish(end);
-    transcript
+    session.end(rt, shared, ready, end)
 }
 
-/// What a session holds.
+/// A session: the right to push to the ready queue, and its transcript.
 #[derive(Drop)]
-struct Session<C: Begun> {
+pub struct Session<C: Begun> {
     pass: Pass,
     transcript: Transcript<C>,
 }
 
 impl<C: Begun> Session<C> {
+    /// A session of that lease, which has made no entry yet.
+    pub fn new(alloc: Global, pass: Pass, lease: Lease<C>) -> Self
+        requires { lease.made ≡ 0 }
+        ensures pass { result.pass ≡ pass }
+        ensures transcript { result.transcript ≡ fresh lease.id }
+    {
+        Session {
+            pass,
+            transcript: Transcript::new(alloc, lease),
+        }
+    }
+
+    /// Ends the session so. A number that was given up is pushed first.
+    pub fn end<P: Ledger, R: Wait>(
+        self,
+        rt: &R,
+        shared: &Shared<C, P>,
+        ready: &Ready,
+        end: End,
+    ) -> Transcript<C>
+        requires { self.pass.of ≡ ready.now }
+        ensures { result ≡ record self.entry.transcript { end = Some end } }
+    {
+        let mut session = self;
+        session.push_ready(rt, shared, ready);
+        let Session {
+            pass: _,
+            mut transcript,
+        } = session;
+        transcript.finish(end);
+        transcript
+    }
+
     /// Serves the items of an input.
     fn read_all<P: Ledger, S: Source, W: Sink, R: Wait + AllocGlobal>(
         &mut self,
@@ -198,8 +222,8 @@ impl<C: Begun> Session<C> {
         }
     }
 
-    /// Serves the outcome of a line.
-    fn serve<P: Ledger, W: Sink, R: Wait>(
+    /// Serves the outcome of a line, and writes the answer.
+    pub fn serve<P: Ledger, W: Sink, R: Wait>(
         &mut self,
         rt: &R,
         shared: &Shared<C, P>,

@@ -117,6 +117,13 @@ impl<C: Begun, P: Ledger> Core<C, P> {
         })
     }
 
+    /// The service, for its readers.
+    pub fn service(&self) -> &Service
+        ensures { result.now ≡ self.now.service }
+    {
+        &self.service
+    }
+
     /// The number of tenancies that have been admitted so far: their ids are 1 to that number.
     pub fn admissions(&self) -> u32
         ensures value { result ≡ length self.now.service.histories }

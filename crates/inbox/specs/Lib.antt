@@ -1,0 +1,3 @@
+pub mod Inboxes
+pub mod Talks
+pub mod Weights

@@ -1,0 +1,222 @@
+//! What an inbox holds under its lock.
+ghost use Rattle.std.specs.Prelude.{◌≡◌, ◌++◌, ◌∷◌, [], true, false, All};
+ghost use Rattle.inbox.specs.Inboxes.{PutsItem, TakesNext};
+ghost use Rattle.inbox.specs.Talks.{IsWhole};
+
+use crate::item::Item;
+use crate::talk::{NewLease, Whole};
+use backlog::{Backlog, Turn};
+use shared_core::Begun;
+use std::alloc::{AllocError, Global};
+use std::collections::VecDeque;
+use std::marker::Model;
+use std::mem;
+use transcripts::Transcript;
+
+/// What a name's thread does next.
+#[derive(Drop)]
+pub(crate) enum Next<C: Begun> {
+    /// The session of that lease begins.
+    Begins(NewLease<C>),
+    /// It serves an item. None for one that was lost.
+    Serves(Option<Item>),
+    /// The thread ends.
+    Ends,
+}
+
+/// What an inbox holds.
+#[derive(Drop)]
+pub(crate) struct Held<C: Begun> {
+    leases: VecDeque<NewLease<C>>,
+    items: Backlog<Item>,
+    /// Whether a tenancy of the name is live.
+    is_live: bool,
+    /// Whether the input has ended.
+    is_closed: bool,
+    /// Whether a thread serves the inbox.
+    is_served: bool,
+    ended: Vec<Whole<C>>,
+}
+
+impl<C: Begun> Model for Held<C> {
+    ghost use Rattle.inbox.specs.Inboxes.{HeldState};
+
+    ghost Value = { HeldState };
+
+    ghost view = { λ h. record {
+      leases = h.leases.items;
+      items = h.items;
+      is_live = h.is_live;
+      is_closed = h.is_closed;
+      is_served = h.is_served;
+      ended = h.ended.items;
+    } };
+}
+
+impl<C: Begun> Held<C> {
+    /// Nothing is to do, and no thread serves it.
+    pub(crate) fn new(alloc: Global) -> Self
+        ensures { result ≡ record {
+          leases = [];
+          items = [];
+          is_live = false;
+          is_closed = false;
+          is_served = false;
+          ended = [];
+        } }
+    {
+        Held {
+            leases: VecDeque::new(alloc),
+            items: Backlog::new(alloc),
+            is_live: false,
+            is_closed: false,
+            is_served: false,
+            ended: Vec::new(alloc),
+        }
+    }
+
+    /// Finds memory for one more lease, and for the transcripts of all.
+    pub(crate) fn reserve(&mut self) -> Result<(), AllocError>
+        ensures { self.new ≡ self.old }
+    {
+        self.leases.reserve(1)?;
+        self.ended.reserve(self.leases.len().saturating_add(2))?;
+        Ok(())
+    }
+
+    /// A tenancy of the name was admitted. Returns whether a thread serves the inbox.
+    pub(crate) fn begin(&mut self, lease: NewLease<C>) -> bool
+        ensures { result ≡ self.old.is_served }
+    {
+        if let Err(refused) = self.leases.push_back(lease) {
+            drop(refused);
+        }
+        self.is_live = true;
+        self.is_served
+    }
+
+    /// A thread serves the inbox from now on, or it doesn't.
+    pub(crate) fn serve(&mut self, is_served: bool)
+        ensures { self.new ≡ record self.old { is_served = is_served } }
+    {
+        self.is_served = is_served;
+    }
+
+    /// No tenancy of the name is live any more.
+    pub(crate) fn evict(&mut self)
+        ensures { self.new ≡ record self.old { is_live = false } }
+    {
+        self.is_live = false;
+    }
+
+    /// The input has ended.
+    pub(crate) fn close(&mut self)
+        ensures { self.new ≡ record self.old { is_closed = true } }
+    {
+        self.is_closed = true;
+    }
+
+    /// Drops all items.
+    pub(crate) fn clear(&mut self, alloc: Global)
+        ensures { self.new ≡ record self.old { items = [] } }
+    {
+        self.items = Backlog::new(alloc);
+    }
+
+    /// Puts an item after the others. If no thread serves the inbox, it comes back.
+    pub(crate) fn put(&mut self, item: Item) -> Option<Item>
+        ensures { PutsItem self.old item.entry result self.new }
+    {
+        if !self.is_served {
+            return Some(item);
+        }
+        self.items.put(item);
+        None
+    }
+
+    /// What the name's thread does next. None if it waits.
+    pub(crate) fn next(&mut self) -> Option<Next<C>>
+        ensures { TakesNext self.old result self.new }
+    {
+        if let Some(lease) = self.leases.pop_front() {
+            return Some(Next::Begins(lease));
+        }
+        match self.items.take() {
+            Turn::Item(item) => Some(Next::Serves(Some(item))),
+            Turn::Lost => Some(Next::Serves(None)),
+            Turn::Nothing => {
+                if self.is_closed || !self.is_live {
+                    self.is_served = false;
+                    Some(Next::Ends)
+                } else {
+                    None
+                }
+            }
+        }
+    }
+
+    /// Keeps the transcript of a session that has ended.
+    pub(crate) fn keep(&mut self, transcript: Whole<C>) {
+        if let Err(refused) = self.ended.push(transcript) {
+            drop(refused);
+        }
+    }
+
+    /// Appends the transcripts of all sessions, also of those that never began.
+    pub(crate) fn hand_over(
+        &mut self,
+        alloc: Global,
+        all: &mut Vec<Transcript<C>>,
+    ) -> Result<(), AllocError>
+        requires { All IsWhole all.old.items }
+        ensures { All IsWhole all.new.items }
+    {
+        let ended = mem::replace(&mut self.ended, Vec::new(alloc));
+        let leases = mem::replace(&mut self.leases, VecDeque::new(alloc));
+        push_ended(ended, all)?;
+        push_unbegun(alloc, leases, all)
+    }
+}
+
+/// Appends the transcripts of sessions that have ended.
+fn push_ended<C: Begun>(
+    ended: Vec<Whole<C>>,
+    all: &mut Vec<Transcript<C>>,
+) -> Result<(), AllocError>
+    requires { All IsWhole all.old.items }
+    ensures { All IsWhole all.new.items }
+{
+    for whole in ended {
+        push_whole(whole, all)?;
+    }
+    Ok(())
+}
+
+/// Appends the transcripts of sessions that never began: they have no item.
+fn push_unbegun<C: Begun>(
+    alloc: Global,
+    leases: VecDeque<NewLease<C>>,
+    all: &mut Vec<Transcript<C>>,
+) -> Result<(), AllocError>
+    requires { All IsWhole all.old.items }
+    ensures { All IsWhole all.new.items }
+{
+    for lease in leases {
+        push_whole(Whole::unbegun(alloc, lease), all)?;
+    }
+    Ok(())
+}
+
+/// Appends a transcript.
+fn push_whole<C: Begun>(whole: Whole<C>, all: &mut Vec<Transcript<C>>) -> Result<(), AllocError>
+    requires { All IsWhole all.old.items }
+    ensures { All IsWhole all.new.items }
+{
+    match all.push(whole.into_transcript()) {
+        Ok(()) => Ok(()),
+        Err(refused) => {
+            drop(refused);
+            Err(AllocError)
+        }
+    }
+}
