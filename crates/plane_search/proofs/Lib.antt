@@ -4,7 +4,9 @@ mod Embedding
 mod Split
 mod Detour
 mod Passing
+pub mod Listing
 pub mod Stepping
 mod Bests
+mod Rankings
 mod Founds
 mod Tests

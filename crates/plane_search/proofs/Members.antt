@@ -7,6 +7,9 @@ use Rattle.std.proofs.lemmas.List.{get_or_default, get_or-map, length-map}
 pub Contains-first : {X : Type 0} (x : X) (xs : List X) → Contains (x ∷ xs) x
 Contains-first x xs = (0, omega arith, refl)
 
+pub Contains_further : {X : Type 0} (x y : X) (xs : List X) → Contains xs y → Contains (x ∷ xs) y
+Contains_further x y xs c = (suc c.0, omega (arith, c.1), c.2)
+
 pub Contains_cases : {X : Type 0} (x y : X) (xs : List X) → Contains (x ∷ xs) y → (x ≡ y) ⊎ Contains xs y
 Contains_cases x y xs (zero, b, e) = inl e
 Contains_cases x y xs (suc k, b, e) = inr (k, omega arith, e)

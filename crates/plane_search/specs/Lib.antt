@@ -1,3 +1,4 @@
 pub mod Planes
 pub mod Bypass
 pub mod Best
+pub mod Ranking

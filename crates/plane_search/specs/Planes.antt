@@ -1,7 +1,7 @@
 -- Graphs that consist of planes, one for each track.
 use Rattle.std.specs.Prelude.{◌≡◌, ℕ, ◌^◌, ◌<◌, ◌≤◌, Bool, true, Option, Some, List, All, Contains, map}
 use Rattle.least_path.specs.Graph.{Graph, AreNodes, IsLawful}
-use Rattle.least_path.specs.Path.{Leads, IsPath}
+use Rattle.least_path.specs.Path.{Leads, IsPath, cost_of}
 
 -- A graph with some starts and a goal, and a plane of it for each track: the graph of the places of
 -- the track, and for each place the number of its node in the whole graph.
@@ -64,3 +64,7 @@ pub record IsInPlane (f : Family) (path : List ℕ) : Type 0 where
   pub places : List ℕ
   pub is_path : IsPath (f.plane track) (f.entries track) f.exit places
   pub is : map (f.number track) places ≡ path
+
+-- Each path in the track's plane costs at least this.
+abbrev pub IsPlaneBound : Family → ℕ → ℕ → Type 0
+IsPlaneBound f track bound = (path : List ℕ) → IsPath (f.plane track) (f.entries track) f.exit path → bound ≤ cost_of (f.plane track) path

@@ -19,8 +19,8 @@ pub(crate) struct Bypassed<'a, P: Planes> {
     /// The number of places of the plane.
     pub(crate) places: usize,
     pub(crate) over: u64,
-    /// The cost that the least path has at most, if it is known.
-    pub(crate) most: Option<u64>,
+    /// A guess of the least path's cost.
+    pub(crate) guess: u64,
     ghost on: { track < (P.family planes.now).tracks },
     ghost count: { places ≡ (P.family planes.now).places },
     ghost some: { 1 ≤ over },
@@ -70,6 +70,6 @@ impl<P: Planes> Roads for Bypassed<'_, P> {
     }
 
     fn guess(&self) -> Option<u64> {
-        self.most
+        Some(self.guess)
     }
 }

@@ -6,16 +6,18 @@
 //! path as a search of the whole graph would: the least by cost, and then in the lexicographic
 //! order of the nodes.
 //!
-//! A plane is searched only if it may hold a path that is less than the best one so far, and then
-//! no further than to the cost of that one. Often the best one is known beforehand: the path that a
-//! net had before. Whether a plane may hold a lesser path is decided by lower bounds alone: at the
-//! starts, and along the best path, where another way branches off to a lesser node.
+//! The planes are searched in the order of their bounds, each only if it may hold a path that is
+//! less than the best one so far, and then no further than to the cost of that one. Often the best
+//! one is known beforehand: the path that a net had before. Where in a plane a lesser path may
+//! begin is decided by lower bounds alone: at the starts, and along the best path, where another
+//! way branches off to a lesser node.
 #![tactic(auto)]
 
 mod bypass;
 mod planes;
+mod ranking;
 mod rivals;
 mod search;
 
 pub use planes::Planes;
-pub use search::PlaneSearch;
+pub use ranking::PlaneSearch;

@@ -3,7 +3,7 @@ ghost use Rattle.std.specs.Prelude.{◌≡◌, ◌+◌, ◌<◌, ℕ, Option, Li
 ghost use Rattle.least_path.specs.Graph.{Graph};
 ghost use Rattle.least_path.specs.Path.{IsPath};
 ghost use Rattle.least_path.specs.LowerBound.{IsLowerBound};
-ghost use Rattle.plane_search.specs.Planes.{Family, IsFamily, IsPlace, IsInPlane};
+ghost use Rattle.plane_search.specs.Planes.{Family, IsFamily, IsPlace, IsInPlane, IsPlaneBound};
 
 use least_path::Ends;
 
@@ -56,6 +56,16 @@ pub trait Planes {
         requires place { place < (family self.now).places }
         ensures { IsLowerBound ((family self.now).plane track) (family self.now).exit place
             result };
+
+    /// A lower bound of the cost of any path in a track's plane. The plane with the least bound is
+    /// searched first, and those with a bound above the best path's cost are not searched at all. A
+    /// greater bound makes a search faster and changes no result.
+    fn bound(&self, track: usize) -> u64
+        requires { track < (family self.now).tracks }
+        ensures { IsPlaneBound (family self.now) track result }
+    {
+        0
+    }
 }
 
 /// Each path of the whole graph from a start to the goal is a path of one of its planes.

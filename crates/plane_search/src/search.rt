@@ -1,28 +1,27 @@
-//! A search that goes through the planes.
+//! A search of one plane at a time.
 ghost use Rattle.std.specs.Prelude.{◌≡◌, ◌+◌, ◌<◌, ◌≤◌, ◌^◌, ◌∷◌, ◌++◌, [], true, false, All, Some, None, Ok, IfOk, IfSome, IfNone, OnOk, MatchOption, map, length, if◌then◌else◌};
 ghost use Rattle.std.specs.Bool.{MatchBool};
 ghost use Rattle.std.specs.Ordering.{nat_cmp, ordering_then};
 ghost use Rattle.std.specs.Cmp.Lexicographic.{slice_cmp};
 ghost use Rattle.std.specs.declared.cmp.Ordering.TheVariants.{Less};
-ghost use Rattle.least_path.specs.LeastPath.{least_path, TellsLeastPath, HasNoPath};
 ghost use Rattle.plane_search.specs.Planes.{IsPlace};
-ghost use Rattle.plane_search.specs.Best.{IsKnown, IsBestSoFar, IsLeastIn, IsLeastOn, IsBypassCost, HasNoneWithin};
+ghost use Rattle.plane_search.specs.Best.{IsKnown, Improves, AreAmong, IsLeastIn, IsLeastOn, IsBypassCost, HasNoneWithin};
 
 use crate::bypass::Bypassed;
 use crate::planes::Planes;
-use crate::rivals::may_hold_less;
-use least_path::{Path, Search, least_path_law};
+use crate::rivals::list_rivals;
+use least_path::{Path, Search};
 use std::alloc::{AllocError, Global};
 use std::mem;
 
 /// The largest cost of a node.
 const MOST: u64 = 1 << 36;
 
-/// A search that reuses its memory from one search to the next.
+/// Searches one plane at a time, and reuses its memory from one to the next.
 #[derive(Drop)]
-pub struct PlaneSearch {
+pub(crate) struct TrackSearch {
     search: Search,
-    /// The starts of the plane that is searched.
+    /// The starts of the search of a plane.
     starts: Vec<usize>,
     /// The path that was found in it.
     found: Path,
@@ -63,47 +62,20 @@ fn is_less(path: &Path, other: &Path) -> bool
         || path.cost == other.cost && path.nodes.as_slice() < other.nodes.as_slice()
 }
 
-impl PlaneSearch {
+impl TrackSearch {
     /// A search without memory yet.
-    pub fn new(alloc: Global) -> Self {
+    pub(crate) fn new(alloc: Global) -> Self {
         let nodes = Vec::new(alloc);
-        PlaneSearch {
+        TrackSearch {
             search: Search::new(alloc),
             starts: Vec::new(alloc),
             found: Path { nodes, cost: 0 },
         }
     }
 
-    /// Replaces `path` by the least path, and returns whether there is one. If `is_known`, `path`
-    /// must be a path already: the closer it is to the least, the faster the search. Earlier
-    /// searches, also those that ran out of memory, don't change the result. If there is no path,
-    /// or memory runs out, the contents of `path` mean nothing.
-    pub fn least_into<P: Planes>(
-        &mut self,
-        planes: &P,
-        is_known: bool,
-        path: &mut Path,
-    ) -> Result<bool, AllocError>
-        requires { is_known ≡ true → IsKnown (P.family planes.now) path.old }
-        ensures found { result ≡ Ok true → TellsLeastPath (P.family planes.now).whole
-            (P.family planes.now).starts (P.family planes.now).goal path.new }
-        ensures none { result ≡ Ok false → HasNoPath (P.family planes.now).whole
-            (P.family planes.now).starts (P.family planes.now).goal }
-        ensures exact { IfOk result (λ found.
-            least_path (P.family planes.now).whole (P.family planes.now).starts
-            (P.family planes.now).goal ≡ (if found then Some path.new.nodes.items else None)) }
-    {
-        least_path_law();
-        let mut is_found = is_known;
-        for track in 0..planes.tracks() {
-            is_found = self.improve(planes, track, is_found, path)?;
-        }
-        Ok(is_found)
-    }
-
     /// Goes on with one more plane: replaces `path` by the least path of the plane if that is less,
     /// or if there is none so far.
-    fn improve<P: Planes>(
+    pub(crate) fn improve<P: Planes>(
         &mut self,
         planes: &P,
         track: usize,
@@ -111,14 +83,15 @@ impl PlaneSearch {
         path: &mut Path,
     ) -> Result<bool, AllocError>
         requires track { track < (P.family planes.now).tracks }
-        requires before { IsBestSoFar (P.family planes.now) track is_found path.old }
-        ensures { IfOk result (λ is_found.
-            IsBestSoFar (P.family planes.now) (track + 1) is_found path.new) }
+        requires known { is_found ≡ true → IsKnown (P.family planes.now) path.old }
+        ensures { IfOk result (λ now_found.
+            Improves (P.family planes.now) track is_found path.old now_found path.new) }
     {
         if !is_found {
             return self.begin(planes, track, path);
         }
-        if may_hold_less(planes, track, path) {
+        let _tracks = planes.tracks();
+        if planes.bound(track) <= path.cost {
             self.replace_known(planes, track, path)?;
         }
         Ok(true)
@@ -131,11 +104,12 @@ impl PlaneSearch {
         track: usize,
         path: &mut Path,
     ) -> Result<bool, AllocError>
-        requires track { track < (P.family planes.now).tracks }
-        requires before { IsBestSoFar (P.family planes.now) track false path.old }
+        requires { track < (P.family planes.now).tracks }
         ensures { IfOk result (λ is_found.
-            IsBestSoFar (P.family planes.now) (track + 1) is_found path.new) }
+            Improves (P.family planes.now) track false path.old is_found path.new) }
     {
+        self.starts.clear();
+        self.starts.extend_from_slice(planes.entries(track))?;
         if self.find_nodes(planes, track, None)? {
             mem::swap(path, &mut self.found);
             Ok(true)
@@ -152,11 +126,14 @@ impl PlaneSearch {
         path: &mut Path,
     ) -> Result<(), AllocError>
         requires track { track < (P.family planes.now).tracks }
-        requires before { IsBestSoFar (P.family planes.now) track true path.old }
-        ensures { OnOk result (IsBestSoFar (P.family planes.now) (track + 1) true path.new) }
+        requires known { IsKnown (P.family planes.now) path.old }
+        ensures { OnOk result (Improves (P.family planes.now) track true path.old true path.new) }
     {
-        let _tracks = planes.tracks();
-        if !self.find_nodes(planes, track, Some(path.cost))? {
+        let most = list_rivals(planes, track, path, &mut self.starts)?;
+        if self.starts.is_empty() {
+            return Ok(());
+        }
+        if !self.find_nodes(planes, track, Some(most))? {
             return Ok(());
         }
         if is_less(&self.found, path) {
@@ -165,7 +142,7 @@ impl PlaneSearch {
         Ok(())
     }
 
-    /// Finds the least path of a plane, by nodes of the whole graph. If `most` is given and no path
+    /// Finds the least path of a plane from the listed starts, by nodes of the whole graph. If `most` is given and no path
     /// costs at most that much, returns `false`.
     fn find_nodes<P: Planes>(
         &mut self,
@@ -173,9 +150,12 @@ impl PlaneSearch {
         track: usize,
         most: Option<u64>,
     ) -> Result<bool, AllocError>
-        requires { track < (P.family planes.now).tracks }
-        ensures found { result ≡ Ok true → IsLeastIn (P.family planes.now) track self.new.found }
-        ensures none { result ≡ Ok false → HasNoneWithin (P.family planes.now) track most }
+        requires track { track < (P.family planes.now).tracks }
+        requires among { AreAmong (P.family planes.now) track self.old.starts.items }
+        ensures found { result ≡ Ok true → IsLeastIn (P.family planes.now) track
+            self.old.starts.items self.new.found }
+        ensures none { result ≡ Ok false → HasNoneWithin (P.family planes.now) track
+            self.old.starts.items most }
     {
         let _tracks = planes.tracks();
         if !self.find(planes, track, most)? {
@@ -185,17 +165,20 @@ impl PlaneSearch {
         Ok(true)
     }
 
-    /// Finds the least path of a plane, by places. If `most` is given and no path costs at most
-    /// that much, returns `false`.
+    /// Finds the least path of a plane from the listed starts, by places. If `most` is given and no
+    /// path costs at most that much, returns `false`.
     fn find<P: Planes>(
         &mut self,
         planes: &P,
         track: usize,
         most: Option<u64>,
     ) -> Result<bool, AllocError>
-        requires { track < (P.family planes.now).tracks }
-        ensures found { result ≡ Ok true → IsLeastOn (P.family planes.now) track self.new.found }
-        ensures none { result ≡ Ok false → HasNoneWithin (P.family planes.now) track most }
+        requires track { track < (P.family planes.now).tracks }
+        requires among { AreAmong (P.family planes.now) track self.old.starts.items }
+        ensures found { result ≡ Ok true → IsLeastOn (P.family planes.now) track
+            self.old.starts.items self.new.found }
+        ensures none { result ≡ Ok false → HasNoneWithin (P.family planes.now) track
+            self.old.starts.items most }
     {
         let _tracks = planes.tracks();
         let last = planes.cost(track, planes.exit());
@@ -205,7 +188,8 @@ impl PlaneSearch {
         }
     }
 
-    /// Finds the least path of a plane among those that cost at most as much as the bypass.
+    /// Finds the least path of a plane from the listed starts, among those that cost at most as
+    /// much as the bypass.
     fn find_within<P: Planes>(
         &mut self,
         planes: &P,
@@ -215,20 +199,21 @@ impl PlaneSearch {
     ) -> Result<bool, AllocError>
         requires track { track < (P.family planes.now).tracks }
         requires over { IsBypassCost (P.family planes.now) track over most }
-        ensures found { result ≡ Ok true → IsLeastOn (P.family planes.now) track self.new.found }
-        ensures none { result ≡ Ok false → HasNoneWithin (P.family planes.now) track (Some most) }
+        requires among { AreAmong (P.family planes.now) track self.old.starts.items }
+        ensures found { result ≡ Ok true → IsLeastOn (P.family planes.now) track
+            self.old.starts.items self.new.found }
+        ensures none { result ≡ Ok false → HasNoneWithin (P.family planes.now) track
+            self.old.starts.items (Some most) }
     {
         let _tracks = planes.tracks();
         let places = planes.places();
-        self.starts.clear();
-        self.starts.extend_from_slice(planes.entries(track))?;
         self.starts.push(places)?;
         let roads = Bypassed {
             planes,
             track,
             places,
             over,
-            most: Some(most),
+            guess: most,
         };
         if !self
             .search
@@ -239,11 +224,14 @@ impl PlaneSearch {
         Ok(self.found.nodes[0] < places)
     }
 
-    /// Finds the least path of a plane.
+    /// Finds the least path of a plane from the listed starts.
     fn find_any<P: Planes>(&mut self, planes: &P, track: usize) -> Result<bool, AllocError>
-        requires { track < (P.family planes.now).tracks }
-        ensures found { result ≡ Ok true → IsLeastOn (P.family planes.now) track self.new.found }
-        ensures none { result ≡ Ok false → HasNoneWithin (P.family planes.now) track None }
+        requires track { track < (P.family planes.now).tracks }
+        requires among { AreAmong (P.family planes.now) track self.old.starts.items }
+        ensures found { result ≡ Ok true → IsLeastOn (P.family planes.now) track
+            self.old.starts.items self.new.found }
+        ensures none { result ≡ Ok false → HasNoneWithin (P.family planes.now) track
+            self.old.starts.items None }
     {
         let _tracks = planes.tracks();
         let roads = Bypassed {
@@ -251,13 +239,9 @@ impl PlaneSearch {
             track,
             places: planes.places(),
             over: 1,
-            most: None,
+            guess: planes.bound(track),
         };
-        self.search.least_into(
-            &roads,
-            planes.entries(track),
-            planes.exit(),
-            &mut self.found,
-        )
+        self.search
+            .least_into(&roads, &self.starts, planes.exit(), &mut self.found)
     }
 }

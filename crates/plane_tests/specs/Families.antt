@@ -1,0 +1,24 @@
+-- The graphs of the tests, as families of planes.
+use Rattle.std.specs.Prelude.{ℕ, ◌+◌, ◌*◌, true, None, List, map, take, drop, length, slice_index}
+use Rattle.least_path.specs.Graph.{Graph}
+use Rattle.plane_search.specs.Planes.{Family}
+
+-- two edges from each node
+abbrev pub pairs : List ℕ → List ℕ → Graph
+pairs ends costs = record { count = length costs; ends = λ i. map (λ end. end + 0) (take 2 (drop (2 * i) ends)); cost = λ i. slice_index costs i }
+
+-- a graph as its only plane
+abbrev pub one_plane : Graph → List ℕ → ℕ → Family
+one_plane g starts goal = record {
+  whole = g;
+  starts = starts;
+  goal = goal;
+  tracks = 1;
+  track_of = λ node. None;
+  places = g.count;
+  there = λ track place. true;
+  plane = λ track. g;
+  number = λ track place. place;
+  entries = λ track. starts;
+  exit = goal;
+}
