@@ -154,7 +154,7 @@ fn check_and_count(
     ensures used { IfOk result (λ fault. IfNone fault
         (AreUsedBy graph.now paths.now uses.old.items uses.new.items)) }
 {
-    let _count = graph.count();
+    graph.laws();
     if let Some(fault) = check_routed(graph, work, source, sinks, paths, numbers)? {
         return Ok(Some(fault));
     }

@@ -78,7 +78,7 @@ pub(crate) fn figures_of(
     ensures tracks { result.tracks ≡ window.now.arch.tracks }
     ensures iterations { result.iterations ≡ iterations }
 {
-    let _count = window.count();
+    window.laws();
     let strip = window.strip();
     let tracks = window.arch().tracks;
     Figures {

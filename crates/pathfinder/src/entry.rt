@@ -85,7 +85,7 @@ impl<G: StripGraph> Round<'_, G> {
             (tabled (wiring_of (G.basis self.now.graph.now)) self.now.iterations
             self.now.history.now held.now) result }
     {
-        let _count = self.graph.count();
+        self.graph.laws();
         let mut pins = PinPrices {
             least: MOST,
             top: MOST,
@@ -139,7 +139,7 @@ impl<G: StripGraph> Round<'_, G> {
             (tabled (wiring_of (G.basis self.now.graph.now)) self.now.iterations
             self.now.history.now held.now) pins lasts.items) }
     {
-        let _count = self.graph.count();
+        self.graph.laws();
         let (x, y) = (sink.x, sink.y);
         let above = self.graph.numbers_at(NodeKind::ChanX, x, y);
         let under = self

@@ -24,7 +24,7 @@ impl Routing {
         requires { IsAfter (wiring_of (G.basis graph.now)) self.now More }
         ensures { IsOveruse (G.basis graph.now) self.now.trees result }
     {
-        let _count = graph.count();
+        graph.laws();
         let held = self.held.as_slice();
         let counts = Counts { graph, held };
         Overuse {

@@ -31,7 +31,7 @@ pub(crate) fn rates_of<G: StripGraph>(
     requires { IsTable (wiring_of (G.basis graph.now)).count (2 ^ 20) history.now }
     ensures { IfOk result (λ rates. AreRates (G.basis graph.now) history.now rates.items) }
 {
-    let _count = graph.count();
+    graph.laws();
     let mut rates = Vec::new(alloc);
     rates.reserve(history.len())?;
     for node in 0..history.len() {

@@ -24,6 +24,7 @@ mod receipt;
 mod service;
 mod tenancy;
 mod texts;
+mod window_for;
 
 pub use device::Device;
 pub use device_book::Owned;
@@ -34,3 +35,4 @@ pub use op_refusal::OpRefusal;
 pub use put_reply::PutReply;
 pub use receipt::Receipt;
 pub use service::{MAX_ADMISSIONS, Service};
+pub use window_for::window_for;

@@ -9,7 +9,7 @@ ghost use Rattle.job_state.specs.JobValue.{basis_in};
 use crate::cores::{begins_packing, finishes, leads_to, new_core, new_graph, text};
 use fixtures::AND;
 use job_state::{AnyJob, Done};
-use service_core::{PutReply, Service};
+use service_core::{PutReply, Service, window_for};
 use std::alloc::Global;
 use strips::{DeviceGraph, Window};
 use tenant_slot::{Command, StateName, StepReply};
@@ -259,7 +259,7 @@ fn come_back(
 
 /// Makes the step of a job. If memory runs out the job is given back.
 fn stepped(core: &mut Service, graph: &DeviceGraph, job: AnyJob) -> Option<Done> {
-    match job.window(graph, 0) {
+    match window_for(&job, graph, 0) {
         Some(window) => made(core, job, &window),
         None => {
             core.give_back(job.into_back());

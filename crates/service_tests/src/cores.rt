@@ -8,7 +8,7 @@ use arch_file::{Arch, read_arch};
 use fixtures::ARCHITECTURE;
 use job_state::{AnyJob, Done};
 use line_text::Text;
-use service_core::{Device, PutReply, Receipt, Service};
+use service_core::{Device, PutReply, Receipt, Service, window_for};
 use std::alloc::Global;
 use strips::{DeviceGraph, Window};
 use tenant_slot::{Command, Reply, SharedText, StateName, StepReply};
@@ -127,7 +127,7 @@ pub(crate) fn step_at(
     offset: u32,
     job: AnyJob,
 ) -> Option<PutReply> {
-    match job.window(graph, offset) {
+    match window_for(&job, graph, offset) {
         Some(window) => step_through(core, job, &window),
         None => {
             core.give_back(job.into_back());

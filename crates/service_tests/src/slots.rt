@@ -9,6 +9,7 @@ use arch_file::SharedArch;
 use fixtures::AND;
 use grid::Strip;
 use job_state::{AnyJob, Done, JobKind, SharedText, Sources};
+use service_core::window_for;
 use std::alloc::Global;
 use strips::{DeviceGraph, Window};
 use tenant_slot::{Advance, Command, Reply, Slot, StateName, StepReply};
@@ -107,7 +108,7 @@ fn tells_its_step(slot: &mut Slot, graph: &DeviceGraph) -> bool {
 fn goes_round(slot: &mut Slot, graph: &DeviceGraph, job: AnyJob) -> bool
     requires { job.step.id ≡ slot.old.id }
 {
-    match job.window(graph, 0) {
+    match window_for(&job, graph, 0) {
         Some(window) => is_made(slot, &window, job),
         None => {
             slot.give_back(job.into_back());
@@ -153,7 +154,7 @@ fn puts(slot: &mut Slot, graph: &DeviceGraph, job: AnyJob) -> bool
     requires id { job.step.id ≡ slot.old.id }
     requires room { slot.old.state.entries < 65536 }
 {
-    match job.window(graph, 0) {
+    match window_for(&job, graph, 0) {
         Some(window) => puts_through(slot, &window, job),
         None => {
             slot.give_back(job.into_back());

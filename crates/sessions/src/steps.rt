@@ -7,7 +7,7 @@ ghost use Rattle.sessions.specs.Fitting.{own_graph};
 ghost use Rattle.sessions.specs.Steps.{MakesStep, StepsAndPuts, Waits};
 
 use job_state::AnyJob;
-use service_core::{PutReply, Service};
+use service_core::{PutReply, Service, window_for};
 use strips::{DeviceGraph, Window};
 use tenant_slot::{Origin, StepReply};
 
@@ -53,7 +53,7 @@ pub fn window_of<'g>(core: &Service, graph: &'g DeviceGraph, job: &AnyJob) -> Op
         IsSome result }
 {
     match core.offset(job.id()) {
-        Some(offset) => job.window(graph, offset),
+        Some(offset) => window_for(job, graph, offset),
         None => None,
     }
 }

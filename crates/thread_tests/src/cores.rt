@@ -9,7 +9,7 @@ use arch_file::{Arch, read_arch};
 use fixtures::{AND, ARCHITECTURE};
 use job_state::{AnyJob, Done};
 use line_text::Text;
-use service_core::Device;
+use service_core::{Device, window_for};
 use shared_core::{Begun, Core};
 use std::alloc::Global;
 use std::sync::ledger::{Blank, Ledger};
@@ -160,7 +160,7 @@ fn is_stepped<C: Begun, P: Ledger>(core: &mut Core<C, P>, graph: &DeviceGraph, i
 fn is_made<C: Begun, P: Ledger>(core: &mut Core<C, P>, graph: &DeviceGraph, job: AnyJob) -> bool
     requires { C.stay ≡ false }
 {
-    match job.window(graph, 0) {
+    match window_for(&job, graph, 0) {
         Some(window) => is_made_through(core, &window, job),
         None => {
             core.give_back(job.into_back());

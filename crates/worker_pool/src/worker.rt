@@ -9,6 +9,7 @@ use crate::lack::{Kept, Served, one_more, pause};
 use crate::turns::{Taken, give_back, put, take};
 use job_queue::{Law, Popped, Ready, Seat};
 use job_state::{AnyJob, Back, Done};
+use service_core::window_for;
 use shared_core::{Begun, Share, Shared};
 use std::sync::Wait;
 use std::sync::ledger::Ledger;
@@ -152,7 +153,7 @@ fn window_at<'g>(graph: &'g DeviceGraph, job: &AnyJob, offset: Option<u32>) -> O
     ensures { IfSome result (λ window. window ≡ basis_in job.now.step.sources) }
 {
     match offset {
-        Some(offset) => job.window(graph, offset),
+        Some(offset) => window_for(job, graph, offset),
         None => None,
     }
 }

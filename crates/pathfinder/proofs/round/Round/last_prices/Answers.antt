@@ -14,7 +14,7 @@ lowered-lasts-requires-clause-wires g c =
     let basis = g.G.StripGraph.basis c.args.self.now.graph.now in
     record {
       within = λ node from to.
-          let within = wires_within basis c.count-count.ensures.lawful ChanX refl c.args.sink.x c.args.sink.y c.numbers_at-above.result.first c.numbers_at-above.result.end c.numbers_at-above.ensures node from to in
+          let within = wires_within basis c.laws.ensures.lawful ChanX refl c.args.sink.x c.args.sink.y c.numbers_at-above.result.first c.numbers_at-above.result.end c.numbers_at-above.ensures node from to in
           (within.0, omega (arith, within.1, c.in_ok-lasts.ensures.len, ap (λ (arch : Arch). arch.tracks) c.arch.ensures));
       side = c.requires.ordered.top.1;
     }
@@ -24,7 +24,7 @@ lowered-lasts-requires-2-clause-wires g c =
     let basis = g.G.StripGraph.basis c.args.self.now.graph.now in
     record {
       within = λ node from to.
-          let within = wires_within basis c.count-count.ensures.lawful ChanX refl c.args.sink.x c.saturating_sub.result c.numbers_at-under.result.first c.numbers_at-under.result.end c.numbers_at-under.ensures node from to in
+          let within = wires_within basis c.laws.ensures.lawful ChanX refl c.args.sink.x c.saturating_sub.result c.numbers_at-under.result.first c.numbers_at-under.result.end c.numbers_at-under.ensures node from to in
           (within.0, omega (arith, within.1, c.in_ok-lasts.ensures.len, ap (λ (arch : Arch). arch.tracks) c.arch.ensures, c.lowered-lasts.ensures.long));
       side = c.requires.ordered.bottom.1;
     }
@@ -34,7 +34,7 @@ lowered-lasts-requires-3-clause-wires g c =
     let basis = g.G.StripGraph.basis c.args.self.now.graph.now in
     record {
       within = λ node from to.
-          let within = wires_within basis c.count-count.ensures.lawful ChanY refl c.args.sink.x c.args.sink.y c.numbers_at-after.result.first c.numbers_at-after.result.end c.numbers_at-after.ensures node from to in
+          let within = wires_within basis c.laws.ensures.lawful ChanY refl c.args.sink.x c.args.sink.y c.numbers_at-after.result.first c.numbers_at-after.result.end c.numbers_at-after.ensures node from to in
           (within.0, omega (arith, within.1, c.in_ok-lasts.ensures.len, ap (λ (arch : Arch). arch.tracks) c.arch.ensures, c.lowered-lasts-2.ensures.long, c.lowered-lasts.ensures.long));
       side = c.requires.ordered.right.1;
     }
@@ -44,7 +44,7 @@ lowered-requires-clause-wires g c =
     let basis = g.G.StripGraph.basis c.args.self.now.graph.now in
     record {
       within = λ node from to.
-          let within = wires_within basis c.count-count.ensures.lawful ChanY refl c.saturating_sub-2.result c.args.sink.y c.numbers_at-before.result.first c.numbers_at-before.result.end c.numbers_at-before.ensures node from to in
+          let within = wires_within basis c.laws.ensures.lawful ChanY refl c.saturating_sub-2.result c.args.sink.y c.numbers_at-before.result.first c.numbers_at-before.result.end c.numbers_at-before.ensures node from to in
           (within.0, omega (arith, within.1, c.in_ok-lasts.ensures.len, ap (λ (arch : Arch). arch.tracks) c.arch.ensures, c.lowered-lasts-3.ensures.long, c.lowered-lasts-2.ensures.long, c.lowered-lasts.ensures.long));
       side = c.requires.ordered.left.1;
     }
@@ -73,7 +73,7 @@ returns-clause-low g c =
     let under = subst (λ y. AreNumbersAt (graph_of basis) ChanX sink.x y c.numbers_at-under.result.first c.numbers_at-under.result.end) c.saturating_sub.ensures c.numbers_at-under.ensures in
     let before = subst (λ x. AreNumbersAt (graph_of basis) ChanY x sink.y c.numbers_at-before.result.first c.numbers_at-before.result.end) c.saturating_sub-2.ensures c.numbers_at-before.ensures in
     let tracks : length c.in_ok-lasts.lasts.items ≡ basis.arch.tracks = omega (arith, c.in_ok-lasts.ensures.len, ap (λ (arch : Arch). arch.tracks) c.arch.ensures) in
-    are_lasts basis c.count-count.ensures.lawful at_prices refl sink pins
+    are_lasts basis c.laws.ensures.lawful at_prices refl sink pins
     c.numbers_at-above.result.first c.numbers_at-above.result.end c.numbers_at-under.result.first c.numbers_at-under.result.end c.numbers_at-after.result.first c.numbers_at-after.result.end c.numbers_at-before.result.first c.numbers_at-before.result.end
     c.numbers_at-above.ensures under c.numbers_at-after.ensures before
     c.in_ok-lasts.lasts.items c.lowered-lasts.result.items c.lowered-lasts-2.result.items c.lowered-lasts-3.result.items c.lowered.result.items
