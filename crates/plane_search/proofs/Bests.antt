@@ -46,6 +46,18 @@ module _ (f : Family) (track : ℕ) where
   pub none_yet : (old path : Path) → HasNoneWithin f track (f.entries track) None → Improves f track false old false path
   none_yet old path here done none = and_here (λ k. HoldsNone f k) done none here
 
+  -- the same from starts among which are all entries
+  module _ (starts : List ℕ) (all : (entry : ℕ) → Contains (f.entries track) entry → Contains starts entry) where
+    from_all : (path : List ℕ) → IsPath (f.plane track) (f.entries track) f.exit path → IsPath (f.plane track) starts f.exit path
+    from_all [] p = p
+    from_all (x ∷ xs) p = (all x p.0, p.1)
+
+    pub first_of_all : (old path : Path) → IsLeastIn f track starts path → Improves f track false old true path
+    first_of_all old path least = first_best old path (record { known = least.known; least = λ q o. least.least q (from_all q o) })
+
+    pub none_of_them : (old path : Path) → HasNoneWithin f track starts None → Improves f track false old false path
+    none_of_them old path here = none_yet old path (λ q o. here q (from_all q o))
+
   pub stays_best : (path : Path) → HoldsNothingLess f track path.nodes.items → Improves f track true path true path
   stays_best path here done best = (best.0, and_here (λ k. HoldsNothingLess f k path.nodes.items) done best.1 here)
 

@@ -8,7 +8,7 @@ use Rattle.least_path.specs.Path.{IsPath, cost_of}
 use Rattle.least_path.specs.LeastPath.{IsLeastPath, TellsLeastPath, HasNoPath, least_path}
 use Rattle.least_path.specs.declared.path.Path.{Path}
 use Rattle.plane_search.specs.Planes.{Family, IsPlane, IsFamily}
-use Rattle.plane_search.specs.Bypass.{bypassed}
+use Rattle.plane_search.specs.Bypass.{bypassed_graph}
 use Rattle.plane_search.specs.Best.{AreAmong, IsKnown, IsLeastOn, IsBestSoFar}
 use Rattle.plane_search.proofs.Members.{Contains-first}
 use Rattle.plane_search.proofs.Detour.{AreStartsOf, least_out, cost_out_of, path_in, none_within}
@@ -29,19 +29,19 @@ module _ {f : Family} {track : ℕ} (plane : IsPlane f track) (places exit over 
   there : f.exit < places
   there = omega (arith, plane.exit_there.within, same)
 
-  at_exit : (path : List ℕ) → IsLeastPath (bypassed (f.plane track) places f.exit over) starts exit path → IsLeastPath (bypassed (f.plane track) places f.exit over) starts f.exit path
-  at_exit path i = subst (λ (to : ℕ). IsLeastPath (bypassed (f.plane track) places f.exit over) starts to path) goal i
+  at_exit : (path : List ℕ) → IsLeastPath (bypassed_graph (f.plane track) places f.exit over) starts exit path → IsLeastPath (bypassed_graph (f.plane track) places f.exit over) starts f.exit path
+  at_exit path i = subst (λ (to : ℕ). IsLeastPath (bypassed_graph (f.plane track) places f.exit over) starts to path) goal i
 
-  pub found_on : (path : Path) → TellsLeastPath (bypassed (f.plane track) places f.exit over) starts exit path → get_or path.nodes.items 0 0 < places → IsLeastOn f track entries path
+  pub found_on : (path : Path) → TellsLeastPath (bypassed_graph (f.plane track) places f.exit over) starts exit path → get_or path.nodes.items 0 0 < places → IsLeastOn f track entries path
   found_on path t l = record {
     least = least_out plane.lawful counted there own over path.nodes.items (at_exit path.nodes.items t.least) l;
     cost = t.cost ∙ cost_out_of plane.lawful counted there own over path.nodes.items (at_exit path.nodes.items t.least) l;
   }
 
-  pub none_on : HasNoPath (bypassed (f.plane track) places f.exit over) starts exit → (path : List ℕ) → IsPath (f.plane track) entries f.exit path → ⊥
-  none_on none path p = none path (subst (λ (to : ℕ). IsPath (bypassed (f.plane track) places f.exit over) starts to path) (sym goal) (path_in plane.lawful counted there own over path p))
+  pub none_on : HasNoPath (bypassed_graph (f.plane track) places f.exit over) starts exit → (path : List ℕ) → IsPath (f.plane track) entries f.exit path → ⊥
+  none_on none path p = none path (subst (λ (to : ℕ). IsPath (bypassed_graph (f.plane track) places f.exit over) starts to path) (sym goal) (path_in plane.lawful counted there own over path p))
 
-  pub beyond_on : (path : Path) → TellsLeastPath (bypassed (f.plane track) places f.exit over) starts exit path → places ≤ get_or path.nodes.items 0 0 → ((x : ℕ) → Contains starts x → places ≤ x → x ≡ places)
+  pub beyond_on : (path : Path) → TellsLeastPath (bypassed_graph (f.plane track) places f.exit over) starts exit path → places ≤ get_or path.nodes.items 0 0 → ((x : ℕ) → Contains starts x → places ≤ x → x ≡ places)
       → (other : List ℕ) → IsPath (f.plane track) entries f.exit other → over + (f.plane track).cost f.exit < cost_of (f.plane track) other
   beyond_on path t l beyond other o = none_within plane.lawful counted there own over beyond path.nodes.items (at_exit path.nodes.items t.least) l other o
 

@@ -10,3 +10,6 @@ mod Bests
 mod Rankings
 mod Founds
 mod Tests
+mod Marking
+mod Walking
+mod Starting

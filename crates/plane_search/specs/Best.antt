@@ -5,6 +5,7 @@ use Rattle.std.specs.Cmp.Lexicographic.{slice_cmp}
 use Rattle.std.specs.declared.cmp.Ordering.TheVariants.{Less}
 use Rattle.least_path.specs.Path.{Leads, IsPath, cost_of, path_cmp}
 use Rattle.least_path.specs.LeastPath.{IsLeastPath}
+use Rattle.least_path.specs.LowerBound.{IsLowerBound}
 use Rattle.least_path.specs.declared.path.Path.{Path}
 use Rattle.plane_search.specs.Planes.{Family, IsPlace}
 use Rattle.plane_search.specs.declared.rivals.NextStep.{NextStep}
@@ -65,6 +66,11 @@ IsBeyond (Some most) cost = most < cost
 -- each path in the track's plane from these starts costs more than the limit
 abbrev pub HasNoneWithin : Family → ℕ → List ℕ → Option ℕ → Type 0
 HasNoneWithin f track starts most = (path : List ℕ) → IsPath (f.plane track) starts f.exit path → IsBeyond most (cost_of (f.plane track) path)
+
+-- each path in the track's plane from these starts costs at least the bound; `None` means that
+-- there is no path
+abbrev pub AreBounded : Family → ℕ → List ℕ → Option ℕ → Type 0
+AreBounded f track starts bound = (start : ℕ) → Contains starts start → IsLowerBound (f.plane track) f.exit start bound
 
 -- ---- rivals of a path
 

@@ -1,6 +1,6 @@
 use Rattle.std.proofs.Common.{ℕ, ◌+◌, ◌<◌, List, sym, subst}
 use Rattle.std.specs.List.{All, Contains}
-use Rattle.plane_search.specs.Bypass.{bypassed}
+use Rattle.plane_search.specs.Bypass.{bypassed_graph}
 use Rattle.plane_search.proofs.Detour.{AreStartsOf, own_starts}
 use Rattle.plane_search.proofs.Founds.{starts_below, starts_within, first_in, found_on, none_on}
 use Rattle.plane_search.proofs.search.TrackSearch.find_any.Goals as goal
@@ -21,7 +21,7 @@ returns-clause-found g c =
     λ e.
     let t = c.least_into.ensures.found e in
     found_on plane c.places.result c.exit.result 1 entries c.deref.result.now c.places.ensures c.exit.ensures own c.least_into.new.path t
-    (first_in (bypassed (f.plane c.args.track) c.places.result f.exit 1) c.deref.result.now c.exit.result c.places.result c.least_into.new.path.nodes.items t.least.found all_below)
+    (first_in (bypassed_graph (f.plane c.args.track) c.places.result f.exit 1) c.deref.result.now c.exit.result c.places.result c.least_into.new.path.nodes.items t.least.found all_below)
 
 pub returns-clause-none : goal.returns-clause-none
 returns-clause-none g c =

@@ -2,7 +2,7 @@ use Rattle.std.proofs.Common.{◌≡◌, ℕ, ◌+◌, ◌<◌, ◌≤◌, true,
 use Rattle.std.specs.List.{All, Contains}
 use Rattle.std.proofs.lemmas.List.{get_or_default}
 use borrow.Author.Tests.{ltb-true, ltb-false}
-use Rattle.plane_search.specs.Bypass.{bypassed}
+use Rattle.plane_search.specs.Bypass.{bypassed_graph}
 use Rattle.plane_search.proofs.Detour.{AreStartsOf, more_starts, only_beyond}
 use Rattle.plane_search.proofs.Founds.{starts_below, more_within, some_first, found_on, none_on, beyond_on}
 use Rattle.plane_search.proofs.search.TrackSearch.find_within.Goals as goal
@@ -38,7 +38,7 @@ returns-clause-found g c =
     let own = subst (λ (xs : List ℕ). AreStartsOf places entries xs) (sym starts) (more_starts places entries below) in
     let t = c.in_ok-least_into.ensures.found cc in
     let nodes = c.least_into.new.path.nodes.items in
-    let at : c.index.result.now ≡ get_or nodes 0 0 = c.index.ensures ∙ get_or_default nodes 0 c.index.result.now 0 (some_first (bypassed (f.plane c.args.track) places f.exit c.args.over) c.deref.result.now c.exit.result nodes t.least.found) in
+    let at : c.index.result.now ≡ get_or nodes 0 0 = c.index.ensures ∙ get_or_default nodes 0 c.index.result.now 0 (some_first (bypassed_graph (f.plane c.args.track) places f.exit c.args.over) c.deref.result.now c.exit.result nodes t.least.found) in
     λ e.
     let is : ltb c.index.result.now places ≡ true = cc in
     let low : get_or nodes 0 0 < places = omega (arith, at, ltb-true c.index.result.now places is) in
@@ -56,7 +56,7 @@ returns-clause-none g c =
     let beyond = subst (λ (xs : List ℕ). (x : ℕ) → Contains xs x → places ≤ x → x ≡ places) (sym starts) (only_beyond places entries below) in
     let t = c.in_ok-least_into.ensures.found cc in
     let nodes = c.least_into.new.path.nodes.items in
-    let at : c.index.result.now ≡ get_or nodes 0 0 = c.index.ensures ∙ get_or_default nodes 0 c.index.result.now 0 (some_first (bypassed (f.plane c.args.track) places f.exit c.args.over) c.deref.result.now c.exit.result nodes t.least.found) in
+    let at : c.index.result.now ≡ get_or nodes 0 0 = c.index.ensures ∙ get_or_default nodes 0 c.index.result.now 0 (some_first (bypassed_graph (f.plane c.args.track) places f.exit c.args.over) c.deref.result.now c.exit.result nodes t.least.found) in
     λ e path p.
     let is : ltb c.index.result.now places ≡ false = cc in
     let high : places ≤ get_or nodes 0 0 = omega (arith, at, ltb-false c.index.result.now places is) in

@@ -1,0 +1,106 @@
+-- Walks from one start after another, and what they find.
+use Rattle.std.proofs.Common.{◌≡◌, ◌≢◌, ℕ, ◌+◌, ◌^◌, ◌<◌, ◌≤◌, List, [], ◌∷◌, length, map, get_or, arith, ◌∙◌, inl, inr, sym, subst, Some}
+use Rattle.std.specs.List.{sum_by, All, Contains}
+use Rattle.std.specs.List.Sorted.{IsNonDecreasing, IsPermutation}
+use Rattle.std.specs.Ordering.{nat_cmp}
+use Rattle.std.specs.Cmp.Lexicographic.{slice_cmp}
+use Rattle.std.specs.declared.cmp.Ordering.TheVariants.{Less}
+use Rattle.std.proofs.lemmas.Bool.{cases_lt}
+use Rattle.std.proofs.lemmas.List.Elements.{Contains-get_or}
+use Rattle.std.proofs.lemmas.List.Sorted.{Contains-permutation, IsPermutation-sym}
+use Rattle.least_path.specs.Graph.{Graph}
+use Rattle.least_path.specs.Path.{Leads, IsPath, cost_of, path_cmp}
+use Rattle.least_path.specs.LeastPath.{IsLeastPath}
+use Rattle.plane_search.specs.Planes.{Family, IsPlane, IsPlaneBound}
+use Rattle.plane_search.specs.Best.{AreAmong, AreBounded, AreRivals}
+use Rattle.plane_search.specs.Walk.{CostsMore, AreNoCheaper, IsBetween, IsLeastFrom}
+use Rattle.plane_search.proofs.Members.{Contains-first, only_contained, at_index, listed_end, below_next}
+use Rattle.plane_search.proofs.Order.{not_less_then, cmp_equal}
+
+-- Lesser ends are ends of earlier edges.
+pub rising_ends : (xs list : List ℕ) (base e : ℕ) → map (λ end. end + base) list ≡ xs → IsNonDecreasing list → length xs ≤ length list → e < length list → (k : ℕ) → k < length xs → get_or xs k 0 < get_or xs e 0 → k < e
+rising_ends xs list base e is rises len l k b less = elim (cases_lt k e) [
+  | inl m ↦ m
+  | inr m ↦
+      (let low = listed_end xs list base e is l in
+      let high = listed_end xs list base k is (omega (arith, b, len)) in
+      absurd (omega (arith, less, low.1, high.1, rises e k 0 m (omega (arith, b, len)))))
+]
+
+-- no place was entered yet
+pub nothing_entered : (g : Graph) (goal best : ℕ) (costs : List ℕ) → g.count ≤ length costs → All (λ cost. 2 ^ 16 ≤ cost) costs → IsBetween g goal best costs
+nothing_entered g goal best costs room all = record {
+  room = room;
+  least = λ node b small. absurd (omega (arith, small, all node 0 (omega (arith, b, room))));
+  done = λ node b small. absurd (omega (arith, small, all node 0 (omega (arith, b, room))));
+}
+
+-- Over the first starts the goal is dearer than the best.
+abbrev pub AreDearStarts : Graph → ℕ → ℕ → List ℕ → ℕ → Type 0
+AreDearStarts g goal best starts count = (k : ℕ) → k < count → CostsMore g goal best (get_or starts k 0) 0
+
+pub one_dearer : (g : Graph) (goal best : ℕ) (starts : List ℕ) (count : ℕ) → AreDearStarts g goal best starts count → CostsMore g goal best (get_or starts count 0) 0 → AreDearStarts g goal best starts (count + 1)
+one_dearer g goal best starts count before here = below_next (λ (k : ℕ). CostsMore g goal best (get_or starts k 0) 0) count before here
+
+pub all_dear : (g : Graph) (goal best : ℕ) (starts : List ℕ) (count : ℕ) → length starts ≤ count → AreDearStarts g goal best starts count → (start : ℕ) → Contains starts start → CostsMore g goal best start 0
+all_dear g goal best starts count all before start c =
+    let at = at_index starts start c in
+    subst (λ (x : ℕ). CostsMore g goal best x 0) at.2 (before at.0 (omega (arith, at.1, all)))
+
+-- The first path that is complete is the least of all.
+pub least_of_starts : (g : Graph) (goal best : ℕ) (starts : List ℕ) (count : ℕ) (path : List ℕ) → count < length starts → IsNonDecreasing starts → AreNoCheaper g goal best starts → AreDearStarts g goal best starts count
+    → IsLeastFrom g goal best (get_or starts count 0) path → IsLeastPath g starts goal path
+least_of_starts g goal best starts count path l rises cheap before from = record { found = found path from.is_path; least = least path from }
+  where
+    start : ℕ
+    start = get_or starts count 0
+
+    found : (p : List ℕ) → IsPath g (start ∷ []) goal p → IsPath g starts goal p
+    found [] p = absurd p
+    found (x ∷ xs) p = (subst (λ (v : ℕ). Contains starts v) (sym (only_contained start x p.0)) (Contains-get_or starts count 0 l), p.1)
+
+    -- a path from another start that costs the same
+    after : (y : ℕ) (q : List ℕ) (p : List ℕ) → IsLeastFrom g goal best start p → Contains starts y → Leads g goal y q → sum_by g.cost q ≡ best → slice_cmp nat_cmp (y ∷ q) p ≢ Less
+    after y q [] i c leads sum = absurd i.is_path
+    after y q (x ∷ xs) i c leads sum =
+        let first : x ≡ start = only_contained start x i.is_path.0 in
+        let at = at_index starts y c in
+        elim (cases_lt at.0 count) [
+          | inl low ↦ absurd (omega (arith, sum, subst (λ (v : ℕ). CostsMore g goal best v 0) at.2 (before at.0 low) q leads))
+          | inr high ↦
+              (let le : start ≤ y = omega (arith, rises count at.0 0 high at.1, at.2) in
+              not_less_then y x (slice_cmp nat_cmp q xs) (omega (arith, le, first))
+              (λ e.
+              let own : IsPath g (start ∷ []) goal (y ∷ q) = (subst (λ (v : ℕ). Contains (start ∷ []) v) (sym (e ∙ first)) (Contains-first start []), leads) in
+              not_after y x q xs e (i.least (y ∷ q) own sum)))
+        ]
+      where
+        not_after : (y x : ℕ) (q xs : List ℕ) → y ≡ x → slice_cmp nat_cmp (y ∷ q) (x ∷ xs) ≢ Less → slice_cmp nat_cmp q xs ≢ Less
+        not_after y x q xs e h less = h (rw (cmp_equal y x e) less)
+
+    least : (p : List ℕ) → IsLeastFrom g goal best start p → (other : List ℕ) → IsPath g starts goal other → path_cmp g other p ≢ Less
+    least p i [] o = absurd o
+    least p i (y ∷ q) o =
+        not_less_then (sum_by g.cost q) (cost_of g p) (slice_cmp nat_cmp (y ∷ q) p) (omega (arith, i.cost, cheap y o.0 q o.1))
+        (λ same. after y q p i o.0 o.1 (same ∙ i.cost))
+
+-- ---- starts in another order
+
+pub unsorted : (xs ys : List ℕ) → IsPermutation xs ys → (x : ℕ) → Contains ys x → Contains xs x
+unsorted xs ys same x c = Contains-permutation ys xs x (IsPermutation-sym xs ys same) c
+
+pub sorted_rivals : (f : Family) (track : ℕ) (best xs ys : List ℕ) (most : ℕ) → IsPermutation xs ys → AreRivals f track best xs most → AreRivals f track best ys most
+sorted_rivals f track best xs ys most same are = record {
+  among = λ x c. are.among x (unsorted xs ys same x c);
+  limit = λ x c. are.limit x (unsorted xs ys same x c);
+  only = λ x c. elim (are.only x c) [ inl d ↦ inl (Contains-permutation xs ys x same d) | inr h ↦ inr h ];
+}
+
+-- the plane's nodes
+pub among_nodes : {f : Family} {track : ℕ} → IsPlane f track → (starts : List ℕ) → AreAmong f track starts → All (λ (x : ℕ). x < (f.plane track).count) starts
+among_nodes plane starts among k d l = omega (arith, plane.count, (plane.entries_there (get_or starts k d) (among (get_or starts k d) (Contains-get_or starts k d l))).within)
+
+-- ---- the bounds of the starts
+
+pub plane_bounded : (f : Family) (track : ℕ) (starts : List ℕ) (bound : ℕ) → AreAmong f track starts → IsPlaneBound f track bound → AreBounded f track starts (Some bound)
+plane_bounded f track starts bound among h start c rest leads = h (start ∷ rest) (among start c, leads)
