@@ -8,7 +8,7 @@ use Rattle.rr_graph.specs.declared.resource.Resource.{Resource}
 use Rattle.rr_graph.specs.declared.resource.ResourceKind.{ResourceKind}
 use Rattle.rr_graph.specs.declared.resource.ResourceKind.TheVariants.{Opin, Ipin, ChanX, ChanY, Pad}
 use Rattle.rr_graph.specs.Resources.{IsEarlier, resource_rank}
-use Rattle.device_lines.specs.declared.device.Owned.{Owned}
+use Rattle.device_lines.specs.declared.device.OwnedResource.{OwnedResource}
 use Rattle.device_lines.specs.declared.tenancy.Tenancy.{Tenancy}
 use Rattle.device_lines.specs.Lines.{listed_of, owned_node}
 use Rattle.device_lines.specs.Owning.{IsInStrip, IsOwners}
@@ -46,7 +46,7 @@ strip_is node t is = by (nat_lt t.offset node.x && nat_le node.x (t.offset + t.w
         let same : node.x ≡ t.offset = eqb-true node.x t.offset parts.1 in
         (omega (arith, same), omega (arith, same), λ at. chan_y node.kind parts.0)
 
-owner_is : (ts : List Tenancy) (one : Owned) → is_owners (map listed_of ts) (owned_node one) ≡ true → IsOwners ts one
+owner_is : (ts : List Tenancy) (one : OwnedResource) → is_owners (map listed_of ts) (owned_node one) ≡ true → IsOwners ts one
 owner_is [] one is = absurd (false≢true is)
 owner_is (t ∷ ts) one is = by (eqb t.id one.owner) refl is (owner_is ts one)
   where
@@ -56,7 +56,7 @@ owner_is (t ∷ ts) one is = by (eqb t.id one.owner) refl is (owner_is ts one)
         let found = more rest in
         (found.0, ((suc found.1.0.0, omega (arith, found.1.0.1), found.1.0.2), found.1.1, found.1.2))
 
-pub owners_are : (ts : List Tenancy) (ones : List Owned) → None ≡ position (λ one. not (is_owners (map listed_of ts) (owned_node one))) ones → All (IsOwners ts) ones
+pub owners_are : (ts : List Tenancy) (ones : List OwnedResource) → None ≡ position (λ one. not (is_owners (map listed_of ts) (owned_node one))) ones → All (IsOwners ts) ones
 owners_are ts ones none = λ k d inside. owner_is ts (get_or ones k d) (back (is_owners (map listed_of ts) (owned_node (get_or ones k d))) (none_passes (λ one. not (is_owners (map listed_of ts) (owned_node one))) ones none k d inside))
   where
     back : (b : Bool) → not b ≡ false → b ≡ true
@@ -64,7 +64,7 @@ owners_are ts ones none = λ k d inside. owner_is ts (get_or ones k d) (back (is
     back false e = absurd (false≢true (sym e))
 
 -- the owner's strip, by the tenancy that is found
-pub owner_found : (ts : List Tenancy) (one : Owned) (found : Option Tenancy) → found ≡ find (λ t. t.id == one.owner) ts → option_map_or (is_in_strip one.node) (option_map listed_of found) false ≡ is_owners (map listed_of ts) (owned_node one)
+pub owner_found : (ts : List Tenancy) (one : OwnedResource) (found : Option Tenancy) → found ≡ find (λ t. t.id == one.owner) ts → option_map_or (is_in_strip one.node) (option_map listed_of found) false ≡ is_owners (map listed_of ts) (owned_node one)
 owner_found ts one found is = ap (λ o. option_map_or (is_in_strip one.node) o false) (ap (option_map listed_of) is ∙ sym (find_mapped (λ l. l.id == one.owner) listed_of ts))
 
 pub found_some : (ts : List Tenancy) (id : ℕ) (found : Option Tenancy) → found ≡ find (λ t. t.id == id) ts → is_some found ≡ is_some (find (λ l. l.id == id) (map listed_of ts))

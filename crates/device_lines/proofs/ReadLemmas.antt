@@ -7,11 +7,10 @@ use Rattle.std.proofs.lemmas.List.{take_all}
 use Rattle.std.proofs.lemmas.List.Splits.{slice_split_first, slice_split_none}
 use Rattle.std.proofs.lemmas.List.Sums.{fails_before_first}
 use Rattle.std.proofs.lemmas.Option.{cond_some}
+use Rattle.device_lines.specs.declared.fault.DeviceFault.{DeviceFault}
 use Rattle.device_lines.specs.declared.fault.InputFault.{InputFault}
-use Rattle.device_lines.specs.declared.fault.ReadError.{ReadError}
-use Rattle.device_lines.specs.declared.fault.ReadError.TheVariants.{NoMemory, Fault as AtLine}
-use Rattle.device_lines.specs.declared.reader.Refusal.{Refusal}
-use Rattle.device_lines.specs.declared.reader.Refusal.TheVariants.{NoMemory as RefusedNoMemory, Fault as RefusedFault}
+use Rattle.line_text.specs.declared.text_error.TextError.{TextError}
+use Rattle.line_text.specs.declared.text_error.TextError.TheVariants.{NoMemory, Fault}
 use Rattle.device_lines.specs.Reading.{IsError, is_feed, lines_of, IsStep, Seen, after_line, end_of, error_at, line_read, lines_read, plus}
 
 -- a line before others
@@ -19,11 +18,11 @@ pub line_first : (seen next : Seen) (number n : ℕ) (line : List ℕ) (lines : 
 unfolding lines_read
 line_first seen next number n line lines at is = ap (λ k. after_line (lines_read lines) k (line_read seen line k)) (sym at) ∙ ap (after_line (lines_read lines) n) is
 
-pub line_refused : (seen new : Seen) (number n : ℕ) (line : List ℕ) (lines : List (List ℕ)) (refusal : Refusal) → n ≡ plus number 1 → IsStep (line_read seen line n) new (Err refusal) →
+pub line_refused : (seen new : Seen) (number n : ℕ) (line : List ℕ) (lines : List (List ℕ)) (refusal : TextError DeviceFault) → n ≡ plus number 1 → IsStep (line_read seen line n) new (Err refusal) →
     IsError (lines_read (line ∷ lines) seen number) (error_at n refusal)
 unfolding lines_read
-line_refused seen new number n line lines RefusedNoMemory at is = tt
-line_refused seen new number n line lines (RefusedFault fault) at is = ap (λ k. after_line (lines_read lines) k (line_read seen line k)) (sym at) ∙ ap (after_line (lines_read lines) n) is
+line_refused seen new number n line lines NoMemory at is = tt
+line_refused seen new number n line lines (Fault fault) at is = ap (λ k. after_line (lines_read lines) k (line_read seen line k)) (sym at) ∙ ap (after_line (lines_read lines) n) is
 
 -- without lines
 pub none_left : (seen : Seen) (number : ℕ) → lines_read [] seen number ≡ Ok (seen, number)
@@ -34,9 +33,9 @@ abbrev pub rest_size : Option (List ℕ) → ℕ
 rest_size None = 0
 rest_size (Some rest) = length rest + 1
 
-pub lines_refused : (meant : Result (Seen × ℕ) InputFault) (error : ReadError) → IsError meant error → IsError (end_of meant) error
+pub lines_refused : (meant : Result (Seen × ℕ) InputFault) (error : TextError InputFault) → IsError meant error → IsError (end_of meant) error
 lines_refused meant NoMemory is = tt
-lines_refused meant (AtLine fault) is = ap end_of is
+lines_refused meant (Fault fault) is = ap end_of is
 
 -- the first line of a text
 pub split_first : (text : List ℕ) (end : ℕ) → Some end ≡ position is_feed text → lines_of text ≡ take end text ∷ lines_of (take (length text - (end + 1)) (drop (end + 1) text))

@@ -3,13 +3,14 @@ use Rattle.std.proofs.Common.{◌≡◌, ℕ, List, [], ◌∷◌, ◌++◌, Boo
 use Rattle.std.specs.Prelude.{◌&&◌, is_some, option_map}
 use Rattle.std.specs.List.{list_all}
 use Rattle.std.specs.Option.{option_or}
-use Rattle.device_lines.specs.declared.fault.Fault.TheVariants.{NotParted, OutOfOrder, UnknownLine}
+use Rattle.device_lines.specs.declared.fault.DeviceFault.TheVariants.{NotParted, OutOfOrder, UnknownLine}
+use Rattle.device_lines.specs.declared.fault.DeviceFault.{DeviceFault}
 use Rattle.device_lines.specs.declared.fault.InputFault.{InputFault}
 use Rattle.device_lines.specs.declared.reader.Place.TheVariants.{Behind}
-use Rattle.device_lines.specs.declared.reader.Refusal.{Refusal}
+use Rattle.line_text.specs.declared.text_error.TextError.{TextError}
 use Rattle.device_lines.specs.declared.size.DeviceSize.{DeviceSize}
 use Rattle.device_lines.specs.Lines.{Listed, OwnedNode, begins_with_digit, change_in, is_name, is_on_device, is_silent, is_state, listed_in, listed_on, owner_count}
-use Rattle.device_lines.specs.Reading.{IsStep, Seen, Step, are_parted, begun, first_foreign, follows, foreign, last_fault, last_of, list_line, missing, other_line, reply_line, with_change, with_owned}
+use Rattle.device_lines.specs.Reading.{IsStep, Seen, Step, are_parted, seen_in_list, first_foreign, follows, owner_fault, last_fault, last_of, list_line, missing_part, other_line, reply_line, with_change, with_owned}
 use Rattle.device_lines.specs.Words.{after_text}
 
 -- a tenancy's values
@@ -29,17 +30,17 @@ pub is_shown : (size : DeviceSize) (one : Listed) → true ≡ is_name one.name 
 is_shown size one e f g = values size one true true true e f g
 
 -- a line of a list
-parted_as : (seen mid : Seen) (one : Listed) (o : Option Listed) (b : Bool) → Some one ≡ o → mid ≡ begun seen one.id → b ≡ list_all (λ other. are_parted other one) mid.listed →
+parted_as : (seen mid : Seen) (one : Listed) (o : Option Listed) (b : Bool) → Some one ≡ o → mid ≡ seen_in_list seen one.id → b ≡ list_all (λ other. are_parted other one) mid.listed →
     list_line seen o ≡ cond b (Ok (record mid { listed = mid.listed ++ one ∷ [] })) (Err NotParted)
 parted_as seen mid one o b is begins test =
     ap (list_line seen) (sym is)
     ∙ ap (λ (s : Seen). cond (list_all (λ other. are_parted other one) s.listed) (Ok (record s { listed = s.listed ++ one ∷ [] })) (Err NotParted)) (sym begins)
     ∙ ap (λ t. cond t (Ok (record mid { listed = mid.listed ++ one ∷ [] })) (Err NotParted)) (sym test)
 
-pub is_refused : (seen mid : Seen) (one : Listed) (o : Option Listed) → Some one ≡ o → mid ≡ begun seen one.id → false ≡ list_all (λ other. are_parted other one) mid.listed → list_line seen o ≡ Err NotParted
+pub is_refused : (seen mid : Seen) (one : Listed) (o : Option Listed) → Some one ≡ o → mid ≡ seen_in_list seen one.id → false ≡ list_all (λ other. are_parted other one) mid.listed → list_line seen o ≡ Err NotParted
 is_refused seen mid one o is begins test = parted_as seen mid one o false is begins test
 
-pub is_listed : (seen mid : Seen) (one : Listed) (o : Option Listed) (new : List Listed) → Some one ≡ o → mid ≡ begun seen one.id → true ≡ list_all (λ other. are_parted other one) mid.listed → mid.listed ++ one ∷ [] ≡ new →
+pub is_listed : (seen mid : Seen) (one : Listed) (o : Option Listed) (new : List Listed) → Some one ≡ o → mid ≡ seen_in_list seen one.id → true ≡ list_all (λ other. are_parted other one) mid.listed → mid.listed ++ one ∷ [] ≡ new →
     list_line seen o ≡ Ok (record mid { listed = new })
 is_listed seen mid one o new is begins test all = parted_as seen mid one o true is begins test ∙ ap (λ (ls : List Listed). Ok (record mid { listed = ls })) all
 
@@ -65,7 +66,7 @@ abbrev reply_by : Bool → Bool → Seen → List ℕ → ℕ → Step
 reply_by digit heading seen line number =
     cond digit (list_line seen (listed_in seen.size line)) (cond heading (Ok (record seen { in_list = false; place = Behind })) (other_line (record seen { in_list = false }) line number (owner_count line)))
 
-pub reply_listed : (seen new : Seen) (line : List ℕ) (number : ℕ) (result : Result (Unit {0}) Refusal) → true ≡ begins_with_digit line → IsStep (list_line seen (listed_in seen.size line)) new result → IsStep (reply_line seen line number) new result
+pub reply_listed : (seen new : Seen) (line : List ℕ) (number : ℕ) (result : Result (Unit {0}) (TextError DeviceFault)) → true ≡ begins_with_digit line → IsStep (list_line seen (listed_in seen.size line)) new result → IsStep (reply_line seen line number) new result
 reply_listed seen new line number result test is =
     let P : Bool → Type 0 = λ b. IsStep (reply_by b (is_some (after_text (codes "== ") line)) seen line number) new result in
     subst P test is
@@ -74,7 +75,7 @@ pub reply_heading : (seen : Seen) (line : List ℕ) (number : ℕ) → false ≡
 reply_heading seen line number digit heading =
     ap (λ b. reply_by b (is_some (after_text (codes "== ") line)) seen line number) (sym digit) ∙ ap (λ b. reply_by false b seen line number) (sym heading)
 
-pub reply_other : (seen new : Seen) (line : List ℕ) (number : ℕ) (result : Result (Unit {0}) Refusal) → false ≡ begins_with_digit line → false ≡ is_some (after_text (codes "== ") line) →
+pub reply_other : (seen new : Seen) (line : List ℕ) (number : ℕ) (result : Result (Unit {0}) (TextError DeviceFault)) → false ≡ begins_with_digit line → false ≡ is_some (after_text (codes "== ") line) →
     IsStep (other_line (record seen { in_list = false }) line number (owner_count line)) new result → IsStep (reply_line seen line number) new result
 reply_other seen new line number result digit heading is =
     let P : Bool → Type 0 = λ b. IsStep (reply_by b (is_some (after_text (codes "== ") line)) seen line number) new result in
@@ -82,14 +83,14 @@ reply_other seen new line number result digit heading is =
     subst P digit (subst Q heading is)
 
 -- the end
-pub fault_missing : (seen : Seen) (lines : ℕ) (fault : InputFault) → Some fault ≡ missing seen lines → Some fault ≡ last_fault seen lines
+pub fault_missing : (seen : Seen) (lines : ℕ) (fault : InputFault) → Some fault ≡ missing_part seen lines → Some fault ≡ last_fault seen lines
 unfolding last_fault
-fault_missing seen lines fault is = ap (λ o. option_or o (option_map (foreign seen) (first_foreign seen))) is
+fault_missing seen lines fault is = ap (λ o. option_or o (option_map (owner_fault seen) (first_foreign seen))) is
 
-pub fault_none : (seen : Seen) (lines : ℕ) → None ≡ missing seen lines → None ≡ first_foreign seen → None ≡ last_fault seen lines
+pub fault_none : (seen : Seen) (lines : ℕ) → None ≡ missing_part seen lines → None ≡ first_foreign seen → None ≡ last_fault seen lines
 unfolding last_fault
-fault_none seen lines is none = ap (λ o. option_map (foreign seen) o) none ∙ ap (λ o. option_or o (option_map (foreign seen) (first_foreign seen))) is
+fault_none seen lines is none = ap (λ o. option_map (owner_fault seen) o) none ∙ ap (λ o. option_or o (option_map (owner_fault seen) (first_foreign seen))) is
 
-pub fault_foreign : (seen : Seen) (lines place : ℕ) → None ≡ missing seen lines → Some place ≡ first_foreign seen → Some (foreign seen place) ≡ last_fault seen lines
+pub fault_foreign : (seen : Seen) (lines place : ℕ) → None ≡ missing_part seen lines → Some place ≡ first_foreign seen → Some (owner_fault seen place) ≡ last_fault seen lines
 unfolding last_fault
-fault_foreign seen lines place is some = ap (λ o. option_map (foreign seen) o) some ∙ ap (λ o. option_or o (option_map (foreign seen) (first_foreign seen))) is
+fault_foreign seen lines place is some = ap (λ o. option_map (owner_fault seen) o) some ∙ ap (λ o. option_or o (option_map (owner_fault seen) (first_foreign seen))) is

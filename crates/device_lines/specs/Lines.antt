@@ -5,21 +5,22 @@ use Rattle.std.specs.Option.{option_or}
 use Rattle.std.specs.Char.{is_ascii_alphabetic, is_ascii_alphanumeric, is_ascii_digit}
 use Rattle.std.specs.List.{before_first, list_all}
 use Rattle.std.specs.Str.{bytes_eq}
+use Rattle.arch_file.specs.declared.arch.TheConstants.{MAX_PINS}
 use Rattle.line_text.specs.Decimal.{decimal_of}
 use Rattle.rr_graph.specs.declared.resource.Resource.{Resource}
 use Rattle.rr_graph.specs.declared.resource.ResourceKind.{ResourceKind}
 use Rattle.rr_graph.specs.declared.resource.ResourceKind.TheVariants.{Opin, Ipin, ChanX, ChanY, Pad}
 use Rattle.device_lines.specs.declared.changes.Change.{Change}
 use Rattle.device_lines.specs.declared.changes.Change.TheVariants.{Admission, Eviction, Other}
-use Rattle.device_lines.specs.declared.device.Owned.{Owned}
-use Rattle.device_lines.specs.declared.fault.Fault.{Fault}
-use Rattle.device_lines.specs.declared.fault.Fault.TheVariants.{BadOwner, NotThere}
+use Rattle.device_lines.specs.declared.device.OwnedResource.{OwnedResource}
+use Rattle.device_lines.specs.declared.fault.DeviceFault.{DeviceFault}
+use Rattle.device_lines.specs.declared.fault.DeviceFault.TheVariants.{BadOwner, NotThere}
 use Rattle.device_lines.specs.declared.owned_line.Counted.{Counted}
 use Rattle.device_lines.specs.declared.owned_line.Counted.TheVariants.{Tracks, Pins, Pads}
 use Rattle.device_lines.specs.declared.owned_line.OwnerLine.{OwnerLine}
 use Rattle.device_lines.specs.declared.size.DeviceSize.{DeviceSize}
 use Rattle.device_lines.specs.declared.tenancy.Tenancy.{Tenancy}
-use Rattle.device_lines.specs.Words.{after_text, first_number, given, is_space, number_field, word_field}
+use Rattle.device_lines.specs.Words.{after_text, first_number, if_given, is_space, number_field, word_field}
 
 -- a live tenancy as a line of `op list` shows it
 pub record Listed : Type 0 where
@@ -55,10 +56,10 @@ listed_on size listed = if is_name listed.name && (is_state listed.state && is_o
 -- a line of `op list`: `ID NAME OFFSET WIDTH STATE`
 unfoldable pub listed_in : DeviceSize → List ℕ → Option Listed
 listed_in size line =
-    given (number_field line) (λ id.
-    given (word_field id.1) (λ name.
-    given (number_field name.1) (λ offset.
-    given (number_field offset.1) (λ width.
+    if_given (number_field line) (λ id.
+    if_given (word_field id.1) (λ name.
+    if_given (number_field name.1) (λ offset.
+    if_given (number_field offset.1) (λ width.
     listed_on size (record { id = id.0; name = name.0; offset = offset.0; width = width.0; state = width.1 })))))
 
 -- a value for a text, and the bytes after that text; `None` if they don't begin with it
@@ -77,13 +78,13 @@ first_counted line = option_or (means (codes ") Track: ") line Tracks) (option_o
 -- `KIND (COLUMN,ROW) COUNTED: NUMBER owner ID`
 unfoldable pub owner_line : List ℕ → Option OwnerLine
 owner_line line =
-    given (first_kind line) (λ kind.
-    given (first_number kind.1) (λ x.
-    given (after_text (codes ",") x.1) (λ row.
-    given (first_number row) (λ y.
-    given (first_counted y.1) (λ counted.
-    given (first_number counted.1) (λ n.
-    given (after_text (codes " owner ") n.1) (λ owner.
+    if_given (first_kind line) (λ kind.
+    if_given (first_number kind.1) (λ x.
+    if_given (after_text (codes ",") x.1) (λ row.
+    if_given (first_number row) (λ y.
+    if_given (first_counted y.1) (λ counted.
+    if_given (first_number counted.1) (λ n.
+    if_given (after_text (codes " owner ") n.1) (λ owner.
     option_map (λ id. record { node = record { x = x.0; kind = kind.0; y = y.0; n = n.0 }; counted = counted.0; owner = id }) (decimal_of 32 owner))))))))
 
 -- a column or row from 1
@@ -104,8 +105,8 @@ is_there size node counted = by node.kind counted
     by Pad Pads = is_within node.x size.columns && (is_end node.y size.rows && nat_lt node.n size.pads)
     by Opin Pads = is_within node.x size.columns && (is_end node.y size.rows && nat_lt node.n size.pads)
     by Ipin Pads = is_within node.x size.columns && (is_end node.y size.rows && nat_lt node.n size.pads)
-    by Opin Pins = is_within node.x size.columns && (is_within node.y size.rows && nat_lt node.n 145)
-    by Ipin Pins = is_within node.x size.columns && (is_within node.y size.rows && nat_lt node.n 145)
+    by Opin Pins = is_within node.x size.columns && (is_within node.y size.rows && nat_lt node.n MAX_PINS)
+    by Ipin Pins = is_within node.x size.columns && (is_within node.y size.rows && nat_lt node.n MAX_PINS)
     by kind counted = false
 
 -- a wire, pin or pad, and the id of the tenancy that owns it
@@ -113,30 +114,30 @@ pub record OwnedNode : Type 0 where
   pub node : Resource
   pub owner : ℕ
 
-abbrev pub owned_node : Owned → OwnedNode
+abbrev pub owned_node : OwnedResource → OwnedNode
 owned_node owned = record { node = owned.node; owner = owned.owner }
 
-abbrev pub owned_on : DeviceSize → Option OwnerLine → Result OwnedNode Fault
+abbrev pub owned_on : DeviceSize → Option OwnerLine → Result OwnedNode DeviceFault
 owned_on size None = Err BadOwner
 owned_on size (Some line) = if is_there size line.node line.counted then Ok (record { node = line.node; owner = line.owner }) else Err NotThere
 
 -- the node and the owner of a line of `op owners`, or what is wrong with it
-unfoldable pub owned_in : DeviceSize → List ℕ → Result OwnedNode Fault
+unfoldable pub owned_in : DeviceSize → List ℕ → Result OwnedNode DeviceFault
 owned_in size line = owned_on size (owner_line line)
 
 -- private: the possible results of reading such a line
-abbrev pub IsOwned : Result OwnedNode Fault → Result Owned Fault → Type 0
+abbrev pub IsOwned : Result OwnedNode DeviceFault → Result OwnedResource DeviceFault → Type 0
 IsOwned meant (Ok owned) = meant ≡ Ok (owned_node owned)
 IsOwned meant (Err fault) = meant ≡ Err fault
 
 -- the number of lines that follow a line `owners COUNT`
 unfoldable pub owner_count : List ℕ → Option ℕ
-owner_count line = given (after_text (codes "owners ") line) (decimal_of 32)
+owner_count line = if_given (after_text (codes "owners ") line) (decimal_of 32)
 
 -- `ok OFFSET` or `ok ID OFFSET`, after `ok `
 abbrev pub change_by : List ℕ → Option Change
 change_by [] = Some Other
-change_by (byte ∷ rest) = given (after_text (codes " ") (byte ∷ rest)) (λ offset. option_map (λ _. Admission) (decimal_of 32 offset))
+change_by (byte ∷ rest) = if_given (after_text (codes " ") (byte ∷ rest)) (λ offset. option_map (λ _. Admission) (decimal_of 32 offset))
 
 -- what a reply says of a change of the device: `ok` is an eviction, `finished` the end of a job,
 -- `ok OFFSET` a move, `ok ID OFFSET` an admission
@@ -144,7 +145,7 @@ unfoldable pub change_in : List ℕ → Option Change
 change_in line =
     if bytes_eq line (codes "ok") then Some Eviction else
     if bytes_eq line (codes "finished") then Some Other else
-    given (after_text (codes "ok ") line) (λ numbers. given (first_number numbers) (λ first. change_by first.1))
+    if_given (after_text (codes "ok ") line) (λ numbers. if_given (first_number numbers) (λ first. change_by first.1))
 
 -- the first words of the other replies
 abbrev pub is_reply_word : List ℕ → Bool

@@ -9,17 +9,15 @@ use Rattle.rr_graph.specs.declared.resource.ResourceKind.TheVariants.{Opin, Ipin
 use Rattle.rr_graph.specs.Resources.{resource_rank}
 use Rattle.device_lines.specs.declared.changes.Change.{Change}
 use Rattle.device_lines.specs.declared.changes.Change.TheVariants.{Admission, Eviction, Other}
-use Rattle.device_lines.specs.declared.device.Device.{Device}
-use Rattle.device_lines.specs.declared.fault.Fault.{Fault}
-use Rattle.device_lines.specs.declared.fault.Fault.TheVariants.{NoSection, UnknownLine, BadTenancy, NotParted, OutOfOrder, NotListed, OutsideStrip, Unfinished, NoList, NoOwners}
+use Rattle.device_lines.specs.declared.device.ListedDevice.{ListedDevice}
+use Rattle.device_lines.specs.declared.fault.DeviceFault.{DeviceFault}
+use Rattle.device_lines.specs.declared.fault.DeviceFault.TheVariants.{NoSection, UnknownLine, BadTenancy, NotParted, OutOfOrder, NotListed, OutsideStrip, Unfinished, NoList, NoOwners}
 use Rattle.device_lines.specs.declared.fault.InputFault.{InputFault}
-use Rattle.device_lines.specs.declared.fault.ReadError.{ReadError}
-use Rattle.device_lines.specs.declared.fault.ReadError.TheVariants.{NoMemory, Fault as AtLine}
+use Rattle.line_text.specs.declared.text_error.TextError.{TextError}
+use Rattle.line_text.specs.declared.text_error.TextError.TheVariants.{NoMemory, Fault}
 use Rattle.device_lines.specs.declared.reader.Place.{Place}
 use Rattle.device_lines.specs.declared.reader.Place.TheVariants.{Before, Inside, Behind}
 use Rattle.device_lines.specs.declared.reader.Reader.{Reader}
-use Rattle.device_lines.specs.declared.reader.Refusal.{Refusal}
-use Rattle.device_lines.specs.declared.reader.Refusal.TheVariants.{NoMemory as RefusedNoMemory, Fault as RefusedFault}
 use Rattle.device_lines.specs.declared.size.DeviceSize.{DeviceSize}
 use Rattle.device_lines.specs.Lines.{Listed, begins_with_digit, change_in, is_silent, listed_in, OwnedNode, listed_of, owned_in, owned_node, owner_count}
 use Rattle.device_lines.specs.Words.{after_text}
@@ -61,7 +59,7 @@ abbrev pub nothing_seen : DeviceSize → Seen
 nothing_seen size = record { size = size; listed = []; owned = []; place = Before; in_list = false; awaited = 0; heading = 0; live = 0; changed = 0; has_owners = false }
 
 abbrev pub Step : Type 0
-Step = Result Seen Fault
+Step = Result Seen DeviceFault
 
 -- the last element
 abbrev pub last_of : {A : Type 0} → List A → Option A
@@ -81,15 +79,15 @@ are_parted a b = nat_lt (a.offset + a.width) b.offset || nat_lt (b.offset + b.wi
 abbrev pub list_before : Seen → ℕ → List Listed
 list_before seen id = if seen.in_list && rises (last_of seen.listed) id then seen.listed else []
 
-abbrev pub begun : Seen → ℕ → Seen
-begun seen id = record seen { listed = list_before seen id; in_list = true }
+abbrev pub seen_in_list : Seen → ℕ → Seen
+seen_in_list seen id = record seen { listed = list_before seen id; in_list = true }
 
 abbrev pub with_listed : Seen → Listed → Step
 with_listed seen one = if list_all (λ other. are_parted other one) seen.listed then Ok (record seen { listed = seen.listed ++ one ∷ [] }) else Err NotParted
 
 abbrev pub list_line : Seen → Option Listed → Step
 list_line seen None = Err BadTenancy
-list_line seen (Some one) = with_listed (begun seen one.id) one
+list_line seen (Some one) = with_listed (seen_in_list seen one.id) one
 
 -- a resource comes before another in node order
 abbrev pub is_earlier : Resource → Resource → Bool
@@ -104,7 +102,7 @@ follows (Some last) one = is_earlier last.node one.node
 abbrev pub with_owned : Seen → ℕ → OwnedNode → Step
 with_owned seen rest one = if follows (last_of seen.owned) one then Ok (record seen { owned = seen.owned ++ one ∷ []; awaited = rest }) else Err OutOfOrder
 
-abbrev pub owner_seen : Seen → ℕ → Result OwnedNode Fault → Step
+abbrev pub owner_seen : Seen → ℕ → Result OwnedNode DeviceFault → Step
 owner_seen seen rest (Err fault) = Err fault
 owner_seen seen rest (Ok one) = with_owned seen rest one
 
@@ -152,7 +150,7 @@ abbrev pub plus : ℕ → ℕ → ℕ
 plus a b = min (a + b) (2 ^ 64 - 1)
 
 -- a fault with the number of its line
-abbrev pub at_line : ℕ → Fault → InputFault
+abbrev pub at_line : ℕ → DeviceFault → InputFault
 at_line line fault = record { fault = fault; line = line }
 
 abbrev pub after_line : (Seen → ℕ → Result (Seen × ℕ) InputFault) → ℕ → Step → Result (Seen × ℕ) InputFault
@@ -177,8 +175,8 @@ missing_at Before seen lines = Some (at_line lines NoSection)
 missing_at Inside seen lines = missing_inside seen lines
 missing_at Behind seen lines = missing_inside seen lines
 
-abbrev pub missing : Seen → ℕ → Option InputFault
-missing seen lines = missing_at seen.place seen lines
+abbrev pub missing_part : Seen → ℕ → Option InputFault
+missing_part seen lines = missing_at seen.place seen lines
 
 -- a node is in a column of the strip, or in the vertical channel before its first column
 abbrev pub is_chan_y : ResourceKind → Bool
@@ -203,16 +201,16 @@ abbrev pub first_foreign : Seen → Option ℕ
 first_foreign seen = position (λ one. not (is_owners seen.listed one)) seen.owned
 
 -- what is wrong with a node that isn't
-abbrev pub foreign_fault : List Listed → Option OwnedNode → Fault
+abbrev pub foreign_fault : List Listed → Option OwnedNode → DeviceFault
 foreign_fault listed None = NotListed
 foreign_fault listed (Some one) = if is_some (with_id listed one.owner) then OutsideStrip else NotListed
 
-abbrev pub foreign : Seen → ℕ → InputFault
-foreign seen place = at_line (plus (plus seen.heading place) 1) (foreign_fault seen.listed (slice_get seen.owned place))
+abbrev pub owner_fault : Seen → ℕ → InputFault
+owner_fault seen place = at_line (plus (plus seen.heading place) 1) (foreign_fault seen.listed (slice_get seen.owned place))
 
 -- the fault of the end: something is missing, or a node isn't in its owner's strip
 unfoldable pub last_fault : Seen → ℕ → Option InputFault
-last_fault seen lines = option_or (missing seen lines) (option_map (foreign seen) (first_foreign seen))
+last_fault seen lines = option_or (missing_part seen lines) (option_map (owner_fault seen) (first_foreign seen))
 
 abbrev pub is_feed : ℕ → Bool
 is_feed byte = byte == 10
@@ -221,12 +219,12 @@ is_feed byte = byte == 10
 unfoldable pub lines_of : List ℕ → List (List ℕ)
 lines_of text = slice_split is_feed text
 
-abbrev pub ended : Seen → Option InputFault → Result Seen InputFault
-ended seen (Some fault) = Err fault
-ended seen None = Ok seen
+abbrev pub unless_fault : Seen → Option InputFault → Result Seen InputFault
+unless_fault seen (Some fault) = Err fault
+unless_fault seen None = Ok seen
 
 abbrev pub end_of : Result (Seen × ℕ) InputFault → Result Seen InputFault
-end_of (Ok read) = ended read.0 (last_fault read.0 read.1)
+end_of (Ok read) = unless_fault read.0 (last_fault read.0 read.1)
 end_of (Err fault) = Err fault
 
 -- the device of that size that an output shows, or the first fault
@@ -234,37 +232,37 @@ unfoldable pub device_in : DeviceSize → List ℕ → Result Seen InputFault
 device_in size output = end_of (lines_read (lines_of output) (nothing_seen size) 0)
 
 -- a device has what was read
-pub record Has (device : Device) (seen : Seen) : Type 0 where
+pub record Has (device : ListedDevice) (seen : Seen) : Type 0 where
   pub size : device.size ≡ seen.size
   pub listed : map listed_of device.tenancies.items ≡ seen.listed
   pub owned : map owned_node device.owned.items ≡ seen.owned
 
 -- an error of reading: the first fault, or that memory ran out
-abbrev pub IsError : {A : Type 0} → Result A InputFault → ReadError → Type 0
-IsError meant (AtLine fault) = meant ≡ Err fault
+abbrev pub IsError : {A : Type 0} → Result A InputFault → TextError InputFault → Type 0
+IsError meant (Fault fault) = meant ≡ Err fault
 IsError meant NoMemory = ⊤
 
 -- the possible results of reading an output: its device, or an error
-abbrev pub Gives : Result Seen InputFault → Result Device ReadError → Type 0
+abbrev pub Gives : Result Seen InputFault → Result ListedDevice (TextError InputFault) → Type 0
 Gives meant (Ok device) = (seen : Seen) × (meant ≡ Ok seen) × Has device seen
 Gives meant (Err error) = IsError meant error
 
 -- private: a refusal of a line with its number
-abbrev pub error_at : ℕ → Refusal → ReadError
-error_at line RefusedNoMemory = NoMemory
-error_at line (RefusedFault fault) = AtLine (at_line line fault)
+abbrev pub error_at : ℕ → TextError DeviceFault → TextError InputFault
+error_at line NoMemory = NoMemory
+error_at line (Fault fault) = Fault (at_line line fault)
 
 -- private: the possible results of the parts of reading
-abbrev pub IsStep : Step → Seen → Result (Unit {0}) Refusal → Type 0
+abbrev pub IsStep : Step → Seen → Result (Unit {0}) (TextError DeviceFault) → Type 0
 IsStep meant new (Ok nothing) = meant ≡ Ok new
-IsStep meant new (Err (RefusedFault fault)) = meant ≡ Err fault
-IsStep meant new (Err RefusedNoMemory) = ⊤
+IsStep meant new (Err (Fault fault)) = meant ≡ Err fault
+IsStep meant new (Err NoMemory) = ⊤
 
-abbrev pub AreLines : Result (Seen × ℕ) InputFault → Seen → Result ℕ ReadError → Type 0
+abbrev pub AreLines : Result (Seen × ℕ) InputFault → Seen → Result ℕ (TextError InputFault) → Type 0
 AreLines meant new (Ok lines) = meant ≡ Ok (new, lines)
 AreLines meant new (Err error) = IsError meant error
 
-abbrev pub IsRead : Result Seen InputFault → Seen → Result (Unit {0}) ReadError → Type 0
+abbrev pub IsRead : Result Seen InputFault → Seen → Result (Unit {0}) (TextError InputFault) → Type 0
 IsRead meant new (Ok nothing) = meant ≡ Ok new
 IsRead meant new (Err error) = IsError meant error
 

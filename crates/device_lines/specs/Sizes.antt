@@ -1,10 +1,12 @@
 -- The limits of a device's size.
 use Rattle.std.specs.Prelude.{ℕ, ◌≡◌, ◌≤◌}
+use Rattle.arch_file.specs.declared.arch.TheConstants.{MAX_IO_RAT, MAX_TRACKS}
+use Rattle.grid.specs.declared.TheConstants.{MAX_COLUMNS, MAX_ROWS}
 use Rattle.device_lines.specs.declared.size.DeviceSize.{DeviceSize}
 
 abbrev pub AreLawful : ℕ → ℕ → ℕ → ℕ → Type 0
 AreLawful columns rows tracks pads =
-    (1 ≤ columns) × (columns ≤ 256) × (1 ≤ rows) × (rows ≤ 64) × (1 ≤ tracks) × (tracks ≤ 64) × (1 ≤ pads) × (pads ≤ 8)
+    (1 ≤ columns) × (columns ≤ MAX_COLUMNS) × (1 ≤ rows) × (rows ≤ MAX_ROWS) × (1 ≤ tracks) × (tracks ≤ MAX_TRACKS) × (1 ≤ pads) × (pads ≤ MAX_IO_RAT)
 
 abbrev pub Holds : DeviceSize → ℕ → ℕ → ℕ → ℕ → Type 0
 Holds size columns rows tracks pads =

@@ -6,9 +6,9 @@ use Rattle.std.specs.Str.{bytes_eq}
 use Rattle.line_text.specs.Decimal.{decimal_of}
 
 -- what follows if there is a value; nothing follows from `None`
-abbrev pub given : {A B : Type 0} → Option A → (A → Option B) → Option B
-given None next = None
-given (Some a) next = next a
+abbrev pub if_given : {A B : Type 0} → Option A → (A → Option B) → Option B
+if_given None next = None
+if_given (Some a) next = next a
 
 -- the bytes after a text; `None` if they don't begin with it
 unfoldable pub after_text : List ℕ → List ℕ → Option (List ℕ)
@@ -26,7 +26,7 @@ first_number bytes = option_map (λ n. (n, drop (position_or_len is_other bytes)
 
 -- a number or a word that ends before a space, and the bytes after the space
 unfoldable pub number_field : List ℕ → Option (ℕ × List ℕ)
-number_field bytes = given (first_number bytes) (λ taken. option_map (λ rest. (taken.0, rest)) (after_text (codes " ") taken.1))
+number_field bytes = if_given (first_number bytes) (λ taken. option_map (λ rest. (taken.0, rest)) (after_text (codes " ") taken.1))
 
 unfoldable pub word_field : List ℕ → Option (List ℕ × List ℕ)
 word_field bytes = option_map (λ rest. (before_first is_space bytes, rest)) (after_text (codes " ") (drop (position_or_len is_space bytes) bytes))

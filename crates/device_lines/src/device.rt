@@ -1,6 +1,8 @@
 //! The device that is read.
-ghost use Rattle.std.specs.Prelude.{◌≡◌, ◌≤◌, [], ◌==◌, Contains, IfSome, find, is_some, map, option_map};
+ghost use Rattle.std.specs.Prelude.{◌+◌, ◌-◌, ◌≡◌, ◌≤◌, [], ◌==◌, Contains, IfSome, find, is_some, map, option_map};
 ghost use Rattle.std.specs.List.{list_all};
+ghost use Rattle.arch_file.specs.declared.arch.TheConstants.{MAX_PINS};
+ghost use Rattle.grid.specs.declared.TheConstants.{MAX_COLUMNS, MAX_ROWS};
 
 use crate::size::DeviceSize;
 use crate::tenancy::Tenancy;
@@ -9,21 +11,22 @@ use std::alloc::Global;
 
 /// A wire, pin or pad of the device, and the id of the tenancy that owns it.
 #[derive(Clone, Copy)]
-pub struct Owned {
+pub struct OwnedResource {
     pub node: Resource,
     pub owner: u32,
-    ghost on_largest: { (node.x ≤ 256) × (node.y ≤ 65) × (node.n ≤ 144) },
+    ghost on_largest: { (node.x ≤ MAX_COLUMNS) × (node.y ≤ MAX_ROWS + 1)
+        × (node.n ≤ MAX_PINS - 1) },
 }
 
 /// The device: its size, its live tenancies, and what they own, in node order.
 #[derive(Drop)]
-pub struct Device<'t> {
+pub struct ListedDevice<'t> {
     pub size: DeviceSize,
     pub tenancies: Vec<Tenancy<'t>>,
-    pub owned: Vec<Owned>,
+    pub owned: Vec<OwnedResource>,
 }
 
-impl<'t> Device<'t> {
+impl<'t> ListedDevice<'t> {
     ghost use Rattle.device_lines.specs.Lines.{listed_of, owned_node};
     ghost use Rattle.device_lines.specs.Reading.{are_parted, follows, last_of, rises, with_id};
 
@@ -33,7 +36,7 @@ impl<'t> Device<'t> {
         ensures tenancies { result.tenancies.items ≡ [] }
         ensures owned { result.owned.items ≡ [] }
     {
-        Device {
+        ListedDevice {
             size,
             tenancies: Vec::new(alloc),
             owned: Vec::new(alloc),
@@ -68,7 +71,7 @@ impl<'t> Device<'t> {
     }
 
     /// Returns whether a node comes after the owned ones in node order.
-    pub(crate) fn goes_on_with(&self, owned: Owned) -> bool
+    pub(crate) fn goes_on_with(&self, owned: OwnedResource) -> bool
         ensures { result ≡ follows (last_of (map owned_node self.now.owned.items)) (owned_node owned) }
     {
         match self.owned.last() {

@@ -1,10 +1,10 @@
 //! Why an input is refused.
-use std::alloc::AllocError;
+use line_text::TextError;
 use std::fmt;
 
 /// What is wrong with a line of the input.
 #[derive(Clone, Copy, PartialEq, Eq)]
-pub enum Fault {
+pub enum DeviceFault {
     /// The first line is not `== op`.
     NoSection,
     /// The line isn't one of the operator's replies.
@@ -32,28 +32,30 @@ pub enum Fault {
     NoOwners,
 }
 
-impl Fault {
+impl DeviceFault {
     /// The fault in words.
     fn text(self) -> &'static str {
         match self {
-            Fault::NoSection => "the input does not begin with the operator's section, `== op`",
-            Fault::UnknownLine => "not a reply to the operator",
-            Fault::BadTenancy => {
+            DeviceFault::NoSection =>
+                "the input does not begin with the operator's section, `== op`",
+            DeviceFault::UnknownLine => "not a reply to the operator",
+            DeviceFault::BadTenancy => {
                 "not a tenancy on a device with these --columns: ID NAME OFFSET WIDTH STATE"
             }
-            Fault::NotParted => "there is no unused column between this strip and an earlier one",
-            Fault::BadOwner => "not an owned wire, pin or pad: NODE owner ID",
-            Fault::NotThere => {
+            DeviceFault::NotParted =>
+                "there is no unused column between this strip and an earlier one",
+            DeviceFault::BadOwner => "not an owned wire, pin or pad: NODE owner ID",
+            DeviceFault::NotThere => {
                 "a device of these --columns, --rows, --tracks and --pads has no such wire, pin or pad"
             }
-            Fault::OutOfOrder => "it is not in node order",
-            Fault::NotListed => "the last `op list` has no tenancy with this id",
-            Fault::OutsideStrip => "it is outside its owner's strip",
-            Fault::Unfinished => "the input ends before the last owner",
-            Fault::NoList => {
+            DeviceFault::OutOfOrder => "it is not in node order",
+            DeviceFault::NotListed => "the last `op list` has no tenancy with this id",
+            DeviceFault::OutsideStrip => "it is outside its owner's strip",
+            DeviceFault::Unfinished => "the input ends before the last owner",
+            DeviceFault::NoList => {
                 "no `op list` follows this line: end the script with `op list` and `op owners`"
             }
-            Fault::NoOwners => {
+            DeviceFault::NoOwners => {
                 "no `op owners` follows this line: end the script with `op list` and `op owners`"
             }
         }
@@ -63,7 +65,7 @@ impl Fault {
 /// The first line that is refused, counted from 1.
 #[derive(Clone, Copy)]
 pub struct InputFault {
-    pub fault: Fault,
+    pub fault: DeviceFault,
     pub line: usize,
 }
 
@@ -76,14 +78,4 @@ impl fmt::Display for InputFault {
 }
 
 /// Why no device was read.
-#[derive(Clone, Copy)]
-pub enum ReadError {
-    NoMemory,
-    Fault(InputFault),
-}
-
-impl From<AllocError> for ReadError {
-    fn from(_error: AllocError) -> Self {
-        ReadError::NoMemory
-    }
-}
+pub type DeviceError = TextError<InputFault>;

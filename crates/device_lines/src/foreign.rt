@@ -3,11 +3,11 @@ ghost use Rattle.std.specs.Prelude.{◌≡◌, map, position, slice_get, not};
 ghost use Rattle.device_lines.specs.Lines.{listed_of, owned_node};
 ghost use Rattle.device_lines.specs.Reading.{foreign_fault, is_owners};
 
-use crate::device::{Device, Owned};
-use crate::fault::Fault;
+use crate::device::{ListedDevice, OwnedResource};
+use crate::fault::DeviceFault;
 
 /// The first owned node that isn't in its owner's strip, by its index in the list.
-pub(crate) fn first_foreign(device: &Device<'_>) -> Option<usize>
+pub(crate) fn first_foreign(device: &ListedDevice<'_>) -> Option<usize>
     ensures { result ≡ position (λ one. not (is_owners (map listed_of device.now.tenancies.items)
         (owned_node one))) device.now.owned.items }
 {
@@ -18,7 +18,7 @@ pub(crate) fn first_foreign(device: &Device<'_>) -> Option<usize>
 }
 
 /// Returns whether a node is in its owner's strip.
-fn is_owners(device: &Device<'_>, owned: Owned) -> bool
+fn is_owners(device: &ListedDevice<'_>, owned: OwnedResource) -> bool
     ensures { result ≡ is_owners (map listed_of device.now.tenancies.items) (owned_node owned) }
 {
     match device.tenancy(owned.owner) {
@@ -28,17 +28,17 @@ fn is_owners(device: &Device<'_>, owned: Owned) -> bool
 }
 
 /// What is wrong with a node that isn't in its owner's strip.
-pub(crate) fn foreign_fault(device: &Device<'_>, number: usize) -> Fault
+pub(crate) fn foreign_fault(device: &ListedDevice<'_>, number: usize) -> DeviceFault
     ensures { result ≡ foreign_fault (map listed_of device.now.tenancies.items)
         (slice_get (map owned_node device.now.owned.items) number) }
 {
     if number >= device.owned.len() {
-        return Fault::NotListed;
+        return DeviceFault::NotListed;
     }
     let owned = device.owned[number];
     if device.is_listed(owned.owner) {
-        Fault::OutsideStrip
+        DeviceFault::OutsideStrip
     } else {
-        Fault::NotListed
+        DeviceFault::NotListed
     }
 }

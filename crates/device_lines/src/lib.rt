@@ -22,8 +22,8 @@ mod size;
 mod tenancy;
 mod words;
 
-pub use device::{Device, Owned};
-pub use fault::{Fault, InputFault, ReadError};
+pub use device::{ListedDevice, OwnedResource};
+pub use fault::{DeviceError, DeviceFault, InputFault};
 pub use reader::read_device;
 pub use size::DeviceSize;
 pub use tenancy::Tenancy;

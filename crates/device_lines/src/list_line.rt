@@ -2,6 +2,7 @@
 ghost use Rattle.std.specs.Prelude.{◌≡◌, ◌+◌, ◌≤◌, length, true, option_map};
 ghost use Rattle.std.specs.Char.{is_ascii_alphabetic};
 ghost use Rattle.std.specs.List.{list_all};
+ghost use Rattle.grid.specs.declared.TheConstants.{MAX_COLUMNS};
 ghost use Rattle.device_lines.specs.Lines.{is_name, is_name_byte, is_on_device, is_state, listed_in, listed_of};
 
 use crate::size::DeviceSize;
@@ -41,7 +42,7 @@ pub(crate) fn read_tenancy(size: DeviceSize, line: &[u8]) -> Option<Tenancy<'_>>
 /// Returns whether a strip of that width at that offset is within the device.
 fn is_on_device(size: DeviceSize, offset: u32, width: u32) -> bool
     ensures exact { result ≡ is_on_device size offset width }
-    ensures largest { result ≡ true → offset + width ≤ 256 }
+    ensures largest { result ≡ true → offset + width ≤ MAX_COLUMNS }
 {
     width >= 1 && width <= size.columns && offset <= size.columns - width
 }

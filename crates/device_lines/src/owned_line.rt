@@ -1,16 +1,16 @@
 //! The lines of `op owners`.
-ghost use Rattle.std.specs.Prelude.{◌≡◌, ◌≤◌, true, option_map};
+ghost use Rattle.std.specs.Prelude.{◌+◌, ◌-◌, ◌≡◌, ◌≤◌, true, option_map};
+ghost use Rattle.arch_file.specs.declared.arch.TheConstants.{MAX_PINS};
+ghost use Rattle.grid.specs.declared.TheConstants.{MAX_COLUMNS, MAX_ROWS};
 ghost use Rattle.device_lines.specs.Lines.{IsOwned, first_counted, first_kind, is_there, owned_in, owner_line};
 
-use crate::device::Owned;
-use crate::fault::Fault;
+use crate::device::OwnedResource;
+use crate::fault::DeviceFault;
 use crate::size::DeviceSize;
 use crate::words::{after_text, first_number};
+use arch_file::MAX_PINS;
 use line_text::decimal_u32;
 use rr_graph::{Resource, ResourceKind};
-
-/// The largest number of pins of a block: 128 inputs, 16 outputs and a clock.
-const MOST_PINS: u32 = 145;
 
 /// What the number of a wire, pin or pad counts.
 #[derive(Clone, Copy)]
@@ -29,7 +29,7 @@ struct OwnerLine {
 }
 
 /// Reads a line of `op owners`: `NODE owner ID`.
-pub(crate) fn read_owned(size: DeviceSize, line: &[u8]) -> Result<Owned, Fault>
+pub(crate) fn read_owned(size: DeviceSize, line: &[u8]) -> Result<OwnedResource, DeviceFault>
     ensures { IsOwned (owned_in size line.now) result }
 {
     let Some(
@@ -40,12 +40,12 @@ pub(crate) fn read_owned(size: DeviceSize, line: &[u8]) -> Result<Owned, Fault>
         },
     ) = read_words(line)
     else {
-        return Err(Fault::BadOwner);
+        return Err(DeviceFault::BadOwner);
     };
     if is_there(size, node, counted) {
-        Ok(Owned { node, owner })
+        Ok(OwnedResource { node, owner })
     } else {
-        Err(Fault::NotThere)
+        Err(DeviceFault::NotThere)
     }
 }
 
@@ -102,9 +102,9 @@ fn first_counted(line: &[u8]) -> Option<(Counted, &[u8])>
 /// Returns whether the device has the node.
 fn is_there(size: DeviceSize, node: Resource, counted: Counted) -> bool
     ensures there { result ≡ is_there size node counted }
-    ensures column { result ≡ true → node.x ≤ 256 }
-    ensures row { result ≡ true → node.y ≤ 65 }
-    ensures number { result ≡ true → node.n ≤ 144 }
+    ensures column { result ≡ true → node.x ≤ MAX_COLUMNS }
+    ensures row { result ≡ true → node.y ≤ MAX_ROWS + 1 }
+    ensures number { result ≡ true → node.n ≤ MAX_PINS - 1 }
 {
     let column = node.x >= 1 && node.x <= size.columns;
     let row = node.y >= 1 && node.y <= size.rows;
@@ -121,7 +121,7 @@ fn is_there(size: DeviceSize, node: Resource, counted: Counted) -> bool
             column && end && node.n < size.pads
         }
         (ResourceKind::Opin | ResourceKind::Ipin, Counted::Pins) => {
-            column && row && node.n < MOST_PINS
+            column && row && node.n < MAX_PINS
         }
         _ => false,
     }

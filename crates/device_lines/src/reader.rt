@@ -2,19 +2,19 @@
 ghost use Rattle.std.specs.Prelude.{◌≡◌, IfNone, IfOk};
 ghost use Rattle.device_lines.specs.Lines.{change_in, listed_in, owned_in, owned_node, owner_count};
 ghost use Rattle.device_lines.specs.Owning.{AreOwners};
-ghost use Rattle.device_lines.specs.Reading.{AreLines, Gives, IsRead, IsStep, begun, changed_by, device_in, error_at, first_line, foreign, inside_line, last_fault, line_read, lines_of, lines_read, list_line, live_after, missing, nothing_seen, other_line, owner_seen, reply_line, seen_of, with_change, with_owned};
+ghost use Rattle.device_lines.specs.Reading.{AreLines, Gives, IsRead, IsStep, seen_in_list, changed_by, device_in, error_at, first_line, owner_fault, inside_line, last_fault, line_read, lines_of, lines_read, list_line, live_after, missing_part, nothing_seen, other_line, owner_seen, reply_line, seen_of, with_change, with_owned};
 
 use crate::changes::{Change, change_of};
-use crate::device::{Device, Owned};
-use crate::fault::{Fault, InputFault, ReadError};
+use crate::device::{ListedDevice, OwnedResource};
+use crate::fault::{DeviceError, DeviceFault, InputFault};
 use crate::foreign::{first_foreign, foreign_fault};
 use crate::lines::next_line;
 use crate::list_line::read_tenancy;
 use crate::owned_line::read_owned;
 use crate::replies::{begins_with_digit, is_heading, is_silent, owner_count};
 use crate::size::DeviceSize;
-use line_text::is_word;
-use std::alloc::{AllocError, Global};
+use line_text::{TextError, is_word};
+use std::alloc::Global;
 
 /// The part of the input that a line is in.
 #[derive(Clone, Copy, PartialEq, Eq)]
@@ -28,40 +28,22 @@ enum Place {
 }
 
 /// Why a line is not taken.
-#[derive(Clone, Copy)]
-enum Refusal {
-    NoMemory,
-    Fault(Fault),
-}
+type Refusal = TextError<DeviceFault>;
 
-impl From<AllocError> for Refusal {
-    fn from(_error: AllocError) -> Self {
-        Refusal::NoMemory
-    }
-}
-
-impl From<Fault> for Refusal {
-    fn from(fault: Fault) -> Self {
-        Refusal::Fault(fault)
-    }
-}
-
-impl Refusal {
-    /// The refusal as the error for a line.
-    fn at(self, line: usize) -> ReadError
-        ensures { result ≡ error_at line self }
-    {
-        match self {
-            Refusal::NoMemory => ReadError::NoMemory,
-            Refusal::Fault(fault) => ReadError::Fault(InputFault { fault, line }),
-        }
+/// The refusal as the error for the line with that number.
+fn at_line(refusal: Refusal, line: usize) -> DeviceError
+    ensures { result ≡ error_at line refusal }
+{
+    match refusal {
+        Refusal::NoMemory => DeviceError::NoMemory,
+        Refusal::Fault(fault) => DeviceError::Fault(InputFault { fault, line }),
     }
 }
 
 /// What was read so far.
 #[derive(Drop)]
 struct Reader<'t> {
-    device: Device<'t>,
+    device: ListedDevice<'t>,
     place: Place,
     /// Whether the previous line is one of `op list`.
     in_list: bool,
@@ -80,7 +62,7 @@ struct Reader<'t> {
 
 impl<'t> Reader<'t> {
     /// Reads the lines of a text, and returns how many there are. Fails at the first faulty one.
-    fn lines(&mut self, text: &'t [u8]) -> Result<usize, ReadError>
+    fn lines(&mut self, text: &'t [u8]) -> Result<usize, DeviceError>
         requires { seen_of self.old ≡ nothing_seen self.old.device.size }
         ensures { AreLines (lines_read (lines_of text.now) (nothing_seen self.old.device.size) 0)
             (seen_of self.new) result }
@@ -91,7 +73,7 @@ impl<'t> Reader<'t> {
             let (line, later) = next_line(bytes);
             lines = lines.saturating_add(1);
             if let Err(refusal) = self.line(line, lines) {
-                return Err(refusal.at(lines));
+                return Err(at_line(refusal, lines));
             }
             rest = later;
         }
@@ -104,17 +86,17 @@ impl<'t> Reader<'t> {
     {
         match self.place {
             Place::Behind => Ok(()),
-            Place::Before => self.first(line, number),
-            Place::Inside => self.inside(line, number),
+            Place::Before => self.read_first(line, number),
+            Place::Inside => self.read_reply(line, number),
         }
     }
 
     /// Reads the first line, which has that number.
-    fn first(&mut self, line: &[u8], number: usize) -> Result<(), Refusal>
+    fn read_first(&mut self, line: &[u8], number: usize) -> Result<(), Refusal>
         ensures { IsStep (first_line (seen_of self.old) line.now number) (seen_of self.new) result }
     {
         if !is_word(line, "== op") {
-            return Err(Refusal::Fault(Fault::NoSection));
+            return Err(Refusal::Fault(DeviceFault::NoSection));
         }
         self.place = Place::Inside;
         self.changed = number;
@@ -122,14 +104,14 @@ impl<'t> Reader<'t> {
     }
 
     /// Reads a line of the operator's section.
-    fn inside(&mut self, line: &'t [u8], number: usize) -> Result<(), Refusal>
+    fn read_reply(&mut self, line: &'t [u8], number: usize) -> Result<(), Refusal>
         ensures { IsStep (inside_line (seen_of self.old) line.now number) (seen_of self.new)
             result }
     {
         if self.awaited == 0 {
             return self.reply(line, number);
         }
-        self.owned(line, self.awaited - 1)
+        self.read_owner(line, self.awaited - 1)
     }
 
     /// Reads a line of the operator's section that isn't an owner's.
@@ -144,11 +126,11 @@ impl<'t> Reader<'t> {
             self.place = Place::Behind;
             return Ok(());
         }
-        self.other(line, number)
+        self.read_other(line, number)
     }
 
     /// Reads a reply that isn't a line of a list, nor the end of the section.
-    fn other(&mut self, line: &[u8], number: usize) -> Result<(), Refusal>
+    fn read_other(&mut self, line: &[u8], number: usize) -> Result<(), Refusal>
         ensures { IsStep (other_line (seen_of self.old) line.now number (owner_count line.now))
             (seen_of self.new) result }
     {
@@ -160,14 +142,14 @@ impl<'t> Reader<'t> {
             return Ok(());
         }
         if !is_silent(line) {
-            return Err(Refusal::Fault(Fault::UnknownLine));
+            return Err(Refusal::Fault(DeviceFault::UnknownLine));
         }
-        self.silent(line, number);
+        self.read_silent(line, number);
         Ok(())
     }
 
     /// Reads a line without anything to read, which may report a change.
-    fn silent(&mut self, line: &[u8], number: usize)
+    fn read_silent(&mut self, line: &[u8], number: usize)
         ensures { seen_of self.new ≡ with_change (seen_of self.old) number (change_in line.now) }
     {
         let Some(change) = change_of(line) else {
@@ -193,11 +175,11 @@ impl<'t> Reader<'t> {
             (seen_of self.new) result }
     {
         let Some(tenancy) = read_tenancy(self.device.size, line) else {
-            return Err(Refusal::Fault(Fault::BadTenancy));
+            return Err(Refusal::Fault(DeviceFault::BadTenancy));
         };
         self.begin(tenancy.id);
         if !self.device.is_parted(&tenancy) {
-            return Err(Refusal::Fault(Fault::NotParted));
+            return Err(Refusal::Fault(DeviceFault::NotParted));
         }
         match self.device.tenancies.push(tenancy) {
             Ok(()) => Ok(()),
@@ -207,7 +189,7 @@ impl<'t> Reader<'t> {
 
     /// Begins a new list, unless a line with that id goes on with the present one.
     fn begin(&mut self, id: u32)
-        ensures { seen_of self.new ≡ begun (seen_of self.old) id }
+        ensures { seen_of self.new ≡ seen_in_list (seen_of self.old) id }
     {
         if !self.in_list || !self.device.is_next(id) {
             self.device.tenancies.clear();
@@ -216,7 +198,7 @@ impl<'t> Reader<'t> {
     }
 
     /// Reads an owner's line, after which `rest` more are to come.
-    fn owned(&mut self, line: &[u8], rest: u32) -> Result<(), Refusal>
+    fn read_owner(&mut self, line: &[u8], rest: u32) -> Result<(), Refusal>
         ensures { IsStep (owner_seen (seen_of self.old) rest (owned_in self.old.device.size line.now))
             (seen_of self.new) result }
     {
@@ -227,12 +209,12 @@ impl<'t> Reader<'t> {
     }
 
     /// Adds an owned node, after which `rest` more are to come.
-    fn add(&mut self, owned: Owned, rest: u32) -> Result<(), Refusal>
+    fn add(&mut self, owned: OwnedResource, rest: u32) -> Result<(), Refusal>
         ensures { IsStep (with_owned (seen_of self.old) rest (owned_node owned)) (seen_of self.new)
             result }
     {
         if !self.device.goes_on_with(owned) {
-            return Err(Refusal::Fault(Fault::OutOfOrder));
+            return Err(Refusal::Fault(DeviceFault::OutOfOrder));
         }
         match self.device.owned.push(owned) {
             Ok(()) => {
@@ -245,17 +227,17 @@ impl<'t> Reader<'t> {
 
     /// What is missing at the end of the input: all owners' lines, the list or the owners after the
     /// last change. `lines` is the number of the input's lines.
-    fn missing(&self, lines: usize) -> Option<InputFault>
-        ensures { result ≡ missing (seen_of self.now) lines }
+    fn missing_part(&self, lines: usize) -> Option<InputFault>
+        ensures { result ≡ missing_part (seen_of self.now) lines }
     {
         let (fault, line) = if self.place == Place::Before {
-            (Fault::NoSection, lines)
+            (DeviceFault::NoSection, lines)
         } else if self.awaited > 0 {
-            (Fault::Unfinished, lines)
+            (DeviceFault::Unfinished, lines)
         } else if self.live > 0 && self.device.tenancies.is_empty() {
-            (Fault::NoList, self.changed)
+            (DeviceFault::NoList, self.changed)
         } else if !self.has_owners {
-            (Fault::NoOwners, self.changed)
+            (DeviceFault::NoOwners, self.changed)
         } else {
             return None;
         };
@@ -263,7 +245,7 @@ impl<'t> Reader<'t> {
     }
 
     /// Reads a whole text.
-    fn read(&mut self, text: &'t [u8]) -> Result<(), ReadError>
+    fn read(&mut self, text: &'t [u8]) -> Result<(), DeviceError>
         requires { seen_of self.old ≡ nothing_seen self.old.device.size }
         ensures owners { IfOk result (λ _. AreOwners self.new.device) }
         ensures exact { IsRead (device_in self.old.device.size text.now) (seen_of self.new)
@@ -274,7 +256,7 @@ impl<'t> Reader<'t> {
             Err(error) => return Err(error),
         };
         match self.last_fault(lines) {
-            Some(fault) => Err(ReadError::Fault(fault)),
+            Some(fault) => Err(DeviceError::Fault(fault)),
             None => Ok(()),
         }
     }
@@ -285,16 +267,16 @@ impl<'t> Reader<'t> {
         ensures none { IfNone result (AreOwners self.now.device) }
         ensures exact { result ≡ last_fault (seen_of self.now) lines }
     {
-        if let Some(missing) = self.missing(lines) {
+        if let Some(missing) = self.missing_part(lines) {
             return Some(missing);
         }
         let number = first_foreign(&self.device)?;
-        Some(self.foreign(number))
+        Some(self.owner_fault(number))
     }
 
     /// The fault of the owner's line of that number, from 0.
-    fn foreign(&self, number: usize) -> InputFault
-        ensures { result ≡ foreign (seen_of self.now) number }
+    fn owner_fault(&self, number: usize) -> InputFault
+        ensures { result ≡ owner_fault (seen_of self.now) number }
     {
         InputFault {
             fault: foreign_fault(&self.device, number),
@@ -329,12 +311,16 @@ fn live_after(live: u32, change: Change) -> u32
 /// tenancy is live (a list of no tenancies has no lines). Then each owned wire, pin and pad must be
 /// in the strip of a listed tenancy. The fault of the first faulty line is returned; a fault of
 /// these last checks, in this order, only if there is no other.
-pub fn read_device(alloc: Global, size: DeviceSize, text: &[u8]) -> Result<Device<'_>, ReadError>
+pub fn read_device(
+    alloc: Global,
+    size: DeviceSize,
+    text: &[u8],
+) -> Result<ListedDevice<'_>, DeviceError>
     ensures owners { IfOk result (λ device. AreOwners device) }
     ensures exact { Gives (device_in size text.now) result }
 {
     let mut reader = Reader {
-        device: Device::new(alloc, size),
+        device: ListedDevice::new(alloc, size),
         place: Place::Before,
         in_list: false,
         awaited: 0,

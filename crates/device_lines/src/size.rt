@@ -1,5 +1,10 @@
 //! The size of the device that is drawn.
 ghost use Rattle.std.specs.Prelude.{◌≤◌, IfNone, IfSome};
+ghost use Rattle.arch_file.specs.declared.arch.TheConstants.{MAX_IO_RAT, MAX_TRACKS};
+ghost use Rattle.grid.specs.declared.TheConstants.{MAX_COLUMNS, MAX_ROWS};
+
+use arch_file::{MAX_IO_RAT, MAX_TRACKS};
+use grid::{MAX_COLUMNS, MAX_ROWS};
 
 /// The size of the device, of its channels and of its columns' ends, within the service's limits.
 #[derive(Clone, Copy)]
@@ -12,10 +17,10 @@ pub struct DeviceSize {
     pub tracks: u32,
     /// Pads at each end of a column, 1 to 8.
     pub pads: u32,
-    ghost columns_lawful: { (1 ≤ columns) × (columns ≤ 256) },
-    ghost rows_lawful: { (1 ≤ rows) × (rows ≤ 64) },
-    ghost tracks_lawful: { (1 ≤ tracks) × (tracks ≤ 64) },
-    ghost pads_lawful: { (1 ≤ pads) × (pads ≤ 8) },
+    ghost columns_lawful: { (1 ≤ columns) × (columns ≤ MAX_COLUMNS) },
+    ghost rows_lawful: { (1 ≤ rows) × (rows ≤ MAX_ROWS) },
+    ghost tracks_lawful: { (1 ≤ tracks) × (tracks ≤ MAX_TRACKS) },
+    ghost pads_lawful: { (1 ≤ pads) × (pads ≤ MAX_IO_RAT) },
 }
 
 impl DeviceSize {
@@ -26,8 +31,8 @@ impl DeviceSize {
         ensures some { IfSome result (λ size. Holds size columns rows tracks pads) }
         ensures none { IfNone result (AreLawful columns rows tracks pads → ⊥) }
     {
-        let device = (1..=256).contains(&columns) && (1..=64).contains(&rows);
-        let channel = (1..=64).contains(&tracks) && (1..=8).contains(&pads);
+        let device = (1..=MAX_COLUMNS).contains(&columns) && (1..=MAX_ROWS).contains(&rows);
+        let channel = (1..=MAX_TRACKS).contains(&tracks) && (1..=MAX_IO_RAT).contains(&pads);
         if !device || !channel {
             return None;
         }

@@ -1,5 +1,6 @@
 //! Live tenancies.
-ghost use Rattle.std.specs.Prelude.{◌≡◌, ◌+◌, ◌≤◌, ◌<◌, length, true};
+ghost use Rattle.std.specs.Prelude.{◌≡◌, ◌↔◌, ◌+◌, ◌≤◌, ◌<◌, IsTrue, length, true};
+ghost use Rattle.grid.specs.declared.TheConstants.{MAX_COLUMNS};
 
 use rr_graph::{Resource, ResourceKind};
 
@@ -15,7 +16,7 @@ pub struct Tenancy<'t> {
     pub width: u32,
     /// The name of its state: letters.
     pub state: &'t [u8],
-    ghost on_largest: { offset + width ≤ 256 },
+    ghost on_largest: { offset + width ≤ MAX_COLUMNS },
     ghost name_short: { length name.now ≤ 32 },
 }
 
@@ -25,7 +26,7 @@ impl<'t> Tenancy<'t> {
 
     /// Returns whether a column is one of its strip's.
     pub fn has_column(&self, column: u32) -> bool
-        ensures { result ≡ true → (self.now.offset < column)
+        ensures { IsTrue result ↔ (self.now.offset < column)
             × (column ≤ self.now.offset + self.now.width) }
     {
         self.offset < column && column <= self.offset + self.width

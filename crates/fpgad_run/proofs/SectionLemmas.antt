@@ -1,18 +1,21 @@
 -- Sections, kept as names and texts.
 use Rattle.std.proofs.Common.{◌≡◌, ℕ, ◌<◌, ◌≤◌, List, [], ◌∷◌, ◌++◌, true, false, if◌then◌else◌, Some, Result, Ok, Err, length-append, suc, zero, add-one, length, get_or, refl, sym, ap, ◌∙◌, arith}
-use Rattle.std.specs.Prelude.{slice_get, is_ok, OnOk}
+use Rattle.std.specs.Prelude.{slice_get, is_ok, map, IfOk, OnOk}
+use Rattle.std.proofs.lemmas.List.{length-map}
 use Rattle.std.specs.Str.{bytes_eq}
 use Rattle.std.proofs.Math.ListN.{set}
 use Rattle.line_text.specs.Names.{has_name, number_of, with_name}
 use Rattle.line_text.proofs.NameLemmas.{number_of-first, number_of-later, with_name-first, with_name-later}
-use Rattle.fpgad_run.specs.Run.{Section, with_text}
+use Rattle.script_text.specs.declared.replies.SessionReplies.{SessionReplies}
+use Rattle.script_text.specs.Replies.{Section, section_of}
+use Rattle.fpgad_run.specs.Run.{with_text}
 use Rattle.line_text.specs.declared.memory_sink.MemorySink.{MemorySink}
 use Rattle.std.specs.declared.alloc.AllocError.{AllocError}
 use Rattle.std.proofs.lemmas.Bool.{false≢true}
 use Rattle.line_text.specs.declared.source.Failed.{Failed}
 use Rattle.line_text.specs.Writing.{Writes}
-use Rattle.operator.specs.Held.{held}
-use Rattle.fpgad_run.specs.Zipped.{zipped}
+use Rattle.operator.specs.Held.{sink_text}
+use Rattle.fpgad_run.specs.Zipped.{named_sections}
 
 abbrev pub Text : Type 0
 Text = MemorySink
@@ -29,38 +32,38 @@ section name text = record { name = name; text = text }
 
 -- a name that has a section
 pub zipped-set : (names : List (List ℕ)) (texts : List Text) (name text : List ℕ) (k : ℕ) (v : Text) → k ≡ number_of names name → k < length texts → length texts ≡ length names →
-    held v ≡ held (get_or texts k v) ++ text → zipped (with_name names name) (set texts k v) ≡ with_text (zipped names texts) name text
+    sink_text v ≡ sink_text (get_or texts k v) ++ text → named_sections (with_name names name) (set texts k v) ≡ with_text (named_sections names texts) name text
 zipped-set [] [] name text k v at within same told = absurd (omega arith)
 zipped-set [] (t ∷ texts) name text k v at within same told = absurd (omega arith)
 zipped-set (n ∷ names) [] name text k v at within same told = absurd (omega arith)
 zipped-set (n ∷ names) (t ∷ texts) name text zero v at within same told =
-    elim (bytes_eq name n) as (λ b. bytes_eq name n ≡ b → zipped (with_name (n ∷ names) name) (v ∷ texts) ≡ with_text (zipped (n ∷ names) (t ∷ texts)) name text) [
-      | true ↦ λ e. ap (λ ns. zipped ns (v ∷ texts)) (with_name-first n names name e) ∙ ap (λ i. section n i ∷ zipped names texts) told
-          ∙ sym (with_text-first (section n (held t)) (zipped names texts) name text e)
+    elim (bytes_eq name n) as (λ b. bytes_eq name n ≡ b → named_sections (with_name (n ∷ names) name) (v ∷ texts) ≡ with_text (named_sections (n ∷ names) (t ∷ texts)) name text) [
+      | true ↦ λ e. ap (λ ns. named_sections ns (v ∷ texts)) (with_name-first n names name e) ∙ ap (λ i. section n i ∷ named_sections names texts) told
+          ∙ sym (with_text-first (section n (sink_text t)) (named_sections names texts) name text e)
       | false ↦ λ e. let later = number_of-later n names name e in absurd (omega (arith, at, later))
     ] refl
 zipped-set (n ∷ names) (t ∷ texts) name text (suc k) v at within same told =
-    elim (bytes_eq name n) as (λ b. bytes_eq name n ≡ b → zipped (with_name (n ∷ names) name) (t ∷ set texts k v) ≡ with_text (zipped (n ∷ names) (t ∷ texts)) name text) [
+    elim (bytes_eq name n) as (λ b. bytes_eq name n ≡ b → named_sections (with_name (n ∷ names) name) (t ∷ set texts k v) ≡ with_text (named_sections (n ∷ names) (t ∷ texts)) name text) [
       | true ↦ λ e. let first = number_of-first n names name e in absurd (omega (arith, at, first))
       | false ↦ λ e. let later = number_of-later n names name e in
-          ap (λ ns. zipped ns (t ∷ set texts k v)) (with_name-later n names name e)
-          ∙ ap (λ ss. section n (held t) ∷ ss) (zipped-set names texts name text k v (omega (arith, at, later)) (omega arith) (omega arith) told)
-          ∙ sym (with_text-later (section n (held t)) (zipped names texts) name text e)
+          ap (λ ns. named_sections ns (t ∷ set texts k v)) (with_name-later n names name e)
+          ∙ ap (λ ss. section n (sink_text t) ∷ ss) (zipped-set names texts name text k v (omega (arith, at, later)) (omega arith) (omega arith) told)
+          ∙ sym (with_text-later (section n (sink_text t)) (named_sections names texts) name text e)
     ] refl
 
 -- and a name that has no section
 pub zipped-push : (names : List (List ℕ)) (texts : List Text) (name : List ℕ) (v : Text) → length texts ≡ length names → length texts ≤ number_of names name →
-    zipped (with_name names name) (texts ++ v ∷ []) ≡ with_text (zipped names texts) name (held v)
+    named_sections (with_name names name) (texts ++ v ∷ []) ≡ with_text (named_sections names texts) name (sink_text v)
 zipped-push [] [] name v same at = refl
 zipped-push [] (t ∷ texts) name v same at = absurd (omega arith)
 zipped-push (n ∷ names) [] name v same at = absurd (omega arith)
 zipped-push (n ∷ names) (t ∷ texts) name v same at =
-    elim (bytes_eq name n) as (λ b. bytes_eq name n ≡ b → zipped (with_name (n ∷ names) name) (t ∷ (texts ++ v ∷ [])) ≡ with_text (zipped (n ∷ names) (t ∷ texts)) name (held v)) [
+    elim (bytes_eq name n) as (λ b. bytes_eq name n ≡ b → named_sections (with_name (n ∷ names) name) (t ∷ (texts ++ v ∷ [])) ≡ with_text (named_sections (n ∷ names) (t ∷ texts)) name (sink_text v)) [
       | true ↦ λ e. let first = number_of-first n names name e in absurd (omega (arith, at, first))
       | false ↦ λ e. let later = number_of-later n names name e in
-          ap (λ ns. zipped ns (t ∷ (texts ++ v ∷ []))) (with_name-later n names name e)
-          ∙ ap (λ ss. section n (held t) ∷ ss) (zipped-push names texts name v (omega arith) (omega (arith, at, later)))
-          ∙ sym (with_text-later (section n (held t)) (zipped names texts) name (held v) e)
+          ap (λ ns. named_sections ns (t ∷ (texts ++ v ∷ []))) (with_name-later n names name e)
+          ∙ ap (λ ss. section n (sink_text t) ∷ ss) (zipped-push names texts name v (omega arith) (omega (arith, at, later)))
+          ∙ sym (with_text-later (section n (sink_text t)) (named_sections names texts) name (sink_text v) e)
     ] refl
 
 -- the name at an index is among the names, so their number doesn't change
@@ -72,30 +75,42 @@ length-found (n ∷ names) name h =
       | false ↦ λ e. let later = number_of-later n names name e in ap length (with_name-later n names name e) ∙ ap suc (length-found names name (omega (arith, h, later)))
     ] refl
 
--- the section at an index
-pub section-at : (names : List (List ℕ)) (texts : List Text) (n : ℕ) (name : List ℕ) (v : Text) → length texts ≡ length names → n < length texts → slice_get names n ≡ Some name → v ≡ get_or texts n v →
-    slice_get (zipped names texts) n ≡ Some (section name (held v))
-section-at names [] n name v same within at is = absurd (omega arith)
-section-at [] (t ∷ texts) n name v same within at is = absurd (omega arith)
-section-at (m ∷ names) (t ∷ texts) zero name v same within at is = let e : m ≡ name = cc in ap (λ k. Some (section k (held t))) e ∙ ap (λ w. Some (section name (held w))) (sym is)
-section-at (m ∷ names) (t ∷ texts) (suc n) name v same within at is = section-at names texts n name v (omega arith) (omega arith) at is
+-- without texts there is no section
+pub no_texts : (names : List (List ℕ)) → named_sections names [] ≡ []
+no_texts [] = refl
+no_texts (n ∷ names) = refl
 
--- there are as many sections as texts
-pub length-zipped : (names : List (List ℕ)) (texts : List Text) → length texts ≡ length names → length (zipped names texts) ≡ length texts
-length-zipped [] [] same = refl
-length-zipped [] (t ∷ texts) same = absurd (omega arith)
-length-zipped (n ∷ names) [] same = refl
-length-zipped (n ∷ names) (t ∷ texts) same = ap suc (length-zipped names texts (omega arith))
+-- one more text, with the next name
+pub named_push : (names : List (List ℕ)) (texts : List Text) (text : Text) (name : List ℕ) → length texts < length names → slice_get names (length texts) ≡ Some name →
+    named_sections names (texts ++ text ∷ []) ≡ named_sections names texts ++ section name (sink_text text) ∷ []
+named_push [] texts text name within at = absurd (omega arith)
+named_push (n ∷ names) [] text name within at =
+    let e : n ≡ name = cc in ap (λ m. section m (sink_text text) ∷ named_sections names []) e ∙ ap (λ ss. section name (sink_text text) ∷ ss) (no_texts names)
+named_push (n ∷ names) (t ∷ texts) text name within at = ap (λ ss. section n (sink_text t) ∷ ss) (named_push names texts text name (omega arith) at)
+
+-- each text has a section
+length-named : (names : List (List ℕ)) (texts : List Text) → length texts ≤ length names → length (named_sections names texts) ≡ length texts
+length-named [] [] fits = refl
+length-named [] (t ∷ texts) fits = absurd (omega arith)
+length-named (n ∷ names) [] fits = refl
+length-named (n ∷ names) (t ∷ texts) fits = ap suc (length-named names texts (omega arith))
+
+pub count_so_far : (names : List (List ℕ)) (texts : List Text) (replies : List SessionReplies) → map section_of replies ≡ named_sections names texts → length texts ≤ length names → length replies ≡ length texts
+count_so_far names texts replies are fits = sym (length-map replies section_of) ∙ (ap length are ∙ length-named names texts fits)
+
+pub on_value : {E A : Type 0} {P Q : A → Type 0} (r : Result A E) → ((a : A) → P a → Q a) → IfOk r P → IfOk r Q
+on_value (Ok a) f p = f a p
+on_value (Err e) f p = tt
 
 -- the answer is written if the sink had enough memory
 pub on_told : {P : Type 0} (r : Result (Unit {0}) AllocError) (w : Result (Unit {0}) Failed) (old new : MemorySink) (text : List ℕ) → is_ok r ≡ is_ok w →
-    Writes (λ (s : MemorySink). Some (held s)) (λ (s : MemorySink). s.failed) old new text w → (held new ≡ held old ++ text → P) → OnOk r P
+    Writes (λ (s : MemorySink). Some (sink_text s)) (λ (s : MemorySink). s.failed) old new text w → (sink_text new ≡ sink_text old ++ text → P) → OnOk r P
 on_told (Ok u) (Ok v) old new text same writes f = f writes.bytes
 on_told (Ok u) (Err e) old new text same writes f = absurd (false≢true (sym same))
 on_told (Err e) w old new text same writes f = tt
 
 pub is_told : (w : Result (Unit {0}) Failed) (old new : MemorySink) (text : List ℕ) → is_ok w ≡ true →
-    Writes (λ (s : MemorySink). Some (held s)) (λ (s : MemorySink). s.failed) old new text w → held new ≡ held old ++ text
+    Writes (λ (s : MemorySink). Some (sink_text s)) (λ (s : MemorySink). s.failed) old new text w → sink_text new ≡ sink_text old ++ text
 is_told (Ok v) old new text same writes = writes.bytes
 is_told (Err e) old new text same writes = absurd (false≢true same)
 
@@ -107,5 +122,5 @@ length-new names name k past within =
       | false ↦ λ w. length-append names (name ∷ []) ∙ add-one (length names)
     ] within
 
-pub held_as : (sink : MemorySink) (bytes : List ℕ) → Some (held sink) ≡ Some bytes → bytes ≡ held sink
+pub held_as : (sink : MemorySink) (bytes : List ℕ) → Some (sink_text sink) ≡ Some bytes → bytes ≡ sink_text sink
 held_as sink bytes same = cc

@@ -9,7 +9,7 @@ use Rattle.service_core.specs.declared.device.Device.{Device}
 use Rattle.service_core.specs.Headline.{AreOwnJournals, AreParted, EachIsAlone, IsBook}
 use Rattle.service_core.specs.Owners.{HasOneOwner}
 use Rattle.service_core.specs.Run.{Call, Run}
-use Rattle.service_core.specs.Service.{ServiceState, empty}
+use Rattle.service_core.specs.Service.{ServiceState, empty_service}
 use Rattle.fpgad_run.specs.declared.in_order.Running.{Running}
 use Rattle.sessions.specs.declared.line.SessionLine.{SessionLine}
 use Rattle.script_text.specs.declared.act.Act.{Act}
@@ -21,9 +21,10 @@ use Rattle.sessions.specs.SessionAnswer.{Asks, IsAnswer, LeavesNone}
 use Rattle.sessions.specs.EndToEnd.{LineIsToldAlone}
 use Rattle.fpgad_run.specs.EndToEnd.{AreToldAlone, IsToldAlone}
 use Rattle.sessions.specs.SessionText.{answer_text}
-use Rattle.operator.specs.Held.{held}
+use Rattle.operator.specs.Held.{sink_text}
 use Rattle.operator.specs.Serving.{Stage}
-use Rattle.fpgad_run.specs.Run.{Section, Telling, Tells, IsAnswered, calls_of, output_of, sections_after, told_operator, told_session}
+use Rattle.script_text.specs.Replies.{Section, output_of}
+use Rattle.fpgad_run.specs.Run.{Telling, Tells, IsAnswered, calls_of, sections_after, told_operator, told_session}
 use Rattle.sessions.proofs.StepLemmas.{Run-append}
 use Rattle.operator.specs.HeldJobs.{HeldList}
 use Rattle.operator.proofs.Served.{served_runs}
@@ -42,7 +43,7 @@ pub record Progress (start : Stage) (running : Running) (acts : List (Act (List 
   pub tellings : List Telling
   pub all : map (λ t. t.act) tellings ≡ acts
   pub told : Tells start tellings (stage_of running)
-  pub operator_text : held running.operator_text ≡ operator_texts tellings
+  pub operator_text : sink_text running.operator_text ≡ operator_texts tellings
   pub sections : sections_of running ≡ sections_after [] tellings
   pub even : IsEven running
 
@@ -99,19 +100,19 @@ lengths-answered graph old new id line answer is = lengths-run old new is.0 (ste
 
 -- what the core's main theorem says of every run from an empty device
 pub record IsHeadline : Type 0 where
-  pub alone : (device : Device) (calls : List Call) (state : ServiceState) → Run (empty device) calls state → EachIsAlone device calls state
-  pub parted : (device : Device) (calls : List Call) (state : ServiceState) → Run (empty device) calls state → AreParted device state
-  pub journals : (device : Device) (calls : List Call) (state : ServiceState) → Run (empty device) calls state → AreOwnJournals calls state
-  pub book : (device : Device) (calls : List Call) (state : ServiceState) → Run (empty device) calls state → IsBook device calls state
-  pub exact : (device : Device) (calls : List Call) (state : ServiceState) → Run (empty device) calls state → HasOneOwner state
-  pub line : (device : Device) (before calls : List Call) (old new : ServiceState) (id : ℕ) (line : SessionLine) (answer : Answer) → Run (empty device) before old → Asks id line calls answer → Run old calls new → LineIsToldAlone device old id before calls line answer
+  pub alone : (device : Device) (calls : List Call) (state : ServiceState) → Run (empty_service device) calls state → EachIsAlone device calls state
+  pub parted : (device : Device) (calls : List Call) (state : ServiceState) → Run (empty_service device) calls state → AreParted device state
+  pub journals : (device : Device) (calls : List Call) (state : ServiceState) → Run (empty_service device) calls state → AreOwnJournals calls state
+  pub book : (device : Device) (calls : List Call) (state : ServiceState) → Run (empty_service device) calls state → IsBook device calls state
+  pub exact : (device : Device) (calls : List Call) (state : ServiceState) → Run (empty_service device) calls state → HasOneOwner state
+  pub line : (device : Device) (before calls : List Call) (old new : ServiceState) (id : ℕ) (line : SessionLine) (answer : Answer) → Run (empty_service device) before old → Asks id line calls answer → Run old calls new → LineIsToldAlone device old id before calls line answer
 
-telling_alone : IsHeadline → (device : Device) (before : List Call) (old new : Stage) (act : Act (List ℕ)) (calls : List Call) (text : List ℕ) → Run (empty device) before old.service → IsAnswered old act calls text new → IsToldAlone device old before calls act text
+telling_alone : IsHeadline → (device : Device) (before : List Call) (old new : Stage) (act : Act (List ℕ)) (calls : List Call) (text : List ℕ) → Run (empty_service device) before old.service → IsAnswered old act calls text new → IsToldAlone device old before calls act text
 telling_alone headline device before old new (Operator line) calls text runs is = tt
 telling_alone headline device before old new (Session name line) calls text runs is =
     (is.0, headline.line device before calls old.service new.service (last_id old.names name) line is.0 runs is.1 is.2, is.5)
 
-tellings_alone : IsHeadline → (device : Device) (before : List Call) (old : Stage) (ts : List Telling) (last : Stage) → Run (empty device) before old.service → Tells old ts last → AreToldAlone device old before ts
+tellings_alone : IsHeadline → (device : Device) (before : List Call) (old : Stage) (ts : List Telling) (last : Stage) → Run (empty_service device) before old.service → Tells old ts last → AreToldAlone device old before ts
 tellings_alone headline device before old [] last runs told = tt
 tellings_alone headline device before old (t ∷ ts) last runs told = (
   telling_alone headline device before old told.0 t.act t.calls t.text runs told.1,
@@ -119,17 +120,17 @@ tellings_alone headline device before old (t ∷ ts) last runs told = (
     told.0,
     told.1,
     tellings_alone headline device (before ++ t.calls) told.0 ts last
-        (Run-append (empty device) before old.service t.calls (told.0).service runs (answered_runs old t.act t.calls t.text told.0 told.1)) told.2,
+        (Run-append (empty_service device) before old.service t.calls (told.0).service runs (answered_runs old t.act t.calls t.text told.0 told.1)) told.2,
   ),
 )
 
 -- all answers are written
 pub replies_all : (options : Options) (arch : Arch) (all : List (Act (List ℕ))) (running : Running) (acts : List (Act (List ℕ))) (output : List ℕ) → IsHeadline →
-    Progress (record { names = []; jobs = []; service = empty (device_of options arch); graph = own_graph (device_of options arch) }) running acts → acts ≡ all → output ≡ told_so_far running →
+    Progress (record { names = []; jobs = []; service = empty_service (device_of options arch); graph = own_graph (device_of options arch) }) running acts → acts ≡ all → output ≡ told_so_far running →
     IsReplies options (Ok (arch, all)) output
 replies_all options arch all running acts output headline p same is =
-    let runs : Run (empty (device_of options arch)) (calls_of p.tellings) running.core =
-    told_runs (record { names = []; jobs = []; service = empty (device_of options arch); graph = own_graph (device_of options arch) }) p.tellings (stage_of running) p.told in
+    let runs : Run (empty_service (device_of options arch)) (calls_of p.tellings) running.core =
+    told_runs (record { names = []; jobs = []; service = empty_service (device_of options arch); graph = own_graph (device_of options arch) }) p.tellings (stage_of running) p.told in
     record {
       arch = arch;
       acts = all;
@@ -138,7 +139,7 @@ replies_all options arch all running acts output headline p same is =
       last = stage_of running;
       all = p.all ∙ same;
       told = p.told;
-      each_alone = tellings_alone headline (device_of options arch) [] (record { names = []; jobs = []; service = empty (device_of options arch); graph = own_graph (device_of options arch) }) p.tellings (stage_of running) refl p.told;
+      each_alone = tellings_alone headline (device_of options arch) [] (record { names = []; jobs = []; service = empty_service (device_of options arch); graph = own_graph (device_of options arch) }) p.tellings (stage_of running) refl p.told;
       runs = runs;
       alone = headline.alone _ _ _ runs;
       parted = headline.parted _ _ _ runs;

@@ -2,8 +2,8 @@
 use Rattle.std.proofs.Common.{◌≡◌, ℕ, Result, Ok, ap, ◌∙◌}
 use Rattle.arch_file.specs.declared.arch.Arch.{Arch}
 use Rattle.arch_file.specs.declared.fault.ArchFault.{ArchFault}
-use Rattle.fpgad_run.specs.Program.{Start, checked}
+use Rattle.fpgad_run.specs.Program.{Start, checked_start}
 
 -- neither the architecture nor the script is refused
-pub start_read : {A : Type 0} (start : Start A) (meant : Result Arch ArchFault) (said : Result A ℕ) (arch : Arch) (value : A) → start ≡ checked meant said → meant ≡ Ok arch → said ≡ Ok value → start ≡ Ok (arch, value)
-start_read start meant said arch value starts reads says = starts ∙ ap (λ m. checked m said) reads ∙ ap (checked (Ok arch)) says
+pub start_read : {A : Type 0} (start : Start A) (meant : Result Arch ArchFault) (said : Result A ℕ) (arch : Arch) (value : A) → start ≡ checked_start meant said → meant ≡ Ok arch → said ≡ Ok value → start ≡ Ok (arch, value)
+start_read start meant said arch value starts reads says = starts ∙ ap (λ m. checked_start m said) reads ∙ ap (checked_start (Ok arch)) says

@@ -4,6 +4,8 @@ use Rattle.std.specs.declared.vec.Vec.{Vec}
 use Rattle.std.specs.declared.alloc.Global.{Global}
 use Rattle.std.specs.Io.KnownBytes.{Appends}
 use Rattle.line_text.specs.declared.source.Failed.{Failed}
+use Rattle.script_text.specs.declared.replies.RunReplies.{RunReplies}
+use Rattle.script_text.specs.Replies.{run_text}
 use Rattle.fpgad_run.specs.declared.inputs.Architecture.{Architecture}
 use Rattle.fpgad_run.specs.declared.inputs.Architecture.TheVariants.{Unreadable}
 use Rattle.fpgad_run.specs.declared.outcome.Outcome.{Outcome}
@@ -18,9 +20,9 @@ IsInput architecture remaining (Err InputFailed) failed = (architecture ≢ Unre
 IsInput architecture remaining (Err NoMemory) failed = architecture ≢ Unreadable
 IsInput architecture remaining (Err outcome) failed = ⊥
 
--- a script with that start may be answered so, with answers of that kind
-abbrev pub Replies : {A B : Type 0} → (B → Type 0) → Start A → Result B Outcome → Type 0
-Replies IsReply start (Ok told) = IsReply told
+-- a script with that start may be answered so, with a text of that kind
+abbrev pub Replies : {A : Type 0} → (List ℕ → Type 0) → Start A → Result RunReplies Outcome → Type 0
+Replies IsReply start (Ok replies) = IsReply (run_text replies)
 Replies IsReply start (Err ArchUnreadable) = start ≡ Err ArchUnreadable
 Replies IsReply start (Err (ArchRefused fault)) = start ≡ Err (ArchRefused fault)
 Replies IsReply start (Err (ScriptFault line)) = start ≡ Err (ScriptFault line)
@@ -29,11 +31,11 @@ Replies IsReply start (Err NotSettled) = IsOk start
 Replies IsReply start (Err outcome) = ⊥
 
 -- the answers are written, or a beginning of them, or nothing if there are none
-abbrev pub EndsWith : {B : Type 0} → (B → List ℕ) → Result B Outcome → Outcome → Option (List ℕ) → Option (List ℕ) → Bool → Type 0
-EndsWith text_of (Ok told) Done old new failed = Appends old new (text_of told)
-EndsWith text_of (Ok told) OutputFailed old new failed = ((n : ℕ) × Appends old new (take n (text_of told))) × (failed ≡ true)
-EndsWith text_of (Ok told) outcome old new failed = ⊥
-EndsWith text_of (Err refusal) outcome old new failed = (outcome ≡ refusal) × (new ≡ old)
+abbrev pub EndsWith : Result RunReplies Outcome → Outcome → Option (List ℕ) → Option (List ℕ) → Bool → Type 0
+EndsWith (Ok replies) Done old new failed = Appends old new (run_text replies)
+EndsWith (Ok replies) OutputFailed old new failed = ((n : ℕ) × Appends old new (take n (run_text replies))) × (failed ≡ true)
+EndsWith (Ok replies) outcome old new failed = ⊥
+EndsWith (Err refusal) outcome old new failed = (outcome ≡ refusal) × (new ≡ old)
 
 -- how a run ends whose writing ended so
 abbrev pub ending : Result (Unit {0}) Failed → Outcome

@@ -1,9 +1,12 @@
 -- The limits of a device, and of the number of workers.
 use Rattle.std.specs.Prelude.{ℕ, ◌≡◌, ◌≤◌}
+use Rattle.shared_core.specs.declared.shared.TheConstants.{MAX_WORKERS}
+use Rattle.arch_file.specs.declared.arch.TheConstants.{MAX_TRACKS}
+use Rattle.grid.specs.declared.TheConstants.{MAX_COLUMNS, MAX_ROWS}
 use Rattle.fpgad_run.specs.declared.options.Options.{Options}
 
 abbrev pub AreLawful : ℕ → ℕ → ℕ → ℕ → Type 0
-AreLawful tracks columns rows workers = (1 ≤ tracks) × (tracks ≤ 64) × (1 ≤ columns) × (columns ≤ 256) × (1 ≤ rows) × (rows ≤ 64) × (workers ≤ 16)
+AreLawful tracks columns rows workers = (1 ≤ tracks) × (tracks ≤ MAX_TRACKS) × (1 ≤ columns) × (columns ≤ MAX_COLUMNS) × (1 ≤ rows) × (rows ≤ MAX_ROWS) × (workers ≤ MAX_WORKERS)
 
 abbrev pub Holds : Options → ℕ → ℕ → ℕ → ℕ → Type 0
 Holds options tracks columns rows workers = (options.tracks ≡ tracks) × (options.columns ≡ columns) × (options.rows ≡ rows) × (options.workers ≡ workers)

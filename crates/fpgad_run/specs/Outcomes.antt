@@ -3,11 +3,9 @@ use Rattle.std.specs.Prelude.{ℕ, List, [], ◌++◌, codes, decimal}
 use Rattle.arch_file.specs.Faults.{printed_fault}
 use Rattle.arch_file.specs.declared.fault.ArchFault.{ArchFault}
 use Rattle.line_text.specs.declared.text_error.TextError.{TextError}
-use Rattle.line_text.specs.declared.text_error.TextError.TheVariants.{Fault as ArchFaulty, NoMemory as NoArchMemory}
-use Rattle.script_text.specs.declared.script.ScriptError.{ScriptError}
-use Rattle.script_text.specs.declared.script.ScriptError.TheVariants.{Fault as ScriptFaulty, NoMemory as NoScriptMemory}
-use Rattle.script_threads.specs.declared.answered.Unserved.{Unserved}
-use Rattle.script_threads.specs.declared.answered.Unserved.TheVariants.{NoMemory as UnservedMemory, NotSettled as Unsettled}
+use Rattle.line_text.specs.declared.text_error.TextError.TheVariants.{Fault, NoMemory as NoTextMemory}
+use Rattle.script_threads.specs.declared.unserved.Unserved.{Unserved}
+use Rattle.script_threads.specs.declared.unserved.Unserved.TheVariants.{NoMemory as UnservedMemory, NotSettled as Unsettled}
 use Rattle.fpgad_run.specs.declared.outcome.Outcome.{Outcome}
 use Rattle.fpgad_run.specs.declared.outcome.Outcome.TheVariants.{Done, ArchUnreadable, ArchRefused, InputFailed, OutputFailed, ScriptFault, NoMemory, NotSettled}
 
@@ -33,13 +31,13 @@ message_of NotSettled = codes "settle"
 
 -- how a run ends that has no architecture, no script, or no answers
 abbrev pub refused_arch : TextError ArchFault → Outcome
-refused_arch (ArchFaulty fault) = ArchRefused fault
-refused_arch NoArchMemory = NoMemory
+refused_arch (Fault fault) = ArchRefused fault
+refused_arch NoTextMemory = NoMemory
 
-abbrev pub refused_script : ScriptError → Outcome
-refused_script (ScriptFaulty line) = ScriptFault line
-refused_script NoScriptMemory = NoMemory
+abbrev pub refused_script : TextError ℕ → Outcome
+refused_script (Fault line) = ScriptFault line
+refused_script NoTextMemory = NoMemory
 
-abbrev pub unserved : Unserved → Outcome
-unserved UnservedMemory = NoMemory
-unserved (Unsettled cause) = NotSettled
+abbrev pub outcome_of_unserved : Unserved → Outcome
+outcome_of_unserved UnservedMemory = NoMemory
+outcome_of_unserved (Unsettled cause) = NotSettled

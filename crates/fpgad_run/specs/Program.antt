@@ -5,7 +5,7 @@ use Rattle.arch_file.specs.declared.arch.Arch.{Arch}
 use Rattle.arch_file.specs.declared.fault.ArchFault.{ArchFault}
 use Rattle.arch_file.specs.Arch.{arch_of}
 use Rattle.service_core.specs.declared.device.Device.{Device}
-use Rattle.service_core.specs.Service.{empty}
+use Rattle.service_core.specs.Service.{empty_service}
 use Rattle.service_core.specs.Headline.{AreOwnJournals, AreParted, EachIsAlone, IsBook}
 use Rattle.service_core.specs.Owners.{HasOneOwner}
 use Rattle.service_core.specs.Run.{Run}
@@ -21,22 +21,22 @@ use Rattle.script_text.specs.Texts.{bytes_ahead}
 use Rattle.script_text.specs.Script.{acts_from}
 use Rattle.fpgad_run.specs.EndToEnd.{AreToldAlone}
 use Rattle.operator.specs.Serving.{Stage}
-use Rattle.fpgad_run.specs.Run.{Telling, Tells, calls_of, written}
+use Rattle.fpgad_run.specs.Run.{Telling, Tells, calls_of, replies_text}
 
 -- the architecture and what the script says; or a fault, the architecture's before the script's
 abbrev pub Start : Type 0 → Type 0
 Start A = Result (Arch × A) Outcome
 
-abbrev pub checked : {A : Type 0} → Result Arch ArchFault → Result A ℕ → Start A
-checked (Err fault) said = Err (ArchRefused fault)
-checked (Ok arch) (Err line) = Err (ScriptFault line)
-checked (Ok arch) (Ok said) = Ok (arch, said)
+abbrev pub checked_start : {A : Type 0} → Result Arch ArchFault → Result A ℕ → Start A
+checked_start (Err fault) said = Err (ArchRefused fault)
+checked_start (Ok arch) (Err line) = Err (ScriptFault line)
+checked_start (Ok arch) (Ok said) = Ok (arch, said)
 
 -- an architecture at the script's head is the text before the script; if no line ends it, it is the
 -- whole input. What the script says depends on its lines, and on whether a text comes first
 abbrev pub start_by : {A : Type 0} → (Bool → List (List ℕ) → Result A ℕ) → ℕ → Architecture → List ℕ → Start A
-start_by says tracks InScript input = checked (arch_of (unwrap_or (bytes_ahead (physical_lines input)) input) tracks) (says true (physical_lines input))
-start_by says tracks (Text text) input = checked (arch_of text.now tracks) (says false (physical_lines input))
+start_by says tracks InScript input = checked_start (arch_of (unwrap_or (bytes_ahead (physical_lines input)) input) tracks) (says true (physical_lines input))
+start_by says tracks (Text text) input = checked_start (arch_of text.now tracks) (says false (physical_lines input))
 start_by says tracks Unreadable input = Err ArchUnreadable
 
 -- a script that is served in order says what each of its lines asks
@@ -57,15 +57,15 @@ pub record IsReplies (options : Options) (start : Start (List (Act (List ℕ))))
   pub tellings : List Telling
   pub last : Stage
   pub all : map (λ t. t.act) tellings ≡ acts
-  pub told : Tells (record { names = []; jobs = []; service = empty (device_of options arch); graph = own_graph (device_of options arch) }) tellings last
-  pub each_alone : AreToldAlone (device_of options arch) (record { names = []; jobs = []; service = empty (device_of options arch); graph = own_graph (device_of options arch) }) [] tellings
-  pub runs : Run (empty (device_of options arch)) (calls_of tellings) last.service
+  pub told : Tells (record { names = []; jobs = []; service = empty_service (device_of options arch); graph = own_graph (device_of options arch) }) tellings last
+  pub each_alone : AreToldAlone (device_of options arch) (record { names = []; jobs = []; service = empty_service (device_of options arch); graph = own_graph (device_of options arch) }) [] tellings
+  pub runs : Run (empty_service (device_of options arch)) (calls_of tellings) last.service
   pub alone : EachIsAlone (device_of options arch) (calls_of tellings) last.service
   pub journals : AreOwnJournals (calls_of tellings) last.service
   pub parted : AreParted (device_of options arch) last.service
   pub book : IsBook (device_of options arch) (calls_of tellings) last.service
   pub exact : HasOneOwner last.service
-  pub output_is : output ≡ written tellings
+  pub output_is : output ≡ replies_text tellings
 
 -- what the texts decide about how a run ends
 abbrev pub Decides : {A : Type 0} → Start A → Outcome → Type 0

@@ -1,5 +1,5 @@
 -- The answers to the lines of a script, one after another.
-use Rattle.std.specs.Prelude.{ℕ, ◌≡◌, List, [], ◌∷◌, ◌++◌, codes, if◌then◌else◌}
+use Rattle.std.specs.Prelude.{ℕ, ◌≡◌, List, [], ◌∷◌, ◌++◌, if◌then◌else◌}
 use Rattle.std.specs.List.{flat_map}
 use Rattle.std.specs.Str.{bytes_eq}
 use Rattle.service_core.specs.Run.{Call, Run}
@@ -8,6 +8,7 @@ use Rattle.sessions.specs.SessionAnswer.{Asks, LeavesNone}
 use Rattle.sessions.specs.SessionText.{answer_text}
 use Rattle.script_text.specs.declared.act.Act.{Act}
 use Rattle.script_text.specs.declared.act.Act.TheVariants.{Operator, Session}
+use Rattle.script_text.specs.Replies.{Section, output_of}
 use Rattle.operator.specs.OperatorText.{last_id}
 use Rattle.operator.specs.Serving.{HasOwnGraph, Stage, IsServed}
 
@@ -35,11 +36,6 @@ Tells old (t ∷ ts) new = (mid : Stage) × IsAnswered old t.act t.calls t.text 
 abbrev pub calls_of : List Telling → List Call
 calls_of tellings = flat_map (λ t. t.calls) tellings
 
--- a name and the answers to its session
-pub record Section : Type 0 where
-  pub name : List ℕ
-  pub text : List ℕ
-
 -- a text goes to the end of its name's section; the first one of a name opens its section, the last
 abbrev pub with_text : List Section → List ℕ → List ℕ → List Section
 with_text [] name text = record { name = name; text = text } ∷ []
@@ -58,15 +54,6 @@ abbrev pub sections_after : List Section → List Telling → List Section
 sections_after sections [] = sections
 sections_after sections (t ∷ ts) = sections_after (told_session sections t.act t.text) ts
 
-abbrev pub heading : List ℕ → List ℕ
-heading name = codes "== " ++ name ++ 10 ∷ []
-
-abbrev pub section_text : Section → List ℕ
-section_text s = heading s.name ++ s.text
-
--- what is written: the operator's replies, then each name's in the order of their first lines
-abbrev pub output_of : List ℕ → List Section → List ℕ
-output_of operator sections = heading (codes "op") ++ operator ++ flat_map section_text sections
-
-abbrev pub written : List Telling → List ℕ
-written tellings = output_of (flat_map (λ t. told_operator t.act t.text) tellings) (sections_after [] tellings)
+-- what is written
+abbrev pub replies_text : List Telling → List ℕ
+replies_text tellings = output_of (flat_map (λ t. told_operator t.act t.text) tellings) (sections_after [] tellings)

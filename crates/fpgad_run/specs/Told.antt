@@ -8,19 +8,19 @@ use Rattle.sessions.specs.declared.told.Answer.{Answer}
 use Rattle.sessions.specs.SessionAnswer.{IsAnswer}
 use Rattle.sessions.specs.SessionText.{answer_text}
 use Rattle.fpgad_run.specs.declared.in_order.Running.{Running}
-use Rattle.fpgad_run.specs.declared.told.Told.{Told}
 use Rattle.fpgad_run.specs.declared.sections.Sections.{Sections}
-use Rattle.operator.specs.Held.{held}
+use Rattle.operator.specs.Held.{sink_text}
 use Rattle.script_text.specs.declared.act.Act.{Act}
 use Rattle.operator.specs.Serving.{Stage}
-use Rattle.fpgad_run.specs.Run.{Section, IsAnswered, output_of, told_operator, told_session, with_text}
-use Rattle.fpgad_run.specs.Zipped.{zipped}
+use Rattle.script_text.specs.Replies.{Section, output_of}
+use Rattle.fpgad_run.specs.Run.{IsAnswered, told_operator, told_session, with_text}
+use Rattle.fpgad_run.specs.Zipped.{named_sections}
 
 abbrev pub stage_of : Running → Stage
 stage_of running = record { names = running.operator; jobs = running.jobs; service = running.core; graph = running.graph.now }
 
 abbrev pub sections_in : Sections → List Section
-sections_in sections = zipped sections.names sections.texts.items
+sections_in sections = named_sections sections.names sections.texts.items
 
 abbrev pub sections_of : Running → List Section
 sections_of running = sections_in running.sections
@@ -32,16 +32,12 @@ pub record IsEven (running : Running) : Type 0 where
 
 -- what would be written now
 abbrev pub told_so_far : Running → List ℕ
-told_so_far running = output_of (held running.operator_text) (sections_of running)
-
--- the text of the answers
-abbrev pub told_text : Told → List ℕ
-told_text told = output_of (held told.operator) (sections_in told.sections)
+told_so_far running = output_of (sink_text running.operator_text) (sections_of running)
 
 -- nothing is answered yet
 pub record Begins (graph : Basis) (core : ServiceState) (running : Running) : Type 0 where
   pub stage : stage_of running ≡ record { names = []; jobs = []; service = core; graph = graph }
-  pub operator_text : held running.operator_text ≡ []
+  pub operator_text : sink_text running.operator_text ≡ []
   pub sections : sections_of running ≡ []
   pub even : IsEven running
 
@@ -50,7 +46,7 @@ pub record Serves (old : Running) (act : Act (List ℕ)) (new : Running) : Type 
   pub calls : List Call
   pub text : List ℕ
   pub answered : IsAnswered (stage_of old) act calls text (stage_of new)
-  pub operator_text : held new.operator_text ≡ held old.operator_text ++ told_operator act text
+  pub operator_text : sink_text new.operator_text ≡ sink_text old.operator_text ++ told_operator act text
   pub sections : sections_of new ≡ told_session (sections_of old) act text
   pub even : IsEven new
 

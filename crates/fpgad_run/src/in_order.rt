@@ -1,21 +1,19 @@
 //! A script that is served in order, without workers.
 ghost use Rattle.std.specs.Prelude.{◌≡◌, ◌<◌, ◌^◌, [], Ok, length, IfErr, IfOk, OnOk};
 ghost use Rattle.arch_file.specs.Arch.{IsArch};
+ghost use Rattle.script_text.specs.Replies.{run_text};
 ghost use Rattle.script_text.specs.Script.{named_act};
 ghost use Rattle.fpgad_run.specs.Ends.{Replies};
 ghost use Rattle.fpgad_run.specs.Program.{IsReplies, start_of};
-ghost use Rattle.fpgad_run.specs.Told.{told_text};
-ghost use Rattle.line_text.specs.Writing.{Writes};
 
 use crate::inputs::{Architecture, Texts};
 use crate::options::Options;
 use crate::outcome::Outcome;
-use crate::sections::{Sections, write_section};
-use crate::told::Told;
+use crate::sections::Sections;
 use arch_file::{Arch, read_arch};
-use line_text::{Failed, MemorySink, Sink};
+use line_text::MemorySink;
 use operator::{HeldJobs, Operator};
-use script_text::{Act, Script, read_script};
+use script_text::{Act, RunReplies, Script, read_script};
 use service_core::{Service, headline};
 use sessions::{device_graph, end_to_end};
 use std::alloc::{AllocError, Global};
@@ -27,11 +25,11 @@ pub(crate) fn replies<'t>(
     options: &Options,
     architecture: Architecture<'t>,
     input: &'t [u8],
-) -> Result<Told<'t>, Outcome>
+) -> Result<RunReplies<'t>, Outcome>
     requires { length input.now < 2 ^ 63 }
     ensures settled { IfErr result (λ outcome. outcome ≡ Outcome.NotSettled → ⊥) }
-    ensures replies { Replies (λ told. IsReplies options.now
-        (start_of options.now.tracks architecture.entry input.now) (told_text told))
+    ensures replies { Replies (IsReplies options.now
+        (start_of options.now.tracks architecture.entry input.now))
         (start_of options.now.tracks architecture.entry input.now) result }
 {
     let Some(texts) = Texts::new(architecture, input) else {
@@ -48,28 +46,21 @@ fn serve<'t>(
     options: &Options,
     arch: Arch,
     script: Script<'t>,
-) -> Result<Told<'t>, AllocError>
+) -> Result<RunReplies<'t>, AllocError>
     requires { IsArch arch }
-    ensures { IfOk result (λ told.
-        IsReplies options.now (Ok (arch, script.entry)) (told_text told)) }
+    ensures { IfOk result (λ replies.
+        IsReplies options.now (Ok (arch, script.entry)) (run_text replies)) }
 {
     let device = options.device(arch);
     let graph = device_graph(alloc, &device)?;
     let core = Service::new(alloc, device)?;
     let mut running = Running::new(alloc, &graph, core);
-    let served = running.serve_all(script);
-    let (operator, sections) = running.end();
-    served?;
-    Ok(Told { operator, sections })
-}
-
-impl Told<'_> {
-    /// Writes the answers, section by section.
-    pub(crate) fn write_to<W: Sink>(&self, writer: &mut W) -> Result<(), Failed>
-        ensures { Writes W.contents W.has_failed writer.old writer.new (told_text self.now) result }
-    {
-        write_section(writer, b"op", self.operator.as_bytes())?;
-        self.sections.write_to(writer)
+    match running.serve_all(script) {
+        Ok(()) => running.into_replies(),
+        Err(error) => {
+            drop(running.end());
+            Err(error)
+        }
     }
 }
 
@@ -86,7 +77,7 @@ struct Running<'t, 'g> {
 
 impl<'t, 'g> Running<'t, 'g> {
     ghost use Rattle.arch_file.specs.declared.arch.Arch.{Arch};
-    ghost use Rattle.service_core.specs.Service.{empty};
+    ghost use Rattle.service_core.specs.Service.{empty_service};
     ghost use Rattle.sessions.specs.Fitting.{own_graph};
     ghost use Rattle.fpgad_run.specs.declared.options.Options.{Options};
     ghost use Rattle.fpgad_run.specs.Program.{device_of};
@@ -110,7 +101,7 @@ impl<'t, 'g> Running<'t, 'g> {
     fn serve_all(&mut self, script: Script<'t>) -> Result<(), AllocError>
         requires { Begins self.old.graph.now self.old.core self.old }
         ensures told { (options : Options) (arch : Arch) →
-            self.old.core ≡ empty (device_of options arch) →
+            self.old.core ≡ empty_service (device_of options arch) →
             self.old.graph.now ≡ own_graph (device_of options arch) →
             OnOk result (IsReplies options (Ok (arch, script.entry)) (told_so_far self.new)) }
         ensures even { OnOk result (IsEven self.new) }
@@ -121,6 +112,24 @@ impl<'t, 'g> Running<'t, 'g> {
         headline();
         end_to_end();
         Ok(())
+    }
+
+    /// Ends the service. Returns the answers to the script.
+    fn into_replies(self) -> Result<RunReplies<'t>, AllocError>
+        requires { IsEven self }
+        ensures { IfOk result (λ replies. run_text replies ≡ told_so_far self.entry) }
+    {
+        let (operator, sections) = self.end();
+        match sections.into_replies() {
+            Ok(sections) => Ok(RunReplies {
+                operator: operator.into_bytes(),
+                sections,
+            }),
+            Err(error) => {
+                drop(operator);
+                Err(error)
+            }
+        }
     }
 
     /// Ends the service. Returns the answers to the operator and to each session. Jobs that are

@@ -15,7 +15,6 @@ mod options;
 mod outcome;
 mod program;
 mod sections;
-mod told;
 
 pub use inputs::Architecture;
 pub use options::{CommandLine, Options, read_options};

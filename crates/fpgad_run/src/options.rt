@@ -1,7 +1,11 @@
 ghost use Rattle.std.specs.Prelude.{◌≡◌, ◌≤◌, IfSome, IfNone};
+ghost use Rattle.shared_core.specs.declared.shared.TheConstants.{MAX_WORKERS};
+ghost use Rattle.arch_file.specs.declared.arch.TheConstants.{MAX_TRACKS};
+ghost use Rattle.grid.specs.declared.TheConstants.{MAX_COLUMNS, MAX_ROWS};
 
-use arch_file::Arch;
+use arch_file::{Arch, MAX_TRACKS};
 use clap::Error;
+use grid::{MAX_COLUMNS, MAX_ROWS};
 use option_words::{Given, OptionWord, Program, Takes, read_words, refusal};
 use service_core::Device;
 use std::alloc::Global;
@@ -81,10 +85,10 @@ pub struct Options {
     pub rows: u32,
     /// Threads that make the jobs' steps, 0 to 16. With 0 a script is served in order.
     pub workers: u32,
-    ghost tracks_lawful: { (1 ≤ tracks) × (tracks ≤ 64) },
-    ghost columns_lawful: { (1 ≤ columns) × (columns ≤ 256) },
-    ghost rows_lawful: { (1 ≤ rows) × (rows ≤ 64) },
-    ghost workers_lawful: { workers ≤ 16 },
+    ghost tracks_lawful: { (1 ≤ tracks) × (tracks ≤ MAX_TRACKS) },
+    ghost columns_lawful: { (1 ≤ columns) × (columns ≤ MAX_COLUMNS) },
+    ghost rows_lawful: { (1 ≤ rows) × (rows ≤ MAX_ROWS) },
+    ghost workers_lawful: { workers ≤ MAX_WORKERS },
 }
 
 impl Options {
@@ -96,7 +100,13 @@ impl Options {
         ensures some { IfSome result (λ options. Holds options tracks columns rows workers) }
         ensures none { IfNone result (AreLawful tracks columns rows workers → ⊥) }
     {
-        if tracks < 1 || tracks > 64 || columns < 1 || columns > 256 || rows < 1 || rows > 64 {
+        if tracks < 1
+            || tracks > MAX_TRACKS
+            || columns < 1
+            || columns > MAX_COLUMNS
+            || rows < 1
+            || rows > MAX_ROWS
+        {
             return None;
         }
         if workers > 16 {

@@ -117,9 +117,9 @@ impl From<ScriptError> for Outcome {
 /// Why a script isn't served on threads.
 impl From<Unserved> for Outcome {
     ghost use Rattle.std.specs.Prelude.{◌≡◌};
-    ghost use Rattle.fpgad_run.specs.Outcomes.{unserved};
+    ghost use Rattle.fpgad_run.specs.Outcomes.{outcome_of_unserved};
 
-    ghost from_gives = { λ error outcome. outcome ≡ unserved error };
+    ghost from_gives = { λ error outcome. outcome ≡ outcome_of_unserved error };
 
     fn from(error: Unserved) -> Self {
         match error {

@@ -2,18 +2,14 @@
 ghost use Rattle.std.specs.Prelude.{◌≡◌, ◌≤◌, true, IfSome};
 ghost use Rattle.fpgad_run.specs.Commands.{RunsInOrder, RunsOnThreads};
 ghost use Rattle.fpgad_run.specs.Ends.{EndsWith, IsInput, ending};
-ghost use Rattle.fpgad_run.specs.OnThreads.{answered_text};
 ghost use Rattle.fpgad_run.specs.Program.{Decides, Writes, start_of};
-ghost use Rattle.fpgad_run.specs.Told.{told_text};
 
-use crate::in_order;
 use crate::inputs::Architecture;
-use crate::on_threads::{self, write_answered};
 use crate::options::Options;
 use crate::outcome::Outcome;
-use crate::told::Told;
+use crate::{in_order, on_threads};
 use line_text::{Failed, ReadError, Sink, Source, read_all};
-use script_threads::Answered;
+use script_text::RunReplies;
 use std::alloc::{AllocGlobal, Global};
 use std::sync::Wait;
 use std::thread::Threads;
@@ -43,8 +39,8 @@ pub fn run_script<R: Source, W: Sink>(
 {
     match read_input(alloc, architecture, reader) {
         Ok(input) => {
-            let told = in_order::replies(alloc, options, architecture, input.as_slice());
-            end_in_order(writer, told)
+            let replies = in_order::replies(alloc, options, architecture, input.as_slice());
+            write_replies(writer, replies)
         }
         Err(outcome) => outcome,
     }
@@ -75,8 +71,8 @@ pub fn run<H: Threads + Wait + Clock + AllocGlobal + Sync, R: Source, W: Sink>(
     }
     match read_input(rt.alloc(), architecture, reader) {
         Ok(input) => {
-            let answered = on_threads::replies(rt, options, architecture, input.as_slice());
-            end_on_threads(writer, answered)
+            let replies = on_threads::replies(rt, options, architecture, input.as_slice());
+            write_replies(writer, replies)
         }
         Err(outcome) => outcome,
     }
@@ -100,24 +96,13 @@ fn read_input<R: Source>(
     }
 }
 
-/// Writes the answers to a script that was served in order, if there are any.
-fn end_in_order<W: Sink>(writer: &mut W, told: Result<Told<'_>, Outcome>) -> Outcome
-    ensures { EndsWith told_text told.entry result (W.contents writer.old) (W.contents writer.new)
+/// Writes the answers to a script, if there are any.
+fn write_replies<W: Sink>(writer: &mut W, replies: Result<RunReplies<'_>, Outcome>) -> Outcome
+    ensures { EndsWith replies.entry result (W.contents writer.old) (W.contents writer.new)
         (W.has_failed writer.new) }
 {
-    match told {
-        Ok(told) => end(told.write_to(writer)),
-        Err(outcome) => outcome,
-    }
-}
-
-/// Writes the answers to a script that was served on threads, if there are any.
-fn end_on_threads<W: Sink>(writer: &mut W, answered: Result<Answered<'_>, Outcome>) -> Outcome
-    ensures { EndsWith answered_text answered.entry result (W.contents writer.old)
-        (W.contents writer.new) (W.has_failed writer.new) }
-{
-    match answered {
-        Ok(answered) => end(write_answered(writer, &answered)),
+    match replies {
+        Ok(replies) => end(replies.write_to(writer)),
         Err(outcome) => outcome,
     }
 }

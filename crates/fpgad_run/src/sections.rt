@@ -1,10 +1,9 @@
-ghost use Rattle.std.specs.Prelude.{is_ok, ◌≡◌, ◌++◌, [], length, OnOk};
-ghost use Rattle.std.specs.List.{flat_map};
-ghost use Rattle.line_text.specs.Writing.{Writes};
-ghost use Rattle.fpgad_run.specs.Run.{heading, section_text};
-ghost use Rattle.fpgad_run.specs.Zipped.{zipped};
+ghost use Rattle.std.specs.Prelude.{is_ok, ◌≡◌, [], length, map, IfOk, OnOk};
+ghost use Rattle.script_text.specs.Replies.{section_of};
+ghost use Rattle.fpgad_run.specs.Zipped.{named_sections};
 
-use line_text::{Failed, MemorySink, NameSet, Sink, write_parts};
+use line_text::{Failed, MemorySink, NameSet};
+use script_text::SessionReplies;
 use service_core::Service;
 use sessions::{Answer, SessionLine, answer};
 use std::alloc::{AllocError, Global};
@@ -48,37 +47,61 @@ impl<'t> Sections<'t> {
     {
         let number = self.names.add_numbered(name)?;
         if number < self.texts.len() {
-            return told(answer(core, graph, id, line, &mut self.texts[number]));
+            return check_written(answer(core, graph, id, line, &mut self.texts[number]));
         }
         let mut first = MemorySink::new(self.alloc);
-        told(answer(core, graph, id, line, &mut first))?;
+        check_written(answer(core, graph, id, line, &mut first))?;
         self.texts.push(first)?;
         Ok(())
     }
 
-    /// Writes all sections, each under its name.
-    pub(crate) fn write_to<W: Sink>(&self, writer: &mut W) -> Result<(), Failed>
-        requires { length self.now.texts.items ≡ length self.now.names }
-        ensures { Writes W.contents W.has_failed writer.old writer.new
-            (flat_map section_text (zipped self.now.names self.now.texts.items)) result }
+    /// The answers to each name's session.
+    pub(crate) fn into_replies(self) -> Result<Vec<SessionReplies<'t>>, AllocError>
+        requires { length self.texts.items ≡ length self.names }
+        ensures { IfOk result (λ replies.
+            map section_of replies.items ≡ named_sections self.entry.names self.entry.texts.items) }
     {
-        for (number, text) in self.texts.iter().enumerate() {
-            write_section(writer, self.names.name(number), text.as_bytes())?;
+        let Sections {
+            alloc,
+            names,
+            texts,
+        } = self;
+        let mut replies = Vec::new(alloc);
+        let added = add_replies(&mut replies, &names, texts);
+        drop(names);
+        match added {
+            Ok(()) => Ok(replies),
+            Err(error) => {
+                drop(replies);
+                Err(error)
+            }
         }
-        Ok(())
     }
 }
 
-/// Writes a section under its name.
-pub(crate) fn write_section<W: Sink>(writer: &mut W, name: &[u8], text: &[u8]) -> Result<(), Failed>
-    ensures { Writes W.contents W.has_failed writer.old writer.new
-        (heading name.now ++ text.now) result }
+/// Adds each text with its name, if nothing was added before.
+fn add_replies<'t>(
+    replies: &mut Vec<SessionReplies<'t>>,
+    names: &NameSet<'t>,
+    texts: Vec<MemorySink>,
+) -> Result<(), AllocError>
+    requires even { length texts.items ≡ length names.now }
+    requires empty { replies.old.items ≡ [] }
+    ensures { OnOk result
+        (map section_of replies.new.items ≡ named_sections names.now texts.items) }
 {
-    write_parts(writer, &[b"== ", name, b"\n", text])
+    for text in texts {
+        let name = names.name(replies.len());
+        replies.push(SessionReplies {
+            name,
+            text: text.into_bytes(),
+        })?;
+    }
+    Ok(())
 }
 
 /// Ok if the answer was written, an error if memory ran out for it.
-fn told(answered: (Answer, Result<(), Failed>)) -> Result<(), AllocError>
+fn check_written(answered: (Answer, Result<(), Failed>)) -> Result<(), AllocError>
     ensures { is_ok result ≡ is_ok answered.1 }
 {
     let (answer, written) = answered;

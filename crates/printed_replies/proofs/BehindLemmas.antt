@@ -4,49 +4,49 @@ use Rattle.std.specs.Prelude.{MatchOption, option_map, option_and_then}
 use Rattle.std.specs.Borrow.{Bor}
 use Rattle.std.proofs.Math.Dec.{eqb}
 use Rattle.std.proofs.lemmas.Bool.{eqb-true, eq-eqb}
-use Rattle.printed_replies.specs.Lengths.{behind}
+use Rattle.printed_replies.specs.Lengths.{after_prefix}
 
 -- bytes made of the prefix and a rest have that rest after it
-pub behind-append : (start rest : List ℕ) → behind start (start ++ rest) ≡ Some rest
+pub behind-append : (start rest : List ℕ) → after_prefix start (start ++ rest) ≡ Some rest
 behind-append [] rest = refl
-behind-append (a ∷ start) rest = ap (λ b. cond b (behind start (start ++ rest)) None) (eq-eqb a a refl) ∙ behind-append start rest
+behind-append (a ∷ start) rest = ap (λ b. cond b (after_prefix start (start ++ rest)) None) (eq-eqb a a refl) ∙ behind-append start rest
 
 -- and no others have
-pub behind-begins : (start bytes rest : List ℕ) → behind start bytes ≡ Some rest → bytes ≡ start ++ rest
+pub behind-begins : (start bytes rest : List ℕ) → after_prefix start bytes ≡ Some rest → bytes ≡ start ++ rest
 behind-begins [] bytes rest is = cc
 behind-begins (a ∷ start) [] rest is = cc
 behind-begins (a ∷ start) (b ∷ bytes) rest is = by_test (eqb a b) refl is (behind-begins start bytes rest)
   where
-    by_test : (t : Bool) → eqb a b ≡ t → cond t (behind start bytes) None ≡ Some rest → (behind start bytes ≡ Some rest → bytes ≡ start ++ rest) → b ∷ bytes ≡ a ∷ (start ++ rest)
+    by_test : (t : Bool) → eqb a b ≡ t → cond t (after_prefix start bytes) None ≡ Some rest → (after_prefix start bytes ≡ Some rest → bytes ≡ start ++ rest) → b ∷ bytes ≡ a ∷ (start ++ rest)
     by_test true e found more = let same = eqb-true a b e in let later = more found in cc
     by_test false e found more = cc
 
-pub behind-found : (start bytes : List ℕ) (found : Option (Bor (List ℕ))) → MatchOption found ((rest : List ℕ) → bytes ≢ start ++ rest) (λ x. bytes ≡ start ++ x.now) → option_map (λ rest. rest.now) found ≡ behind start bytes
-behind-found start bytes (Some x) is = sym (ap (behind start) is ∙ behind-append start x.now)
-behind-found start bytes None none = by_found (behind start bytes) refl
+pub behind-found : (start bytes : List ℕ) (found : Option (Bor (List ℕ))) → MatchOption found ((rest : List ℕ) → bytes ≢ start ++ rest) (λ x. bytes ≡ start ++ x.now) → option_map (λ rest. rest.now) found ≡ after_prefix start bytes
+behind-found start bytes (Some x) is = sym (ap (after_prefix start) is ∙ behind-append start x.now)
+behind-found start bytes None none = by_found (after_prefix start bytes) refl
   where
-    by_found : (o : Option (List ℕ)) → behind start bytes ≡ o → None ≡ o
+    by_found : (o : Option (List ℕ)) → after_prefix start bytes ≡ o → None ≡ o
     by_found None e = refl
     by_found (Some rest) e = absurd (none rest (behind-begins start bytes rest e))
 
 -- one prefix after another
-pub behind-both : (first second bytes : List ℕ) → behind (first ++ second) bytes ≡ option_and_then (behind second) (behind first bytes)
+pub behind-both : (first second bytes : List ℕ) → after_prefix (first ++ second) bytes ≡ option_and_then (after_prefix second) (after_prefix first bytes)
 behind-both [] second bytes = refl
 behind-both (a ∷ first) second [] = refl
 behind-both (a ∷ first) second (b ∷ bytes) = by_test (eqb a b) (behind-both first second bytes)
   where
-    by_test : (t : Bool) → behind (first ++ second) bytes ≡ option_and_then (behind second) (behind first bytes)
-        → cond t (behind (first ++ second) bytes) None ≡ option_and_then (behind second) (cond t (behind first bytes) None)
+    by_test : (t : Bool) → after_prefix (first ++ second) bytes ≡ option_and_then (after_prefix second) (after_prefix first bytes)
+        → cond t (after_prefix (first ++ second) bytes) None ≡ option_and_then (after_prefix second) (cond t (after_prefix first bytes) None)
     by_test true e = e
     by_test false e = refl
 
 -- the words of a heading one after the other
-pub heading_none : (name printed x : List ℕ) → Some x ≡ behind (codes "== ") printed → None ≡ behind name x → None ≡ behind (codes "== " ++ name ++ 10 ∷ []) printed
+pub heading_none : (name printed x : List ℕ) → Some x ≡ after_prefix (codes "== ") printed → None ≡ after_prefix name x → None ≡ after_prefix (codes "== " ++ name ++ 10 ∷ []) printed
 heading_none name printed x first second =
-    sym (behind-both (codes "== ") (name ++ 10 ∷ []) printed ∙ ap (option_and_then (behind (name ++ 10 ∷ []))) (sym first)
-    ∙ behind-both name (10 ∷ []) x ∙ ap (option_and_then (behind (10 ∷ []))) (sym second))
+    sym (behind-both (codes "== ") (name ++ 10 ∷ []) printed ∙ ap (option_and_then (after_prefix (name ++ 10 ∷ []))) (sym first)
+    ∙ behind-both name (10 ∷ []) x ∙ ap (option_and_then (after_prefix (10 ∷ []))) (sym second))
 
-pub heading_some : (name printed x y : List ℕ) → Some x ≡ behind (codes "== ") printed → Some y ≡ behind name x → behind (10 ∷ []) y ≡ behind (codes "== " ++ name ++ 10 ∷ []) printed
+pub heading_some : (name printed x y : List ℕ) → Some x ≡ after_prefix (codes "== ") printed → Some y ≡ after_prefix name x → after_prefix (10 ∷ []) y ≡ after_prefix (codes "== " ++ name ++ 10 ∷ []) printed
 heading_some name printed x y first second =
-    sym (behind-both (codes "== ") (name ++ 10 ∷ []) printed ∙ ap (option_and_then (behind (name ++ 10 ∷ []))) (sym first)
-    ∙ behind-both name (10 ∷ []) x ∙ ap (option_and_then (behind (10 ∷ []))) (sym second))
+    sym (behind-both (codes "== ") (name ++ 10 ∷ []) printed ∙ ap (option_and_then (after_prefix (name ++ 10 ∷ []))) (sym first)
+    ∙ behind-both name (10 ∷ []) x ∙ ap (option_and_then (after_prefix (10 ∷ []))) (sym second))

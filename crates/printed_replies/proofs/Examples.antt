@@ -2,7 +2,7 @@
 use Rattle.std.proofs.Common.{◌≡◌, List, [], ◌∷◌, codes, Ok, Err, Some, None, refl}
 use Rattle.printed_replies.specs.declared.asked.ReplyForm.TheVariants.{Line, Session}
 use Rattle.printed_replies.specs.Lengths.{line_length, lines_length, owners_length, session_length}
-use Rattle.printed_replies.specs.Replies.{AskedLine, replied, replies_in}
+use Rattle.printed_replies.specs.Replies.{AskedLine, with_reply, replies_in}
 
 one_line : line_length (codes "ok\nrest") ≡ Some 3
 one_line = refl
@@ -28,7 +28,7 @@ asked : List AskedLine
 asked = record { speaker = Some (codes "a"); form = Session } ∷ record { speaker = None; form = Line } ∷ []
 
 both_read : replies_in asked (codes "== op\nok 3\n== a\ntext net 5\n== b\n")
-    ≡ Ok (replied (record { speaker = Some (codes "a"); form = Session }) (codes "text net 5\n== b\n") ∷ replied (record { speaker = None; form = Line }) (codes "ok 3\n") ∷ [])
+    ≡ Ok (with_reply (record { speaker = Some (codes "a"); form = Session }) (codes "text net 5\n== b\n") ∷ with_reply (record { speaker = None; form = Line }) (codes "ok 3\n") ∷ [])
 unfolding asked replies_in
 both_read = refl
 

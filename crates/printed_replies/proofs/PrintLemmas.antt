@@ -8,12 +8,12 @@ use Rattle.std.proofs.lemmas.Slice.Eq.{bytes_eq-Decides}
 use Rattle.std.proofs.Math.Seq.{drop-append_seam, take-append_seam}
 use Rattle.line_text.specs.Names.{has_name, with_name}
 use Rattle.printed_replies.specs.Printing.{HasReply, HaveReplies, IsReadBack, IsReply, asked_in, printed_for, section_of, told_to}
-use Rattle.printed_replies.specs.Replies.{AnsweredLine, AskedLine, Speaker, and_then, begun, fitting, heading, is_of, lines_read, live_after, names_of, onto, read_from, replied, replies_in, reply_read, rest_of, section_read, sections_read, unanswered, with_speaker}
+use Rattle.printed_replies.specs.Replies.{AnsweredLine, AskedLine, Speaker, and_then, reading_after, if_fitting, heading, is_of, lines_read, live_after, names_of, with_line, read_from, with_reply, replies_in, reply_read, rest_of, section_read, sections_read, without_reply, with_speaker}
 use Rattle.printed_replies.proofs.BehindLemmas.{behind-append}
 
 -- the lines after the sections of some speakers are read
 abbrev shown : (Speaker → Bool) → AnsweredLine → AnsweredLine
-shown done line = cond (done line.asked.speaker) line (unanswered line.asked)
+shown done line = cond (done line.asked.speaker) line (without_reply line.asked)
 
 abbrev also : Speaker → (Speaker → Bool) → Speaker → Bool
 also speaker done other = is_of speaker other || done other
@@ -21,7 +21,7 @@ also speaker done other = is_of speaker other || done other
 shown_asked : (done : Speaker → Bool) (line : AnsweredLine) → (shown done line).asked ≡ line.asked
 shown_asked done line = by_done (done line.asked.speaker)
   where
-    by_done : (b : Bool) → (cond b line (unanswered line.asked)).asked ≡ line.asked
+    by_done : (b : Bool) → (cond b line (without_reply line.asked)).asked ≡ line.asked
     by_done true = refl
     by_done false = refl
 
@@ -29,8 +29,8 @@ shown_asked done line = by_done (done line.asked.speaker)
 reply_is_read : (live : ℕ) (line : AnsweredLine) (tail : List ℕ) → IsReply live line.asked.form line.reply →
     reply_read (rest_of live (line.reply ++ tail)) line.asked ≡ Ok (line, rest_of (live_after live line.asked.form line.reply) tail)
 reply_is_read live line tail is =
-    ap (λ o. fitting (rest_of live (line.reply ++ tail)) o (λ n. Ok (replied line.asked (take n (line.reply ++ tail)), rest_of (live_after live line.asked.form (take n (line.reply ++ tail))) (drop n (line.reply ++ tail))))) (is tail)
-    ∙ ap (λ r. Ok (replied line.asked r, rest_of (live_after live line.asked.form r) (drop (length line.reply) (line.reply ++ tail)))) (take-append_seam line.reply tail)
+    ap (λ o. if_fitting (rest_of live (line.reply ++ tail)) o (λ n. Ok (with_reply line.asked (take n (line.reply ++ tail)), rest_of (live_after live line.asked.form (take n (line.reply ++ tail))) (drop n (line.reply ++ tail))))) (is tail)
+    ∙ ap (λ r. Ok (with_reply line.asked r, rest_of (live_after live line.asked.form r) (drop (length line.reply) (line.reply ++ tail)))) (take-append_seam line.reply tail)
     ∙ ap (λ t. Ok (line, rest_of (live_after live line.asked.form line.reply) t)) (drop-append_seam line.reply tail)
 
 -- what a speaker's lines are read to, if they are printed so
@@ -47,11 +47,11 @@ one_read speaker done live line lines tail true e has more =
       last = rest.last;
       read = ap (λ (c : Bool). lines_read speaker (rest_of live ((cond c line.reply [] ++ told_to speaker lines) ++ tail)) (map (shown done) (line ∷ lines))) e
           ∙ ap (λ t. lines_read speaker (rest_of live t) (map (shown done) (line ∷ lines))) (append_assoc line.reply (told_to speaker lines) tail)
-          ∙ ap (λ a. and_then (cond (is_of speaker a.speaker) (reply_read (rest_of live here) a) (Ok (shown done line, rest_of live here))) (λ read. onto read.0 (lines_read speaker read.1 (map (shown done) lines)))) (shown_asked done line)
-          ∙ ap (λ c. and_then (cond c (reply_read (rest_of live here) line.asked) (Ok (shown done line, rest_of live here))) (λ read. onto read.0 (lines_read speaker read.1 (map (shown done) lines)))) e
-          ∙ ap (λ r. and_then r (λ read. onto read.0 (lines_read speaker read.1 (map (shown done) lines)))) (reply_is_read live line (told_to speaker lines ++ tail) has.0)
-          ∙ ap (onto line) rest.read
-          ∙ ap (λ (c : Bool). Ok (cond (c || done line.asked.speaker) line (unanswered line.asked) ∷ map (shown (also speaker done)) lines, rest_of rest.last tail)) (sym e);
+          ∙ ap (λ a. and_then (cond (is_of speaker a.speaker) (reply_read (rest_of live here) a) (Ok (shown done line, rest_of live here))) (λ read. with_line read.0 (lines_read speaker read.1 (map (shown done) lines)))) (shown_asked done line)
+          ∙ ap (λ c. and_then (cond c (reply_read (rest_of live here) line.asked) (Ok (shown done line, rest_of live here))) (λ read. with_line read.0 (lines_read speaker read.1 (map (shown done) lines)))) e
+          ∙ ap (λ r. and_then r (λ read. with_line read.0 (lines_read speaker read.1 (map (shown done) lines)))) (reply_is_read live line (told_to speaker lines ++ tail) has.0)
+          ∙ ap (with_line line) rest.read
+          ∙ ap (λ (c : Bool). Ok (cond (c || done line.asked.speaker) line (without_reply line.asked) ∷ map (shown (also speaker done)) lines, rest_of rest.last tail)) (sym e);
     }
 one_read speaker done live line lines tail false e has more =
     let rest = more live has in
@@ -59,10 +59,10 @@ one_read speaker done live line lines tail false e has more =
     record {
       last = rest.last;
       read = ap (λ (c : Bool). lines_read speaker (rest_of live ((cond c line.reply [] ++ told_to speaker lines) ++ tail)) (map (shown done) (line ∷ lines))) e
-          ∙ ap (λ a. and_then (cond (is_of speaker a.speaker) (reply_read (rest_of live here) a) (Ok (shown done line, rest_of live here))) (λ read. onto read.0 (lines_read speaker read.1 (map (shown done) lines)))) (shown_asked done line)
-          ∙ ap (λ c. and_then (cond c (reply_read (rest_of live here) line.asked) (Ok (shown done line, rest_of live here))) (λ read. onto read.0 (lines_read speaker read.1 (map (shown done) lines)))) e
-          ∙ ap (onto (shown done line)) rest.read
-          ∙ ap (λ (c : Bool). Ok (cond (c || done line.asked.speaker) line (unanswered line.asked) ∷ map (shown (also speaker done)) lines, rest_of rest.last tail)) (sym e);
+          ∙ ap (λ a. and_then (cond (is_of speaker a.speaker) (reply_read (rest_of live here) a) (Ok (shown done line, rest_of live here))) (λ read. with_line read.0 (lines_read speaker read.1 (map (shown done) lines)))) (shown_asked done line)
+          ∙ ap (λ c. and_then (cond c (reply_read (rest_of live here) line.asked) (Ok (shown done line, rest_of live here))) (λ read. with_line read.0 (lines_read speaker read.1 (map (shown done) lines)))) e
+          ∙ ap (with_line (shown done line)) rest.read
+          ∙ ap (λ (c : Bool). Ok (cond (c || done line.asked.speaker) line (without_reply line.asked) ∷ map (shown (also speaker done)) lines, rest_of rest.last tail)) (sym e);
     }
 
 lines_are_read : (speaker : Speaker) (done : Speaker → Bool) (live : ℕ) (lines : List AnsweredLine) (tail : List ℕ) → HaveReplies speaker live lines → IsRead speaker done live lines tail
@@ -81,7 +81,7 @@ section_is_read speaker done lines tail has =
     record {
       last = rest.last;
       read = ap (λ bytes. section_read speaker (map (shown done) lines) bytes) (append_assoc (heading speaker) (told_to speaker lines) tail)
-          ∙ ap (λ o. and_then (begun (heading speaker ++ (told_to speaker lines ++ tail)) o) (λ r. lines_read speaker r (map (shown done) lines))) (behind-append (heading speaker) (told_to speaker lines ++ tail))
+          ∙ ap (λ o. and_then (reading_after (heading speaker ++ (told_to speaker lines ++ tail)) o) (λ r. lines_read speaker r (map (shown done) lines))) (behind-append (heading speaker) (told_to speaker lines ++ tail))
           ∙ rest.read;
     }
 
@@ -144,16 +144,16 @@ each_is_read : (lines : List AnsweredLine) (names : List (List ℕ)) (done : Spe
     ((name : List ℕ) → has_name (names_from names (asked_in lines)) name ≡ true → done (Some name) ≡ true) → map (shown done) lines ≡ lines
 each_is_read [] names done none some = refl
 each_is_read (line ∷ lines) names done none some =
-    ap (λ b. cond b line (unanswered line.asked) ∷ map (shown done) lines) (by_speaker line.asked.speaker some)
+    ap (λ b. cond b line (without_reply line.asked) ∷ map (shown done) lines) (by_speaker line.asked.speaker some)
     ∙ ap (λ ls. line ∷ ls) (each_is_read lines (with_speaker names line.asked.speaker) done none some)
   where
     by_speaker : (speaker : Speaker) → ((name : List ℕ) → has_name (names_from (with_speaker names speaker) (asked_in lines)) name ≡ true → done (Some name) ≡ true) → done speaker ≡ true
     by_speaker None more = none
     by_speaker (Some name) more = more name (keeps_names (asked_in lines) (with_name names name) name (has_own names name))
 
-none_read : (lines : List AnsweredLine) → map unanswered (asked_in lines) ≡ map (shown (λ speaker. false)) lines
+none_read : (lines : List AnsweredLine) → map without_reply (asked_in lines) ≡ map (shown (λ speaker. false)) lines
 none_read [] = refl
-none_read (line ∷ lines) = ap (λ ls. unanswered line.asked ∷ ls) (none_read lines)
+none_read (line ∷ lines) = ap (λ ls. without_reply line.asked ∷ ls) (none_read lines)
 
 pub read_back : (lines : List AnsweredLine) → IsReadBack lines
 unfolding replies_in

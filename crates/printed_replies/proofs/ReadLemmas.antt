@@ -4,14 +4,14 @@ use Rattle.std.proofs.lemmas.List.{drop-set-lt, drop_more, get_or-map, length-ma
 use Rattle.std.proofs.lemmas.Option.{get_or_from_slice_get, slice_get_within}
 use Rattle.printed_replies.specs.declared.answered.Answered.{Answered}
 use Rattle.printed_replies.specs.Parts.{answered_lines}
-use Rattle.printed_replies.specs.Replies.{AnsweredLine, Reading, Rest, Speaker, and_then, answered_line, line_read, lines_read, onto, section_read, sections_read}
+use Rattle.printed_replies.specs.Replies.{AnsweredLine, Reading, Rest, Speaker, and_then, answered_line, line_read, lines_read, with_line, section_read, sections_read}
 
 -- lines that are read already come before the others
 abbrev pub behind_lines : List AnsweredLine → Reading (List AnsweredLine × Rest) → Reading (List AnsweredLine × Rest)
 behind_lines front (Ok read) = Ok (front ++ read.0, read.1)
 behind_lines front (Err left) = Err left
 
-one_more : (front : List AnsweredLine) (line : AnsweredLine) (read : Reading (List AnsweredLine × Rest)) → behind_lines (front ++ line ∷ []) read ≡ behind_lines front (onto line read)
+one_more : (front : List AnsweredLine) (line : AnsweredLine) (read : Reading (List AnsweredLine × Rest)) → behind_lines (front ++ line ∷ []) read ≡ behind_lines front (with_line line read)
 one_more front line (Ok read) = ap (λ lines. Ok (lines, read.1)) (append_assoc front (line ∷ []) read.0)
 one_more front line (Err left) = refl
 
@@ -19,7 +19,7 @@ line_behind : (speaker : Speaker) (rest next : Rest) (front lines : List Answere
     behind_lines (front ++ new ∷ []) (lines_read speaker next lines) ≡ behind_lines front (lines_read speaker rest (line ∷ lines))
 line_behind speaker rest next front lines line new is =
     one_more front new (lines_read speaker next lines)
-    ∙ ap (λ r. behind_lines front (and_then r (λ read. onto read.0 (lines_read speaker read.1 lines)))) (sym is)
+    ∙ ap (λ r. behind_lines front (and_then r (λ read. with_line read.0 (lines_read speaker read.1 lines)))) (sym is)
 
 -- the line at an index comes before those after it
 line_at_place : (items : List Answered) (k : ℕ) (old : Answered) → k < length items → old ≡ slice_index_or items k old → drop k (answered_lines items) ≡ answered_line old ∷ drop (k + 1) (answered_lines items)
@@ -47,7 +47,7 @@ pub line_is_not : (speaker : Speaker) (rest : Rest) (items : List Answered) (k l
     behind_lines (take k (answered_lines items)) (lines_read speaker rest (drop k (answered_lines items))) ≡ Err left
 line_is_not speaker rest items k left old within is stops =
     ap (λ ls. behind_lines (take k (answered_lines items)) (lines_read speaker rest ls)) (line_at_place items k old within is)
-    ∙ ap (λ r. behind_lines (take k (answered_lines items)) (and_then r (λ read. onto read.0 (lines_read speaker read.1 (drop (k + 1) (answered_lines items)))))) stops
+    ∙ ap (λ r. behind_lines (take k (answered_lines items)) (and_then r (λ read. with_line read.0 (lines_read speaker read.1 (drop (k + 1) (answered_lines items)))))) stops
 
 -- a section ends, and the next one is read
 name_at_place : (names : List (List ℕ)) (k : ℕ) (name : List ℕ) → slice_get names k ≡ Some name → drop k names ≡ name ∷ drop (k + 1) names

@@ -19,10 +19,10 @@ lines_length zero bytes = Some 0
 lines_length (suc count) bytes = option_and_then (λ first. option_map (λ more. first + more) (lines_length count (drop first bytes))) (line_length bytes)
 
 -- the bytes after a prefix; `None` if they don't begin with it
-abbrev pub behind : List ℕ → List ℕ → Option (List ℕ)
-behind [] bytes = Some bytes
-behind (a ∷ start) [] = None
-behind (a ∷ start) (b ∷ bytes) = if a == b then behind start bytes else None
+abbrev pub after_prefix : List ℕ → List ℕ → Option (List ℕ)
+after_prefix [] bytes = Some bytes
+after_prefix (a ∷ start) [] = None
+after_prefix (a ∷ start) (b ∷ bytes) = if a == b then after_prefix start bytes else None
 
 -- the kind and the length from `KIND LENGTH`
 abbrev pub kind_and_length : List ℕ → Option (List ℕ × ℕ)
@@ -30,7 +30,7 @@ kind_and_length words = option_map (λ n. (before_first is_blank words, n)) (dec
 
 -- a line `text KIND LENGTH` announces a file of that kind: the next LENGTH bytes
 abbrev pub told_file : List ℕ → Option (List ℕ × ℕ)
-told_file line = option_and_then kind_and_length (behind (codes "text ") line)
+told_file line = option_and_then kind_and_length (after_prefix (codes "text ") line)
 
 abbrev pub told_bytes : Option (List ℕ × ℕ) → ℕ
 told_bytes None = 0
@@ -38,19 +38,19 @@ told_bytes (Some told) = told.1
 
 -- a line `owners COUNT` announces COUNT lines after it
 abbrev pub told_owners : List ℕ → ℕ
-told_owners line = unwrap_or (option_and_then (decimal_of 64) (behind (codes "owners ") line)) 0
+told_owners line = unwrap_or (option_and_then (decimal_of 64) (after_prefix (codes "owners ") line)) 0
 
 -- the first line without its line feed, if `n` bytes include it
 abbrev pub line_of : ℕ → List ℕ → List ℕ
 line_of n bytes = take (n - 1) bytes
 
 -- the number of bytes, if there are as many
-abbrev pub within : List ℕ → ℕ → Option ℕ
-within bytes n = if nat_le n (length bytes) then Some n else None
+abbrev pub number_within : List ℕ → ℕ → Option ℕ
+number_within bytes n = if nat_le n (length bytes) then Some n else None
 
 -- the length of a line with the file that it announces
 abbrev pub session_length : List ℕ → Option ℕ
-session_length bytes = option_and_then (λ n. within bytes (n + told_bytes (told_file (line_of n bytes)))) (line_length bytes)
+session_length bytes = option_and_then (λ n. number_within bytes (n + told_bytes (told_file (line_of n bytes)))) (line_length bytes)
 
 -- the length of a line with the lines that it announces
 abbrev pub owners_length : List ℕ → Option ℕ

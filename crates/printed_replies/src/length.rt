@@ -1,6 +1,6 @@
 //! How many bytes a reply has.
 ghost use Rattle.std.specs.Prelude.{◌≡◌, ◌≤◌, ◌<◌, length, position, option_map, IfSome};
-ghost use Rattle.printed_replies.specs.Lengths.{behind, is_line_feed, kind_and_length, line_length, lines_length, owners_length, reply_length, session_length, told_bytes, told_file, told_owners};
+ghost use Rattle.printed_replies.specs.Lengths.{after_prefix, is_line_feed, kind_and_length, line_length, lines_length, owners_length, reply_length, session_length, told_bytes, told_file, told_owners};
 
 use crate::asked::ReplyForm;
 use line_text::{decimal_u64, word_end};
@@ -38,8 +38,8 @@ fn lines_length(count: u64, bytes: &[u8]) -> Option<usize>
 }
 
 /// The bytes after a prefix; `None` if they don't begin with it.
-pub(crate) fn behind<'a>(start: &[u8], bytes: &'a [u8]) -> Option<&'a [u8]>
-    ensures { option_map (λ rest. rest.now) result ≡ behind start.now bytes.now }
+pub(crate) fn after_prefix<'a>(start: &[u8], bytes: &'a [u8]) -> Option<&'a [u8]>
+    ensures { option_map (λ rest. rest.now) result ≡ after_prefix start.now bytes.now }
 {
     bytes.strip_prefix(start)
 }
@@ -59,7 +59,7 @@ fn kind_and_length(words: &[u8]) -> Option<(&[u8], u64)>
 pub(crate) fn told_file(line: &[u8]) -> Option<(&[u8], u64)>
     ensures { option_map (λ told. (told.0.now, told.1)) result ≡ told_file line.now }
 {
-    kind_and_length(behind(b"text ", line)?)
+    kind_and_length(after_prefix(b"text ", line)?)
 }
 
 /// The number of bytes that such a line announces.
@@ -76,7 +76,7 @@ fn told_bytes(line: &[u8]) -> u64
 fn told_owners(line: &[u8]) -> u64
     ensures { result ≡ told_owners line.now }
 {
-    match behind(b"owners ", line) {
+    match after_prefix(b"owners ", line) {
         Some(count) => decimal_u64(count).unwrap_or(0),
         None => 0,
     }

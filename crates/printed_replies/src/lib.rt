@@ -25,5 +25,5 @@ mod replies;
 pub use answered::Answered;
 pub use asked::{Asked, ReplyForm};
 pub use law::printed_is_read;
-pub use reading::{ReadError, names_of, read_replies};
+pub use reading::{ReplyError, names_of, read_replies};
 pub use replies::Replies;

@@ -1,34 +1,19 @@
 //! The printed text, read once from its beginning to its end.
 ghost use Rattle.std.specs.Prelude.{◌≡◌, ◌+◌, ◌<◌, ◌≤◌, ◌^◌, length, map, option_map, Some, IfOk, OnOk, [], ◌∷◌, ◌++◌, codes, is_some};
 ghost use Rattle.printed_replies.specs.Parts.{IsRead, answered_lines, rest_at, speaker_of};
-ghost use Rattle.printed_replies.specs.Replies.{Gives, answered_line, asked_line, behind_heading, line_at, line_read, live_after, names_of, read_from, replies_in, section_read, unanswered};
-ghost use Rattle.printed_replies.specs.Lengths.{behind, is_line_feed};
+ghost use Rattle.printed_replies.specs.Replies.{Gives, answered_line, asked_line, after_heading, line_at, line_read, live_after, names_of, read_from, replies_in, section_read, without_reply};
+ghost use Rattle.printed_replies.specs.Lengths.{after_prefix, is_line_feed};
 
 use crate::answered::{Answered, is_of};
 use crate::asked::{Asked, ReplyForm};
-use crate::length::{behind, reply_length};
+use crate::length::{after_prefix, reply_length};
 use crate::replies::Replies;
-use line_text::NameSet;
+use line_text::{NameSet, TextError};
 use std::alloc::{AllocError, Global};
 
-/// Why lines have no replies.
-#[derive(Clone, Copy, PartialEq, Eq)]
-pub enum ReadError {
-    NoMemory,
-    /// The line of the printed text, from 1, that fits no reply.
-    Misfit(usize),
-}
-
-impl From<AllocError> for ReadError {
-    ghost use Rattle.std.specs.Prelude.{◌≡◌};
-    ghost use Rattle.printed_replies.specs.declared.reading.ReadError.TheVariants.{NoMemory};
-
-    ghost from_gives = { λ _ error. error ≡ NoMemory };
-
-    fn from(_error: AllocError) -> Self {
-        ReadError::NoMemory
-    }
-}
+/// Why lines have no replies: memory ran out, or the line of the printed text, from 1, that fits no
+/// reply.
+pub type ReplyError = TextError<usize>;
 
 /// The number of bytes that remained when they didn't fit.
 #[derive(Clone, Copy)]
@@ -50,7 +35,7 @@ pub fn read_replies<'t, 'p>(
     alloc: Global,
     asked: &[Asked<'t>],
     printed: &'p [u8],
-) -> Result<Replies<'t, 'p>, ReadError>
+) -> Result<Replies<'t, 'p>, ReplyError>
     ensures { Gives printed.now (replies_in (map asked_line asked.now) printed.now) result }
 {
     let names = names_of(alloc, asked)?;
@@ -58,7 +43,7 @@ pub fn read_replies<'t, 'p>(
     if let Err(failed) = add_unanswered(&mut lines, asked) {
         drop(lines);
         drop(names);
-        return Err(ReadError::from(failed));
+        return Err(ReplyError::from(failed));
     }
     let read = read_sections(&mut lines, &names, printed);
     drop(names);
@@ -66,7 +51,7 @@ pub fn read_replies<'t, 'p>(
         Ok(()) => Ok(Replies::new(lines)),
         Err(left) => {
             drop(lines);
-            Err(ReadError::Misfit(line_at(printed, left.bytes)))
+            Err(ReplyError::Fault(line_at(printed, left.bytes)))
         }
     }
 }
@@ -92,7 +77,7 @@ fn add_unanswered<'t>(
 ) -> Result<(), AllocError>
     requires { lines.old.items ≡ [] }
     ensures { OnOk result (answered_lines lines.new.items
-        ≡ map unanswered (map asked_line asked.now)) }
+        ≡ map without_reply (map asked_line asked.now)) }
 {
     for one in asked {
         lines.push(Answered {
@@ -138,7 +123,7 @@ fn read_section<'p>(
         (section_read (speaker_of speaker.entry) (answered_lines lines.old.items) printed.now)
         result }
 {
-    let mut place = behind_heading(speaker, printed)?;
+    let mut place = after_heading(speaker, printed)?;
     let mut number = 0;
     while number < lines.len() {
         match read_line(speaker, place, lines[number]) {
@@ -154,10 +139,10 @@ fn read_section<'p>(
 }
 
 /// The rest after the heading of a speaker.
-fn behind_heading<'p>(speaker: Option<&[u8]>, printed: &'p [u8]) -> Result<Place<'p>, Left>
-    ensures { IsRead rest_at (behind_heading (speaker_of speaker.entry) printed.now) result }
+fn after_heading<'p>(speaker: Option<&[u8]>, printed: &'p [u8]) -> Result<Place<'p>, Left>
+    ensures { IsRead rest_at (after_heading (speaker_of speaker.entry) printed.now) result }
 {
-    match behind_words(speaker.unwrap_or(b"op"), printed) {
+    match after_words(speaker.unwrap_or(b"op"), printed) {
         Some(rest) => Ok(Place { live: 0, rest }),
         None => Err(Left {
             bytes: printed.len(),
@@ -166,11 +151,11 @@ fn behind_heading<'p>(speaker: Option<&[u8]>, printed: &'p [u8]) -> Result<Place
 }
 
 /// The rest after a line `== NAME`.
-fn behind_words<'p>(name: &[u8], printed: &'p [u8]) -> Option<&'p [u8]>
+fn after_words<'p>(name: &[u8], printed: &'p [u8]) -> Option<&'p [u8]>
     ensures { option_map (λ rest. rest.now) result
-        ≡ behind (codes "== " ++ name.now ++ 10 ∷ []) printed.now }
+        ≡ after_prefix (codes "== " ++ name.now ++ 10 ∷ []) printed.now }
 {
-    behind(b"\n", behind(name, behind(b"== ", printed)?)?)
+    after_prefix(b"\n", after_prefix(name, after_prefix(b"== ", printed)?)?)
 }
 
 /// Returns a line with its reply, if it is the speaker's, and what remains.
@@ -220,9 +205,9 @@ fn live_after(live: usize, form: ReplyForm, reply: &[u8]) -> usize
 
 /// Returns whether a reply begins with `ok`.
 fn is_ok(reply: &[u8]) -> bool
-    ensures { result ≡ is_some (behind (codes "ok") reply.now) }
+    ensures { result ≡ is_some (after_prefix (codes "ok") reply.now) }
 {
-    behind(b"ok", reply).is_some()
+    after_prefix(b"ok", reply).is_some()
 }
 
 /// The number of the line, from 1, at which that many bytes remain.

@@ -11,7 +11,7 @@ use Rattle.script_text.specs.declared.form.Form.TheVariants.{Skipped, Faulty, As
 use Rattle.script_text.specs.declared.operator_line.OperatorLine.{OperatorLine}
 use Rattle.line_text.specs.Lines.{physical_lines}
 use Rattle.script_text.specs.Script.{form_of}
-use Rattle.script_text.specs.Threaded.{AreApart, Heard, Parts, Said, Threaded, Within, behind_word, ended, heard, hears_form, hears_in, is_by_hand, nothing_said, threaded_from, threaded_of, with_input, with_operator}
+use Rattle.script_text.specs.Threaded.{AreApart, Heard, Parts, Said, Threaded, Within, after_first_word, with_feed, heard_so_far, hears_form, hears_in, is_by_hand, nothing_said, threaded_from, threaded_of, with_input, with_operator}
 use Rattle.script_text.specs.Threads.{goes_on, hears}
 use Rattle.script_text.specs.Threaded.Within.{Script, Head, Upload}
 
@@ -53,16 +53,16 @@ form-apart parts Skipped line h = h
 form-apart parts Faulty line h = tt
 form-apart parts (Asks (Operator asked)) line h = by_test (is_by_hand asked)
   where
-    by_test : (b : Bool) → IfSome (if b then None else Some (heard (with_operator parts asked) Script)) (λ next. Apart next.parts.sessions)
+    by_test : (b : Bool) → IfSome (if b then None else Some (heard_so_far (with_operator parts asked) Script)) (λ next. Apart next.parts.sessions)
     by_test true = tt
     by_test false = operator-apart parts asked h
-form-apart parts (Asks (Session name item)) line h = apart-more parts.sessions name (ended (behind_word line)) h
-form-apart parts (Begins name kind) line h = apart-more parts.sessions name (ended (behind_word line)) h
+form-apart parts (Asks (Session name item)) line h = apart-more parts.sessions name (with_feed (after_first_word line)) h
+form-apart parts (Begins name kind) line h = apart-more parts.sessions name (with_feed (after_first_word line)) h
 
 line-apart : (within : Within) (parts : Parts) (line : List ℕ) → Apart parts.sessions → IfSome (hears_in within parts line) (λ next. Apart next.parts.sessions)
 line-apart Script parts line h = form-apart parts (form_of line) line h
 line-apart Head parts line h = h
-line-apart (Upload name) parts line h = apart-more parts.sessions name (ended line) h
+line-apart (Upload name) parts line h = apart-more parts.sessions name (with_feed line) h
 
 lines-apart : (number : ℕ) (h : Heard) (lines : List (List ℕ)) → Apart h.parts.sessions → IfOk (threaded_from number h lines) (λ parts. Apart parts.sessions)
 lines-apart number h [] a = a
@@ -83,4 +83,4 @@ apart-pairs (s ∷ said) h = AllPairs-cons (λ (a b : Said). a.name ≢ b.name) 
 
 pub script-apart : (number : ℕ) (text : List ℕ) (parts : Parts) → threaded_of number text ≡ Ok parts → AreApart parts.sessions
 script-apart number text parts e =
-    apart-pairs parts.sessions (subst (λ (r : Threaded). IfOk r (λ p. Apart p.sessions)) e (lines-apart number (heard nothing_said Script) (physical_lines text) tt))
+    apart-pairs parts.sessions (subst (λ (r : Threaded). IfOk r (λ p. Apart p.sessions)) e (lines-apart number (heard_so_far nothing_said Script) (physical_lines text) tt))

@@ -5,7 +5,7 @@ use Rattle.std.specs.List.{flat_map, onto_first}
 use Rattle.std.proofs.lemmas.Bool.{cases_lt, eqb-true}
 use Rattle.std.proofs.lemmas.List.{take_all}
 use Rattle.line_text.specs.Lines.{physical_lines}
-use Rattle.sessions.specs.Items.{kept, without_cr}
+use Rattle.sessions.specs.Items.{kept_part, without_cr}
 use Rattle.sessions.proofs.KeptLemmas.{kept-kept}
 use Rattle.script_text.specs.Cuts.{IsEnded, without_crs}
 
@@ -23,8 +23,8 @@ take-min n xs = elim (cases_lt n (length xs)) [
   | inr h ↦ let e : min (length xs) n ≡ length xs = omega arith in ap (λ k. take k xs) e ∙ take_all (length xs) xs (omega arith) ∙ sym (take_all n xs h)
 ]
 
-pub kept-short : (xs : List ℕ) → take (min (length xs) 1048577) xs ≡ kept xs
-unfolding kept
+pub kept-short : (xs : List ℕ) → take (min (length xs) 1048577) xs ≡ kept_part xs
+unfolding kept_part
 kept-short xs = take-min 1048577 xs
 
 pub no_lines : (text : List ℕ) → length text ≡ 0 → physical_lines text ≡ []
@@ -100,11 +100,11 @@ pub no_cr : (text : List ℕ) → ((k : ℕ) → 0 ≤ k → k < length text →
 no_cr text never = λ k within. elim (eqb (slice_index text k) 13) as (λ v. ¬ (v ≡ true) → v ≡ false) [ true ↦ λ f. absurd (f refl) | false ↦ λ f. refl ] (never k (omega arith) within)
 
 -- one more line of a text
-pub kept_line : (text line after bytes : List ℕ) (lines : List (List ℕ)) → lines ≡ line ∷ physical_lines after → kept (kept (text ++ without_cr line) ++ 10 ∷ []) ≡ bytes →
-    kept (bytes ++ without_crs after) ≡ kept (text ++ flat_map ended_line lines)
+pub kept_line : (text line after bytes : List ℕ) (lines : List (List ℕ)) → lines ≡ line ∷ physical_lines after → kept_part (kept_part (text ++ without_cr line) ++ 10 ∷ []) ≡ bytes →
+    kept_part (bytes ++ without_crs after) ≡ kept_part (text ++ flat_map ended_line lines)
 kept_line text line after bytes lines first is =
-    ap (λ b. kept (b ++ without_crs after)) (sym is ∙ kept-kept (text ++ without_cr line) (10 ∷ []))
+    ap (λ b. kept_part (b ++ without_crs after)) (sym is ∙ kept-kept (text ++ without_cr line) (10 ∷ []))
     ∙ kept-kept ((text ++ without_cr line) ++ 10 ∷ []) (without_crs after)
-    ∙ ap kept (append_assoc (text ++ without_cr line) (10 ∷ []) (without_crs after) ∙ append_assoc text (without_cr line) (10 ∷ without_crs after)
+    ∙ ap kept_part (append_assoc (text ++ without_cr line) (10 ∷ []) (without_crs after) ∙ append_assoc text (without_cr line) (10 ∷ without_crs after)
     ∙ ap (λ t. text ++ t) (sym (append_assoc (without_cr line) (10 ∷ []) (without_crs after))))
-    ∙ ap (λ ls. kept (text ++ flat_map ended_line ls)) (sym first)
+    ∙ ap (λ ls. kept_part (text ++ flat_map ended_line ls)) (sym first)

@@ -9,7 +9,7 @@ use Rattle.std.proofs.Math.Seq.{take-append_seam}
 use Rattle.line_text.specs.Lines.{physical_lines}
 use Rattle.script_text.specs.Cuts.{HasNoEnd, IsCut, IsEnded}
 use Rattle.script_text.specs.Script.{acts_from}
-use Rattle.script_text.specs.Threaded.{heard, nothing_said, threaded_from, Heard}
+use Rattle.script_text.specs.Threaded.{heard_so_far, nothing_said, threaded_from, Heard}
 use Rattle.script_text.specs.Threaded.Within.{Head, Script}
 use Rattle.sessions.specs.Items.{ends_text}
 use Rattle.script_text.specs.Texts.{bytes_ahead}
@@ -33,7 +33,7 @@ behind front text = option_map (λ bytes. front ++ bytes) text
 
 -- nothing is read yet, and the next line is in the text at the script's start
 abbrev pub at_head : Heard
-at_head = heard nothing_said Head
+at_head = heard_so_far nothing_said Head
 
 -- no line in the front part of the text ends it, and the rest begins with the line of that number
 pub record Walked (first : ℕ) (text rest : List ℕ) (number : ℕ) : Type 0 where
@@ -73,7 +73,7 @@ acts_found number line lines ends = rw ends refl
 threads_passed : (number : ℕ) (line : List ℕ) (lines : List (List ℕ)) → ends_text line ≡ false → threaded_from number at_head (line ∷ lines) ≡ threaded_from (number + 1) at_head lines
 threads_passed number line lines ends = rw ends refl
 
-threads_found : (number : ℕ) (line : List ℕ) (lines : List (List ℕ)) → ends_text line ≡ true → threaded_from number at_head (line ∷ lines) ≡ threaded_from (number + 1) (heard nothing_said Script) lines
+threads_found : (number : ℕ) (line : List ℕ) (lines : List (List ℕ)) → ends_text line ≡ true → threaded_from number at_head (line ∷ lines) ≡ threaded_from (number + 1) (heard_so_far nothing_said Script) lines
 threads_found number line lines ends = rw ends refl
 
 pub walked_more : (first : ℕ) (text rest line after : List ℕ) (number : ℕ) → Walked first text rest number → physical_lines rest ≡ line ∷ physical_lines after → length after < length rest →

@@ -3,8 +3,8 @@ use Rattle.std.specs.Prelude.{ℕ, ◌≡◌, ◌≤◌, ◌<◌, ◌+◌, List,
 use Rattle.line_text.specs.Lines.{physical_lines}
 use Rattle.script_text.specs.declared.act.Act.{Act}
 use Rattle.script_text.specs.declared.script.Reader.{Reader}
-use Rattle.script_text.specs.declared.script.ScriptError.{ScriptError}
-use Rattle.script_text.specs.declared.script.ScriptError.TheVariants.{NoMemory, Fault}
+use Rattle.line_text.specs.declared.text_error.TextError.{TextError}
+use Rattle.line_text.specs.declared.text_error.TextError.TheVariants.{NoMemory, Fault}
 use Rattle.sessions.specs.declared.line.SessionLine.{SessionLine}
 use Rattle.sessions.specs.declared.line.TextKind.{TextKind}
 use Rattle.script_text.specs.Script.{Acts, acts_from, named_act}
@@ -19,7 +19,7 @@ abbrev pub comes_to : Reader → Acts
 comes_to reader = with_acts (map named_act reader.acts.items) (acts_from reader.number false (physical_lines reader.rest.now))
 
 -- a part of the script is read: its acts are appended, or its fault is returned
-abbrev pub Reads : Reader → Result (Unit {0}) ScriptError → Reader → Type 0
+abbrev pub Reads : Reader → Result (Unit {0}) (TextError ℕ) → Reader → Type 0
 Reads old (Ok u) new = (comes_to old ≡ comes_to new) × (length new.rest.now < length old.rest.now) × (new.number + length new.rest.now ≤ old.number + length old.rest.now)
 Reads old (Err (Fault fault)) new = comes_to old ≡ Err fault
 Reads old (Err NoMemory) new = ⊤

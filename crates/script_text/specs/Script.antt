@@ -14,8 +14,6 @@ use Rattle.sessions.specs.declared.line.LineForm.TheVariants.{Asks as LineAsks, 
 use Rattle.sessions.specs.SessionLines.{line_form}
 use Rattle.script_text.specs.declared.form.Form.{Form}
 use Rattle.script_text.specs.declared.form.Form.TheVariants.{Skipped, Faulty, Asks, Begins}
-use Rattle.script_text.specs.declared.script.ScriptError.{ScriptError}
-use Rattle.script_text.specs.declared.script.ScriptError.TheVariants.{NoMemory, Fault}
 use Rattle.line_text.specs.Lines.{physical_lines}
 use Rattle.sessions.specs.Items.{without_cr, ends_text, text_ahead, text_item}
 use Rattle.line_text.specs.Words.{is_blank, words_of}
@@ -97,12 +95,6 @@ acts_from number false (line ∷ lines) = with_line number (form_of line) lines 
 -- the acts of a script whose first line has that number
 abbrev pub script_of : ℕ → List ℕ → Acts
 script_of number text = acts_from number false (physical_lines text)
-
--- the possible results of a reader of that script
-abbrev pub Gives : Acts → Result (List (Act (List ℕ))) ScriptError → Type 0
-Gives meant (Ok acts) = meant ≡ Ok acts
-Gives meant (Err (Fault number)) = meant ≡ Err number
-Gives meant (Err NoMemory) = ⊤
 
 -- the value of an operator's line, an act or a form: its names as lists of bytes
 abbrev pub named_operator : OperatorLine (Bor (List ℕ)) → OperatorLine (List ℕ)

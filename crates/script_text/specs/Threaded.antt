@@ -11,8 +11,8 @@ use Rattle.script_text.specs.declared.form.Form.{Form}
 use Rattle.script_text.specs.declared.form.Form.TheVariants.{Skipped, Faulty, Asks, Begins}
 use Rattle.script_text.specs.declared.operator_line.OperatorLine.{OperatorLine}
 use Rattle.script_text.specs.declared.operator_line.OperatorLine.TheVariants.{Step, Take, Put}
-use Rattle.script_text.specs.declared.script.ScriptError.{ScriptError}
-use Rattle.script_text.specs.declared.script.ScriptError.TheVariants.{NoMemory, Fault}
+use Rattle.line_text.specs.declared.text_error.TextError.{TextError}
+use Rattle.line_text.specs.declared.text_error.TextError.TheVariants.{NoMemory, Fault}
 use Rattle.script_text.specs.declared.inputs.SessionInput.{SessionInput}
 use Rattle.script_text.specs.declared.threaded.ThreadedScript.{ThreadedScript}
 use Rattle.script_text.specs.Script.{form_of, named_operator, without_blanks}
@@ -50,12 +50,12 @@ with_input (s ∷ said) name bytes = if bytes_eq name s.name then record s { inp
 abbrev pub with_said : Parts → List ℕ → List ℕ → Parts
 with_said parts name bytes = record parts { sessions = with_input parts.sessions name bytes }
 
-abbrev pub ended : List ℕ → List ℕ
-ended line = line ++ 10 ∷ []
+abbrev pub with_feed : List ℕ → List ℕ
+with_feed line = line ++ 10 ∷ []
 
 -- a line's rest after its first word and one blank
-abbrev pub behind_word : List ℕ → List ℕ
-behind_word line = after_first is_blank (without_blanks line)
+abbrev pub after_first_word : List ℕ → List ℕ
+after_first_word line = after_first is_blank (without_blanks line)
 
 -- a line that takes, steps or puts a job by hand
 abbrev pub is_by_hand : OperatorLine (List ℕ) → Bool
@@ -76,22 +76,22 @@ pub record Heard : Type 0 where
   pub parts : Parts
   pub within : Within
 
-abbrev pub heard : Parts → Within → Heard
-heard parts within = record { parts = parts; within = within }
+abbrev pub heard_so_far : Parts → Within → Heard
+heard_so_far parts within = record { parts = parts; within = within }
 
 -- a line outside of texts; `None` if it is faulty
 abbrev pub hears_form : Parts → Form (List ℕ) → List ℕ → Option Heard
-hears_form parts Skipped line = Some (heard parts Script)
+hears_form parts Skipped line = Some (heard_so_far parts Script)
 hears_form parts Faulty line = None
-hears_form parts (Asks (Operator asked)) line = if is_by_hand asked then None else Some (heard (with_operator parts asked) Script)
-hears_form parts (Asks (Session name item)) line = Some (heard (with_said parts name (ended (behind_word line))) Script)
-hears_form parts (Begins name kind) line = Some (heard (with_said parts name (ended (behind_word line))) (Upload name))
+hears_form parts (Asks (Operator asked)) line = if is_by_hand asked then None else Some (heard_so_far (with_operator parts asked) Script)
+hears_form parts (Asks (Session name item)) line = Some (heard_so_far (with_said parts name (with_feed (after_first_word line))) Script)
+hears_form parts (Begins name kind) line = Some (heard_so_far (with_said parts name (with_feed (after_first_word line))) (Upload name))
 
 -- one more line, also within a text; `None` if it is faulty
 abbrev pub hears_in : Within → Parts → List ℕ → Option Heard
 hears_in Script parts line = hears_form parts (form_of line) line
-hears_in Head parts line = Some (heard parts (if ends_text line then Script else Head))
-hears_in (Upload name) parts line = Some (heard (with_said parts name (ended line)) (if ends_text line then Script else Upload name))
+hears_in Head parts line = Some (heard_so_far parts (if ends_text line then Script else Head))
+hears_in (Upload name) parts line = Some (heard_so_far (with_said parts name (with_feed line)) (if ends_text line then Script else Upload name))
 
 -- the parts of a script, or the number of its first faulty line
 abbrev pub Threaded : Type 0
@@ -104,11 +104,11 @@ threaded_from number h (line ∷ lines) = option_map_or (λ next. threaded_from 
 
 -- the parts of a script whose first line has that number
 abbrev pub threaded_of : ℕ → List ℕ → Threaded
-threaded_of number text = threaded_from number (heard nothing_said Script) (physical_lines text)
+threaded_of number text = threaded_from number (heard_so_far nothing_said Script) (physical_lines text)
 
 -- the parts of a script that starts with the rest of a text
 abbrev pub threaded_behind : ℕ → List ℕ → Threaded
-threaded_behind number text = threaded_from number (heard nothing_said Head) (physical_lines text)
+threaded_behind number text = threaded_from number (heard_so_far nothing_said Head) (physical_lines text)
 
 -- the value of a session's input, and of a threaded script: names and inputs as lists of bytes
 abbrev pub said_by : SessionInput → Said
@@ -118,7 +118,7 @@ abbrev pub parts_of : ThreadedScript → Parts
 parts_of script = record { ahead = map named_operator script.ahead.items; sessions = map said_by script.sessions.items; rest = map named_operator script.rest.items }
 
 -- the possible results of a reader of that script
-abbrev pub GivesThreaded : Threaded → Result ThreadedScript ScriptError → Type 0
+abbrev pub GivesThreaded : Threaded → Result ThreadedScript (TextError ℕ) → Type 0
 GivesThreaded meant (Ok script) = meant ≡ Ok (parts_of script)
 GivesThreaded meant (Err (Fault number)) = meant ≡ Err number
 GivesThreaded meant (Err NoMemory) = ⊤

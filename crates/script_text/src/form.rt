@@ -1,7 +1,7 @@
 //! The forms of a script's lines.
 ghost use Rattle.std.specs.Prelude.{◌≡◌, drop, option_map, IfOk};
 ghost use Rattle.script_text.specs.Script.{form_by, form_in, named_form, named_operator, operator_form, session_form};
-ghost use Rattle.script_text.specs.Threaded.{behind_word};
+ghost use Rattle.script_text.specs.Threaded.{after_first_word};
 
 use crate::act::Act;
 use crate::name::is_name;
@@ -29,19 +29,19 @@ pub(crate) fn form_of<'t>(
     ensures { IfOk result (λ form. named_form form ≡ form_in line.now) }
 {
     let (first, rest) = split_word(skip_blanks(line));
-    form_by(words, first, behind_blank(rest))
+    form_by(words, first, after_blank(rest))
 }
 
 /// Returns a line's rest after its first word and one blank.
-pub(crate) fn behind_word(line: &[u8]) -> &[u8]
-    ensures { result.now ≡ behind_word line.now }
+pub(crate) fn after_first_word(line: &[u8]) -> &[u8]
+    ensures { result.now ≡ after_first_word line.now }
 {
     let (_, rest) = split_word(skip_blanks(line));
-    behind_blank(rest)
+    after_blank(rest)
 }
 
 /// The bytes after the blank that they begin with.
-fn behind_blank(bytes: &[u8]) -> &[u8]
+fn after_blank(bytes: &[u8]) -> &[u8]
     ensures { result.now ≡ drop 1 bytes.now }
 {
     match bytes.split_first() {

@@ -1,7 +1,7 @@
 //! The inputs of the names' sessions.
 ghost use Rattle.std.specs.Prelude.{◌≡◌, ◌++◌, ◌==◌, [], length, map, OnOk};
 ghost use Rattle.script_text.specs.Names.{AreNamed};
-ghost use Rattle.script_text.specs.Threaded.{ended, said_by, with_input};
+ghost use Rattle.script_text.specs.Threaded.{with_feed, said_by, with_input};
 
 use line_text::NameSet;
 use std::alloc::{AllocError, Global};
@@ -45,7 +45,7 @@ impl<'t> Sessions<'t> {
     pub(crate) fn add(&mut self, name: &'t [u8], line: &[u8]) -> Result<(), AllocError>
         requires { AreNamed self.old }
         ensures said { OnOk result (map said_by self.new.said.items
-            ≡ with_input (map said_by self.old.said.items) name.now (ended line.now)) }
+            ≡ with_input (map said_by self.old.said.items) name.now (with_feed line.now)) }
         ensures named { OnOk result (AreNamed self.new) }
     {
         let number = self.names.add_numbered(name)?;
@@ -78,7 +78,8 @@ impl<'t> Sessions<'t> {
 /// Appends a line, ended by LF, to a session's input.
 fn append(said: &mut SessionInput<'_>, line: &[u8]) -> Result<(), AllocError>
     ensures name { said.new.name ≡ said.old.name }
-    ensures input { OnOk result (said.new.input.items ≡ said.old.input.items ++ ended line.now) }
+    ensures input { OnOk result (said.new.input.items ≡ said.old.input.items
+        ++ with_feed line.now) }
 {
     said.input.extend_from_slice(line)?;
     said.input.push(b'\n')?;

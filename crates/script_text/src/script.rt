@@ -1,34 +1,19 @@
 //! A script, read whole into its acts.
 ghost use Rattle.std.specs.Prelude.{◌≡◌, ◌+◌, ◌<◌, ◌^◌, ◌++◌, ◌∷◌, [], length, IfOk, OnOk, map};
-ghost use Rattle.script_text.specs.Script.{Gives, script_of, named_act};
+ghost use Rattle.line_text.specs.TextErrors.{Gives};
+ghost use Rattle.script_text.specs.Script.{script_of, named_act};
 
 use crate::act::Act;
 use crate::form::{Form, form_of};
 use crate::texts::{cut_text, kept_text};
-use line_text::{Text, split_line};
+use line_text::{Text, TextError, split_line};
 use sessions::{SessionLine, SessionRefusal, TextKind, without_cr};
 use std::alloc::{AllocError, Global};
 use std::marker::Model;
 use tenant_slot::SharedText;
 
-/// Why a script has no acts.
-#[derive(Clone, Copy)]
-pub enum ScriptError {
-    NoMemory,
-    /// The number of the first faulty line.
-    Fault(usize),
-}
-
-impl From<AllocError> for ScriptError {
-    ghost use Rattle.std.specs.Prelude.{◌≡◌};
-    ghost use Rattle.script_text.specs.declared.script.ScriptError.TheVariants.{NoMemory};
-
-    ghost from_gives = { λ _ error. error ≡ NoMemory };
-
-    fn from(_error: AllocError) -> Self {
-        ScriptError::NoMemory
-    }
-}
+/// Why a script has no acts: memory ran out, or the number of its first faulty line.
+pub type ScriptError = TextError<usize>;
 
 /// The acts of a script's lines, in order. Its value is their list.
 #[derive(Drop)]

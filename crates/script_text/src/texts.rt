@@ -1,6 +1,6 @@
 //! Texts within a script: the lines up to one that is only `.`.
 ghost use Rattle.std.specs.Prelude.{◌≡◌, ◌+◌, ◌<◌, ◌^◌, length, IfOk, MatchOption};
-ghost use Rattle.sessions.specs.Items.{kept};
+ghost use Rattle.sessions.specs.Items.{kept_part};
 ghost use Rattle.script_text.specs.Cuts.{HasNoEnd, IsCut, IsEnded, without_crs};
 
 use line_text::split_line;
@@ -46,7 +46,7 @@ pub fn cut_text(bytes: &[u8], number: usize) -> Option<Cut<'_>>
 /// The lines of a text without the CRs at their ends, as many as are kept.
 pub(crate) fn kept_text(alloc: Global, ahead: &[u8]) -> Result<Vec<u8>, AllocError>
     requires { IsEnded ahead.now }
-    ensures { IfOk result (λ text. text.items ≡ kept (without_crs ahead.now)) }
+    ensures { IfOk result (λ text. text.items ≡ kept_part (without_crs ahead.now)) }
 {
     if memchr(b'\r', ahead).is_none() {
         return Vec::from_slice(alloc, &ahead[..ahead.len().min(MAX_KEPT)]);

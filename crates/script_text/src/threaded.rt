@@ -4,7 +4,7 @@ ghost use Rattle.script_text.specs.Threaded.{AreApart, GivesThreaded, is_by_hand
 ghost use Rattle.script_text.specs.Script.{named_operator};
 
 use crate::act::Act;
-use crate::form::{Form, behind_word, form_of};
+use crate::form::{Form, after_first_word, form_of};
 use crate::inputs::{SessionInput, Sessions};
 use crate::operator_line::OperatorLine;
 use crate::script::ScriptError;
@@ -60,14 +60,13 @@ struct ThreadedReader<'t> {
 
 impl<'t> ThreadedReader<'t> {
     ghost use Rattle.std.specs.Prelude.{None};
-    ghost use Rattle.script_text.specs.declared.script.ScriptError.TheVariants.{Fault};
     ghost use Rattle.script_text.specs.Names.{AreNamed};
-    ghost use Rattle.script_text.specs.Threaded.{heard};
+    ghost use Rattle.script_text.specs.Threaded.{heard_so_far};
     ghost use Rattle.script_text.specs.Threaded.Within.{Script};
     ghost use Rattle.script_text.specs.Threads.{AddsOperator, Hears, HearsForm, heard_by, parts_read};
 
     fn new(alloc: Global) -> Self
-        ensures heard { heard_by result ≡ heard nothing_said Script }
+        ensures heard { heard_by result ≡ heard_so_far nothing_said Script }
         ensures named { AreNamed result.sessions }
     {
         ThreadedReader {
@@ -115,9 +114,11 @@ impl<'t> ThreadedReader<'t> {
                 }
                 Ok(self.add_operator(asked)?)
             }
-            Form::Asks(Act::Session(name, _)) => Ok(self.sessions.add(name, behind_word(line))?),
+            Form::Asks(Act::Session(name, _)) => Ok(
+                self.sessions.add(name, after_first_word(line))?,
+            ),
             Form::Begins(name, _) => {
-                self.sessions.add(name, behind_word(line))?;
+                self.sessions.add(name, after_first_word(line))?;
                 self.within = Some(name);
                 Ok(())
             }

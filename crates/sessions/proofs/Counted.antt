@@ -17,7 +17,7 @@ use Rattle.service_core.specs.History.{History, slot_of, state_of, with_entry, w
 use Rattle.service_core.specs.Tenancy.{if_live}
 use Rattle.service_core.specs.Run.{Call, Run, IsStepOf, step_entry, step_event}
 use Rattle.service_core.specs.Run.Call.{Take, Put}
-use Rattle.service_core.specs.Service.{ServiceState, history_of, live_of, modified}
+use Rattle.service_core.specs.Service.{ServiceState, history_of, live_of, with_changed}
 use Rattle.service_core.proofs.Histories.{state_after-push}
 use Rattle.service_core.proofs.Lists.{history_of-modified}
 use Rattle.tenant_slot.specs.SingleUser.{start}
@@ -42,9 +42,9 @@ if_live-changed change same (Some g) h is =
     ] refl is
 
 -- a live tenancy after a change
-pub live_of-changed : (hs : List History) (id : ℕ) (change : History → History) (h : History) → ((h : History) → (change h).live ≡ h.live) → live_of hs id ≡ Some h → live_of (modified hs id change) id ≡ Some (change h)
+pub live_of-changed : (hs : List History) (id : ℕ) (change : History → History) (h : History) → ((h : History) → (change h).live ≡ h.live) → live_of hs id ≡ Some h → live_of (with_changed hs id change) id ≡ Some (change h)
 live_of-changed hs id change h same is =
-    let own : history_of (modified hs id change) id ≡ option_map change (history_of hs id) = grind (arith, nat_tests, history_of-modified hs id id change) in
+    let own : history_of (with_changed hs id change) id ≡ option_map change (history_of hs id) = grind (arith, nat_tests, history_of-modified hs id id change) in
     ap if_live own ∙ if_live-changed change same (history_of hs id) h is
 
 pub some_and : (P : History → Type 0) (o : Option History) → IsSomeAnd o P → (h : History) × (o ≡ Some h) × P h
@@ -94,7 +94,7 @@ recorded old mid new id job foreign reply takes puts =
     let e : Entry = step_entry job.step foreign reply in
     let after : live_of new.histories id ≡ Some (with_entry e g) =
     ap (λ (s : ServiceState). live_of s.histories id) puts.1
-    ∙ (ap (λ x. live_of (modified mid.histories x (with_entry e)) id) own ∙ live_of-changed mid.histories id (with_entry e) g (λ x. refl) here) in
+    ∙ (ap (λ x. live_of (with_changed mid.histories x (with_entry e)) id) own ∙ live_of-changed mid.histories id (with_entry e) g (λ x. refl) here) in
     let more : (state_of (with_entry e g)).entries ≡ (state_of g).entries + 1 = entry_more g job.step foreign reply put.2 in
     let entries : (state_of g).entries ≡ (state_of h).entries = ap (λ (x : History). (state_of x).entries) same in
     let l : left new id ≡ 65536 - (state_of (with_entry e g)).entries = ap left_in after in

@@ -16,7 +16,7 @@ use Rattle.service_core.specs.History.{History, state_of}
 use Rattle.service_core.specs.Receipt.{Noted, Receipted}
 use Rattle.service_core.specs.Run.{Call, Run, IsReceipt}
 use Rattle.service_core.specs.Run.Call.{Tenant}
-use Rattle.service_core.specs.Service.{IsAloneOn, ServiceState, empty, history_of, live_of, live_width}
+use Rattle.service_core.specs.Service.{IsAloneOn, ServiceState, empty_service, history_of, live_of, live_width}
 use Rattle.service_core.proofs.Alone.{state_alone}
 use Rattle.service_core.proofs.Effects.{Kept, run_keeps}
 use Rattle.service_core.proofs.Keeps.{IsService-empty, if_live_some}
@@ -34,35 +34,35 @@ use Rattle.sessions.proofs.StepLemmas.{Run-append}
 use Rattle.sessions.proofs.Stepping.{steps_width, wait_stepping}
 
 -- a full journal has no reply
-full_alone : (device : Device) (calls : List Call) (state : ServiceState) (id : ℕ) (h : History) (command : TenantCommand) → Run (empty device) calls state → live_of state.histories id ≡ Some h → length h.entries ≡ 65536 →
+full_alone : (device : Device) (calls : List Call) (state : ServiceState) (id : ℕ) (h : History) (command : TenantCommand) → Run (empty_service device) calls state → live_of state.histories id ≡ Some h → length h.entries ≡ 65536 →
     (step (state_of h) (Asked command)).1 ≡ None
 full_alone device calls state id h command runs live full =
     let here : history_of state.histories id ≡ Some h = if_live_some (history_of state.histories id) h live in
-    let kept : Kept state = run_keeps (empty device) calls state runs (IsService-empty device) in
+    let kept : Kept state = run_keeps (empty_service device) calls state runs (IsService-empty device) in
     let on : IsAloneOn state.device h = All-history_of (IsAloneOn state.device) state.histories id h here kept.alone in
     ap (λ (p : State × Option Reply). p.1) (step-full (state_of h) (Asked command) (on.replayed.count ∙ full))
 
-receipt_alone : (device : Device) (calls : List Call) (state : ServiceState) (id : ℕ) (command : TenantCommand) (r : Receipted) (o : Option History) → live_of state.histories id ≡ o → Run (empty device) calls state → IsReceipt o id command r →
+receipt_alone : (device : Device) (calls : List Call) (state : ServiceState) (id : ℕ) (command : TenantCommand) (r : Receipted) (o : Option History) → live_of state.histories id ≡ o → Run (empty_service device) calls state → IsReceipt o id command r →
     told_text (Some r.reply) ≡ alone_text device (option_map (λ h. h.strip.width) o) id calls command
 receipt_alone device calls state id command r None live runs is = absurd is
 receipt_alone device calls state id command r (Some h) live runs is =
     ap told_text (sym is.3) ∙ ap (λ (s : State). told_text (step s (Asked command)).1) (state_alone device calls state id h runs live)
 
-full_told : (device : Device) (calls : List Call) (state : ServiceState) (id : ℕ) (command : TenantCommand) (o : Option History) → live_of state.histories id ≡ o → Run (empty device) calls state → IsSomeAnd o (λ h. length h.entries ≡ 65536) →
+full_told : (device : Device) (calls : List Call) (state : ServiceState) (id : ℕ) (command : TenantCommand) (o : Option History) → live_of state.histories id ≡ o → Run (empty_service device) calls state → IsSomeAnd o (λ h. length h.entries ≡ 65536) →
     told_text None ≡ alone_text device (option_map (λ h. h.strip.width) o) id calls command
 full_told device calls state id command None live runs is = absurd is
 full_told device calls state id command (Some h) live runs is =
     ap told_text (sym (full_alone device calls state id h command runs live is)) ∙ ap (λ (s : State). told_text (step s (Asked command)).1) (state_alone device calls state id h runs live)
 
-pub receipt_told : (device : Device) (calls : List Call) (old new : ServiceState) (id : ℕ) (command : TenantCommand) (r : Receipted) → Run (empty device) calls old → IsServed old id command (Ok r) new →
+pub receipt_told : (device : Device) (calls : List Call) (old new : ServiceState) (id : ℕ) (command : TenantCommand) (r : Receipted) → Run (empty_service device) calls old → IsServed old id command (Ok r) new →
     answer_text (Served (Ok r)) ≡ alone_text device (live_width old.histories id) id calls command
 receipt_told device calls old new id command r runs is = receipt_alone device calls old id command r (live_of old.histories id) refl runs is.0
 
-pub journal_told : (device : Device) (calls : List Call) (old : ServiceState) (id : ℕ) (command : TenantCommand) (note : Noted) (new : ServiceState) → Run (empty device) calls old → IsServed old id command (Err (JournalFull note)) new →
+pub journal_told : (device : Device) (calls : List Call) (old : ServiceState) (id : ℕ) (command : TenantCommand) (note : Noted) (new : ServiceState) → Run (empty_service device) calls old → IsServed old id command (Err (JournalFull note)) new →
     answer_text (Served (Err (JournalFull note))) ≡ alone_text device (live_width old.histories id) id calls command
 journal_told device calls old id command note new runs is = full_told device calls old id command (live_of old.histories id) refl runs is.1
 
-command_told : (device : Device) (calls : List Call) (old new : ServiceState) (id : ℕ) (command : TenantCommand) (served : Result Receipted NotServed) → Run (empty device) calls old → IsServed old id command served new →
+command_told : (device : Device) (calls : List Call) (old new : ServiceState) (id : ℕ) (command : TenantCommand) (served : Result Receipted NotServed) → Run (empty_service device) calls old → IsServed old id command served new →
     IsToldAlone device old id calls command (Served served)
 command_told device calls old new id command (Ok r) runs is = inr (receipt_told device calls old new id command r runs is)
 command_told device calls old new id command (Err (JournalFull note)) runs is =
@@ -71,7 +71,7 @@ command_told device calls old new id command (Err (NoSuchTenancy note)) runs is 
     inr (ap (λ (o : Option History). alone_text device (option_map (λ h. h.strip.width) o) id calls command) (sym is.1))
 command_told device calls old new id command (Err NotServedNoMemory) runs is = inl refl
 
-asked_told : (device : Device) (before calls : List Call) (old new : ServiceState) (id : ℕ) (command : TenantCommand) (answer : Answer) → Run (empty device) before old → AsksCommand id command calls answer → Run old calls new →
+asked_told : (device : Device) (before calls : List Call) (old new : ServiceState) (id : ℕ) (command : TenantCommand) (answer : Answer) → Run (empty_service device) before old → AsksCommand id command calls answer → Run old calls new →
     IsToldAlone device old id before command answer
 asked_told device before calls old new id command answer runs asks next =
     let call : Run old (Tenant id command asks.0 ∷ []) new = (let P : List Call → Type 0 = λ cs. Run old cs new in subst P asks.1 next) in
@@ -84,7 +84,7 @@ all_but_last steps call =
     ap (λ n. take n (steps ++ call ∷ [])) less ∙ (take-append-le (length steps) steps (call ∷ []) (omega arith) ∙ take_all (length steps) steps (omega arith))
 
 -- a status after steps, which change no width
-behind_told : (device : Device) (before steps more calls : List Call) (old mid new : ServiceState) (id : ℕ) (answer : Answer) → Run (empty device) (before ++ steps) mid → live_width mid.histories id ≡ live_width old.histories id →
+behind_told : (device : Device) (before steps more calls : List Call) (old mid new : ServiceState) (id : ℕ) (answer : Answer) → Run (empty_service device) (before ++ steps) mid → live_width mid.histories id ≡ live_width old.histories id →
     AsksCommand id Status more answer → Run mid more new → calls ≡ steps ++ more → IsToldAlone device old id (before ++ take (length calls - 1) calls) Status answer
 behind_told device before steps more calls old mid new id answer runs width asks next is =
     let all : calls ≡ steps ++ Tenant id Status asks.0 ∷ [] = is ∙ ap (λ cs. steps ++ cs) asks.1 in
@@ -93,7 +93,7 @@ behind_told device before steps more calls old mid new id answer runs width asks
     let Q : Option ℕ → Type 0 = λ w. (answer ≡ Served (Err NotServedNoMemory)) ⊎ (answer_text answer ≡ alone_text device w id (before ++ steps) Status) in
     subst P (sym first) (subst Q width (asked_told device (before ++ steps) more mid new id Status answer runs asks next))
 
-end_told : (device : Device) (before steps more calls : List Call) (old mid new : ServiceState) (id : ℕ) (last : StepOutcome) (answer : Answer) → Run (empty device) (before ++ steps) mid → live_width mid.histories id ≡ live_width old.histories id →
+end_told : (device : Device) (before steps more calls : List Call) (old mid new : ServiceState) (id : ℕ) (last : StepOutcome) (answer : Answer) → Run (empty_service device) (before ++ steps) mid → live_width mid.histories id ≡ live_width old.histories id →
     EndsWait id last more answer → Run mid more new → calls ≡ steps ++ more → IsToldAlone device old id (before ++ take (length calls - 1) calls) Status answer
 end_told device before steps more calls old mid new id (Recorded reply) answer runs width ends next is = behind_told device before steps more calls old mid new id answer runs width ends next is
 end_told device before steps more calls old mid new id Full answer runs width ends next is = behind_told device before steps more calls old mid new id answer runs width ends next is
@@ -106,7 +106,7 @@ pub split : (old : ServiceState) (xs ys : List Call) (new : ServiceState) → Ru
 split old [] ys new runs = (old, refl, runs)
 split old (x ∷ xs) ys new runs = let rest = split runs.0 xs ys new runs.2 in (rest.0, (runs.0, runs.1, rest.1), rest.2)
 
-pub line_told : (device : Device) (before calls : List Call) (old new : ServiceState) (id : ℕ) (line : SessionLine) (answer : Answer) → Run (empty device) before old → Asks id line calls answer → Run old calls new →
+pub line_told : (device : Device) (before calls : List Call) (old new : ServiceState) (id : ℕ) (line : SessionLine) (answer : Answer) → Run (empty_service device) before old → Asks id line calls answer → Run old calls new →
     LineIsToldAlone device old id before calls line answer
 line_told device before calls old new id Blank answer runs asks next = ap answer_text asks.1
 line_told device before calls old new id (Refused refusal) answer runs asks next = ap answer_text asks.1
@@ -116,5 +116,5 @@ line_told device before calls old new id Wait answer runs asks next =
     let more = asks.2 in
     let whole : Run old (steps ++ more) new = (let P : List Call → Type 0 = λ cs. Run old cs new in subst P asks.5 next) in
     let parts = split old steps more new whole in
-    end_told device before steps more calls old parts.0 new id asks.0 answer (Run-append (empty device) before old steps parts.0 runs parts.1)
+    end_told device before steps more calls old parts.0 new id asks.0 answer (Run-append (empty_service device) before old steps parts.0 runs parts.1)
     (steps_width id old steps parts.0 (wait_stepping id steps asks.0 asks.3) parts.1) asks.4 parts.2 asks.5

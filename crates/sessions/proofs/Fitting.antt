@@ -16,7 +16,7 @@ use Rattle.job_state.specs.declared.sources.JobKind.{JobKind}
 use Rattle.job_state.specs.declared.sources.JobKind.TheVariants.{Packing, Placing, Routing}
 use Rattle.job_state.specs.declared.step.JobStep.{JobStep}
 use Rattle.job_state.specs.Job.{JobState}
-use Rattle.tenant_slot.specs.SingleUser.{State, running, sources_of, start}
+use Rattle.tenant_slot.specs.SingleUser.{State, kind_that_runs, sources_of, start}
 use Rattle.tenant_slot.specs.Slot.{SlotState, next_job}
 use Rattle.service_core.specs.declared.device.Device.{Device}
 use Rattle.service_core.specs.Calls.{IsNextStep, IsTaken}
@@ -24,7 +24,7 @@ use Rattle.service_core.specs.Headline.{AreParted}
 use Rattle.service_core.specs.History.{History, events_of, slot_of, state_of}
 use Rattle.service_core.specs.Run.{Call, Run}
 use Rattle.service_core.specs.Run.Call.{Take}
-use Rattle.service_core.specs.Service.{AreAlone, IsAloneOn, ServiceState, empty, history_of, live_of, live_width, placed_width, strip_on}
+use Rattle.service_core.specs.Service.{AreAlone, IsAloneOn, ServiceState, empty_service, history_of, live_of, live_width, placed_width, strip_on}
 use Rattle.service_core.proofs.Booking.{has_offset, placed_strip}
 use Rattle.service_core.proofs.Effects.{Admitted, Effect, Entered, Evicted, Kept, Moved, Nothing, Turned, effect, run_device, run_keeps}
 use Rattle.service_core.proofs.Held.{IsOnStrip, events_stay}
@@ -109,7 +109,7 @@ window_there state step wide parted all next =
     let h : History = was.0 in
     let alone : IsAloneOn device h = All-history_of (IsAloneOn device) state.histories step.id h (if_live_some (history_of state.histories step.id) h was.1) all in
     let on : IsOnStrip h.arch h.strip (state_of h) = events_stay (start h.arch h.strip) (events_of h.entries) in
-    let job : IsJobOf (state_of h) step = job_of (slot_of h) (running (state_of h).name) step was.2 in
+    let job : IsJobOf (state_of h) step = job_of (slot_of h) (kind_that_runs (state_of h).name) step was.2 in
     let place = has_offset state.plan.strips state.histories step.id h parted.of_live was.1 in
     let placed = placed_strip state.plan.strips step.id place.0 place.1 in
     let width : placed.0.width ≡ h.strip.width = its_width state.plan.strips state.histories step.id placed.0 h parted.of_live placed.1 was.1 in
@@ -122,14 +122,14 @@ window_there state step wide parted all next =
     (place.0, place.1, sym (job.arch ∙ on.arch_is ∙ alone.arch), ap (λ (s : Strip). is_on_device (own_graph device).strip s place.0) strip ∙ stands)
 
 -- so has a step that was just taken
-pub taken_has_window : (device : Device) (before : List Call) (old new : ServiceState) (id : ℕ) (job : JobState) → Run (empty device) before old → IsTaken old id (Some job) new → HasWindow (own_graph device) new job.step
+pub taken_has_window : (device : Device) (before : List Call) (old new : ServiceState) (id : ℕ) (job : JobState) → Run (empty_service device) before old → IsTaken old id (Some job) new → HasWindow (own_graph device) new job.step
 taken_has_window device before old new id job runs takes =
     let calls : List Call = before ++ Take id (Some job) ∷ [] in
-    let all : Run (empty device) calls new = Run-append (empty device) before old (Take id (Some job) ∷ []) new runs (new, takes, refl) in
-    let same : new.device ≡ device = run_device (empty device) calls new all in
+    let all : Run (empty_service device) calls new = Run-append (empty_service device) before old (Take id (Some job) ∷ []) new runs (new, takes, refl) in
+    let same : new.device ≡ device = run_device (empty_service device) calls new all in
     let parted : AreParted new.device new = subst (λ d. AreParted d new) (sym same) (are_parted device calls new all) in
-    let kept : Kept new = run_keeps (empty device) calls new all (IsService-empty device) in
-    let wide : AreWide new = run_wide (empty device) calls new all (All-nil (λ (s : PlacedStrip). 0 < s.width)) in
+    let kept : Kept new = run_keeps (empty_service device) calls new all (IsService-empty device) in
+    let wide : AreWide new = run_wide (empty_service device) calls new all (All-nil (λ (s : PlacedStrip). 0 < s.width)) in
     subst (λ d. HasWindow (own_graph d) new job.step) same (window_there new job.step wide parted kept.alone (taken_next old new id job takes))
 
 -- the window that is made at the strip

@@ -3,29 +3,29 @@ use Rattle.std.proofs.Common.{◌≡◌, ℕ, List, [], ◌∷◌, ◌++◌, len
 use Rattle.std.specs.Prelude.{option_map}
 use Rattle.line_text.specs.Lines.{physical_lines}
 use Rattle.sessions.specs.declared.line.SessionLine.{SessionLine}
-use Rattle.sessions.specs.Items.{ends_text, items_from, kept, text_ahead, text_item, without_cr}
-use Rattle.sessions.specs.Reading.{GivesItem, TextSoFar, item_and, items_to_come, resumed}
+use Rattle.sessions.specs.Items.{ends_text, items_from, kept_part, text_ahead, text_item, without_cr}
+use Rattle.sessions.specs.Reading.{GivesItem, TextSoFar, item_and, items_to_come, resumed_item}
 use Rattle.sessions.proofs.KeptLemmas.{kept-kept}
 
 -- a line of a text, with the lines of the text that follow it
-one_more : (old : TextSoFar) (line bytes : List ℕ) (ahead : Option (List ℕ)) → bytes ≡ kept (old.bytes ++ line ++ 10 ∷ []) →
+one_more : (old : TextSoFar) (line bytes : List ℕ) (ahead : Option (List ℕ)) → bytes ≡ kept_part (old.bytes ++ line ++ 10 ∷ []) →
     text_item old.kind (option_map (λ more. old.bytes ++ more) (option_map (λ text. line ++ 10 ∷ text) ahead)) ≡ text_item old.kind (option_map (λ more. bytes ++ more) ahead)
 one_more old line bytes None is = refl
 one_more old line bytes (Some more) is =
-    let text : kept (bytes ++ more) ≡ kept (old.bytes ++ (line ++ 10 ∷ more)) =
-    ap (λ t. kept (t ++ more)) is ∙ kept-kept (old.bytes ++ line ++ 10 ∷ []) more ∙ ap kept (simp append_assoc) in
+    let text : kept_part (bytes ++ more) ≡ kept_part (old.bytes ++ (line ++ 10 ∷ more)) =
+    ap (λ t. kept_part (t ++ more)) is ∙ kept-kept (old.bytes ++ line ++ 10 ∷ []) more ∙ ap kept_part (simp append_assoc) in
     rw text refl
 
 -- the next line of a text
-pub continued : (old : TextSoFar) (line : List ℕ) (new : TextSoFar) → ends_text line ≡ false → new ≡ record { kind = old.kind; bytes = kept (old.bytes ++ without_cr line ++ 10 ∷ []) } →
+pub continued : (old : TextSoFar) (line : List ℕ) (new : TextSoFar) → ends_text line ≡ false → new ≡ record { kind = old.kind; bytes = kept_part (old.bytes ++ without_cr line ++ 10 ∷ []) } →
     GivesItem (Some old) line None (Some new)
 continued old line new ends is = λ lines.
     let rest : items_from true (line ∷ lines) ≡ items_from true lines = rw ends refl in
     let ahead : text_ahead (line ∷ lines) ≡ option_map (λ text. without_cr line ++ 10 ∷ text) (text_ahead lines) = rw ends refl in
-    let bytes = kept (old.bytes ++ without_cr line ++ 10 ∷ []) in
-    let same : resumed old (line ∷ lines) ≡ resumed (record { kind = old.kind; bytes = bytes }) lines =
+    let bytes = kept_part (old.bytes ++ without_cr line ++ 10 ∷ []) in
+    let same : resumed_item old (line ∷ lines) ≡ resumed_item (record { kind = old.kind; bytes = bytes }) lines =
     ap (λ a. text_item old.kind (option_map (λ more. old.bytes ++ more) a)) ahead ∙ one_more old (without_cr line) bytes (text_ahead lines) refl in
-    ap (λ item. item ∷ items_from true (line ∷ lines)) (same ∙ ap (λ t. resumed t lines) (sym is)) ∙ ap (λ items. resumed new lines ∷ items) rest
+    ap (λ item. item ∷ items_from true (line ∷ lines)) (same ∙ ap (λ t. resumed_item t lines) (sym is)) ∙ ap (λ items. resumed_item new lines ∷ items) rest
 
 -- the items after one more, if there is one
 abbrev pub pushed : List SessionLine → Option SessionLine → List SessionLine

@@ -8,7 +8,7 @@ use Rattle.service_core.specs.History.{History, with_entry, with_here}
 use Rattle.service_core.specs.Tenancy.{if_live}
 use Rattle.service_core.specs.Run.{Call, Happens, Run, IsGivenBackTo, step_entry}
 use Rattle.service_core.specs.Run.Call.{Admit, Evict, Move, Tenant, Take, Put, GiveBack, Owners}
-use Rattle.service_core.specs.Service.{ServiceState, history_of, live_of, live_width, modified}
+use Rattle.service_core.specs.Service.{ServiceState, history_of, live_of, live_width, with_changed}
 use Rattle.service_core.proofs.Lists.{history_of-modified}
 use Rattle.sessions.specs.declared.steps.StepOutcome.{StepOutcome}
 use Rattle.sessions.specs.declared.steps.StepOutcome.TheVariants.{Recorded, Full, Gone, NoMemory as StepNoMemory, Nothing, Unfit}
@@ -75,7 +75,7 @@ pub same_width : (change : History → History) → KeepsWidth change → (o : O
 same_width change keeps None = refl
 same_width change keeps (Some h) = width_some (change h) ∙ ((rw ((keeps h).0, (keeps h).1) refl) ∙ sym (width_some h))
 
-width_kept : (hs : List History) (t id : ℕ) (change : History → History) → KeepsWidth change → live_width (modified hs t change) id ≡ live_width hs id
+width_kept : (hs : List History) (t id : ℕ) (change : History → History) → KeepsWidth change → live_width (with_changed hs t change) id ≡ live_width hs id
 width_kept hs t id change keeps =
     ap width_in (history_of-modified hs t id change)
     ∙ (elim (eqb id t) as (λ b. width_in (if b then option_map change (history_of hs id) else history_of hs id) ≡ width_in (history_of hs id)) [ true ↦ same_width change keeps (history_of hs id) | false ↦ refl ])
@@ -87,7 +87,7 @@ SameWidth id old new = live_width new.histories id ≡ live_width old.histories 
 unchanged : (id : ℕ) (old new : ServiceState) → new ≡ old → SameWidth id old new
 unchanged id old new same = ap (λ (s : ServiceState). live_width s.histories id) same
 
-changed : (id t : ℕ) (old new : ServiceState) (change : History → History) → KeepsWidth change → new ≡ record old { histories = modified old.histories t change } → SameWidth id old new
+changed : (id t : ℕ) (old new : ServiceState) (change : History → History) → KeepsWidth change → new ≡ record old { histories = with_changed old.histories t change } → SameWidth id old new
 changed id t old new change keeps is = ap (λ (s : ServiceState). live_width s.histories id) is ∙ width_kept old.histories t id change keeps
 
 given_back : (id : ℕ) (o : Option History) (old new : ServiceState) (job : JobState) → IsGivenBackTo o old job new → SameWidth id old new

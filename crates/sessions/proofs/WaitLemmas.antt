@@ -12,7 +12,7 @@ use Rattle.tenant_slot.specs.declared.event.Event.TheVariants.{Command as Asked}
 use Rattle.tenant_slot.specs.declared.reply.Reply.{Reply}
 use Rattle.tenant_slot.specs.declared.reply.Refusal.TheVariants.{WrongState}
 use Rattle.tenant_slot.specs.declared.reply.Reply.TheVariants.{Refused}
-use Rattle.tenant_slot.specs.SingleUser.{State, after, answer_to, is_lawful, running, serve, start, step}
+use Rattle.tenant_slot.specs.SingleUser.{State, after_reply, answer_to, is_lawful, kind_that_runs, serve, start, step}
 use Rattle.tenant_slot.specs.Slot.{is_takeable, next_job}
 use Rattle.tenant_slot.proofs.Runs.{step-room, step-served}
 use Rattle.service_core.specs.declared.entry.Entry.{Entry}
@@ -105,11 +105,11 @@ status_left_of h reply told left =
     let served = step-served (state_of h) (Asked Status) reply told in
     let next : state_of (with_entry e h) ≡ record (state_of h) { entries = (state_of h).entries + 1 } =
     state_after-push (start h.arch h.strip) h.entries e
-    ∙ (ap (λ (p : State × Option Reply). p.0) (step-room (state_of h) (Asked Status) served.1) ∙ ap (after (state_of h)) (status_changes (state_of h))) in
+    ∙ (ap (λ (p : State × Option Reply). p.0) (step-room (state_of h) (Asked Status) served.1) ∙ ap (after_reply (state_of h)) (status_changes (state_of h))) in
     let here : (slot_of (with_entry e h)).here ≡ h.here = ap (λ (change : Option State). option_map_or (λ new. Some false) change h.here) (status_changes (state_of h)) in
-    ap (λ (s : State). is_some (running s.name) && (is_some (slot_of (with_entry e h)).here && nat_lt s.entries 65536)) next
-    ∙ (ap (λ here. is_some (running (state_of h).name) && (is_some here && nat_lt ((state_of h).entries + 1) 65536)) here
-    ∙ fewer (is_some (running (state_of h).name)) (is_some h.here) (state_of h).entries left)
+    ap (λ (s : State). is_some (kind_that_runs s.name) && (is_some (slot_of (with_entry e h)).here && nat_lt s.entries 65536)) next
+    ∙ (ap (λ here. is_some (kind_that_runs (state_of h).name) && (is_some here && nat_lt ((state_of h).entries + 1) 65536)) here
+    ∙ fewer (is_some (kind_that_runs (state_of h).name)) (is_some h.here) (state_of h).entries left)
 
 status_left : (old new : ServiceState) (id : ℕ) (served : Result Receipted NotServed) → IsServed old id Status served new → NothingLeft old id → (Served served ≡ Served (Err NotServedNoMemory)) ⊎ NothingLeft new id
 status_left old new id (Err NotServedNoMemory) is left = inl refl

@@ -18,12 +18,12 @@ use Rattle.service_core.specs.declared.not_served.NotServed.TheVariants.{NoMemor
 use Rattle.service_core.specs.declared.put_reply.PutReply.TheVariants.{Recorded as PutRecorded, Full as PutFull, Gone as PutGone}
 use Rattle.service_core.specs.Calls.{IsServed}
 use Rattle.service_core.specs.History.{History, with_entry, with_here}
-use Rattle.service_core.specs.Tenancy.{closed}
+use Rattle.service_core.specs.Tenancy.{closed_history}
 use Rattle.service_core.specs.OwnEvents.{if_own, own_events, own_exchange, own_exchanges}
 use Rattle.service_core.specs.Receipt.{Receipted}
 use Rattle.service_core.specs.Run.{Call, Happens, Run, IsGivenBackTo, step_entry, step_event}
 use Rattle.service_core.specs.Run.Call.{Admit, Evict, Move, Tenant, Take, Put, GiveBack, Owners}
-use Rattle.service_core.specs.Service.{ServiceState, empty, history_of, live_of, live_width, modified, strip_on, with_tenancy}
+use Rattle.service_core.specs.Service.{ServiceState, empty_service, history_of, live_of, live_width, with_changed, strip_on, with_tenancy}
 use Rattle.service_core.proofs.MovedStrips.{same_histories}
 use Rattle.service_core.proofs.Lists.{history_of-modified, history_of-past, history_of-push}
 use Rattle.sessions.specs.declared.line.SessionLine.{SessionLine}
@@ -36,7 +36,7 @@ use Rattle.sessions.specs.EndToEnd.{alone_after, alone_text, told_text}
 use Rattle.sessions.specs.SessionAnswer.{Asks, AsksCommand, EndsWait}
 use Rattle.sessions.specs.SessionText.{answer_text}
 use Rattle.sessions.specs.Steps.{Waits}
-use Rattle.sessions.specs.WholeSession.{Heard, IsOthers, Turn, Turns, aside, events_in, heard, session_text, written}
+use Rattle.sessions.specs.WholeSession.{Heard, IsOthers, Turn, Turns, answer_aside, events_in, heard_by, session_text, text_of_turns}
 use Rattle.sessions.specs.WholeSession.Heard.{Happened}
 use Rattle.sessions.specs.WholeSession.Turn.{Item, Meanwhile}
 use Rattle.sessions.proofs.EndToEndLemmas.{journal_told, receipt_told, split}
@@ -120,16 +120,16 @@ wait_others : (id : ℕ) (calls : List Call) (last : StepOutcome) → Waits id c
 wait_others id calls last is = stepping_others id calls (wait_stepping id calls last is)
 
 -- a live tenancy stays live and keeps its width unless it is evicted
-width_changed : (hs : List History) (t id width : ℕ) (change : History → History) → KeepsWidth change → live_width hs id ≡ Some width → live_width (modified hs t change) id ≡ Some width
+width_changed : (hs : List History) (t id width : ℕ) (change : History → History) → KeepsWidth change → live_width hs id ≡ Some width → live_width (with_changed hs t change) id ≡ Some width
 width_changed hs t id width change keeps was =
     let P : Option History → Type 0 = λ o. width_in o ≡ Some width in
     subst P (sym (history_of-modified hs t id change))
     (elim (eqb id t) as (λ b. width_in (if b then option_map change (history_of hs id) else history_of hs id) ≡ Some width) [ true ↦ same_width change keeps (history_of hs id) ∙ was | false ↦ was ])
 
-width_of_other : (hs : List History) (t id width : ℕ) → t ≢ id → live_width hs id ≡ Some width → live_width (modified hs t closed) id ≡ Some width
+width_of_other : (hs : List History) (t id width : ℕ) → t ≢ id → live_width hs id ≡ Some width → live_width (with_changed hs t closed_history) id ≡ Some width
 width_of_other hs t id width differ was =
     let not : eqb id t ≡ false = grind (arith, nat_tests) in
-    let same : history_of (modified hs t closed) id ≡ history_of hs id = rw not at (history_of-modified hs t id closed) in
+    let same : history_of (with_changed hs t closed_history) id ≡ history_of hs id = rw not at (history_of-modified hs t id closed_history) in
     ap width_in same ∙ was
 
 width_pushed : (hs : List History) (h : History) (id width : ℕ) → live_width hs id ≡ Some width → live_width (hs ++ h ∷ []) id ≡ Some width
@@ -153,7 +153,7 @@ Stays id width state = live_width state.histories id ≡ Some width
 unchanged : (id width : ℕ) (old new : ServiceState) → new ≡ old → Stays id width old → Stays id width new
 unchanged id width old new same was = let P : ServiceState → Type 0 = λ s. Stays id width s in subst P (sym same) was
 
-changed : (id width t : ℕ) (old new : ServiceState) (change : History → History) → KeepsWidth change → new ≡ record old { histories = modified old.histories t change } → Stays id width old → Stays id width new
+changed : (id width t : ℕ) (old new : ServiceState) (change : History → History) → KeepsWidth change → new ≡ record old { histories = with_changed old.histories t change } → Stays id width old → Stays id width new
 changed id width t old new change keeps is was = let P : ServiceState → Type 0 = λ s. Stays id width s in subst P (sym is) (width_changed old.histories t id width change keeps was)
 
 given_back : (id width : ℕ) (o : Option History) (old new : ServiceState) (job : JobState) → IsGivenBackTo o old job new → Stays id width old → Stays id width new
@@ -219,7 +219,7 @@ tells_steps s (Stepped made ∷ events) are = tells_steps (step s (Stepped made)
 -- a command that was asked of the core
 abbrev Ends : Device → ℕ → ℕ → List Call → List Call → Answer → Type 0
 Ends device width id before calls answer =
-    let s = alone_after device width id before in Tells s (map Happened (own_events id calls) ++ aside answer) (answer_text answer) (state_after s (own_events id calls))
+    let s = alone_after device width id before in Tells s (map Happened (own_events id calls) ++ answer_aside answer) (answer_text answer) (state_after s (own_events id calls))
 
 own_asked : (id : ℕ) (command : TenantCommand) (reply : Option Reply) → map (λ (e : Event × Option Reply). e.0) (if_own id id (Asked command) reply ++ []) ≡ Asked command ∷ []
 own_asked id command reply = let same : eqb id id ≡ true = grind (arith, nat_tests) in rw same refl
@@ -233,7 +233,7 @@ told_alone device before old id width command text stays is = is ∙ ap (λ w. a
 not_live : (old : ServiceState) (id width : ℕ) → Stays id width old → live_of old.histories id ≡ None → ⊥
 not_live old id width stays none = let never : None ≡ Some width = sym (ap (λ (o : Option History). option_map (λ h. h.strip.width) o) none) ∙ stays in cc
 
-served_ends : (device : Device) (before : List Call) (old new : ServiceState) (id width : ℕ) (command : TenantCommand) (served : Result Receipted NotServed) → Run (empty device) before old → Stays id width old → IsServed old id command served new →
+served_ends : (device : Device) (before : List Call) (old new : ServiceState) (id width : ℕ) (command : TenantCommand) (served : Result Receipted NotServed) → Run (empty_service device) before old → Stays id width old → IsServed old id command served new →
     Ends device width id before (Tenant id command served ∷ []) (Served served)
 served_ends device before old new id width command (Ok r) runs stays is =
     tells_command _ _ command _ (own_asked id command (Some r.reply)) (told_alone device before old id width command _ stays (receipt_told device before old new id command r runs is))
@@ -242,13 +242,13 @@ served_ends device before old new id width command (Err (JournalFull note)) runs
 served_ends device before old new id width command (Err (NoSuchTenancy note)) runs stays is = absurd (not_live old id width stays is.1)
 served_ends device before old new id width command (Err NotServedNoMemory) runs stays is = λ rest. refl
 
-asked_ends : (device : Device) (before calls : List Call) (old new : ServiceState) (id width : ℕ) (command : TenantCommand) (answer : Answer) → Run (empty device) before old → Stays id width old → AsksCommand id command calls answer → Run old calls new →
+asked_ends : (device : Device) (before calls : List Call) (old new : ServiceState) (id width : ℕ) (command : TenantCommand) (answer : Answer) → Run (empty_service device) before old → Stays id width old → AsksCommand id command calls answer → Run old calls new →
     Ends device width id before calls answer
 asked_ends device before calls old new id width command answer runs stays asks next =
     let call : Run old (Tenant id command asks.0 ∷ []) new = (let P : List Call → Type 0 = λ cs. Run old cs new in subst P asks.1 next) in
     rw (asks.1, asks.2) (served_ends device before old call.0 id width command asks.0 runs stays call.1)
 
-wait_ends : (device : Device) (before calls : List Call) (old new : ServiceState) (id width : ℕ) (last : StepOutcome) (answer : Answer) → Run (empty device) before old → Stays id width old → EndsWait id last calls answer → Run old calls new →
+wait_ends : (device : Device) (before calls : List Call) (old new : ServiceState) (id width : ℕ) (last : StepOutcome) (answer : Answer) → Run (empty_service device) before old → Stays id width old → EndsWait id last calls answer → Run old calls new →
     Ends device width id before calls answer
 wait_ends device before calls old new id width (Recorded reply) answer runs stays ends next = asked_ends device before calls old new id width Status answer runs stays ends next
 wait_ends device before calls old new id width Full answer runs stays ends next = asked_ends device before calls old new id width Status answer runs stays ends next
@@ -262,15 +262,15 @@ steps_then : (device : Device) (width id : ℕ) (before steps more : List Call) 
 steps_then device width id before steps more answer are ends =
     let s = alone_after device width id before in
     let e : own_events id (steps ++ more) ≡ own_events id steps ++ own_events id more = own_events-append id steps more in
-    let hs : map Happened (own_events id (steps ++ more)) ++ aside answer ≡ map Happened (own_events id steps) ++ (map Happened (own_events id more) ++ aside answer) =
-    ap (λ es. map Happened es ++ aside answer) e ∙ (ap (λ hs. hs ++ aside answer) (map-append Happened (own_events id steps) (own_events id more)) ∙ append_assoc (map Happened (own_events id steps)) (map Happened (own_events id more)) (aside answer)) in
+    let hs : map Happened (own_events id (steps ++ more)) ++ answer_aside answer ≡ map Happened (own_events id steps) ++ (map Happened (own_events id more) ++ answer_aside answer) =
+    ap (λ es. map Happened es ++ answer_aside answer) e ∙ (ap (λ hs. hs ++ answer_aside answer) (map-append Happened (own_events id steps) (own_events id more)) ∙ append_assoc (map Happened (own_events id steps)) (map Happened (own_events id more)) (answer_aside answer)) in
     let mid : alone_after device width id (before ++ steps) ≡ state_after s (own_events id steps) = alone_after-append device width id before steps in
     let last : state_after (alone_after device width id (before ++ steps)) (own_events id more) ≡ state_after s (own_events id (steps ++ more)) =
     ap (λ m. state_after m (own_events id more)) mid ∙ (sym (state_after-append s (own_events id steps) (own_events id more)) ∙ ap (state_after s) (sym e)) in
     let first : Tells s (map Happened (own_events id steps)) [] (alone_after device width id (before ++ steps)) = (let P : State → Type 0 = λ m. Tells s (map Happened (own_events id steps)) [] m in subst P (sym mid) (tells_steps s (own_events id steps) (all_steps id steps are))) in
-    let both = tells-append s (map Happened (own_events id steps)) [] (alone_after device width id (before ++ steps)) (map Happened (own_events id more) ++ aside answer) (answer_text answer) (state_after (alone_after device width id (before ++ steps)) (own_events id more)) first ends in
+    let both = tells-append s (map Happened (own_events id steps)) [] (alone_after device width id (before ++ steps)) (map Happened (own_events id more) ++ answer_aside answer) (answer_text answer) (state_after (alone_after device width id (before ++ steps)) (own_events id more)) first ends in
     let P : List Heard → Type 0 = λ h. Tells s h (answer_text answer) (state_after (alone_after device width id (before ++ steps)) (own_events id more)) in
-    let Q : State → Type 0 = λ m. Tells s (map Happened (own_events id (steps ++ more)) ++ aside answer) (answer_text answer) m in
+    let Q : State → Type 0 = λ m. Tells s (map Happened (own_events id (steps ++ more)) ++ answer_aside answer) (answer_text answer) m in
     subst Q last (subst P (sym hs) both)
 
 AreSparing-append : (id : ℕ) (xs ys : List Call) → AreSparing id xs → AreSparing id ys → AreSparing id (xs ++ ys)
@@ -286,7 +286,7 @@ end_spares id Nothing calls answer ends = rw ends.1 (tt, tt)
 end_spares id Unfit calls answer ends = rw ends.1 (tt, tt)
 
 -- an item leads to its answer
-item_ends : (device : Device) (before calls : List Call) (old new : ServiceState) (id width : ℕ) (line : SessionLine) (answer : Answer) → Run (empty device) before old → Stays id width old → Asks id line calls answer → Run old calls new →
+item_ends : (device : Device) (before calls : List Call) (old new : ServiceState) (id width : ℕ) (line : SessionLine) (answer : Answer) → Run (empty_service device) before old → Stays id width old → Asks id line calls answer → Run old calls new →
     Ends device width id before calls answer × AreSparing id calls
 item_ends device before calls old new id width Blank answer runs stays asks next = (rw (asks.0, asks.1) (λ rest. refl), rw asks.0 tt)
 item_ends device before calls old new id width (RefusedLine refusal) answer runs stays asks next = (rw (asks.0, asks.1) (λ rest. refl), rw asks.0 tt)
@@ -298,35 +298,35 @@ item_ends device before calls old new id width Wait answer runs stays asks next 
     let whole : Run old (steps ++ more) new = (let P : List Call → Type 0 = λ cs. Run old cs new in subst P asks.5 next) in
     let parts = split old steps more new whole in
     let stays' = run_stays id width old steps parts.0 (others_spare id steps others) parts.1 stays in
-    let ends = wait_ends device (before ++ steps) more parts.0 new id width asks.0 answer (Run-append (empty device) before old steps parts.0 runs parts.1) stays' asks.4 parts.2 in
+    let ends = wait_ends device (before ++ steps) more parts.0 new id width asks.0 answer (Run-append (empty_service device) before old steps parts.0 runs parts.1) stays' asks.4 parts.2 in
     let P : List Call → Type 0 = λ cs. Ends device width id before cs answer in
     let Q : List Call → Type 0 = λ cs. AreSparing id cs in
     (subst P (sym asks.5) (steps_then device width id before steps more answer others ends), subst Q (sym asks.5) (AreSparing-append id steps more (others_spare id steps others) (end_spares id asks.0 more answer asks.4)))
 
 -- all turns of a session are answered what the service for a single user replies
-pub turns_told : (device : Device) (before : List Call) (old new : ServiceState) (id width : ℕ) (turns : List Turn) → Run (empty device) before old → live_width old.histories id ≡ Some width → Turns id old turns new →
-    written turns ≡ session_text (heard id turns) (replies_to (alone_after device width id before) (events_in (heard id turns)))
+pub turns_told : (device : Device) (before : List Call) (old new : ServiceState) (id width : ℕ) (turns : List Turn) → Run (empty_service device) before old → live_width old.histories id ≡ Some width → Turns id old turns new →
+    text_of_turns turns ≡ session_text (heard_by id turns) (replies_to (alone_after device width id before) (events_in (heard_by id turns)))
 turns_told device before old new id width [] runs stays turns = refl
 turns_told device before old new id width (Item line calls answer ∷ rest) runs stays turns =
     let s = alone_after device width id before in
     let item = item_ends device before calls old turns.0 id width line answer runs stays turns.1 turns.2 in
-    let more = turns_told device (before ++ calls) turns.0 new id width rest (Run-append (empty device) before old calls turns.0 runs turns.2) (run_stays id width old calls turns.0 item.1 turns.2 stays) turns.3 in
+    let more = turns_told device (before ++ calls) turns.0 new id width rest (Run-append (empty_service device) before old calls turns.0 runs turns.2) (run_stays id width old calls turns.0 item.1 turns.2 stays) turns.3 in
     let after : alone_after device width id (before ++ calls) ≡ state_after s (own_events id calls) = alone_after-append device width id before calls in
-    ap (λ text. answer_text answer ++ text) (more ∙ ap (λ m. session_text (heard id rest) (replies_to m (events_in (heard id rest)))) after) ∙ sym (item.0 (heard id rest))
+    ap (λ text. answer_text answer ++ text) (more ∙ ap (λ m. session_text (heard_by id rest) (replies_to m (events_in (heard_by id rest)))) after) ∙ sym (item.0 (heard_by id rest))
 turns_told device before old new id width (Meanwhile call ∷ rest) runs stays turns =
     let s = alone_after device width id before in
     let calls = call ∷ [] in
     let next : Run old calls turns.0 = (turns.0, turns.2, refl) in
     let others : AreOthers id calls = (turns.1, tt) in
-    let more = turns_told device (before ++ calls) turns.0 new id width rest (Run-append (empty device) before old calls turns.0 runs next) (run_stays id width old calls turns.0 (others_spare id calls others) next stays) turns.3 in
+    let more = turns_told device (before ++ calls) turns.0 new id width rest (Run-append (empty_service device) before old calls turns.0 runs next) (run_stays id width old calls turns.0 (others_spare id calls others) next stays) turns.3 in
     let after : alone_after device width id (before ++ calls) ≡ state_after s (own_events id calls) = alone_after-append device width id before calls in
     let tells = tells_steps s (own_events id calls) (all_steps id calls others) in
-    more ∙ ap (λ m. session_text (heard id rest) (replies_to m (events_in (heard id rest)))) after ∙ sym (tells (heard id rest))
+    more ∙ ap (λ m. session_text (heard_by id rest) (replies_to m (events_in (heard_by id rest)))) after ∙ sym (tells (heard_by id rest))
 
 -- a core with that tenancy alone, from its admission on
-pub one_tenancy : (device : Device) (width offset : ℕ) (old new : ServiceState) (turns : List Turn) → Run (empty device) (Admit width (Ok (1, offset)) ∷ []) old → Turns 1 old turns new →
-    written turns ≡ session_text (heard 1 turns) (replies_to (start device.arch (strip_on device width)) (events_in (heard 1 turns)))
+pub one_tenancy : (device : Device) (width offset : ℕ) (old new : ServiceState) (turns : List Turn) → Run (empty_service device) (Admit width (Ok (1, offset)) ∷ []) old → Turns 1 old turns new →
+    text_of_turns turns ≡ session_text (heard_by 1 turns) (replies_to (start device.arch (strip_on device width)) (events_in (heard_by 1 turns)))
 one_tenancy device width offset old new turns runs told =
-    let is : old ≡ with_tenancy (empty device) width offset = runs.2 ∙ runs.1.3 in
+    let is : old ≡ with_tenancy (empty_service device) width offset = runs.2 ∙ runs.1.3 in
     let live : live_width old.histories 1 ≡ Some width = (let P : ServiceState → Type 0 = λ s. Stays 1 width s in subst P (sym is) refl) in
     turns_told device (Admit width (Ok (1, offset)) ∷ []) old new 1 width turns runs live told

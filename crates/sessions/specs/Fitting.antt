@@ -8,7 +8,7 @@ use Rattle.strips.specs.Windows.{device_strip, is_on_device}
 use Rattle.service_core.specs.declared.device.Device.{Device}
 use Rattle.service_core.specs.Calls.{IsTaken}
 use Rattle.service_core.specs.Run.{Call, Run}
-use Rattle.service_core.specs.Service.{ServiceState, empty}
+use Rattle.service_core.specs.Service.{ServiceState, empty_service}
 
 -- what a device's own graph is of: its architecture, and a strip of all its columns
 abbrev pub own_graph : Device → Basis
@@ -23,4 +23,4 @@ HasWindow graph state step = (offset : ℕ)
 -- made before
 abbrev pub FitsOwnDevice : Type 0
 FitsOwnDevice = (device : Device) (before : List Call) (old new : ServiceState) (id : ℕ) (job : JobState) →
-    Run (empty device) before old → IsTaken old id (Some job) new → HasWindow (own_graph device) new job.step
+    Run (empty_service device) before old → IsTaken old id (Some job) new → HasWindow (own_graph device) new job.step

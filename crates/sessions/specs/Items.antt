@@ -1,6 +1,7 @@
 -- The items of a session's input: what its lines ask, in order. A command with a text is one item
 -- together with it.
 use Rattle.std.specs.Prelude.{ℕ, ◌-◌, List, [], ◌∷◌, ◌++◌, length, take, Bool, true, false, Option, Some, None, option_map, slice_index, ◌==◌, if◌then◌else◌}
+use Rattle.sessions.specs.declared.pending_text.TheConstants.{MAX_KEPT}
 use Rattle.line_text.specs.Lines.{physical_lines}
 use Rattle.sessions.specs.declared.line.SessionLine.{SessionLine}
 use Rattle.sessions.specs.declared.line.SessionLine.TheVariants.{Blank, Command, Refused}
@@ -29,13 +30,13 @@ text_ahead [] = None
 text_ahead (line ∷ lines) = if ends_text line then Some [] else option_map (λ text. without_cr line ++ 10 ∷ text) (text_ahead lines)
 
 -- the part of a text that is kept: its first 1,048,577 bytes
-unfoldable pub kept : List ℕ → List ℕ
-kept text = take 1048577 text
+unfoldable pub kept_part : List ℕ → List ℕ
+kept_part text = take MAX_KEPT text
 
 -- the command with its text, of which the first 1,048,577 bytes are kept; a text that doesn't end
 -- is refused
 abbrev pub text_item : TextKind → Option (List ℕ) → SessionLine
-text_item kind (Some text) = Command (text_command kind (kept text))
+text_item kind (Some text) = Command (text_command kind (kept_part text))
 text_item kind None = Refused UnfinishedUpload
 
 -- a line without words is no item

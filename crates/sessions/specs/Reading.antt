@@ -11,13 +11,13 @@ pub record TextSoFar : Type 0 where
   pub bytes : List ℕ
 
 -- the item of a text that goes on with these lines
-abbrev pub resumed : TextSoFar → List (List ℕ) → SessionLine
-resumed text lines = text_item text.kind (option_map (λ more. text.bytes ++ more) (text_ahead lines))
+abbrev pub resumed_item : TextSoFar → List (List ℕ) → SessionLine
+resumed_item text lines = text_item text.kind (option_map (λ more. text.bytes ++ more) (text_ahead lines))
 
 -- the items of the lines that aren't read yet
 abbrev pub items_to_come : Option TextSoFar → List (List ℕ) → List SessionLine
 items_to_come None lines = items_from false lines
-items_to_come (Some text) lines = resumed text lines ∷ items_from true lines
+items_to_come (Some text) lines = resumed_item text lines ∷ items_from true lines
 
 -- an item, if there is one, and those after it
 abbrev pub item_and : Option SessionLine → List SessionLine → List SessionLine

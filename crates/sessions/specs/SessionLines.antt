@@ -1,6 +1,7 @@
 -- What a session's line asks.
 use Rattle.std.specs.Prelude.{ℕ, List, [], ◌∷◌, length, codes, nat_lt, Option, Some, if◌then◌else◌}
 use Rattle.std.specs.Str.{bytes_eq}
+use Rattle.sessions.specs.declared.line.TheConstants.{MAX_SESSION_LINE}
 use Rattle.line_text.specs.Decimal.{decimal_of}
 use Rattle.line_text.specs.Words.{words_of}
 use Rattle.tenant_slot.specs.declared.command.Command.{Command as TenantCommand}
@@ -51,7 +52,7 @@ filled_form verb words = if bytes_eq verb (codes "place") then Asks (place_line 
 -- the words of a line, which has that length
 abbrev pub words_form : ℕ → List (List ℕ) → LineForm
 words_form length [] = Asks Blank
-words_form length (verb ∷ words) = if nat_lt 4096 length then Asks (Refused UnknownCommand) else filled_form verb words
+words_form length (verb ∷ words) = if nat_lt MAX_SESSION_LINE length then Asks (Refused UnknownCommand) else filled_form verb words
 
 -- what a line without its end asks
 abbrev pub line_form : List ℕ → LineForm

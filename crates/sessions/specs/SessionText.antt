@@ -14,6 +14,8 @@ use Rattle.tenant_slot.specs.declared.reply.StepReply.{StepReply}
 use Rattle.tenant_slot.specs.declared.reply.StepReply.TheVariants.{Advanced, Finished, Stale}
 use Rattle.service_core.specs.declared.not_served.NotServed.{NotServed}
 use Rattle.service_core.specs.declared.not_served.NotServed.TheVariants.{NoMemory, JournalFull, NoSuchTenancy}
+use Rattle.service_core.specs.declared.not_served.NoteCause.{NoteCause}
+use Rattle.service_core.specs.declared.not_served.NoteCause.TheVariants.{JournalFull as FullJournal, NoSuchTenancy as NotLive}
 use Rattle.sessions.specs.declared.told.Answer.{Answer}
 use Rattle.sessions.specs.declared.told.Answer.TheVariants.{Nothing, Served, Refused as RefusedAnswer}
 use Rattle.sessions.specs.declared.refusal.SessionRefusal.{SessionRefusal}
@@ -70,6 +72,11 @@ no_memory_text = numbered_line (codes "refused") 1 (codes "NoMemory") []
 
 abbrev pub journal_full_text : List ℕ
 journal_full_text = numbered_line (codes "refused") 2 (codes "JournalFull") []
+
+-- why the core has no reply now and later, as a line
+abbrev pub note_text : NoteCause → List ℕ
+note_text FullJournal = journal_full_text
+note_text NotLive = session_refusal_text Evicted
 
 -- why the core had no reply, as a line
 abbrev pub unserved_text : NotServed → List ℕ

@@ -40,8 +40,8 @@ abbrev pub turn_text : Turn → List ℕ
 turn_text (Item line calls answer) = answer_text answer
 turn_text (Meanwhile call) = []
 
-abbrev pub written : List Turn → List ℕ
-written turns = flat_map turn_text turns
+abbrev pub text_of_turns : List Turn → List ℕ
+text_of_turns turns = flat_map turn_text turns
 
 -- what the service for a single user hears of a session: an event; or nothing, since an item was
 -- refused by itself or ran out of memory
@@ -51,17 +51,17 @@ pub data Heard : Type 0 where
   NoMemory : Heard
 
 -- an answer that isn't the tenancy's
-abbrev pub aside : Answer → List Heard
-aside (RefusedAnswer refusal) = Refused refusal ∷ []
-aside (Served (Err NotServedNoMemory)) = NoMemory ∷ []
-aside answer = []
+abbrev pub answer_aside : Answer → List Heard
+answer_aside (RefusedAnswer refusal) = Refused refusal ∷ []
+answer_aside (Served (Err NotServedNoMemory)) = NoMemory ∷ []
+answer_aside answer = []
 
 abbrev pub turn_heard : ℕ → Turn → List Heard
-turn_heard id (Item line calls answer) = map Happened (own_events id calls) ++ aside answer
+turn_heard id (Item line calls answer) = map Happened (own_events id calls) ++ answer_aside answer
 turn_heard id (Meanwhile call) = map Happened (own_events id (call ∷ []))
 
-abbrev pub heard : ℕ → List Turn → List Heard
-heard id turns = flat_map (turn_heard id) turns
+abbrev pub heard_by : ℕ → List Turn → List Heard
+heard_by id turns = flat_map (turn_heard id) turns
 
 -- the events among them
 abbrev pub events_in : List Heard → List Event

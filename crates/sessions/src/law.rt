@@ -4,7 +4,7 @@ ghost use Rattle.service_core.specs.declared.device.Device.{Device};
 ghost use Rattle.service_core.specs.Calls.{takeable_in};
 ghost use Rattle.service_core.specs.Run.{Call, Run};
 ghost use Rattle.service_core.specs.Run.Call.{Admit};
-ghost use Rattle.service_core.specs.Service.{ServiceState, empty, live_of, live_width, strip_on};
+ghost use Rattle.service_core.specs.Service.{ServiceState, empty_service, live_of, live_width, strip_on};
 ghost use Rattle.sessions.specs.declared.line.SessionLine.{SessionLine};
 ghost use Rattle.sessions.specs.declared.steps.StepOutcome.{StepOutcome};
 ghost use Rattle.sessions.specs.declared.steps.StepOutcome.TheVariants.{NoMemory, Unfit};
@@ -13,7 +13,7 @@ ghost use Rattle.sessions.specs.EndToEnd.{LineIsToldAlone, alone_after};
 ghost use Rattle.sessions.specs.Fitting.{FitsOwnDevice};
 ghost use Rattle.sessions.specs.SessionAnswer.{Asks};
 ghost use Rattle.sessions.specs.Steps.{Waits};
-ghost use Rattle.sessions.specs.WholeSession.{Turn, Turns, events_in, heard, session_text, written};
+ghost use Rattle.sessions.specs.WholeSession.{Turn, Turns, events_in, heard_by, session_text, text_of_turns};
 
 /// A session, end to end. Whatever calls were made of a device's core before, in any order, with
 /// jobs out for any time, a line is answered the text that the service for a single user replies
@@ -21,7 +21,7 @@ ghost use Rattle.sessions.specs.WholeSession.{Turn, Turns, events_in, heard, ses
 /// those events and the steps that the wait has made.
 pub fn end_to_end()
     ensures { (device : Device) (before calls : List Call) (old new : ServiceState) (id : ℕ)
-        (line : SessionLine) (answer : Answer) → Run (empty device) before old →
+        (line : SessionLine) (answer : Answer) → Run (empty_service device) before old →
         Asks id line calls answer → Run old calls new →
         LineIsToldAlone device old id before calls line answer }
 {}
@@ -33,15 +33,15 @@ pub fn end_to_end()
 /// holds in a core with one tenancy, from its admission on, and in any core, from any moment on.
 pub fn whole_session()
     ensures one { (device : Device) (width offset : ℕ) (old new : ServiceState)
-        (turns : List Turn) → Run (empty device) (Admit width (Ok (1, offset)) ∷ []) old →
+        (turns : List Turn) → Run (empty_service device) (Admit width (Ok (1, offset)) ∷ []) old →
         Turns 1 old turns new →
-        written turns ≡ session_text (heard 1 turns)
-        (replies_to (start device.arch (strip_on device width)) (events_in (heard 1 turns))) }
+        text_of_turns turns ≡ session_text (heard_by 1 turns)
+        (replies_to (start device.arch (strip_on device width)) (events_in (heard_by 1 turns))) }
     ensures any { (device : Device) (before : List Call) (old new : ServiceState) (id width : ℕ)
-        (turns : List Turn) → Run (empty device) before old →
+        (turns : List Turn) → Run (empty_service device) before old →
         live_width old.histories id ≡ Some width → Turns id old turns new →
-        written turns ≡ session_text (heard id turns)
-        (replies_to (alone_after device width id before) (events_in (heard id turns))) }
+        text_of_turns turns ≡ session_text (heard_by id turns)
+        (replies_to (alone_after device width id before) (events_in (heard_by id turns))) }
 {}
 
 /// When the steps of a wait end. If memory didn't run out and the graph is that of the job's

@@ -14,7 +14,8 @@
 //! - `make_step` takes, steps and puts a tenancy's job; `step_and_put` steps and puts a job that
 //!   was taken. `fits_own_device` is the law that the device's own graph has a window for each job
 //!   that the core gives out.
-//! - `write_reply`, `write_refused`, `write_session_refusal` and `step_word` spell answers.
+//! - `write_reply`, `write_note`, `write_no_memory`, `write_refused`, `write_session_refusal` and
+//!   `step_word` spell answers.
 //! - In `specs/`, `SessionLines` says what a line asks, `Items` what an input asks, and
 //!   `SessionText` how answers are spelled.
 #![tactic(auto)]
@@ -39,4 +40,4 @@ pub use reading::{SessionReader, read_items};
 pub use refusal::SessionRefusal;
 pub use steps::{StepOutcome, make_step, run_steps, step_and_put, window_of};
 pub use text::{step_word, write_refused, write_reply, write_session_refusal};
-pub use told::Answer;
+pub use told::{Answer, write_no_memory, write_note};

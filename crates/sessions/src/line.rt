@@ -10,7 +10,7 @@ use line_text::{decimal_u32, decimal_u64, skip_blanks, split_word};
 use tenant_slot::{Command, SharedText};
 
 /// The most bytes of a session's line.
-const MAX_LINE: usize = 4096;
+const MAX_SESSION_LINE: usize = 4096;
 
 /// What a session's line asks. A command includes its text.
 #[derive(Drop)]
@@ -56,8 +56,8 @@ pub fn line_form(line: &[u8]) -> LineForm
 {
     match next_word(line) {
         None => LineForm::Asks(SessionLine::Blank),
-        Some((verb, others)) => if line.len() > MAX_LINE {
-            unknown()
+        Some((verb, others)) => if line.len() > MAX_SESSION_LINE {
+            unknown_form()
         } else {
             filled_form(verb, others)
         },
@@ -76,7 +76,7 @@ fn next_word(line: &[u8]) -> Option<(&[u8], &[u8])>
     Some(split_word(line))
 }
 
-fn unknown() -> LineForm
+fn unknown_form() -> LineForm
     ensures { result ≡ Asks (Refused UnknownCommand) }
 {
     LineForm::Asks(SessionLine::Refused(SessionRefusal::UnknownCommand))
@@ -91,7 +91,7 @@ fn filled_form(verb: &[u8], others: &[u8]) -> LineForm
     }
     match next_word(others) {
         None => verb_form(verb),
-        Some(_) => unknown(),
+        Some(_) => unknown_form(),
     }
 }
 

@@ -1,6 +1,6 @@
 //! The text of an upload or a change, line by line.
 ghost use Rattle.std.specs.Prelude.{◌≡◌, ◌≤◌, ◌++◌, ◌∷◌, [], Some, vec_len, IfOk, OnOk};
-ghost use Rattle.sessions.specs.Items.{is_point, kept, text_item, without_cr};
+ghost use Rattle.sessions.specs.Items.{is_point, kept_part, text_item, without_cr};
 
 use crate::line::{SessionLine, TextKind};
 use line_text::Text;
@@ -22,12 +22,13 @@ pub struct PendingText {
 impl Model for PendingText {
     ghost use Rattle.std.specs.Prelude.{◌≤◌, vec_len};
     ghost use Rattle.sessions.specs.Reading.{TextSoFar};
+    ghost use Rattle.sessions.specs.declared.pending_text.TheConstants.{MAX_KEPT};
 
     ghost Value = { TextSoFar };
 
     ghost view = { λ p. record { kind = p.kind; bytes = p.bytes.items } };
 
-    ghost invariant = { λ p. vec_len p.bytes ≤ 1048577 };
+    ghost invariant = { λ p. vec_len p.bytes ≤ MAX_KEPT };
 }
 
 impl PendingText {
@@ -44,7 +45,11 @@ impl PendingText {
     /// The text with one more line, without its end, up to the bytes that are kept.
     pub fn with_line(self, line: &[u8]) -> Result<Self, AllocError>
         ensures { IfOk result (λ text.
-            text ≡ record { kind = self.kind; bytes = kept (self.bytes ++ line.now ++ 10 ∷ []) }) }
+            text ≡ record {
+              kind = self.kind;
+              bytes = kept_part (self.bytes ++ line.now
+                  ++ 10 ∷ []);
+            }) }
     {
         let PendingText { kind, mut bytes } = self;
         append_kept(&mut bytes, line)?;
@@ -66,9 +71,9 @@ impl PendingText {
 
 /// Appends the bytes to a text, up to the bytes that are kept.
 pub fn append_kept(text: &mut Vec<u8>, bytes: &[u8]) -> Result<(), AllocError>
-    requires { vec_len text.old ≤ 1048577 }
-    ensures items { OnOk result (text.new.items ≡ kept (text.old.items ++ bytes.now)) }
-    ensures within { OnOk result (vec_len text.new ≤ 1048577) }
+    requires { vec_len text.old ≤ MAX_KEPT }
+    ensures items { OnOk result (text.new.items ≡ kept_part (text.old.items ++ bytes.now)) }
+    ensures within { OnOk result (vec_len text.new ≤ MAX_KEPT) }
 {
     let room = MAX_KEPT - text.len();
     if bytes.len() <= room {

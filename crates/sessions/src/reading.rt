@@ -63,7 +63,7 @@ impl SessionReader {
         ensures { FormGives (line_form line.now) result self.new }
     {
         match line_form(line) {
-            LineForm::Asks(line) => filled(line),
+            LineForm::Asks(line) => unless_blank(line),
             LineForm::Begins(kind) => {
                 self.text = Some(PendingText::new(self.alloc, kind));
                 None
@@ -87,7 +87,7 @@ impl SessionReader {
 }
 
 /// A line, if it has words.
-fn filled(line: SessionLine) -> Option<SessionLine>
+fn unless_blank(line: SessionLine) -> Option<SessionLine>
     ensures { (items : List SessionLine) → item_and result items ≡ with_item line items }
 {
     match line {

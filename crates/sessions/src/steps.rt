@@ -7,7 +7,7 @@ ghost use Rattle.sessions.specs.Fitting.{own_graph};
 ghost use Rattle.sessions.specs.Steps.{MakesStep, StepsAndPuts, Waits};
 
 use job_state::AnyJob;
-use service_core::{PutReply, Service};
+use service_core::{PutReply, Service, window_for};
 use strips::{DeviceGraph, Window};
 use tenant_slot::{Origin, StepReply};
 
@@ -38,7 +38,7 @@ pub fn make_step(core: &mut Service, graph: &DeviceGraph, id: u32) -> StepOutcom
     match core.take(id) {
         Some(job) => match window_of(core, graph, &job) {
             Some(window) => step_and_put_from(core, job, &window, Origin::Running),
-            None => unfit(core, job),
+            None => give_back_unfit(core, job),
         },
         None => StepOutcome::Nothing,
     }
@@ -53,13 +53,13 @@ pub fn window_of<'g>(core: &Service, graph: &'g DeviceGraph, job: &AnyJob) -> Op
         IsSome result }
 {
     match core.offset(job.id()) {
-        Some(offset) => job.window(graph, offset),
+        Some(offset) => window_for(job, graph, offset),
         None => None,
     }
 }
 
 /// Gives a job back that doesn't fit the graph.
-fn unfit(core: &mut Service, job: AnyJob) -> StepOutcome
+fn give_back_unfit(core: &mut Service, job: AnyJob) -> StepOutcome
     ensures { (calls : List Call) × StepsAndPuts job calls result × Run core.old calls core.new }
 {
     core.give_back(job.into_back());

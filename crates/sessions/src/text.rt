@@ -8,7 +8,7 @@ ghost use Rattle.tenant_slot.specs.declared.reply.Refusal.TheVariants.{BadBlif, 
 use crate::refusal::SessionRefusal;
 use blif::BlifFault;
 use itoa::Buffer;
-use line_text::{Failed, Sink, write_parts};
+use line_text::{Failed, Sink, write_slices};
 use tenant_slot::{Ending, Misfit, Refusal, Reply, Status, StepReply};
 
 /// Writes a line: a word, a number, the name that goes with it, and two more parts.
@@ -26,7 +26,7 @@ fn write_numbered<'t, W: Sink>(
     let mut digits = Buffer::new();
     let digits = digits.format(number).as_bytes();
     let name = name.as_bytes();
-    write_parts(sink, &[word, b" ", digits, b" ", name, more, last, b"\n"])
+    write_slices(sink, &[word, b" ", digits, b" ", name, more, last, b"\n"])
 }
 
 /// Writes a refusal, as the line `refused NUMBER NAME`.
@@ -62,10 +62,10 @@ pub fn write_reply<W: Sink>(sink: &mut W, reply: &Reply) -> Result<(), Failed>
     ensures { Writes W.contents W.has_failed sink.old sink.new (reply_text reply.now) result }
 {
     match reply {
-        Reply::Accepted(state) => write_parts(sink, &[b"ok ", state.name().as_bytes(), b"\n"]),
+        Reply::Accepted(state) => write_slices(sink, &[b"ok ", state.name().as_bytes(), b"\n"]),
         Reply::Status(status) => write_status(sink, status),
         Reply::File { kind, text } => write_file(sink, kind.name(), text.as_bytes()),
-        Reply::Step(reply) => write_parts(sink, &[step_word(*reply), b"\n"]),
+        Reply::Step(reply) => write_slices(sink, &[step_word(*reply), b"\n"]),
         Reply::Refused(refusal) => write_refusal(sink, refusal),
     }
 }
@@ -100,7 +100,7 @@ fn write_steps<'t, W: Sink>(
     let mut digits = Buffer::new();
     let steps = digits.format(steps).as_bytes();
     let name = name.as_bytes();
-    write_parts(sink, &[b"status ", name, b" ", steps, more, last, b"\n"])
+    write_slices(sink, &[b"status ", name, b" ", steps, more, last, b"\n"])
 }
 
 /// Writes the line of a file of that name, and after it its bytes.
@@ -112,7 +112,7 @@ fn write_file<'t, W: Sink>(sink: &mut W, name: &'t str, file: &'t [u8]) -> Resul
     let mut digits = Buffer::new();
     let count = digits.format(file.len()).as_bytes();
     let name = name.as_bytes();
-    write_parts(sink, &[b"text ", name, b" ", count, b"\n", file])
+    write_slices(sink, &[b"text ", name, b" ", count, b"\n", file])
 }
 
 /// Writes the line of a refused command, with its cause.
@@ -180,7 +180,7 @@ fn write_amounts<'t, W: Sink>(
     let have = haves.format(have).as_bytes();
     let need = needs.format(need).as_bytes();
     let name = name.as_bytes();
-    write_parts(
+    write_slices(
         sink,
         &[
             b"refused ",
@@ -232,7 +232,7 @@ fn write_fault_with<'t, W: Sink>(
     let kind = kinds.format(fault.number()).as_bytes();
     let line = lines.format(fault.line).as_bytes();
     let name = name.as_bytes();
-    write_parts(
+    write_slices(
         sink,
         &[
             b"refused ",

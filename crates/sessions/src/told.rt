@@ -1,10 +1,10 @@
 ghost use Rattle.line_text.specs.Writing.{Writes};
-ghost use Rattle.sessions.specs.SessionText.{answer_text, unserved_text};
+ghost use Rattle.sessions.specs.SessionText.{answer_text, no_memory_text, note_text, unserved_text};
 
 use crate::refusal::SessionRefusal;
 use crate::text::{write_refused, write_reply, write_session_refusal};
 use line_text::{Failed, Sink};
-use service_core::{NotServed, Receipt};
+use service_core::{NotServed, NoteCause, Receipt};
 
 /// What a session's line was answered.
 #[derive(Drop)]
@@ -35,8 +35,25 @@ fn write_unserved<W: Sink>(writer: &mut W, refusal: &NotServed) -> Result<(), Fa
         result }
 {
     match refusal {
-        NotServed::NoSuchTenancy(_) => write_session_refusal(writer, SessionRefusal::Evicted),
-        NotServed::JournalFull(_) => write_refused(writer, 2, "JournalFull"),
-        NotServed::NoMemory => write_refused(writer, 1, "NoMemory"),
+        NotServed::NoSuchTenancy(_) => write_note(writer, NoteCause::NoSuchTenancy),
+        NotServed::JournalFull(_) => write_note(writer, NoteCause::JournalFull),
+        NotServed::NoMemory => write_no_memory(writer),
     }
+}
+
+/// Writes why a note has no reply: its journal is full, or its tenancy isn't live.
+pub fn write_note<W: Sink>(writer: &mut W, cause: NoteCause) -> Result<(), Failed>
+    ensures { Writes W.contents W.has_failed writer.old writer.new (note_text cause) result }
+{
+    match cause {
+        NoteCause::JournalFull => write_refused(writer, 2, "JournalFull"),
+        NoteCause::NoSuchTenancy => write_session_refusal(writer, SessionRefusal::Evicted),
+    }
+}
+
+/// Writes that memory ran out.
+pub fn write_no_memory<W: Sink>(writer: &mut W) -> Result<(), Failed>
+    ensures { Writes W.contents W.has_failed writer.old writer.new no_memory_text result }
+{
+    write_refused(writer, 1, "NoMemory")
 }

@@ -1,8 +1,8 @@
 use Rattle.std.proofs.Common.{◌≡◌, take, map}
 use Rattle.printed_replies.specs.Parts.{answered_lines}
-use Rattle.printed_replies.specs.Replies.{asked_line, unanswered}
+use Rattle.printed_replies.specs.Replies.{asked_line, without_reply}
 use Rattle.printed_replies.proofs.reading.add_unanswered.Given as goal
 
 -- the lines so far
 abbrev pub invariant-loop-one : goal.invariant-loop-one
-invariant-loop-one l = answered_lines l.lines.items ≡ map unanswered (map asked_line (take l.one-index l.asked))
+invariant-loop-one l = answered_lines l.lines.items ≡ map without_reply (map asked_line (take l.one-index l.asked))

@@ -1,6 +1,6 @@
 use Rattle.std.proofs.Common.{◌≡◌, ◌++◌, ◌∷◌, [], length, sym, ap, ◌∙◌, append-nil, rules}
 use Rattle.line_text.specs.Lines.{physical_lines}
-use Rattle.sessions.specs.Items.{kept, without_cr}
+use Rattle.sessions.specs.Items.{kept_part, without_cr}
 use Rattle.std.specs.List.{flat_map}
 use Rattle.sessions.proofs.KeptLemmas.{kept-all}
 use Rattle.script_text.proofs.LineLemmas.{ended_line, kept-short, kept_line, no_cr, no_lines, without_crs-none}
@@ -14,18 +14,18 @@ returns-then-is_none c =
 pub loop-rest-preserved : goal.loop-rest-preserved
 loop-rest-preserved c =
     let line = c.split_line.result.0.now in
-    let first : c.append_kept.new.text.items ≡ kept (c.loop-rest.text.items ++ without_cr line) = search rules in
-    let next : c.append_kept-in-loop-rest.new.text.items ≡ kept (c.append_kept.new.text.items ++ 10 ∷ []) = search rules in
+    let first : c.append_kept.new.text.items ≡ kept_part (c.loop-rest.text.items ++ without_cr line) = search rules in
+    let next : c.append_kept-in-loop-rest.new.text.items ≡ kept_part (c.append_kept.new.text.items ++ 10 ∷ []) = search rules in
     let lines : physical_lines c.loop-rest.rest.now ≡ line ∷ physical_lines c.split_line.result.1.now = c.split_line.ensures.lines (search rules) in
     record {
       within = search rules;
       same = kept_line c.loop-rest.text.items line c.split_line.result.1.now c.append_kept-in-loop-rest.new.text.items (physical_lines c.loop-rest.rest.now) lines
-          (sym (next ∙ ap (λ t. kept (t ++ 10 ∷ [])) first))
+          (sym (next ∙ ap (λ t. kept_part (t ++ 10 ∷ [])) first))
           ∙ c.loop-rest.invariant.same;
     }
 
 pub returns : goal.returns
 returns c =
     let none : length c.loop-rest.rest.now ≡ 0 = search rules in
-    sym (kept-all c.loop-rest.text.items (search rules)) ∙ ap kept (sym (append-nil c.loop-rest.text.items))
-    ∙ ap (λ ls. kept (c.loop-rest.text.items ++ flat_map ended_line ls)) (sym (no_lines c.loop-rest.rest.now none)) ∙ c.loop-rest.invariant.same
+    sym (kept-all c.loop-rest.text.items (search rules)) ∙ ap kept_part (sym (append-nil c.loop-rest.text.items))
+    ∙ ap (λ ls. kept_part (c.loop-rest.text.items ++ flat_map ended_line ls)) (sym (no_lines c.loop-rest.rest.now none)) ∙ c.loop-rest.invariant.same

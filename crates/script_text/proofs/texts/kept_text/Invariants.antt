@@ -1,5 +1,5 @@
 use Rattle.std.proofs.Common.{◌≡◌, ◌++◌, ◌≤◌, length, vec_len}
-use Rattle.sessions.specs.Items.{kept}
+use Rattle.sessions.specs.Items.{kept_part}
 use Rattle.script_text.specs.Cuts.{without_crs}
 use Rattle.script_text.proofs.texts.kept_text.Given as goal
 
@@ -7,7 +7,7 @@ use Rattle.script_text.proofs.texts.kept_text.Given as goal
 abbrev pub invariant-loop-rest : goal.invariant-loop-rest
 invariant-loop-rest l = record {
   within : vec_len l.text ≤ 1048577;
-  same : kept (l.text.items ++ without_crs l.rest) ≡ kept (without_crs l.ahead);
+  same : kept_part (l.text.items ++ without_crs l.rest) ≡ kept_part (without_crs l.ahead);
 }
 
 abbrev pub decreases-loop-rest : goal.decreases-loop-rest

@@ -23,9 +23,9 @@ returns-in-Some-window_of-clause-own c = λ own. c.step_and_put_from.ensures.fit
 
 pub returns-in-None-window_of-clause-made : goal.returns-in-None-window_of-clause-made
 returns-in-None-window_of-clause-made c =
-    let given = c.unfit.ensures in (
+    let given = c.give_back_unfit.ensures in (
       Take c.args.id (Some c.in-Some.job) ∷ given.0,
-      taken c.args.id c.in-Some.job given.0 c.unfit.result given.1,
+      taken c.args.id c.in-Some.job given.0 c.give_back_unfit.result given.1,
       (c.take.new.self, take_happens c.args.core.now c.take.new.self c.args.id c.take.result c.in-Some.job c.in-Some.is c.take.ensures, given.2),
     )
 

@@ -24,5 +24,5 @@ returns-in_err-number-clause-none c =
 pub returns-clause-exact : goal.returns-clause-exact
 returns-clause-exact c =
     let reader = c.args.self.now in
-    ap Some c.foreign.ensures
+    ap Some c.owner_fault.ensures
     ∙ fault_foreign (seen_of reader) c.args.lines c.in_ok-number.number c.in_default.ensures (c.in_ok-number.ensures ∙ sym (position_mapped (λ one. not (is_owners (map listed_of reader.device.tenancies.items) one)) owned_node reader.device.owned.items))

@@ -11,7 +11,7 @@ returns-in-Err c =
     let first : lines_read (later_lines (option_map (λ rest. rest.now) c.loop-rest.rest)) seen number ≡ lines_read (lines_of c.in-Some.bytes.now) seen number =
     ap (λ o. lines_read (later_lines (option_map (λ rest. rest.now) o)) seen number) c.in-Some.is in
     let whole = c.loop-rest.invariant ∙ first ∙ ap (λ (ls : List (List ℕ)). lines_read ls seen number) c.next_line.ensures.lines in
-    rw (whole, c.at.ensures) (line_refused seen (seen_of c.line.new.self) number c.saturating_add-lines.result c.next_line.result.0.now (later_lines (option_map (λ rest. rest.now) c.next_line.result.1)) c.in-Err.refusal c.saturating_add-lines.ensures c.in-Err.ensures)
+    rw (whole, c.at_line.ensures) (line_refused seen (seen_of c.line.new.self) number c.saturating_add-lines.result c.next_line.result.0.now (later_lines (option_map (λ rest. rest.now) c.next_line.result.1)) c.in-Err.refusal c.saturating_add-lines.ensures c.in-Err.ensures)
 
 pub loop-rest-preserved : goal.loop-rest-preserved
 loop-rest-preserved c =

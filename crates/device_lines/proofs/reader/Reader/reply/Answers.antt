@@ -9,4 +9,4 @@ pub returns-then-is_heading : goal.returns-then-is_heading
 returns-then-is_heading c = reply_heading (seen_of c.args.self.now) c.args.line.now c.args.number c.if-begins_with_digit.ensures c.if-is_heading.ensures
 
 pub returns : goal.returns
-returns c = reply_other (seen_of c.args.self.now) _ c.args.line.now c.args.number _ c.if-begins_with_digit.ensures c.if-is_heading.ensures c.other.ensures
+returns c = reply_other (seen_of c.args.self.now) _ c.args.line.now c.args.number _ c.if-begins_with_digit.ensures c.if-is_heading.ensures c.read_other.ensures

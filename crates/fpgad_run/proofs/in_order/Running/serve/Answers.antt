@@ -1,6 +1,6 @@
 use Rattle.std.proofs.Common.{◌∙◌, sym, append-nil}
 use Rattle.sessions.specs.SessionText.{answer_text}
-use Rattle.operator.specs.Held.{held}
+use Rattle.operator.specs.Held.{sink_text}
 use Rattle.operator.proofs.OperatorLemmas.{on_ok}
 use Rattle.fpgad_run.proofs.Telling.{session_answers, lengths-answered}
 use Rattle.fpgad_run.proofs.in_order.Running.serve.Goals as goal
@@ -13,7 +13,7 @@ returns-in-Session c =
       calls = answers.0;
       text = answer_text told.0;
       answered = answers.1;
-      operator_text = sym (append-nil (held c.args.self.now.operator_text));
+      operator_text = sym (append-nil (sink_text c.args.self.now.operator_text));
       sections = told.2;
       even = record { sections = told.3; ids = c.requires.ids ∙ lengths-answered c.args.self.now.graph.now c.args.self.now.core c.answer.new.core c.last_id-id.result c.in-Session.line told.0 told.1 };
     })

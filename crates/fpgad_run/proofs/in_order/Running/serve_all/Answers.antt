@@ -4,7 +4,7 @@ use Rattle.std.proofs.lemmas.Iterator.Adapters.{YieldsList-from_vec}
 use Rattle.std.proofs.lemmas.Iterator.Consumers.{YieldsList-end}
 use Rattle.std.proofs.lemmas.List.{map-id, map_push}
 use Rattle.rr_graph.specs.Graph.{Basis}
-use Rattle.service_core.specs.Service.{ServiceState, empty}
+use Rattle.service_core.specs.Service.{ServiceState, empty_service}
 use Rattle.script_text.specs.declared.act.Act.{Act}
 use Rattle.operator.specs.Serving.{Stage}
 use Rattle.script_text.specs.Script.{named_act}
@@ -28,7 +28,7 @@ returns c = record {
       let yielded : c.loop-act.yielded ≡ c.into_acts-act-items.result.items = sym (map-id c.loop-act.yielded) ∙ end.0 in
       let all : map named_act c.loop-act.yielded ≡ c.args.script = ap (map named_act) yielded ∙ c.into_acts-act-items.ensures in
       let P : ServiceState → Type 0 = λ s. Progress (record { names = []; jobs = []; service = s; graph = c.args.self.now.graph.now }) c.loop-act.self (map named_act c.loop-act.yielded) in
-      let Q : Basis → Type 0 = λ g. Progress (record { names = []; jobs = []; service = empty (device_of options arch); graph = g }) c.loop-act.self (map named_act c.loop-act.yielded) in
+      let Q : Basis → Type 0 = λ g. Progress (record { names = []; jobs = []; service = empty_service (device_of options arch); graph = g }) c.loop-act.self (map named_act c.loop-act.yielded) in
       let progress = subst Q own (subst P starts c.loop-act.invariant) in
       replies_all options arch c.args.script c.loop-act.self (map named_act c.loop-act.yielded) (told_so_far c.loop-act.self) (record { alone = c.headline.ensures.alone; parted = c.headline.ensures.parted; journals = c.headline.ensures.journals; book = c.headline.ensures.book; exact = c.headline.ensures.exact; line = c.end_to_end.ensures }) progress all refl;
   even = c.loop-act.invariant.even;

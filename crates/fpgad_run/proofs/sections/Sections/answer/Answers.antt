@@ -3,10 +3,10 @@ use Rattle.std.specs.Prelude.{is_ok}
 use Rattle.std.proofs.lemmas.List.{get_or_default, length-set}
 use Rattle.line_text.specs.declared.memory_sink.MemorySink.{MemorySink}
 use Rattle.sessions.specs.SessionText.{answer_text}
-use Rattle.operator.specs.Held.{held}
+use Rattle.operator.specs.Held.{sink_text}
 use Rattle.line_text.specs.Names.{number_of, with_name}
 use Rattle.fpgad_run.specs.Run.{with_text}
-use Rattle.fpgad_run.specs.Zipped.{zipped}
+use Rattle.fpgad_run.specs.Zipped.{named_sections}
 use Rattle.fpgad_run.proofs.SectionLemmas.{on_told, is_told, zipped-set, zipped-push, length-found, length-new}
 use Rattle.fpgad_run.proofs.sections.Sections.answer.Goals as goal
 
@@ -22,11 +22,11 @@ returns-then-number-len c =
     let at : k ≡ number_of names name = search rules in
     let named : c.add_numbered.new.self ≡ with_name names name = search rules in
     let same : c.index_mut.result.now ≡ get_or texts k v = c.index_mut.ensures.value ∙ get_or_default texts k _ v within in
-    on_told c.told.result c.answer.result.1 c.index_mut.result.now v text c.told.ensures c.answer.ensures.written
+    on_told c.check_written.result c.answer.result.1 c.index_mut.result.now v text c.check_written.ensures c.answer.ensures.written
     (λ e. (
       c.answer.result.0,
       c.answer.ensures.answered,
-      rw named (zipped-set names texts name text k v at within c.requires (e ∙ ap (λ (t : MemorySink). held t ++ text) same)),
+      rw named (zipped-set names texts name text k v at within c.requires (e ∙ ap (λ (t : MemorySink). sink_text t ++ text) same)),
       rw named (length-set texts k v ∙ c.requires ∙ sym (length-found names name (omega (arith, at, within, c.requires)))),
     ))
 
@@ -43,12 +43,12 @@ returns c =
     let past : length texts ≤ k = search rules in
     let within : k < length c.add_numbered.new.self = search rules in
     let is : is_ok c.answer-2.result.1 ≡ true = search rules in
-    let none : held c.new-first.result ≡ [] = search rules in
-    let first : held v ≡ text = is_told c.answer-2.result.1 c.new-first.result v text is c.answer-2.ensures.written ∙ ap (λ t. t ++ text) none in
+    let none : sink_text c.new-first.result ≡ [] = search rules in
+    let first : sink_text v ≡ text = is_told c.answer-2.result.1 c.new-first.result v text is c.answer-2.ensures.written ∙ ap (λ t. t ++ text) none in
     let pushed : c.push.new.self.items ≡ texts ++ v ∷ [] = search rules in (
       c.answer-2.result.0,
       c.answer-2.ensures.answered,
-      rw (named, pushed) (zipped-push names texts name v c.requires (omega (arith, at, past)) ∙ ap (with_text (zipped names texts) name) first),
+      rw (named, pushed) (zipped-push names texts name v c.requires (omega (arith, at, past)) ∙ ap (with_text (named_sections names texts) name) first),
       rw (named, pushed) (length-append texts (v ∷ []) ∙ add-one (length texts) ∙ ap suc c.requires
           ∙ sym (length-new names name k (omega (arith, past, c.requires)) (rw (← named) within))),
     )

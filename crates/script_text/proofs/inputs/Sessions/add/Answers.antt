@@ -5,7 +5,7 @@ use Rattle.std.proofs.lemmas.List.{get_or_default}
 use Rattle.script_text.specs.declared.inputs.SessionInput.{SessionInput}
 use Rattle.line_text.specs.Names.{number_of, with_name}
 use Rattle.script_text.specs.Names.{names_in}
-use Rattle.script_text.specs.Threaded.{ended}
+use Rattle.script_text.specs.Threaded.{with_feed}
 use Rattle.script_text.proofs.InputLemmas.{length-names, names_in-set, on_ok, on_ok_any, with_input-push, with_input-set, with_name-found}
 use Rattle.script_text.proofs.inputs.Sessions.add.Goals as goal
 
@@ -19,9 +19,9 @@ returns-then-number-len-clause-said c =
     let within : k < length xs = search rules in
     let same : c.index_mut.result.now ≡ get_or xs k v = c.index_mut.ensures.value ∙ get_or_default xs k _ v within in
     on_ok c.append.result
-    (λ more. with_input-set xs name (ended c.args.line.now) k v at within
+    (λ more. with_input-set xs name (with_feed c.args.line.now) k v at within
     (ap (λ (b : Bor (List ℕ)). b.now) c.append.ensures.name ∙ ap (λ (s : SessionInput). s.name.now) same)
-    (more ∙ ap (λ (s : SessionInput). s.input.items ++ ended c.args.line.now) same))
+    (more ∙ ap (λ (s : SessionInput). s.input.items ++ with_feed c.args.line.now) same))
     c.append.ensures.input
 
 pub returns-then-number-len-clause-named : goal.returns-then-number-len-clause-named
@@ -48,5 +48,5 @@ returns-clause-said c =
     let at : k ≡ number_of (names_in xs) name = c.in_ok-number.ensures.number ∙ ap (λ ns. number_of ns name) c.requires in
     let past : length xs ≤ k = search rules in
     let pushed : c.push.new.self.items ≡ xs ++ v ∷ [] = search rules in
-    rw pushed (with_input-push xs name (ended c.args.line.now) v (omega (arith, at, past)) (ap (λ (b : Bor (List ℕ)). b.now) c.append-2.ensures.name)
-    (c.in_ok-append.ensures.input ∙ ap (λ t. t ++ ended c.args.line.now) c.new.ensures.items))
+    rw pushed (with_input-push xs name (with_feed c.args.line.now) v (omega (arith, at, past)) (ap (λ (b : Bor (List ℕ)). b.now) c.append-2.ensures.name)
+    (c.in_ok-append.ensures.input ∙ ap (λ t. t ++ with_feed c.args.line.now) c.new.ensures.items))

@@ -1,9 +1,8 @@
 use Rattle.std.proofs.Common.{take}
 use Rattle.std.specs.List.{flat_map}
 use Rattle.line_text.specs.Writing.{TakesAll}
-use Rattle.fpgad_run.specs.OnThreads.{section_of}
-use Rattle.fpgad_run.specs.Run.{section_text}
-use Rattle.fpgad_run.proofs.on_threads.write_sections.Given as goal
+use Rattle.script_text.specs.Replies.{section_of, section_text}
+use Rattle.script_text.proofs.replies.write_sections.Given as goal
 
 -- the sections before this one are written
 abbrev pub invariant-loop-section : goal.invariant-loop-section

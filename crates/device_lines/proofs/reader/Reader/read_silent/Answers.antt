@@ -1,5 +1,5 @@
 use Rattle.std.proofs.Common.{refl}
-use Rattle.device_lines.proofs.reader.Reader.silent.Goals as goal
+use Rattle.device_lines.proofs.reader.Reader.read_silent.Goals as goal
 
 pub returns-in_default : goal.returns-in_default
 returns-in_default c = rw (← c.in_default.ensures) refl

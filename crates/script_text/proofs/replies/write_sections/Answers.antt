@@ -2,9 +2,8 @@ use Rattle.std.proofs.Common.{◌≡◌, ◌≤◌, ◌∙◌, ◌++◌, Some, a
 use Rattle.std.proofs.lemmas.Option.{slice_get-get_or}
 use Rattle.std.proofs.lemmas.List.Folds.{flat_map-map}
 use Rattle.line_text.proofs.WritingLemmas.{all_loop, all_loop_end, all_same, part_loop, part_same, writes_part}
-use Rattle.fpgad_run.specs.OnThreads.{section_of}
-use Rattle.fpgad_run.specs.Run.{heading, section_text}
-use Rattle.fpgad_run.proofs.on_threads.write_sections.Goals as goal
+use Rattle.script_text.specs.Replies.{heading, section_of, section_text}
+use Rattle.script_text.proofs.replies.write_sections.Goals as goal
 
 pub returns-in_err-write_section : goal.returns-in_err-write_section
 returns-in_err-write_section g c =
