@@ -21,16 +21,16 @@ use Rattle.sessions.specs.declared.line.SessionLine.TheVariants.{Blank, Command,
 use Rattle.shared_core.specs.Reaching.{own_receipts}
 use Rattle.shared_core.proofs.Reaching.{IsOfThreads}
 use Rattle.session_threads.specs.Told.{AnswersCommand, IsTold}
-use Rattle.transcripts.specs.declared.item.Place.{Place}
-use Rattle.transcripts.specs.declared.item.Place.TheVariants.{Receipt, Note, Refused as RefusedPlace}
+use Rattle.transcripts.specs.declared.item.ItemAnswer.{ItemAnswer}
+use Rattle.transcripts.specs.declared.item.ItemAnswer.TheVariants.{Receipt, Note, Refused as RefusedPlace}
 use Rattle.transcripts.specs.Transcripts.{receipt_in}
 use Rattle.script_threads.specs.Refusals.{is_note, is_receipt, served_late}
 use Rattle.script_threads.specs.Turns.{is_turn, own_answers, receipts_told, told_answer, told_answers}
 
 abbrev pub Answer : Type 0
-Answer = TenantCommand × Place
+Answer = TenantCommand × ItemAnswer
 
-abbrev pub place_in : Answer → Place
+abbrev pub place_in : Answer → ItemAnswer
 place_in a = a.1
 
 abbrev pub receipt_by : Answer → Option Receipted
@@ -40,12 +40,12 @@ abbrev pub of_receipt : Receipted → Answer
 of_receipt r = (r.command, Receipt r)
 
 -- the note of a command that was refused, and its call
-abbrev note_by : TenantCommand → Place → Option Answer
+abbrev note_by : TenantCommand → ItemAnswer → Option Answer
 note_by command (Receipt r) = None
 note_by command (Note n) = Some (command, Note n)
 note_by command (RefusedPlace refusal) = None
 
-abbrev refused_by : ℕ → TenantCommand → Place → Option Call
+abbrev refused_by : ℕ → TenantCommand → ItemAnswer → Option Call
 refused_by id command (Receipt r) = None
 refused_by id command (Note n) = Some (Tenant id command (Err (JournalFull n)))
 refused_by id command (RefusedPlace refusal) = None
@@ -57,7 +57,7 @@ abbrev pub refused_calls : ℕ → List Answer → List Call
 refused_calls id answers = filter_map (λ a. refused_by id a.0 a.1) answers
 
 -- these calls have those answers
-own_one : (id : ℕ) (command : TenantCommand) (place : Place) (calls : List Call) → own_answers id (cons_option (refused_by id command place) calls) ≡ cons_option (note_by command place) (own_answers id calls)
+own_one : (id : ℕ) (command : TenantCommand) (place : ItemAnswer) (calls : List Call) → own_answers id (cons_option (refused_by id command place) calls) ≡ cons_option (note_by command place) (own_answers id calls)
 own_one id command (Receipt r) calls = refl
 own_one id command (Note n) calls =
     let e : eqb id id ≡ true = grind (arith, nat_tests) in
@@ -68,7 +68,7 @@ pub own_notes : (id : ℕ) (answers : List Answer) → own_answers id (refused_c
 own_notes id [] = refl
 own_notes id (a ∷ answers) = own_one id a.0 a.1 (refused_calls id answers) ∙ ap (cons_option (note_by a.0 a.1)) (own_notes id answers)
 
-other_one : (id t : ℕ) → id ≢ t → (command : TenantCommand) (place : Place) (calls : List Call) → own_answers id (cons_option (refused_by t command place) calls) ≡ own_answers id calls
+other_one : (id t : ℕ) → id ≢ t → (command : TenantCommand) (place : ItemAnswer) (calls : List Call) → own_answers id (cons_option (refused_by t command place) calls) ≡ own_answers id calls
 other_one id t apart command (Receipt r) calls = refl
 other_one id t apart command (Note n) calls =
     let e : eqb t id ≡ false = grind (arith, nat_tests) in
@@ -112,7 +112,7 @@ own_served id a (call ∷ calls) b kinds run =
 abbrev pub IsAnswerTo : ℕ → Answer → Type 0
 IsAnswerTo id a = AnswersCommand id a.0 a.1
 
-one_answer : (id : ℕ) (item : SessionLine) (t : Option Place) (answers : List Answer) → IsTold id item t → All (IsAnswerTo id) answers → All (IsAnswerTo id) (cons_option (told_answer item t) answers)
+one_answer : (id : ℕ) (item : SessionLine) (t : Option ItemAnswer) (answers : List Answer) → IsTold id item t → All (IsAnswerTo id) answers → All (IsAnswerTo id) (cons_option (told_answer item t) answers)
 one_answer id Blank None answers is rest = rest
 one_answer id Wait None answers is rest = rest
 one_answer id (Command command) None answers is rest = rest
@@ -124,12 +124,12 @@ one_answer id Wait (Some (Receipt r)) answers is rest = All-cons (IsAnswerTo id)
 one_answer id Wait (Some (Note n)) answers is rest = All-cons (IsAnswerTo id) (Status, Note n) answers is rest
 one_answer id Wait (Some (RefusedPlace refusal)) answers is rest = absurd is
 
-pub are_answers : (id : ℕ) (items : List SessionLine) (told : List (Option Place)) → AllZip (IsTold id) items told → All (IsAnswerTo id) (told_answers items told)
+pub are_answers : (id : ℕ) (items : List SessionLine) (told : List (Option ItemAnswer)) → AllZip (IsTold id) items told → All (IsAnswerTo id) (told_answers items told)
 are_answers id [] told zip = All-nil (IsAnswerTo id)
 are_answers id (item ∷ items) [] zip = All-nil (IsAnswerTo id)
 are_answers id (item ∷ items) (t ∷ told) zip = one_answer id item t (told_answers items told) zip.0 (are_answers id items told zip.1)
 
-one_place : (P : Place → Type 0) (item : SessionLine) (place : Place) (answers : List Answer) → P place → All (λ (a : Answer). P a.1) answers → All (λ (a : Answer). P a.1) (cons_option (told_answer item (Some place)) answers)
+one_place : (P : ItemAnswer → Type 0) (item : SessionLine) (place : ItemAnswer) (answers : List Answer) → P place → All (λ (a : Answer). P a.1) answers → All (λ (a : Answer). P a.1) (cons_option (told_answer item (Some place)) answers)
 one_place P Blank place answers is rest = rest
 one_place P Wait place answers is rest = All-cons (λ (a : Answer). P a.1) (Status, place) answers is rest
 one_place P (Command command) place answers is rest = All-cons (λ (a : Answer). P a.1) (command, place) answers is rest
@@ -142,17 +142,17 @@ no_place (Command command) answers = refl
 no_place (Refused refusal) answers = refl
 
 -- the places of the answers
-abbrev pub places : List (Option Place) → List Place
+abbrev pub places : List (Option ItemAnswer) → List ItemAnswer
 places told = filter_map (λ x. x) told
 
-pub all_places : (P : Place → Type 0) (items : List SessionLine) (told : List (Option Place)) → All P (places told) → All (λ (a : Answer). P a.1) (told_answers items told)
+pub all_places : (P : ItemAnswer → Type 0) (items : List SessionLine) (told : List (Option ItemAnswer)) → All P (places told) → All (λ (a : Answer). P a.1) (told_answers items told)
 all_places P [] told all = All-nil (λ (a : Answer). P a.1)
 all_places P (item ∷ items) [] all = All-nil (λ (a : Answer). P a.1)
 all_places P (item ∷ items) (None ∷ told) all = rw (no_place item (told_answers items told)) (all_places P items told all)
 all_places P (item ∷ items) (Some place ∷ told) all = one_place P item place (told_answers items told) (All-head P place (places told) all) (all_places P items told (All-tail P place (places told) all))
 
 -- the receipts among them
-one_receipt : (id : ℕ) (item : SessionLine) (t : Option Place) (answers : List Answer) (told : List (Option Place)) → IsTold id item t → filter_map receipt_by answers ≡ receipts_told told →
+one_receipt : (id : ℕ) (item : SessionLine) (t : Option ItemAnswer) (answers : List Answer) (told : List (Option ItemAnswer)) → IsTold id item t → filter_map receipt_by answers ≡ receipts_told told →
     filter_map receipt_by (cons_option (told_answer item t) answers) ≡ receipts_told (t ∷ told)
 one_receipt id Blank None answers told is rest = rest
 one_receipt id Wait None answers told is rest = rest
@@ -165,7 +165,7 @@ one_receipt id (Refused refusal) (Some (RefusedPlace other)) answers told is res
 one_receipt id (Command command) (Some place) answers told is rest = ap (cons_option (receipt_in place)) rest
 one_receipt id Wait (Some place) answers told is rest = ap (cons_option (receipt_in place)) rest
 
-pub receipts_are : (id : ℕ) (items : List SessionLine) (told : List (Option Place)) → AllZip (IsTold id) items told → filter_map receipt_by (told_answers items told) ≡ receipts_told told
+pub receipts_are : (id : ℕ) (items : List SessionLine) (told : List (Option ItemAnswer)) → AllZip (IsTold id) items told → filter_map receipt_by (told_answers items told) ≡ receipts_told told
 receipts_are id [] [] zip = refl
 receipts_are id [] (t ∷ told) zip = absurd zip
 receipts_are id (item ∷ items) [] zip = absurd zip
@@ -176,13 +176,13 @@ both_false : (a b : Bool) → (a || b) ≡ false → (a ≡ false) × (b ≡ fal
 both_false true b is = cc
 both_false false b is = (refl, is)
 
-late_cons : (refused : Bool) (place : Place) (places more : List Place) → (served_late (is_note place || refused) places ≡ false → served_late (is_note place || refused) more ≡ false) → served_late refused (place ∷ places) ≡ false →
+late_cons : (refused : Bool) (place : ItemAnswer) (places more : List ItemAnswer) → (served_late (is_note place || refused) places ≡ false → served_late (is_note place || refused) more ≡ false) → served_late refused (place ∷ places) ≡ false →
     served_late refused (place ∷ more) ≡ false
 late_cons refused place places more rest fine =
     let both = both_false (is_receipt place && refused) (served_late (is_note place || refused) places) fine in
     ap (λ b. b || served_late (is_note place || refused) more) both.0 ∙ rest both.1
 
-pub none_late : (id : ℕ) (refused : Bool) (items : List SessionLine) (told : List (Option Place)) → AllZip (IsTold id) items told → served_late refused (places told) ≡ false → served_late refused (map place_in (told_answers items told)) ≡ false
+pub none_late : (id : ℕ) (refused : Bool) (items : List SessionLine) (told : List (Option ItemAnswer)) → AllZip (IsTold id) items told → served_late refused (places told) ≡ false → served_late refused (map place_in (told_answers items told)) ≡ false
 none_late id refused [] told zip fine = refl
 none_late id refused (item ∷ items) [] zip fine = refl
 none_late id refused (item ∷ items) (None ∷ told) zip fine = rw (no_place item (told_answers items told)) (none_late id refused items told zip.1 fine)
@@ -200,7 +200,7 @@ record AllNotes (answers : List Answer) : Type 0 where
   receipts : filter_map receipt_by answers ≡ []
   notes : answers ≡ notes_of answers
 
-one_note : (id : ℕ) (command : TenantCommand) (place : Place) (answers : List Answer) → AnswersCommand id command place → served_late true (place ∷ map place_in answers) ≡ false → (served_late true (map place_in answers) ≡ false → AllNotes answers) →
+one_note : (id : ℕ) (command : TenantCommand) (place : ItemAnswer) (answers : List Answer) → AnswersCommand id command place → served_late true (place ∷ map place_in answers) ≡ false → (served_late true (map place_in answers) ≡ false → AllNotes answers) →
     AllNotes ((command, place) ∷ answers)
 one_note id command (Receipt r) answers is fine rest = cc
 one_note id command (Note n) answers is fine rest = let more = rest fine in record { receipts = more.receipts; notes = ap (λ xs. (command, Note n) ∷ xs) more.notes }
@@ -213,7 +213,7 @@ all_notes id (a ∷ answers) all fine = one_note id a.0 a.1 answers (All-head (I
 abbrev Parted : List Answer → Type 0
 Parted answers = answers ≡ map of_receipt (filter_map receipt_by answers) ++ notes_of answers
 
-one_parted : (id : ℕ) (command : TenantCommand) (place : Place) (answers : List Answer) → AnswersCommand id command place → All (IsAnswerTo id) answers → served_late false (place ∷ map place_in answers) ≡ false → (served_late false (map place_in answers) ≡ false → Parted answers) →
+one_parted : (id : ℕ) (command : TenantCommand) (place : ItemAnswer) (answers : List Answer) → AnswersCommand id command place → All (IsAnswerTo id) answers → served_late false (place ∷ map place_in answers) ≡ false → (served_late false (map place_in answers) ≡ false → Parted answers) →
     Parted ((command, place) ∷ answers)
 one_parted id command (Receipt r) answers is all fine rest = ap (λ c. (c, Receipt r) ∷ answers) (sym is.1) ∙ ap (λ xs. of_receipt r ∷ xs) (rest fine)
 one_parted id command (Note n) answers is all fine rest =
@@ -232,7 +232,7 @@ pub record IsIdle (service : ServiceState) (call : Call) : Type 0 where
   pub happens : Happens service call service
   pub turn : is_turn call ≡ true
 
-abbrev pub IsFullNote : ServiceState → ℕ → Place → Type 0
+abbrev pub IsFullNote : ServiceState → ℕ → ItemAnswer → Type 0
 IsFullNote service id place = (n : Noted) → place ≡ Note n → (n.cause ≡ CauseFull) × (length (journal_of service id) ≡ 65536)
 
 abbrev noted : ℕ → NoteCause → Noted
@@ -250,7 +250,7 @@ refused_happens service id command n own cause live full =
     let there : IsSomeAnd (live_of service.histories id) (λ h. length h.entries ≡ 65536) = full_there service id (live_of service.histories id) refl live full in
     (ap (λ i. noted i n.cause) own ∙ ap (noted id) cause, there, refl)
 
-one_idle : (service : ServiceState) (id : ℕ) (command : TenantCommand) (place : Place) (calls : List Call) → is_some (live_of service.histories id) ≡ true → AnswersCommand id command place → IsFullNote service id place → All (IsIdle service) calls →
+one_idle : (service : ServiceState) (id : ℕ) (command : TenantCommand) (place : ItemAnswer) (calls : List Call) → is_some (live_of service.histories id) ≡ true → AnswersCommand id command place → IsFullNote service id place → All (IsIdle service) calls →
     All (IsIdle service) (cons_option (refused_by id command place) calls)
 one_idle service id command (Receipt r) calls live is full rest = rest
 one_idle service id command (Note n) calls live is full rest =

@@ -7,7 +7,7 @@ use Rattle.service_core.specs.Service.{ServiceState, journal_of}
 use Rattle.settling.specs.Settling.{IsFullIfTold}
 use Rattle.transcripts.specs.Transcripts.{AreOfLive, TranscriptState}
 use Rattle.script_threads.specs.Parts.{Adds, AreFullNotes, AreParts, part_told}
-use Rattle.script_threads.specs.Served.{Told}
+use Rattle.script_text.specs.Replies.{Section}
 use Rattle.script_threads.specs.Sessions.{IsTold, PartState, transcripts_of}
 
 one_live : (part : PartState) → IfSome part.transcript (λ t. AreOfLive t.items) → All (λ (t : TranscriptState). AreOfLive t.items) (transcripts_of (part ∷ []))
@@ -23,7 +23,7 @@ full_notes core_service service ts same live full = λ k d within i e there n is
     let cause = live k d within i e there n is in
     (cause, subst (λ (s : ServiceState). length (journal_of s (get_or ts k d).id) ≡ 65536) same (full k d within i e there (n, is, cause)))
 
-pub parts_more : (live : Type 0) (parts : List PartState) (part : PartState) (sections : List Told) (ts : List TranscriptState) (new_sections : List Told) (new_ts : List TranscriptState) →
+pub parts_more : (live : Type 0) (parts : List PartState) (part : PartState) (sections : List Section) (ts : List TranscriptState) (new_sections : List Section) (new_ts : List TranscriptState) →
     AreParts live parts sections ts → Adds live part sections ts new_sections new_ts → AreParts live (parts ++ part ∷ []) new_sections new_ts
 parts_more live parts part sections ts new_sections new_ts are adds = record {
   each = All-push IsTold parts part are.each adds.is_part.told;

@@ -15,7 +15,7 @@ use Rattle.service_core.specs.Calls.{IsTaken, takeable_in}
 use Rattle.service_core.specs.History.{History, slot_of, with_here}
 use Rattle.service_core.specs.Run.{Call, Happens, Run, IsGivenBackTo}
 use Rattle.service_core.specs.Run.Call.{Admit, Evict, Move, Tenant, Take, Put, GiveBack, Owners}
-use Rattle.service_core.specs.Service.{ServiceState, history_of, live_of, modified}
+use Rattle.service_core.specs.Service.{ServiceState, history_of, live_of, with_changed}
 use Rattle.service_core.specs.Tenancy.{if_live}
 use Rattle.service_core.proofs.Lists.{history_of-modified, history_of-past, history_of-zero}
 use Rattle.sessions.specs.declared.steps.StepOutcome.{StepOutcome}
@@ -162,10 +162,10 @@ Same id old new = live_of new.histories id ≡ live_of old.histories id
 nothing : (id : ℕ) (old new : ServiceState) → new ≡ old → Same id old new
 nothing id old new same = ap (λ (s : ServiceState). live_of s.histories id) same
 
-changed : (id t : ℕ) (old new : ServiceState) (change : History → History) → id ≢ t → new ≡ record old { histories = modified old.histories t change } → Same id old new
+changed : (id t : ℕ) (old new : ServiceState) (change : History → History) → id ≢ t → new ≡ record old { histories = with_changed old.histories t change } → Same id old new
 changed id t old new change apart is =
     let no : eqb id t ≡ false = grind (arith, nat_tests) in
-    let same : history_of (modified old.histories t change) id ≡ history_of old.histories id = history_of-modified old.histories t id change ∙ ap (λ b. if b then option_map change (history_of old.histories id) else history_of old.histories id) no in
+    let same : history_of (with_changed old.histories t change) id ≡ history_of old.histories id = history_of-modified old.histories t id change ∙ ap (λ b. if b then option_map change (history_of old.histories id) else history_of old.histories id) no in
     ap (λ (s : ServiceState). live_of s.histories id) is ∙ ap if_live same
 
 given : (o : Option History) (id : ℕ) (old new : ServiceState) (job : JobState) → id ≢ job.step.id → IsGivenBackTo o old job new → Same id old new

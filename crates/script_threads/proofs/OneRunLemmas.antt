@@ -5,7 +5,7 @@ use Rattle.std.proofs.lemmas.List.Elements.{All-weaker}
 use Rattle.rr_graph.specs.Graph.{Basis}
 use Rattle.service_core.specs.declared.device.Device.{Device}
 use Rattle.service_core.specs.Run.{Call, Run}
-use Rattle.service_core.specs.Service.{ServiceState, empty}
+use Rattle.service_core.specs.Service.{ServiceState, empty_service}
 use Rattle.service_core.proofs.Alone.{each_alone, is_book, own_journals}
 use Rattle.service_core.proofs.Effects.{Kept, run_device, run_keeps}
 use Rattle.service_core.proofs.Keeps.{IsService-empty}
@@ -16,7 +16,7 @@ use Rattle.sessions.proofs.StepLemmas.{Run-append}
 use Rattle.shared_core.specs.Following.{Follows, Stays}
 use Rattle.shared_core.specs.Reaching.{own_receipts}
 use Rattle.settling.proofs.AllCalls.{Stands, own_stand}
-use Rattle.transcripts.specs.declared.item.Place.{Place}
+use Rattle.transcripts.specs.declared.item.ItemAnswer.{ItemAnswer}
 use Rattle.operator.specs.HeldJobs.{give_backs}
 use Rattle.operator.specs.Serving.{Stage}
 use Rattle.operator.proofs.Served.{served_runs}
@@ -25,7 +25,8 @@ use Rattle.script_text.specs.Threaded.{Parts as Script}
 use Rattle.script_threads.specs.Lines.{AreServed, Serves, stage, with_give_backs}
 use Rattle.script_threads.specs.OneRun.{IsOneRun, calls_of}
 use Rattle.script_threads.specs.Left.{IsEnded}
-use Rattle.script_threads.specs.Served.{Conversation, IsAnswered, IsServedFrom, Told}
+use Rattle.script_text.specs.Replies.{Section}
+use Rattle.script_threads.specs.Served.{Conversation, IsAnswered, IsServedFrom}
 use Rattle.script_threads.specs.Turns.{receipts_told}
 use Rattle.script_threads.proofs.TurnLemmas.{IsFullFrom, IsTurn, full_from, served_told, turns_go_on, without_refused}
 
@@ -43,7 +44,7 @@ pub serves_run : (graph : Basis) (names : List (List ℕ)) (service : ServiceSta
 serves_run graph names service lines text new_names new is =
     Run-append service is.calls is.last.service (give_backs is.last.jobs) new (lines_run (stage graph names [] service) lines is.calls text is.last is.served) is.given_back
 
-pub is_one_run : (device : Device) (script : Script) (sections : List Told) (text : List ℕ) (is : IsServedFrom (own_graph device) (empty device) script sections text) → IsOneRun device (calls_of is) is.last
+pub is_one_run : (device : Device) (script : Script) (sections : List Section) (text : List ℕ) (is : IsServedFrom (own_graph device) (empty_service device) script sections text) → IsOneRun device (calls_of is) is.last
 is_one_run device script sections text is =
     let ahead : List Call = with_give_backs is.ahead.calls is.ahead.last in
     let threads : List Call = is.ran.calls in
@@ -52,7 +53,7 @@ is_one_run device script sections text is =
     let later : Run is.rested rest is.last = serves_run _ _ _ _ _ _ _ is.rest in
     let ended : Run is.settled (left ++ rest) is.last = Run-append is.settled left is.rested rest is.last is.left.run later in
     let ran : Run is.service (threads ++ (left ++ rest)) is.last = Run-append is.service threads is.settled (left ++ rest) is.last is.ran.run ended in
-    let run : Run (empty device) (calls_of is) is.last = Run-append (empty device) ahead is.service (threads ++ (left ++ rest)) is.last (serves_run _ _ _ _ _ _ _ is.ahead) ran in
+    let run : Run (empty_service device) (calls_of is) is.last = Run-append (empty_service device) ahead is.service (threads ++ (left ++ rest)) is.last (serves_run _ _ _ _ _ _ _ is.ahead) ran in
     let parted = are_parted device (calls_of is) is.last run in
     record {
       run = run;
@@ -63,17 +64,17 @@ is_one_run device script sections text is =
       exact = one_owner is.last parted.parted parted.of_live;
     }
 
-pub goes_on : (graph : Basis) (start : ServiceState) (script : Script) (sections : List Told) (text : List ℕ) (is : IsServedFrom graph start script sections text) → Follows is.service is.settled × Stays is.service is.settled
+pub goes_on : (graph : Basis) (start : ServiceState) (script : Script) (sections : List Section) (text : List ℕ) (is : IsServedFrom graph start script sections text) → Follows is.service is.settled × Stays is.service is.settled
 goes_on graph start script sections text is = turns_go_on is.service is.ran.calls is.settled is.ran.kinds is.ran.run
 
-abbrev Confirmed : ServiceState → ℕ → Option (List (Option Place)) → Type 0
+abbrev Confirmed : ServiceState → ℕ → Option (List (Option ItemAnswer)) → Type 0
 Confirmed s id told = IfSome told (λ answers. All (Stands s id) (receipts_told answers))
 
-one_stands : (calls : List Call) (s : ServiceState) (c : Conversation) (told : Option (List (Option Place))) → All (Stands s c.id) (own_receipts c.id calls) → IfSome told (IsAnswered calls c) → Confirmed s c.id told
+one_stands : (calls : List Call) (s : ServiceState) (c : Conversation) (told : Option (List (Option ItemAnswer))) → All (Stands s c.id) (own_receipts c.id calls) → IfSome told (IsAnswered calls c) → Confirmed s c.id told
 one_stands calls s c None own is = tt
 one_stands calls s c (Some answers) own is = subst (All (Stands s c.id)) (served_told calls c answers is) own
 
-pub stand : (graph : Basis) (start : ServiceState) (script : Script) (sections : List Told) (text : List ℕ) (is : IsServedFrom graph start script sections text) → All (λ (c : Conversation). Confirmed is.settled c.id c.told) is.ran.conversations
+pub stand : (graph : Basis) (start : ServiceState) (script : Script) (sections : List Section) (text : List ℕ) (is : IsServedFrom graph start script sections text) → All (λ (c : Conversation). Confirmed is.settled c.id c.told) is.ran.conversations
 stand graph start script sections text is =
     let serving = without_refused is.service is.ran.calls is.settled is.ran.kinds is.ran.run in
     let own : (id : ℕ) → All (Stands is.settled id) (own_receipts id is.ran.calls) = λ id. subst (All (Stands is.settled id)) (serving.receipts id) (own_stand is.service serving.served is.settled id serving.kinds serving.run) in
@@ -83,17 +84,17 @@ stand graph start script sections text is =
 abbrev AreFullFrom : ServiceState → Conversation → Type 0
 AreFullFrom service c = IfSome c.told (IsFullFrom service c.id)
 
-one_full : (begun : ServiceState) (calls : List Call) (service : ServiceState) (c : Conversation) (told : Option (List (Option Place))) → Kept begun → All IsTurn calls → Run begun calls service → IfSome told (IsAnswered calls c) → IfSome told (IsFullFrom service c.id)
+one_full : (begun : ServiceState) (calls : List Call) (service : ServiceState) (c : Conversation) (told : Option (List (Option ItemAnswer))) → Kept begun → All IsTurn calls → Run begun calls service → IfSome told (IsAnswered calls c) → IfSome told (IsFullFrom service c.id)
 one_full begun calls service c None kept kinds run is = tt
 one_full begun calls service c (Some told) kept kinds run is = full_from begun calls service c told kept kinds run is
 
-pub all_full : (device : Device) (script : Script) (sections : List Told) (text : List ℕ) (is : IsServedFrom (own_graph device) (empty device) script sections text) → All (AreFullFrom is.settled) is.ran.conversations
+pub all_full : (device : Device) (script : Script) (sections : List Section) (text : List ℕ) (is : IsServedFrom (own_graph device) (empty_service device) script sections text) → All (AreFullFrom is.settled) is.ran.conversations
 all_full device script sections text is =
-    let kept : Kept is.service = run_keeps (empty device) (with_give_backs is.ahead.calls is.ahead.last) is.service (serves_run _ _ _ _ _ _ _ is.ahead) (IsService-empty device) in
+    let kept : Kept is.service = run_keeps (empty_service device) (with_give_backs is.ahead.calls is.ahead.last) is.service (serves_run _ _ _ _ _ _ _ is.ahead) (IsService-empty device) in
     All-weaker (λ (c : Conversation). IfSome c.told (IsAnswered is.ran.calls c)) (AreFullFrom is.settled) (λ c answered. one_full is.service is.ran.calls is.settled c c.told kept is.ran.kinds is.ran.run answered) is.ran.conversations is.ran.answered
 
-pub none_left : (device : Device) (script : Script) (sections : List Told) (text : List ℕ) (is : IsServedFrom (own_graph device) (empty device) script sections text) (id : ℕ) → IsEnded is.rested is.left.calls id
+pub none_left : (device : Device) (script : Script) (sections : List Section) (text : List ℕ) (is : IsServedFrom (own_graph device) (empty_service device) script sections text) (id : ℕ) → IsEnded is.rested is.left.calls id
 none_left device script sections text is id =
-    let ahead : is.service.device ≡ device = run_device (empty device) (with_give_backs is.ahead.calls is.ahead.last) is.service (serves_run _ _ _ _ _ _ _ is.ahead) in
+    let ahead : is.service.device ≡ device = run_device (empty_service device) (with_give_backs is.ahead.calls is.ahead.last) is.service (serves_run _ _ _ _ _ _ _ is.ahead) in
     let same : is.settled.device ≡ device = (goes_on _ _ script sections text is).0.device ∙ ahead in
     is.left.ended (ap own_graph (sym same)) id

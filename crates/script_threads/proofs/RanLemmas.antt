@@ -17,8 +17,8 @@ use Rattle.shared_core.proofs.Reaching.{IsOfThreads, run_goes_on}
 use Rattle.settling.specs.Settling.{has_id}
 use Rattle.session_threads.specs.Told.{AreTold, noted_all, IsTold as IsToldTo}
 use Rattle.transcripts.specs.declared.item.Item.{Item}
-use Rattle.transcripts.specs.declared.item.Place.{Place}
-use Rattle.session_threads.specs.WholeSession.{fresh}
+use Rattle.transcripts.specs.declared.item.ItemAnswer.{ItemAnswer}
+use Rattle.session_threads.specs.WholeSession.{new_transcript}
 use Rattle.transcripts.specs.Transcripts.{TranscriptState, receipt_in, receipts_of, with_no_memory}
 use Rattle.operator.specs.OperatorText.{last_id}
 use Rattle.script_text.specs.Threaded.{Said}
@@ -27,7 +27,8 @@ use Rattle.script_threads.specs.Turns.{own_answer, own_answers, receipts_told, t
 use Rattle.script_threads.proofs.AskedLemmas.{Answer, IsFullNote, IsIdle, all_places, are_answers, are_idle, idle_run, kind_turn, none_late, notes_of, of_receipt, other_notes, own_notes, own_served, parted, places, receipt_by, receipts_are, refused_calls}
 use Rattle.script_threads.proofs.TurnLemmas.{IsTurn}
 use Rattle.script_threads.specs.Parts.{AreFullNotes, Finishes, part_told}
-use Rattle.script_threads.specs.Served.{Conversation, IsAnswered, Ran, Told, told_in}
+use Rattle.script_text.specs.Replies.{Section}
+use Rattle.script_threads.specs.Served.{Conversation, IsAnswered, Ran, told_in}
 use Rattle.script_threads.specs.Sessions.{Asked, IsTold, IsToldBy, PartState, asked_in, asked_of, transcripts_of}
 
 -- a part as a conversation
@@ -99,14 +100,14 @@ all_of names hs (p ∷ ps) (s ∷ ss) all same =
     (ap (λ x. x ∷ map (λ (c : Conversation). c.said) (conversations ps (All-tail IsTold p ps all))) one.0 ∙ ap (λ xs. s ∷ xs) rest.0, All-cons (IsOf names hs) c (conversations ps (All-tail IsTold p ps all)) one.1 rest.1)
 
 -- the places of a transcript that has these answers
-places_noted : (t : TranscriptState) (told : List (Option Place)) → map (λ (i : Item). i.place) (noted_all t told).items ≡ map (λ (i : Item). i.place) t.items ++ places told
+places_noted : (t : TranscriptState) (told : List (Option ItemAnswer)) → map (λ (i : Item). i.place) (noted_all t told).items ≡ map (λ (i : Item). i.place) t.items ++ places told
 places_noted t [] = sym (append-nil (map (λ (i : Item). i.place) t.items))
 places_noted t (None ∷ told) = places_noted (with_no_memory t) told
 places_noted t (Some place ∷ told) =
     let i : Item = record { place = place; no_memory_before = t.no_memory } in
     places_noted (record t { items = t.items ++ i ∷ []; no_memory = 0 }) told ∙ (ap (λ ps. ps ++ places told) (map_push (λ (i : Item). i.place) t.items i) ∙ append_assoc (map (λ (i : Item). i.place) t.items) (place ∷ []) (places told))
 
-id_noted : (t : TranscriptState) (told : List (Option Place)) → (noted_all t told).id ≡ t.id
+id_noted : (t : TranscriptState) (told : List (Option ItemAnswer)) → (noted_all t told).id ≡ t.id
 id_noted t [] = refl
 id_noted t (None ∷ told) = id_noted (with_no_memory t) told
 id_noted t (Some place ∷ told) = id_noted (record t { items = t.items ++ record { place = place; no_memory_before = t.no_memory } ∷ []; no_memory = 0 }) told
@@ -115,13 +116,13 @@ receipts_in : (items : List Item) → receipts_of items ≡ filter_map receipt_i
 receipts_in [] = refl
 receipts_in (i ∷ items) = ap (cons_option (receipt_in i.place)) (receipts_in items)
 
-receipts_among : (told : List (Option Place)) → filter_map receipt_in (places told) ≡ receipts_told told
+receipts_among : (told : List (Option ItemAnswer)) → filter_map receipt_in (places told) ≡ receipts_told told
 receipts_among [] = refl
 receipts_among (None ∷ told) = receipts_among told
 receipts_among (Some place ∷ told) = ap (cons_option (receipt_in place)) (receipts_among told)
 
 -- a conversation has the answers that its transcript has
-record IsNoted (calls : List Call) (service : ServiceState) (c : Conversation) (told : List (Option Place)) : Type 0 where
+record IsNoted (calls : List Call) (service : ServiceState) (c : Conversation) (told : List (Option ItemAnswer)) : Type 0 where
   each : AllZip (IsToldTo c.id) (items_of c.said.input) told
   served : own_receipts c.id calls ≡ receipts_told told
   notes : All (IsFullNote service c.id) (places told)
@@ -133,7 +134,7 @@ Served calls t = own_receipts t.id calls ≡ receipts_of t.items
 abbrev Answers : List Call → ServiceState → Conversation → Type 0
 Answers calls service c = IfSome c.told (IsNoted calls service c)
 
-to_zip : (id : ℕ) (items : List SessionLine) (told : List (Option Place)) → AreTold id items told → AllZip (IsToldTo id) items told
+to_zip : (id : ℕ) (items : List SessionLine) (told : List (Option ItemAnswer)) → AreTold id items told → AllZip (IsToldTo id) items told
 to_zip id [] [] are = tt
 to_zip id [] (t ∷ told) are = are
 to_zip id (item ∷ items) [] are = are
@@ -155,13 +156,13 @@ one_answered calls service p (Some t) is ts served full late = (
 )
   where
     left : TranscriptState
-    left = noted_all (fresh p.id) is.told
+    left = noted_all (new_transcript p.id) is.told
 
     id : t.id ≡ p.id
-    id = ap (λ (x : TranscriptState). x.id) is.noted ∙ id_noted (fresh p.id) is.told
+    id = ap (λ (x : TranscriptState). x.id) is.noted ∙ id_noted (new_transcript p.id) is.told
 
     there : map (λ (i : Item). i.place) t.items ≡ places is.told
-    there = ap (λ (x : TranscriptState). map (λ (i : Item). i.place) x.items) is.noted ∙ places_noted (fresh p.id) is.told
+    there = ap (λ (x : TranscriptState). map (λ (i : Item). i.place) x.items) is.noted ∙ places_noted (new_transcript p.id) is.told
 
     receipts : receipts_of t.items ≡ receipts_told is.told
     receipts = receipts_in t.items ∙ (ap (filter_map receipt_in) there ∙ receipts_among is.told)
@@ -189,7 +190,7 @@ abbrev AreOther : Conversation → Conversation → Type 0
 AreOther c d = is_some c.told ≡ true → DiffersFrom c.id d
 
 id_told : (p : PartState) (t : TranscriptState) → IsToldBy (Some t) p → t.id ≡ p.id
-id_told p t is = ap (λ (x : TranscriptState). x.id) is.noted ∙ id_noted (fresh p.id) is.told
+id_told p t is = ap (λ (x : TranscriptState). x.id) is.noted ∙ id_noted (new_transcript p.id) is.told
 
 one_differs : (id : ℕ) (p : PartState) (o : Option TranscriptState) (is : IsToldBy o p) (ts : List TranscriptState) → All (λ (u : TranscriptState). id ≢ u.id) (cons_option o ts) →
     DiffersFrom id (conversation p o is) × All (λ (u : TranscriptState). id ≢ u.id) ts
@@ -238,7 +239,7 @@ all_absent id (p ∷ ps) all other =
     one_absent id p p.transcript (All-head IsTold p ps all) (transcripts_of ps) (All-head (IsNotOf id) c more other) (all_absent id ps (All-tail IsTold p ps all) (All-tail (IsNotOf id) c more other))
 
 -- the commands that were refused, as turns after all others
-abbrev refusals_of : ℕ → List SessionLine → Option (List (Option Place)) → List Call
+abbrev refusals_of : ℕ → List SessionLine → Option (List (Option ItemAnswer)) → List Call
 refusals_of id items None = []
 refusals_of id items (Some told) = refused_calls id (told_answers items told)
 
@@ -249,7 +250,7 @@ refusals (c ∷ cs) = refusals_of c.id (items_of c.said.input) c.told ++ refusal
 abbrev IsLiveIn : ServiceState → Conversation → Type 0
 IsLiveIn service c = is_some c.told ≡ true → is_some (live_of service.histories c.id) ≡ true
 
-one_idle : (calls : List Call) (service : ServiceState) (c : Conversation) (o : Option (List (Option Place))) → (is_some o ≡ true → is_some (live_of service.histories c.id) ≡ true) → IfSome o (IsNoted calls service c) →
+one_idle : (calls : List Call) (service : ServiceState) (c : Conversation) (o : Option (List (Option ItemAnswer))) → (is_some o ≡ true → is_some (live_of service.histories c.id) ≡ true) → IfSome o (IsNoted calls service c) →
     All (IsIdle service) (refusals_of c.id (items_of c.said.input) o)
 one_idle calls service c None live is = All-nil (IsIdle service)
 one_idle calls service c (Some told) live is =
@@ -263,7 +264,7 @@ all_idle calls service (c ∷ cs) live all =
     (all_idle calls service cs (All-tail (IsLiveIn service) c cs live) (All-tail (Answers calls service) c cs all))
 
 -- each conversation has its own among them
-one_none : (id : ℕ) (c : Conversation) (o : Option (List (Option Place))) → (is_some o ≡ true → c.id ≢ id) → own_answers id (refusals_of c.id (items_of c.said.input) o) ≡ []
+one_none : (id : ℕ) (c : Conversation) (o : Option (List (Option ItemAnswer))) → (is_some o ≡ true → c.id ≢ id) → own_answers id (refusals_of c.id (items_of c.said.input) o) ≡ []
 one_none id c None differ = refl
 one_none id c (Some told) differ = other_notes id c.id (λ same. differ refl (sym same)) (told_answers (items_of c.said.input) told)
 
@@ -274,9 +275,9 @@ all_none id (c ∷ cs) other =
     filter_map-append (own_answer id) first (refusals cs) ∙ (ap (λ xs. xs ++ own_answers id (refusals cs)) (one_none id c c.told (All-head (IsNotOf id) c cs other)) ∙ all_none id cs (All-tail (IsNotOf id) c cs other))
 
 abbrev HasOwn : List Call → Conversation → Type 0
-HasOwn calls c = (told : List (Option Place)) → c.told ≡ Some told → own_answers c.id calls ≡ notes_of (told_answers (items_of c.said.input) told)
+HasOwn calls c = (told : List (Option ItemAnswer)) → c.told ≡ Some told → own_answers c.id calls ≡ notes_of (told_answers (items_of c.said.input) told)
 
-its_own : (id : ℕ) (items : List SessionLine) (o : Option (List (Option Place))) (told : List (Option Place)) → o ≡ Some told → own_answers id (refusals_of id items o) ≡ notes_of (told_answers items told)
+its_own : (id : ℕ) (items : List SessionLine) (o : Option (List (Option ItemAnswer))) (told : List (Option ItemAnswer)) → o ≡ Some told → own_answers id (refusals_of id items o) ≡ notes_of (told_answers items told)
 its_own id items None told is = cc
 its_own id items (Some x) told is = let same : x ≡ told = cc in own_notes id (told_answers items x) ∙ ap (λ t. notes_of (told_answers items t)) same
 
@@ -306,7 +307,7 @@ have_own (c ∷ cs) apart =
     All-cons (HasOwn (refusals (c ∷ cs))) c cs (own_first c cs others) (own_later c cs others rest)
 
 -- so the answers in all turns are those of the conversation
-one_asked : (begun : ServiceState) (calls : List Call) (service : ServiceState) (more : List Call) (c : Conversation) (o : Option (List (Option Place))) → c.told ≡ o → All IsOfThreads calls → Run begun calls service → HasOwn more c → IfSome o (IsNoted calls service c) →
+one_asked : (begun : ServiceState) (calls : List Call) (service : ServiceState) (more : List Call) (c : Conversation) (o : Option (List (Option ItemAnswer))) → c.told ≡ o → All IsOfThreads calls → Run begun calls service → HasOwn more c → IfSome o (IsNoted calls service c) →
     IfSome o (IsAnswered (calls ++ more) c)
 one_asked begun calls service more c None same kinds run own is = tt
 one_asked begun calls service more c (Some told) same kinds run own is =
@@ -321,7 +322,7 @@ one_asked begun calls service more c (Some told) same kinds run own is =
     }
 
 -- the sessions that have their answers ran
-pub sessions_ran : (names : List (List ℕ)) (begun : ServiceState) (ps : List PartState) (ss : List Said) (sections : List Told) (service : ServiceState) → map asked_in ps ≡ map (asked_of names begun.histories) ss → Finishes begun ps sections service →
+pub sessions_ran : (names : List (List ℕ)) (begun : ServiceState) (ps : List PartState) (ss : List Said) (sections : List Section) (service : ServiceState) → map asked_in ps ≡ map (asked_of names begun.histories) ss → Finishes begun ps sections service →
     Ran names begun ss sections service
 sessions_ran names begun ps ss sections service asked is =
     let whose = all_of names begun.histories ps ss is.each asked in

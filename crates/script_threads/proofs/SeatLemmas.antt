@@ -9,7 +9,7 @@ use Rattle.operator.specs.OperatorText.{last_id}
 use Rattle.script_text.specs.declared.inputs.SessionInput.{SessionInput}
 use Rattle.script_text.specs.Threaded.{AreApart, Said, said_by}
 use Rattle.shared_core.specs.CoreCalls.{GivesLease}
-use Rattle.shared_core.specs.CoreState.{CoreState, LeaseState, Marked, given, given_in, is_leased, marked_of, remarked, unmarked}
+use Rattle.shared_core.specs.CoreState.{CoreState, LeaseState, Marked, with_lease, given_in, is_leased, marked_of, with_changed_marks, no_marks}
 use Rattle.shared_core.proofs.Marks.{marked_of-remarked, marked_of-zero}
 use Rattle.script_threads.specs.Seats.{AreFree, GivesOneLease, HasSeat}
 
@@ -81,21 +81,21 @@ seated_more names old new before s seated gives id leased = by_case (gives id le
     by_case (inl before_it) = has_seat-more names before s id (seated id before_it)
     by_case (inr same) = subst (λ n. HasSeat names (before ++ s ∷ []) n) (sym same) (has_seat-last names before s)
 
-given_in-mapped : (m : Option Marked) (other id : ℕ) (b : Bool) → eqb other id ≡ b → given_in (if b then option_map given m else m) ≡ true → (given_in m ≡ true) ⊎ (other ≡ id)
+given_in-mapped : (m : Option Marked) (other id : ℕ) (b : Bool) → eqb other id ≡ b → given_in (if b then option_map with_lease m else m) ≡ true → (given_in m ≡ true) ⊎ (other ≡ id)
 given_in-mapped m other id true e leased = inr ((Decides-eqb other id).0 e)
 given_in-mapped m other id false e leased = inl leased
 
-pub gives_one : (marks : List Marked) (id : ℕ) → GivesOneLease marks id (remarked marks id given)
-gives_one marks id other leased = given_in-mapped (marked_of marks other) other id (eqb other id) refl (sym (ap given_in (marked_of-remarked marks id other given)) ∙ leased)
+pub gives_one : (marks : List Marked) (id : ℕ) → GivesOneLease marks id (with_changed_marks marks id with_lease)
+gives_one marks id other leased = given_in-mapped (marked_of marks other) other id (eqb other id) refl (sym (ap given_in (marked_of-remarked marks id other with_lease)) ∙ leased)
 
 pub gives_none : (marks : List Marked) (id : ℕ) → GivesOneLease marks id marks
 gives_none marks id other leased = inl leased
 
-pub none_given : (count : ℕ) → AreFree (replicate count unmarked)
+pub none_given : (count : ℕ) → AreFree (replicate count no_marks)
 none_given zero id = refl
 none_given (suc count) id = by_test (eqb id 1) (none_given count (id - 1))
   where
-    by_test : (b : Bool) → is_leased (replicate count unmarked) (id - 1) ≡ false → given_in (if b then Some unmarked else marked_of (replicate count unmarked) (id - 1)) ≡ false
+    by_test : (b : Bool) → is_leased (replicate count no_marks) (id - 1) ≡ false → given_in (if b then Some no_marks else marked_of (replicate count no_marks) (id - 1)) ≡ false
     by_test true rest = refl
     by_test false rest = rest
 

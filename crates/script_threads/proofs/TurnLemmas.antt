@@ -27,8 +27,8 @@ use Rattle.shared_core.specs.Following.{Follows, GoesOn, Stays}
 use Rattle.shared_core.specs.Reaching.{own_receipt, own_receipts}
 use Rattle.shared_core.proofs.Reaching.{IsOfThreads, run_goes_on}
 use Rattle.session_threads.specs.Told.{IsTold}
-use Rattle.transcripts.specs.declared.item.Place.{Place}
-use Rattle.transcripts.specs.declared.item.Place.TheVariants.{Receipt, Note, Refused as RefusedPlace}
+use Rattle.transcripts.specs.declared.item.ItemAnswer.{ItemAnswer}
+use Rattle.transcripts.specs.declared.item.ItemAnswer.TheVariants.{Receipt, Note, Refused as RefusedPlace}
 use Rattle.script_threads.specs.Served.{Conversation, IsAnswered}
 use Rattle.script_threads.specs.Turns.{is_turn, own_answer, own_answers, receipts_told, told_answer, told_answers}
 use Rattle.script_threads.proofs.AskedLemmas.{Answer, receipt_by, receipts_are}
@@ -78,7 +78,7 @@ pub turns_go_on : (a : ServiceState) (calls : List Call) (b : ServiceState) → 
 turns_go_on a calls b kinds run = let is = without_refused a calls b kinds run in run_goes_on a is.served b is.kinds is.run
 
 -- the receipts of a conversation are those of its tenancy
-receipts_one : (id t : ℕ) (command : TenantCommand) (place : Place) (answers : List Answer) (rs : List Receipted) → filter_map receipt_by answers ≡ rs → (b : Bool) →
+receipts_one : (id t : ℕ) (command : TenantCommand) (place : ItemAnswer) (answers : List Answer) (rs : List Receipted) → filter_map receipt_by answers ≡ rs → (b : Bool) →
     filter_map receipt_by (cons_option (if b then Some (command, place) else None) answers) ≡ (if b then filter_map receipt_by ((command, place) ∷ []) else []) ++ rs
 receipts_one id t command place answers rs is false = is
 receipts_one id t command (Receipt r) answers rs is true = ap (λ xs. r ∷ xs) is
@@ -104,7 +104,7 @@ receipts_by id (Put done foreign answer ∷ calls) = receipts_by id calls
 receipts_by id (GiveBack job ∷ calls) = receipts_by id calls
 receipts_by id (Owners list ∷ calls) = receipts_by id calls
 
-pub served_told : (calls : List Call) (c : Conversation) (told : List (Option Place)) → IsAnswered calls c told → own_receipts c.id calls ≡ receipts_told told
+pub served_told : (calls : List Call) (c : Conversation) (told : List (Option ItemAnswer)) → IsAnswered calls c told → own_receipts c.id calls ≡ receipts_told told
 served_told calls c told is = sym (receipts_by c.id calls) ∙ (ap (filter_map receipt_by) is.asked ∙ receipts_are c.id (items_of c.said.input) told is.each)
 
 -- no answer is that of a command, if no command is asked
@@ -133,14 +133,14 @@ cons_append : {A : Type 0} (o : Option A) (xs ys : List A) → cons_option o (xs
 cons_append None xs ys = refl
 cons_append (Some x) xs ys = refl
 
-record NoteAmong (items : List SessionLine) (told after : List (Option Place)) (n : Noted) : Type 0 where
+record NoteAmong (items : List SessionLine) (told after : List (Option ItemAnswer)) (n : Noted) : Type 0 where
   command : TenantCommand
   first : List Answer
   later : List Answer
   are : told_answers items told ≡ first ++ (command, Note n) ∷ later
   receipts : filter_map receipt_by later ≡ receipts_told after
 
-note_among : (id : ℕ) (items : List SessionLine) (before : List (Option Place)) (n : Noted) (after : List (Option Place)) → AllZip (IsTold id) items (before ++ Some (Note n) ∷ after) → NoteAmong items (before ++ Some (Note n) ∷ after) after n
+note_among : (id : ℕ) (items : List SessionLine) (before : List (Option ItemAnswer)) (n : Noted) (after : List (Option ItemAnswer)) → AllZip (IsTold id) items (before ++ Some (Note n) ∷ after) → NoteAmong items (before ++ Some (Note n) ∷ after) after n
 note_among id [] [] n after zip = absurd zip
 note_among id [] (t ∷ before) n after zip = absurd zip
 note_among id (Blank ∷ items) [] n after zip = absurd zip.0
@@ -186,14 +186,14 @@ call_among id (call ∷ calls) first a later is = by_answer id call calls a late
 abbrev IsFullHere : ServiceState → ℕ → Type 0
 IsFullHere a id = IsSomeAnd (live_of a.histories id) (λ h. length h.entries ≡ 65536)
 
-abbrev answer_if : Bool → TenantCommand → Place → Option Answer
+abbrev answer_if : Bool → TenantCommand → ItemAnswer → Option Answer
 answer_if own command place = if own then Some (command, place) else None
 
-abbrev place_or : Place → Option Answer → Place
+abbrev place_or : ItemAnswer → Option Answer → ItemAnswer
 place_or other None = other
 place_or other (Some a) = a.1
 
-same_place : (command other : TenantCommand) (p q : Place) → answer_if true other p ≡ answer_if true command q → p ≡ q
+same_place : (command other : TenantCommand) (p q : ItemAnswer) → answer_if true other p ≡ answer_if true command q → p ≡ q
 same_place command other p q is = ap (place_or p) is
 
 never_note : (r : Receipted) (n : Noted) → Receipt r ≡ Note n → ⊥
@@ -296,18 +296,18 @@ full_at a id None e never = absurd never
 full_at a id (Some h) e full = ap (λ o. length (entries_in o)) (if_live_some (history_of a.histories id) h e) ∙ full
 
 -- each note of a conversation
-abbrev pub IsFullFrom : ServiceState → ℕ → List (Option Place) → Type 0
-IsFullFrom service id told = (before after : List (Option Place)) (n : Noted) → told ≡ before ++ Some (Note n) ∷ after → (n.cause ≡ CauseFull) × (length (journal_of service id) ≡ 65536) × (receipts_told after ≡ [])
+abbrev pub IsFullFrom : ServiceState → ℕ → List (Option ItemAnswer) → Type 0
+IsFullFrom service id told = (before after : List (Option ItemAnswer)) (n : Noted) → told ≡ before ++ Some (Note n) ∷ after → (n.cause ≡ CauseFull) × (length (journal_of service id) ≡ 65536) × (receipts_told after ≡ [])
 
-pub full_from : (begun : ServiceState) (calls : List Call) (service : ServiceState) (c : Conversation) (told : List (Option Place)) → Kept begun → All IsTurn calls → Run begun calls service → IsAnswered calls c told → IsFullFrom service c.id told
+pub full_from : (begun : ServiceState) (calls : List Call) (service : ServiceState) (c : Conversation) (told : List (Option ItemAnswer)) → Kept begun → All IsTurn calls → Run begun calls service → IsAnswered calls c told → IsFullFrom service c.id told
 full_from begun calls service c told kept kinds run is = λ before after n same. split_at before after n same
   where
     items : List SessionLine
     items = items_of c.said.input
 
-    split_at : (before after : List (Option Place)) (n : Noted) → told ≡ before ++ Some (Note n) ∷ after → (n.cause ≡ CauseFull) × (length (journal_of service c.id) ≡ 65536) × (receipts_told after ≡ [])
+    split_at : (before after : List (Option ItemAnswer)) (n : Noted) → told ≡ before ++ Some (Note n) ∷ after → (n.cause ≡ CauseFull) × (length (journal_of service c.id) ≡ 65536) × (receipts_told after ≡ [])
     split_at before after n same =
-        let whole : List (Option Place) = before ++ Some (Note n) ∷ after in
+        let whole : List (Option ItemAnswer) = before ++ Some (Note n) ∷ after in
         let noted = note_among c.id items before n after (subst (AllZip (IsTold c.id) items) same is.each) in
         let asked : own_answers c.id calls ≡ noted.first ++ (noted.command, Note n) ∷ noted.later = is.asked ∙ (ap (told_answers items) same ∙ noted.are) in
         let found = call_among c.id calls noted.first (noted.command, Note n) noted.later asked in

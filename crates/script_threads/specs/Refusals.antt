@@ -1,24 +1,24 @@
 -- Private: whether a command is served after one that is not.
 use Rattle.std.specs.Prelude.{◌≡◌, List, [], ◌∷◌, map, Bool, true, false, ◌&&◌, ◌||◌}
 use Rattle.transcripts.specs.declared.item.Item.{Item}
-use Rattle.transcripts.specs.declared.item.Place.{Place}
-use Rattle.transcripts.specs.declared.item.Place.TheVariants.{Receipt, Note}
+use Rattle.transcripts.specs.declared.item.ItemAnswer.{ItemAnswer}
+use Rattle.transcripts.specs.declared.item.ItemAnswer.TheVariants.{Receipt, Note}
 use Rattle.transcripts.specs.Transcripts.{TranscriptState}
 
-abbrev pub is_note : Place → Bool
+abbrev pub is_note : ItemAnswer → Bool
 is_note (Note n) = true
 is_note place = false
 
-abbrev pub is_receipt : Place → Bool
+abbrev pub is_receipt : ItemAnswer → Bool
 is_receipt (Receipt r) = true
 is_receipt place = false
 
 -- there is a receipt after a note; `refused` says whether a note came before these answers
-abbrev pub served_late : Bool → List Place → Bool
+abbrev pub served_late : Bool → List ItemAnswer → Bool
 served_late refused [] = false
 served_late refused (place ∷ places) = (is_receipt place && refused) || served_late (is_note place || refused) places
 
-abbrev pub places_in : List Item → List Place
+abbrev pub places_in : List Item → List ItemAnswer
 places_in items = map (λ i. i.place) items
 
 -- no receipt follows a note

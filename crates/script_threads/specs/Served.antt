@@ -1,54 +1,46 @@
 -- The answers to a script whose sessions run on threads.
-use Rattle.std.specs.Prelude.{ℕ, ◌≡◌, ◌≢◌, List, [], ◌∷◌, ◌++◌, map, All, AllPairs, true, Option, IfSome, is_some}
+use Rattle.std.specs.Prelude.{ℕ, ◌≡◌, ◌≢◌, List, [], ◌++◌, map, All, AllPairs, true, Option, IfSome, is_some}
 use Rattle.std.specs.List.{AllZip}
 use Rattle.std.specs.Option.{option_map_or}
 use Rattle.rr_graph.specs.Graph.{Basis}
 use Rattle.service_core.specs.declared.device.Device.{Device}
 use Rattle.service_core.specs.Run.{Call, Run}
-use Rattle.service_core.specs.Service.{ServiceState, empty, live_of}
+use Rattle.service_core.specs.Service.{ServiceState, empty_service, live_of}
 use Rattle.sessions.specs.Fitting.{own_graph}
 use Rattle.sessions.specs.Items.{items_of}
 use Rattle.session_threads.specs.Told.{IsTold, told_texts}
-use Rattle.transcripts.specs.declared.item.Place.{Place}
+use Rattle.transcripts.specs.declared.item.ItemAnswer.{ItemAnswer}
 use Rattle.operator.specs.OperatorText.{last_id}
 use Rattle.script_text.specs.declared.operator_line.OperatorLine.{OperatorLine}
+use Rattle.script_text.specs.declared.replies.RunReplies.{RunReplies}
+use Rattle.script_text.specs.Replies.{Section, section_of}
 use Rattle.script_text.specs.Threaded.{Parts as Script, Said}
-use Rattle.script_threads.specs.declared.answered.Answered.{Answered}
-use Rattle.script_threads.specs.declared.answered.Section.{Section}
 use Rattle.script_threads.specs.Left.{MakesSteps}
 use Rattle.script_threads.specs.Lines.{Replies, Serves}
 use Rattle.script_threads.specs.Sessions.{evicted_text}
 use Rattle.script_threads.specs.Turns.{is_turn, own_answers, told_answers}
-
--- a name and the answers to its session
-pub record Told : Type 0 where
-  pub name : List ℕ
-  pub text : List ℕ
-
-abbrev pub section_told : Section → Told
-section_told section = record { name = section.name.now; text = section.text.items }
 
 -- a name's session, the name's last tenancy, and the answers to the session's items if that tenancy
 -- is live
 pub record Conversation : Type 0 where
   pub said : Said
   pub id : ℕ
-  pub told : Option (List (Option Place))
+  pub told : Option (List (Option ItemAnswer))
 
 -- the answers as a text. If the tenancy isn't live, the core isn't asked
-abbrev pub told_in : Conversation → Told
+abbrev pub told_in : Conversation → Section
 told_in c = record { name = c.said.name; text = option_map_or told_texts c.told (evicted_text c.said.input) }
 
 -- each item has its answer; and the commands that are asked in the tenancy's name, with the answers
 -- to them, are exactly those of the items, in order
-pub record IsAnswered (calls : List Call) (c : Conversation) (told : List (Option Place)) : Type 0 where
+pub record IsAnswered (calls : List Call) (c : Conversation) (told : List (Option ItemAnswer)) : Type 0 where
   pub each : AllZip (IsTold c.id) (items_of c.said.input) told
   pub asked : own_answers c.id calls ≡ told_answers (items_of c.said.input) told
 
 -- the sessions of live tenancies, each of another tenancy, ran on threads, whose turns led from one
 -- service to the other. A command is refused only in a turn in which its journal is full. No other
 -- tenancy is asked a command in these turns
-pub record Ran (names : List (List ℕ)) (begun : ServiceState) (sessions : List Said) (sections : List Told) (service : ServiceState) : Type 0 where
+pub record Ran (names : List (List ℕ)) (begun : ServiceState) (sessions : List Said) (sections : List Section) (service : ServiceState) : Type 0 where
   pub conversations : List Conversation
   pub calls : List Call
   pub run : Run begun calls service
@@ -63,7 +55,7 @@ pub record Ran (names : List (List ℕ)) (begun : ServiceState) (sessions : List
 -- the operator's lines before the sessions are served from that state of the core, over that graph;
 -- then the sessions run; then the jobs that they left make their steps; and then the operator's
 -- other lines are served. The operator's text is that of all these lines
-pub record IsServedFrom (graph : Basis) (start : ServiceState) (script : Script) (sections : List Told) (text : List ℕ) : Type 0 where
+pub record IsServedFrom (graph : Basis) (start : ServiceState) (script : Script) (sections : List Section) (text : List ℕ) : Type 0 where
   pub names : List (List ℕ)
   pub service : ServiceState
   pub ahead_text : List ℕ
@@ -79,8 +71,8 @@ pub record IsServedFrom (graph : Basis) (start : ServiceState) (script : Script)
   pub text_is : text ≡ ahead_text ++ rest_text
 
 -- a script is served so from the empty device, over the device's own graph
-abbrev pub IsServedOnThreads : Device → Script → Answered → Type 0
-IsServedOnThreads device script answered = IsServedFrom (own_graph device) (empty device) script (map section_told answered.sections.items) answered.operator.items
+abbrev pub IsServedOnThreads : Device → Script → RunReplies → Type 0
+IsServedOnThreads device script answered = IsServedFrom (own_graph device) (empty_service device) script (map section_of answered.sections.items) answered.operator.items
 
 -- private: the jobs that are left make their steps, the operator's other lines are served by the
 -- service after that, and their text follows the reply so far
@@ -92,7 +84,7 @@ pub record Ends (graph : Basis) (names : List (List ℕ)) (settled : ServiceStat
   pub replies : Replies graph names rested rest before after last_names last
 
 -- private: the sessions run before that
-pub record RunsOn (graph : Basis) (names : List (List ℕ)) (begun : ServiceState) (sessions : List Said) (rest : List (OperatorLine (List ℕ))) (sections : List Told) (before after : List ℕ) : Type 0 where
+pub record RunsOn (graph : Basis) (names : List (List ℕ)) (begun : ServiceState) (sessions : List Said) (rest : List (OperatorLine (List ℕ))) (sections : List Section) (before after : List ℕ) : Type 0 where
   pub settled : ServiceState
   pub ran : Ran names begun sessions sections settled
   pub ends : Ends graph names settled rest before after

@@ -10,9 +10,9 @@ use Rattle.sessions.specs.declared.refusal.SessionRefusal.TheVariants.{Evicted}
 use Rattle.sessions.specs.Items.{items_of}
 use Rattle.sessions.specs.SessionText.{session_refusal_text}
 use Rattle.session_threads.specs.Told.{AreTold, noted_all, told_texts}
-use Rattle.session_threads.specs.WholeSession.{fresh}
-use Rattle.transcripts.specs.declared.item.End.TheVariants.{Ended}
-use Rattle.transcripts.specs.declared.item.Place.{Place}
+use Rattle.session_threads.specs.WholeSession.{new_transcript}
+use Rattle.transcripts.specs.declared.item.SessionEnd.TheVariants.{Ended}
+use Rattle.transcripts.specs.declared.item.ItemAnswer.{ItemAnswer}
 use Rattle.transcripts.specs.Transcripts.{AreOfLive, TranscriptState}
 use Rattle.script_text.specs.Threaded.{Said}
 use Rattle.operator.specs.OperatorText.{last_id}
@@ -60,8 +60,8 @@ evicted_line item = session_refusal_text (evicted_refusal item)
 -- private: the session ended with its input: each item of the input is answered, in order, what the
 -- transcript has, or is counted there as one that ran out of memory; and nothing else is written
 pub record IsWhole (id : ℕ) (input text : List ℕ) (t : TranscriptState) : Type 0 where
-  pub told : List (Option Place)
-  pub noted : t ≡ record (noted_all (fresh id) told) { end = Some Ended }
+  pub told : List (Option ItemAnswer)
+  pub noted : t ≡ record (noted_all (new_transcript id) told) { end = Some Ended }
   pub written : text ≡ told_texts told
   pub asked : AreTold id (items_of input) told
 

@@ -10,8 +10,8 @@ use Rattle.service_core.specs.Run.Call.{Tenant}
 use Rattle.sessions.specs.declared.line.SessionLine.{SessionLine}
 use Rattle.sessions.specs.declared.line.SessionLine.TheVariants.{Command, Wait}
 use Rattle.shared_core.specs.Reaching.{is_of_threads}
-use Rattle.transcripts.specs.declared.item.Place.{Place}
-use Rattle.transcripts.specs.declared.item.Place.TheVariants.{Receipt, Note}
+use Rattle.transcripts.specs.declared.item.ItemAnswer.{ItemAnswer}
+use Rattle.transcripts.specs.declared.item.ItemAnswer.TheVariants.{Receipt, Note}
 use Rattle.transcripts.specs.Transcripts.{receipt_in}
 
 -- what a thread does in a turn under the lock: a call of threads, or a command that is refused
@@ -21,25 +21,25 @@ is_turn (Tenant id command (Err (JournalFull note))) = true
 is_turn call = is_of_threads call
 
 -- a command of that tenancy with its answer: its receipt, or the note that the journal is full
-abbrev pub own_answer : ℕ → Call → Option (TenantCommand × Place)
+abbrev pub own_answer : ℕ → Call → Option (TenantCommand × ItemAnswer)
 own_answer id (Tenant t command (Ok receipt)) = if t == id then Some (command, Receipt receipt) else None
 own_answer id (Tenant t command (Err (JournalFull note))) = if t == id then Some (command, Note note) else None
 own_answer id call = None
 
 -- all of them, in order
-abbrev pub own_answers : ℕ → List Call → List (TenantCommand × Place)
+abbrev pub own_answers : ℕ → List Call → List (TenantCommand × ItemAnswer)
 own_answers id calls = filter_map (own_answer id) calls
 
 -- the command that an item asks, with the answer to the item; a wait asks the status
-abbrev pub told_answer : SessionLine → Option Place → Option (TenantCommand × Place)
+abbrev pub told_answer : SessionLine → Option ItemAnswer → Option (TenantCommand × ItemAnswer)
 told_answer (Command command) (Some place) = Some (command, place)
 told_answer Wait (Some place) = Some (Status, place)
 told_answer item told = None
 
 -- all of them, in order
-abbrev pub told_answers : List SessionLine → List (Option Place) → List (TenantCommand × Place)
+abbrev pub told_answers : List SessionLine → List (Option ItemAnswer) → List (TenantCommand × ItemAnswer)
 told_answers items told = filter_map (λ x. told_answer x.0 x.1) (zip items told)
 
 -- the receipts among answers
-abbrev pub receipts_told : List (Option Place) → List Receipted
+abbrev pub receipts_told : List (Option ItemAnswer) → List Receipted
 receipts_told told = filter_map (option_and_then receipt_in) told

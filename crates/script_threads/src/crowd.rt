@@ -10,8 +10,8 @@ use crate::part::{Part, evicted_part, run_part};
 use crate::seated::Seated;
 use crate::seats::a_pass;
 use crate::workers::{Worker, join_workers, start_workers};
-use job_queue::{Pass, Ready, Seat};
-use shared_core::{Begun, Share, Shared};
+use job_queue::{Pass, Seat};
+use shared_core::{Begun, Share};
 use std::alloc::AllocGlobal;
 use std::snapshot::Snapshot;
 use std::sync::Wait;
@@ -19,7 +19,7 @@ use std::sync::ledger::Ledger;
 use std::thread;
 use std::thread::{Promise, PromisedHandle, Scope, Threads};
 use std::time::Clock;
-use strips::DeviceGraph;
+use worker_pool::Pool;
 
 /// A session that was answered at once, or that runs on a thread of its own.
 #[derive(Drop)]
@@ -49,25 +49,22 @@ pub(crate) fn run_crowd<
     P: Ledger + Send + Sync,
     R: Threads + Wait + Clock + AllocGlobal + Sync,
 >(
-    rt: &R,
-    shared: &Shared<C, P>,
-    ready: &Ready,
-    graph: &DeviceGraph,
+    pool: Pool<'_, R, C, P>,
     benches: (Vec<Seat>, Vec<Share<P>>),
     sessions: (Vec<Pass>, Vec<Seated<'t, C>>),
 ) -> Option<(Vec<Part<'t, C>>, Vec<Share<P>>)>
-    requires seats { All (λ s. s.of ≡ ready.now) benches.0.items }
-    requires passes { All (λ p. p.of ≡ ready.now) sessions.0.items }
+    requires seats { All (λ s. s.of ≡ pool.ready.now) benches.0.items }
+    requires passes { All (λ p. p.of ≡ pool.ready.now) sessions.0.items }
     ensures { IfSome result (λ ended. map asked_in ended.0.items ≡ sessions.entry.1.items) }
 {
     thread::scope(
         thread::scope_env(),
-        rt,
+        pool.rt,
         move |scope| -> Option<(Vec<Part<C>>, Vec<Share<P>>)>
-            requires seats { All (λ s. s.of ≡ ready.now) benches.0.items }
-            requires passes { All (λ p. p.of ≡ ready.now) sessions.0.items }
+            requires seats { All (λ s. s.of ≡ pool.ready.now) benches.0.items }
+            requires passes { All (λ p. p.of ≡ pool.ready.now) sessions.0.items }
             ensures { IfSome result (λ ended. map asked_in ended.0.items ≡ sessions.entry.1.items) }
-        { run_in(rt, scope, shared, ready, graph, benches, sessions) },
+        { run_in(scope, pool, benches, sessions) },
     )
 }
 
@@ -80,34 +77,22 @@ fn run_in<
     P: Ledger + Send + Sync + 's,
     R: Threads + Wait + Clock + AllocGlobal + Sync + 's,
 >(
-    rt: &'s R,
     scope: &Scope<'s, E>,
-    shared: &'s Shared<C, P>,
-    ready: &'s Ready,
-    graph: &'s DeviceGraph,
+    pool: Pool<'s, R, C, P>,
     benches: (Vec<Seat>, Vec<Share<P>>),
     sessions: (Vec<Pass>, Vec<Seated<'t, C>>),
 ) -> Option<(Vec<Part<'t, C>>, Vec<Share<P>>)>
-    requires seats { All (λ s. s.of ≡ ready.now) benches.0.items }
-    requires passes { All (λ p. p.of ≡ ready.now) sessions.0.items }
+    requires seats { All (λ s. s.of ≡ pool.ready.now) benches.0.items }
+    requires passes { All (λ p. p.of ≡ pool.ready.now) sessions.0.items }
     ensures { IfSome result (λ ended. map asked_in ended.0.items ≡ sessions.entry.1.items) }
 {
-    let mut workers = Vec::new(rt.alloc());
-    let mut started = Vec::new(rt.alloc());
-    let are_started = start_all(
-        rt,
-        scope,
-        shared,
-        ready,
-        graph,
-        benches,
-        sessions,
-        &mut workers,
-        &mut started,
-    );
-    let parts = join_sessions(rt, started);
-    ready.close();
-    let shares = join_workers(rt, workers);
+    let alloc = pool.rt.alloc();
+    let mut workers = Vec::new(alloc);
+    let mut started = Vec::new(alloc);
+    let are_started = start_all(scope, pool, benches, sessions, &mut workers, &mut started);
+    let parts = join_sessions(pool.rt, started);
+    pool.ready.close();
+    let shares = join_workers(pool.rt, workers);
     all_ended(are_started, parts, shares)
 }
 
@@ -120,29 +105,26 @@ fn start_all<
     P: Ledger + Send + Sync + 's,
     R: Wait + Clock + AllocGlobal + Sync + 's,
 >(
-    rt: &'s R,
     scope: &Scope<'s, E>,
-    shared: &'s Shared<C, P>,
-    ready: &'s Ready,
-    graph: &'s DeviceGraph,
+    pool: Pool<'s, R, C, P>,
     benches: (Vec<Seat>, Vec<Share<P>>),
     sessions: (Vec<Pass>, Vec<Seated<'t, C>>),
     workers: &mut Vec<Worker<P>>,
     started: &mut Vec<Started<'t, C>>,
 ) -> bool
-    requires seats { All (λ s. s.of ≡ ready.now) benches.0.items }
-    requires passes { All (λ p. p.of ≡ ready.now) sessions.0.items }
+    requires seats { All (λ s. s.of ≡ pool.ready.now) benches.0.items }
+    requires passes { All (λ p. p.of ≡ pool.ready.now) sessions.0.items }
     ensures { IsTrue result → map started_by started.new.items
         ≡ map started_by started.old.items ++ sessions.entry.1.items }
 {
     let (seats, shares) = benches;
     let (passes, seated) = sessions;
-    if !start_workers(rt, scope, shared, ready, graph, seats, shares, workers) {
+    if !start_workers(scope, pool, seats, shares, workers) {
         drop(passes);
         drop(seated);
         return false;
     }
-    start_sessions(rt, scope, shared, ready, passes, seated, started)
+    start_sessions(scope, pool, passes, seated, started)
 }
 
 /// The parts and the shares. None if one didn't start or memory ran out.
@@ -193,31 +175,20 @@ fn start_sessions<
     P: Ledger + Send + Sync + 's,
     R: Wait + AllocGlobal + Sync + 's,
 >(
-    rt: &'s R,
     scope: &Scope<'s, E>,
-    shared: &'s Shared<C, P>,
-    ready: &'s Ready,
+    pool: Pool<'s, R, C, P>,
     passes: Vec<Pass>,
     seated: Vec<Seated<'t, C>>,
     started: &mut Vec<Started<'t, C>>,
 ) -> bool
-    requires { All (λ p. p.of ≡ ready.now) passes.items }
+    requires { All (λ p. p.of ≡ pool.ready.now) passes.items }
     ensures { IsTrue result → map started_by started.new.items
         ≡ map started_by started.old.items ++ seated.entry.items }
 {
     let mut passes = passes;
     let mut are_started = true;
     for seat in seated {
-        are_started = start_next(
-            rt,
-            scope,
-            shared,
-            ready,
-            &mut passes,
-            seat,
-            started,
-            are_started,
-        );
+        are_started = start_next(scope, pool, &mut passes, seat, started, are_started);
     }
     drop(passes);
     are_started
@@ -232,17 +203,15 @@ fn start_next<
     P: Ledger + Send + Sync + 's,
     R: Wait + AllocGlobal + Sync + 's,
 >(
-    rt: &'s R,
     scope: &Scope<'s, E>,
-    shared: &'s Shared<C, P>,
-    ready: &'s Ready,
+    pool: Pool<'s, R, C, P>,
     passes: &mut Vec<Pass>,
     seat: Seated<'t, C>,
     started: &mut Vec<Started<'t, C>>,
     goes_on: bool,
 ) -> bool
-    requires { All (λ p. p.of ≡ ready.now) passes.old.items }
-    ensures passes { All (λ p. p.of ≡ ready.now) passes.new.items }
+    requires { All (λ p. p.of ≡ pool.ready.now) passes.old.items }
+    ensures passes { All (λ p. p.of ≡ pool.entry.ready.now) passes.new.items }
     ensures goes_on { IsTrue result → IsTrue goes_on }
     ensures started { IsTrue result → map started_by started.new.items
         ≡ map started_by started.old.items ++ seat.entry ∷ [] }
@@ -253,8 +222,8 @@ fn start_next<
         drop(seat);
         return false;
     }
-    match a_pass(passes, ready) {
-        Some(pass) => match start_session(rt, scope, shared, ready, pass, seat) {
+    match a_pass(passes, pool.ready) {
+        Some(pass) => match start_session(scope, pool, pass, seat) {
             Some(session) => {
                 started.push(session).unwrap();
                 true
@@ -277,14 +246,12 @@ fn start_session<
     P: Ledger + Send + Sync + 's,
     R: Wait + AllocGlobal + Sync + 's,
 >(
-    rt: &'s R,
     scope: &Scope<'s, E>,
-    shared: &'s Shared<C, P>,
-    ready: &'s Ready,
+    pool: Pool<'s, R, C, P>,
     pass: Pass,
     seat: Seated<'t, C>,
 ) -> Option<Started<'t, C>>
-    requires { pass.of ≡ ready.now }
+    requires { pass.of ≡ pool.ready.now }
     ensures { IfSome result (λ started. started_by started ≡ seat.entry) }
 {
     let kept = Kept(Snapshot::of(&seat));
@@ -292,11 +259,11 @@ fn start_session<
     match lease {
         Some(lease) => {
             let run = move || -> Option<Part<C>>
-                requires of { pass.of ≡ ready.now }
+                requires of { pass.of ≡ pool.ready.now }
                 requires new { lease.made ≡ 0 }
                 ensures { IfSome result (λ part.
                     asked_in part ≡ asked_by (said_by said.entry) lease.id) }
-            { run_part(rt, shared, ready, pass, said, lease) };
+            { run_part(pool, pass, said, lease) };
             match scope.spawn_with(kept, run) {
                 Ok(thread) => Some(Started::Runs(thread)),
                 Err(error) => {
@@ -305,7 +272,7 @@ fn start_session<
                 }
             }
         }
-        None => match evicted_part(rt.alloc(), said, id) {
+        None => match evicted_part(pool.rt.alloc(), said, id) {
             Ok(part) => Some(Started::Answered(part)),
             Err(_) => None,
         },

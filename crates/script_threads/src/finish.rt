@@ -1,13 +1,13 @@
 //! The answers to the sessions, after they and the workers have ended.
 ghost use Rattle.std.specs.Prelude.{◌≡◌, List, [], true, length, map, IfOk, OnOk};
+ghost use Rattle.script_text.specs.Replies.{section_of};
 ghost use Rattle.script_threads.specs.Parts.{Adds, AreParts, Finishes};
-ghost use Rattle.script_threads.specs.Served.{section_told};
 ghost use Rattle.script_threads.specs.Sessions.{PartState};
 
-use crate::answered::{Section, Unserved};
 use crate::part::Part;
 use crate::refusals::first_served_late;
-use script_text::SessionInput;
+use crate::unserved::Unserved;
+use script_text::{SessionInput, SessionReplies};
 use service_core::Service;
 use settling::{Cause, settle};
 use shared_core::{Begun, Core, Share};
@@ -18,7 +18,7 @@ use transcripts::Transcript;
 /// The answers to each name's session, and the transcripts of the sessions that ran.
 #[derive(Drop)]
 struct Parted<'t, C: Begun> {
-    sections: Vec<Section<'t>>,
+    sections: Vec<SessionReplies<'t>>,
     transcripts: Vec<Transcript<C>>,
 }
 
@@ -29,14 +29,14 @@ pub(crate) fn finish<'t, C: Begun, P: Ledger>(
     core: Core<C, P>,
     parts: Vec<Part<'t, C>>,
     shares: Vec<Share<P>>,
-) -> Result<(Service, Vec<Section<'t>>), Unserved>
+) -> Result<(Service, Vec<SessionReplies<'t>>), Unserved>
     requires { C.stay ≡ true }
-    ensures ok { IfOk result (λ r. Finishes C.begun parts.entry.items (map section_told r.1.items)
+    ensures ok { IfOk result (λ r. Finishes C.begun parts.entry.items (map section_of r.1.items)
         r.0) }
     ensures even { IfOk result (λ r. length (r.0).histories ≡ length C.begun.histories) }
 {
     match part_all(alloc, parts) {
-        Ok(parted) => settled(core, parted, shares),
+        Ok(parted) => settle_answers(core, parted, shares),
         Err(error) => {
             drop((core, shares));
             Err(Unserved::from(error))
@@ -46,16 +46,16 @@ pub(crate) fn finish<'t, C: Begun, P: Ledger>(
 
 /// Settles the answers by the transcripts. Returns the service, and the answers to each name's
 /// session. They aren't settled if a command is served after one that found its journal full.
-fn settled<'t, C: Begun, P: Ledger>(
+fn settle_answers<'t, C: Begun, P: Ledger>(
     core: Core<C, P>,
     parted: Parted<'t, C>,
     shares: Vec<Share<P>>,
-) -> Result<(Service, Vec<Section<'t>>), Unserved>
+) -> Result<(Service, Vec<SessionReplies<'t>>), Unserved>
     requires { C.stay ≡ true }
     ensures ok { (parts : List PartState) →
-        AreParts (C.stay ≡ true) parts (map section_told parted.entry.sections.items)
+        AreParts (C.stay ≡ true) parts (map section_of parted.entry.sections.items)
         parted.entry.transcripts.items
-        → IfOk result (λ r. Finishes C.begun parts (map section_told r.1.items) r.0) }
+        → IfOk result (λ r. Finishes C.begun parts (map section_of r.1.items) r.0) }
     ensures even { IfOk result (λ r. length (r.0).histories ≡ length C.begun.histories) }
 {
     let Parted {
@@ -82,7 +82,7 @@ fn part_all<'t, C: Begun>(
     parts: Vec<Part<'t, C>>,
 ) -> Result<Parted<'t, C>, AllocError>
     ensures { IfOk result (λ parted.
-        AreParts (C.stay ≡ true) parts.entry.items (map section_told parted.sections.items)
+        AreParts (C.stay ≡ true) parts.entry.items (map section_of parted.sections.items)
         parted.transcripts.items) }
 {
     let mut parted = Parted {
@@ -103,7 +103,7 @@ impl<'t, C: Begun> Parted<'t, C> {
     fn add_all(&mut self, parts: Vec<Part<'t, C>>) -> Result<(), AllocError>
         requires { (self.old.sections.items ≡ []) × (self.old.transcripts.items ≡ []) }
         ensures { OnOk result (AreParts (C.stay ≡ true) parts.entry.items
-            (map section_told self.new.sections.items) self.new.transcripts.items) }
+            (map section_of self.new.sections.items) self.new.transcripts.items) }
     {
         for part in parts {
             self.add(part)?;
@@ -114,8 +114,8 @@ impl<'t, C: Begun> Parted<'t, C> {
     /// Adds the answers to a session, and its transcript, if it ran.
     fn add(&mut self, part: Part<'t, C>) -> Result<(), AllocError>
         ensures { OnOk result (Adds (C.stay ≡ true) part.entry
-            (map section_told self.old.sections.items) self.old.transcripts.items
-            (map section_told self.new.sections.items) self.new.transcripts.items) }
+            (map section_of self.old.sections.items) self.old.transcripts.items
+            (map section_of self.new.sections.items) self.new.transcripts.items) }
     {
         let Part {
             said,
@@ -128,7 +128,7 @@ impl<'t, C: Begun> Parted<'t, C> {
         if let Some(transcript) = transcript {
             self.transcripts.push(transcript)?;
         }
-        self.sections.push(Section { name, text })?;
+        self.sections.push(SessionReplies { name, text })?;
         Ok(())
     }
 }

@@ -1,5 +1,6 @@
 ghost use Rattle.std.specs.Prelude.{◌≡◌, ◌⊎◌, ◌++◌, ◌∷◌, [], List, Option, length, ℕ, false, All, IfSome, Some, slice_get};
 ghost use Rattle.std.specs.List.{Contains};
+ghost use Rattle.tenant_slot.specs.declared.slot.TheConstants.{MAX_ENTRIES};
 ghost use Rattle.job_state.specs.Job.{JobState};
 ghost use Rattle.service_core.specs.Calls.{takeable_in};
 ghost use Rattle.service_core.specs.Run.Call.{GiveBack};
@@ -7,21 +8,21 @@ ghost use Rattle.service_core.specs.declared.device.Device.{Device};
 ghost use Rattle.service_core.specs.Service.{journal_of, live_of};
 ghost use Rattle.settling.specs.Settling.{entry_of};
 ghost use Rattle.script_text.specs.Threaded.{Parts as Script};
-ghost use Rattle.script_threads.specs.declared.answered.Answered.{Answered};
+ghost use Rattle.script_text.specs.declared.replies.RunReplies.{RunReplies};
 ghost use Rattle.script_threads.specs.OneRun.{IsOneRun, calls_of};
 ghost use Rattle.script_threads.specs.Served.{IsServedOnThreads};
 ghost use Rattle.script_threads.specs.Turns.{receipts_told};
 ghost use Rattle.service_core.specs.Receipt.{Noted};
 ghost use Rattle.service_core.specs.declared.not_served.NoteCause.TheVariants.{JournalFull};
-ghost use Rattle.transcripts.specs.declared.item.Place.{Place};
-ghost use Rattle.transcripts.specs.declared.item.Place.TheVariants.{Note};
+ghost use Rattle.transcripts.specs.declared.item.ItemAnswer.{ItemAnswer};
+ghost use Rattle.transcripts.specs.declared.item.ItemAnswer.TheVariants.{Note};
 ghost use Rattle.shared_core.specs.Following.{Follows, Stays};
 
 /// With workers as without, all calls of a script are one run of the core from the empty device on.
 /// Each tenancy is served as if it were alone, with exactly the commands that its session and the
 /// operator's lines asked.
 pub fn one_run()
-    ensures { (device : Device) (script : Script) (answered : Answered)
+    ensures { (device : Device) (script : Script) (answered : RunReplies)
         (is : IsServedOnThreads device script answered) →
         IsOneRun device (calls_of is) is.last }
 {}
@@ -30,7 +31,7 @@ pub fn one_run()
 /// tenancies; the same tenancies are live, their strips are at the same offsets, and the entries
 /// that were in a journal are the first that are in it now.
 pub fn threads_go_on()
-    ensures { (device : Device) (script : Script) (answered : Answered)
+    ensures { (device : Device) (script : Script) (answered : RunReplies)
         (is : IsServedOnThreads device script answered) →
         Follows is.service is.settled × Stays is.service is.settled }
 {}
@@ -38,7 +39,7 @@ pub fn threads_go_on()
 /// The journals confirm the answers to the sessions: each receipt is of its tenancy, and is the
 /// entry at its place.
 pub fn receipts_stand()
-    ensures { (device : Device) (script : Script) (answered : Answered)
+    ensures { (device : Device) (script : Script) (answered : RunReplies)
         (is : IsServedOnThreads device script answered) →
         All (λ c. IfSome c.told (λ told. All (λ r. (r.id ≡ c.id)
         × (slice_get (journal_of is.settled c.id) r.place ≡ Some (entry_of r)))
@@ -48,18 +49,18 @@ pub fn receipts_stand()
 /// If a command is not served, then the answer says that the journal is full, it is full from then
 /// on, and no later command of the session is served.
 pub fn full_stays()
-    ensures { (device : Device) (script : Script) (answered : Answered)
+    ensures { (device : Device) (script : Script) (answered : RunReplies)
         (is : IsServedOnThreads device script answered) →
-        All (λ c. IfSome c.told (λ told. (before after : List (Option Place)) (n : Noted) →
+        All (λ c. IfSome c.told (λ told. (before after : List (Option ItemAnswer)) (n : Noted) →
         told ≡ before ++ Some (Note n) ∷ after → (n.cause ≡ JournalFull)
-        × (length (journal_of is.settled c.id) ≡ 65536) × (receipts_told after ≡ [])))
+        × (length (journal_of is.settled c.id) ≡ MAX_ENTRIES) × (receipts_told after ≡ [])))
         is.ran.conversations }
 {}
 
 /// When the operator's other lines are served, no tenancy has a step to take, unless memory ran out
 /// for its job.
 pub fn none_is_left()
-    ensures { (device : Device) (script : Script) (answered : Answered)
+    ensures { (device : Device) (script : Script) (answered : RunReplies)
         (is : IsServedOnThreads device script answered) (id : ℕ) →
         (takeable_in (live_of (is.rested).histories id) ≡ false)
         ⊎ ((job : JobState) × (job.step.id ≡ id) × Contains (is.left).calls (GiveBack job)) }

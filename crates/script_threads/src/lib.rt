@@ -7,7 +7,6 @@
 //! answered.
 #![tactic(auto)]
 
-mod answered;
 mod crowd;
 mod finish;
 mod law;
@@ -19,8 +18,10 @@ mod running;
 mod seated;
 mod seats;
 mod serving;
+mod setup;
+mod unserved;
 mod workers;
 
-pub use answered::{Answered, Section, Unserved};
 pub use law::{full_stays, none_is_left, one_run, receipts_stand, threads_go_on};
 pub use serving::serve_on_threads;
+pub use unserved::Unserved;

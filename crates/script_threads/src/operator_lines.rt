@@ -1,6 +1,6 @@
 //! Lines of the operator, one after another.
 ghost use Rattle.std.specs.Prelude.{◌≡◌, length, map, OnOk};
-ghost use Rattle.operator.specs.Held.{held};
+ghost use Rattle.operator.specs.Held.{sink_text};
 ghost use Rattle.script_text.specs.Script.{named_operator};
 ghost use Rattle.script_threads.specs.Lines.{Replies, RepliesEach, stage};
 
@@ -23,7 +23,8 @@ pub(crate) fn serve_lines<'t>(
 ) -> Result<(), AllocError>
     requires { length operator.old ≡ length core.old.histories }
     ensures replies { OnOk result (Replies graph.now operator.old core.old
-        (map named_operator lines.entry.items) (held reply.old) (held reply.new) operator.new
+        (map named_operator lines.entry.items) (sink_text reply.old) (sink_text reply.new)
+        operator.new
         core.new) }
     ensures even { OnOk result (length operator.new ≡ length core.new.histories) }
 {
@@ -44,7 +45,7 @@ fn serve_each<'t, 'g>(
 ) -> Result<(), AllocError>
     requires { length operator.old ≡ length core.old.histories }
     ensures { OnOk result (RepliesEach (stage graph.now operator.old jobs.old core.old)
-        (map named_operator lines.entry.items) (held reply.old) (held reply.new)
+        (map named_operator lines.entry.items) (sink_text reply.old) (sink_text reply.new)
         (stage graph.now operator.new jobs.new core.new)) }
 {
     for line in lines {

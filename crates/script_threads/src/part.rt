@@ -2,22 +2,23 @@
 ghost use Rattle.std.specs.Prelude.{◌≡◌, ◌++◌, [], false, IfOk, IfSome, OnOk};
 ghost use Rattle.std.specs.List.{flat_map};
 ghost use Rattle.script_text.specs.Threaded.{said_by};
-ghost use Rattle.operator.specs.Held.{held};
+ghost use Rattle.operator.specs.Held.{sink_text};
 ghost use Rattle.sessions.specs.SessionText.{session_refusal_text};
 ghost use Rattle.script_threads.specs.Seats.{asked_by};
 ghost use Rattle.script_threads.specs.Sessions.{asked_in, evicted_line, evicted_refusal, evicted_text};
 
-use job_queue::{Pass, Ready};
+use job_queue::Pass;
 use line_text::{MemorySink, MemorySource};
 use script_text::SessionInput;
-use session_threads::run_session;
+use session_threads::{Context, run_session};
 use sessions::{SessionLine, SessionRefusal, read_items, write_session_refusal};
-use shared_core::{Begun, Lease, Shared};
+use shared_core::{Begun, Lease};
 use std::alloc::{AllocError, AllocGlobal, Global};
 use std::marker::Model;
 use std::sync::Wait;
 use std::sync::ledger::Ledger;
-use transcripts::{End, Transcript};
+use transcripts::{SessionEnd, Transcript};
+use worker_pool::Pool;
 
 /// The answers to a name's session, and the transcript of a session that ran.
 #[derive(Drop)]
@@ -48,22 +49,25 @@ impl<'t, C: Begun> Model for Part<'t, C> {
 /// Runs the session of a live tenancy, from its beginning to its end. None if memory ran out for
 /// its text.
 pub(crate) fn run_part<'t, C: Begun, P: Ledger, R: Wait + AllocGlobal>(
-    rt: &R,
-    shared: &Shared<C, P>,
-    ready: &Ready,
+    pool: Pool<'_, R, C, P>,
     pass: Pass,
     said: SessionInput<'t>,
     lease: Lease<C>,
 ) -> Option<Part<'t, C>>
-    requires of { pass.of ≡ ready.now }
+    requires of { pass.of ≡ pool.ready.now }
     requires new { lease.made ≡ 0 }
     ensures { IfSome result (λ part. asked_in part ≡ asked_by (said_by said.entry) lease.id) }
 {
     let id = lease.id();
     let mut reader = MemorySource::new(said.input.as_slice());
-    let mut writer = MemorySink::new(rt.alloc());
-    let transcript = run_session(rt, shared, ready, pass, lease, &mut reader, &mut writer);
-    if transcript.end() == Some(End::Ended) {
+    let mut writer = MemorySink::new(pool.rt.alloc());
+    let context = Context {
+        rt: pool.rt,
+        shared: pool.shared,
+        ready: pool.ready,
+    };
+    let transcript = run_session(context, pass, lease, &mut reader, &mut writer);
+    if transcript.end() == Some(SessionEnd::Ended) {
         let text = writer.into_bytes();
         Some(Part {
             said,
@@ -118,8 +122,8 @@ fn evicted_text(alloc: Global, input: &[u8]) -> Result<Vec<u8>, AllocError>
 
 /// Appends the answers to these items, if nothing was answered before.
 fn tell_all(text: &mut MemorySink, items: Vec<SessionLine>) -> Result<(), AllocError>
-    requires { held text.old ≡ [] }
-    ensures { OnOk result (held text.new ≡ flat_map evicted_line items.items) }
+    requires { sink_text text.old ≡ [] }
+    ensures { OnOk result (sink_text text.new ≡ flat_map evicted_line items.items) }
 {
     for item in items {
         tell(text, refusal_of(item))?;
@@ -129,7 +133,8 @@ fn tell_all(text: &mut MemorySink, items: Vec<SessionLine>) -> Result<(), AllocE
 
 /// Appends the line of a refusal.
 fn tell(text: &mut MemorySink, refusal: SessionRefusal) -> Result<(), AllocError>
-    ensures { OnOk result (held text.new ≡ held text.old ++ session_refusal_text refusal) }
+    ensures { OnOk result (sink_text text.new ≡ sink_text text.old
+        ++ session_refusal_text refusal) }
 {
     match write_session_refusal(text, refusal) {
         Ok(()) => Ok(()),

@@ -3,14 +3,14 @@ ghost use Rattle.std.specs.Prelude.{◌≡◌, ◌&&◌, ◌||◌, ⊤, All, Mat
 ghost use Rattle.script_threads.specs.Refusals.{NoneLate, is_note, is_receipt, places_in, served_late};
 
 use shared_core::Begun;
-use transcripts::{Item, Place, Transcript};
+use transcripts::{Item, ItemAnswer, Transcript};
 
 /// Whether an item's command is served although one before it was not.
 fn is_late(item: &Item, is_refused: bool) -> bool
     ensures { result ≡ (is_receipt item.now.place && is_refused) }
 {
     match &item.place {
-        Place::Receipt(_) => is_refused,
+        ItemAnswer::Receipt(_) => is_refused,
         _ => false,
     }
 }
@@ -20,7 +20,7 @@ fn is_refused_by(item: &Item, is_refused: bool) -> bool
     ensures { result ≡ (is_note item.now.place || is_refused) }
 {
     match &item.place {
-        Place::Note(_) => true,
+        ItemAnswer::Note(_) => true,
         _ => is_refused,
     }
 }

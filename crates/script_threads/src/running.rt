@@ -1,53 +1,95 @@
 //! The sessions of a script, run on threads beside the workers.
-ghost use Rattle.std.specs.Prelude.{◌≡◌, ◌≤◌, List, ℕ, true, length, map, All, IfOk};
+ghost use Rattle.std.specs.Prelude.{◌≡◌, ◌≤◌, ◌+◌, List, ℕ, true, length, map, All, IfOk};
+ghost use Rattle.shared_core.specs.declared.shared.TheConstants.{MAX_WORKERS};
+ghost use Rattle.service_core.specs.declared.service.TheConstants.{MAX_ADMISSIONS};
+ghost use Rattle.script_text.specs.Replies.{section_of};
 ghost use Rattle.script_text.specs.Threaded.{AreApart, Said, said_by};
 ghost use Rattle.script_threads.specs.Seats.{AreFree};
-ghost use Rattle.script_threads.specs.Served.{Ran, section_told};
+ghost use Rattle.script_threads.specs.Served.{Ran};
 ghost use Rattle.script_threads.specs.Sessions.{asked_of};
 
-use crate::answered::{Section, Unserved};
 use crate::crowd::run_crowd;
 use crate::finish::finish;
 use crate::seated::{Seated, seat_all, shares};
+use crate::setup::Setup;
+use crate::unserved::Unserved;
 use job_queue::{Pass, Ready, Seat};
 use operator::Operator;
-use script_text::SessionInput;
+use script_text::{SessionInput, SessionReplies};
 use service_core::Service;
 use shared_core::{Begun, Core, Share, Shared};
 use std::alloc::{AllocError, AllocGlobal, Global};
 use std::sync::Wait;
-use std::sync::ledger::Ledger;
+use std::sync::ledger::{Blank, Ledger};
 use std::thread::Threads;
 use std::time::Clock;
-use strips::DeviceGraph;
+use worker_pool::Pool;
 
-/// Runs each name's session, and settles the answers.
+/// Runs each name's session over the service, whose core has these ledgers. Settles the answers.
 pub(crate) fn run_sessions<
     't,
     C: Begun + Send + Sync,
     P: Ledger + Send + Sync,
     R: Threads + Wait + Clock + AllocGlobal + Sync,
 >(
-    rt: &R,
-    graph: &DeviceGraph,
-    workers: u32,
+    setup: &Setup<'_, R>,
+    operator: &Operator<'t>,
+    service: Service,
+    commands: Blank,
+    puts: Blank,
+    sessions: Vec<SessionInput<'t>>,
+) -> Result<(Service, Vec<SessionReplies<'t>>), Unserved>
+    requires apart { AreApart (map said_by sessions.items) }
+    requires commands { (commands.name ≡ C.name) × (commands.parts ≡ C.parts)
+        × (commands.parts ≡ MAX_ADMISSIONS + 1) }
+    requires puts { (puts.name ≡ P.name) × (puts.parts ≡ P.parts) × (puts.parts ≡ MAX_WORKERS + 1) }
+    requires begun { C.begun ≡ service }
+    requires stay { C.stay ≡ true }
+    ensures ran { IfOk result (λ r. Ran operator.now service (map said_by sessions.entry.items)
+        (map section_of r.1.items) r.0) }
+    ensures even { IfOk result (λ r. length (r.0).histories ≡ length service.histories) }
+{
+    match Core::<C, P>::over(setup.rt.alloc(), service, commands, puts) {
+        Ok(core) => run_over(setup, core, operator, sessions),
+        Err((service, error)) => {
+            drop(service);
+            drop(sessions);
+            Err(Unserved::from(error))
+        }
+    }
+}
+
+/// Runs each name's session over a core that has given no lease and no share, and settles the
+/// answers.
+fn run_over<
+    't,
+    C: Begun + Send + Sync,
+    P: Ledger + Send + Sync,
+    R: Threads + Wait + Clock + AllocGlobal + Sync,
+>(
+    setup: &Setup<'_, R>,
     core: Core<C, P>,
     operator: &Operator<'t>,
     sessions: Vec<SessionInput<'t>>,
-) -> Result<(Service, Vec<Section<'t>>), Unserved>
-    requires workers { workers ≤ 16 }
+) -> Result<(Service, Vec<SessionReplies<'t>>), Unserved>
     requires shares { core.shares ≡ 0 }
     requires free { AreFree core.marks }
     requires apart { AreApart (map said_by sessions.items) }
     requires begun { C.begun ≡ core.service }
     requires stay { C.stay ≡ true }
     ensures ran { IfOk result (λ r. Ran operator.now core.service (map said_by sessions.entry.items)
-        (map section_told r.1.items) r.0) }
+        (map section_of r.1.items) r.0) }
     ensures even { IfOk result (λ r. length (r.0).histories ≡ length core.service.histories) }
 {
     let mut core = core;
-    match prepare(rt.alloc(), workers, &mut core, operator, sessions) {
-        Ok(prepared) => run_prepared(rt, graph, core, prepared),
+    match prepare(
+        setup.rt.alloc(),
+        setup.workers,
+        &mut core,
+        operator,
+        sessions,
+    ) {
+        Ok(prepared) => run_prepared(setup, core, prepared),
         Err(error) => {
             drop(core);
             Err(Unserved::from(error))
@@ -72,7 +114,7 @@ fn prepare<'t, C: Begun, P: Ledger>(
     operator: &Operator<'t>,
     sessions: Vec<SessionInput<'t>>,
 ) -> Result<Prepared<'t, C, P>, AllocError>
-    requires workers { workers ≤ 16 }
+    requires workers { workers ≤ MAX_WORKERS }
     requires shares { core.old.shares ≡ 0 }
     requires free { AreFree core.old.marks }
     requires apart { AreApart (map said_by sessions.items) }
@@ -127,17 +169,16 @@ fn run_prepared<
     P: Ledger + Send + Sync,
     R: Threads + Wait + Clock + AllocGlobal + Sync,
 >(
-    rt: &R,
-    graph: &DeviceGraph,
+    setup: &Setup<'_, R>,
     core: Core<C, P>,
     prepared: Prepared<'t, C, P>,
-) -> Result<(Service, Vec<Section<'t>>), Unserved>
+) -> Result<(Service, Vec<SessionReplies<'t>>), Unserved>
     requires seats { All (λ s. s.of ≡ prepared.ready) prepared.workers.0.items }
     requires passes { All (λ s. s.of ≡ prepared.ready) prepared.sessions.0.items }
     requires stay { C.stay ≡ true }
     ensures ok { (names : List (List ℕ)) (sessions : List Said) →
         prepared.entry.sessions.1.items ≡ map (asked_of names C.begun.histories) sessions →
-        IfOk result (λ r. Ran names C.begun sessions (map section_told r.1.items) r.0) }
+        IfOk result (λ r. Ran names C.begun sessions (map section_of r.1.items) r.0) }
     ensures even { IfOk result (λ r. length (r.0).histories ≡ length C.begun.histories) }
 {
     let Prepared {
@@ -146,11 +187,17 @@ fn run_prepared<
         sessions,
     } = prepared;
     let shared = Shared::new(core);
-    let ran = run_crowd(rt, &shared, &ready, graph, workers, sessions);
+    let pool = Pool {
+        rt: setup.rt,
+        shared: &shared,
+        ready: &ready,
+        graph: setup.graph,
+    };
+    let ran = run_crowd(pool, workers, sessions);
     drop(ready);
     let core = shared.into_core();
     match ran {
-        Some((parts, shares)) => finish(rt.alloc(), core, parts, shares),
+        Some((parts, shares)) => finish(setup.rt.alloc(), core, parts, shares),
         None => {
             drop(core);
             Err(Unserved::NoMemory)

@@ -1,5 +1,6 @@
 //! Sessions, each with its tenancy's lease if that is live.
 ghost use Rattle.std.specs.Prelude.{◌≡◌, ◌≤◌, false, map, IfOk};
+ghost use Rattle.shared_core.specs.declared.shared.TheConstants.{MAX_WORKERS};
 ghost use Rattle.operator.specs.OperatorText.{last_id};
 ghost use Rattle.script_text.specs.Threaded.{AreApart, said_by};
 ghost use Rattle.shared_core.specs.CoreState.{is_leased};
@@ -78,7 +79,7 @@ pub(crate) fn shares<C: Begun, P: Ledger>(
     core: &mut Core<C, P>,
     workers: u32,
 ) -> Result<Vec<Share<P>>, AllocError>
-    requires workers { workers ≤ 16 }
+    requires workers { workers ≤ MAX_WORKERS }
     requires none { core.old.shares ≡ 0 }
     ensures service { core.new.service ≡ core.old.service }
     ensures marks { core.new.marks ≡ core.old.marks }

@@ -2,15 +2,14 @@
 ghost use Rattle.std.specs.Prelude.{◌≡◌, All};
 
 use crate::seats::a_seat;
-use job_queue::{Ready, Seat};
-use shared_core::{Begun, Share, Shared};
+use job_queue::Seat;
+use shared_core::{Begun, Share};
 use std::alloc::AllocGlobal;
 use std::sync::Wait;
 use std::sync::ledger::Ledger;
 use std::thread::{JoinHandle, Scope, Threads};
 use std::time::Clock;
-use strips::DeviceGraph;
-use worker_pool::{Open, run_worker};
+use worker_pool::{Open, Pool, run_worker};
 
 /// A worker's thread.
 pub(crate) type Worker<P> = JoinHandle<Share<P>>;
@@ -23,31 +22,18 @@ pub(crate) fn start_workers<
     P: Ledger + Send + Sync + 's,
     R: Wait + Clock + Sync + 's,
 >(
-    rt: &'s R,
     scope: &Scope<'s, E>,
-    shared: &'s Shared<C, P>,
-    ready: &'s Ready,
-    graph: &'s DeviceGraph,
+    pool: Pool<'s, R, C, P>,
     seats: Vec<Seat>,
     shares: Vec<Share<P>>,
     started: &mut Vec<Worker<P>>,
 ) -> bool
-    requires { All (λ s. s.of ≡ ready.now) seats.items }
+    requires { All (λ s. s.of ≡ pool.ready.now) seats.items }
 {
     let mut seats = seats;
     let mut are_started = true;
     for share in shares {
-        are_started = start_worker(
-            rt,
-            scope,
-            shared,
-            ready,
-            graph,
-            &mut seats,
-            share,
-            started,
-            are_started,
-        );
+        are_started = start_worker(scope, pool, &mut seats, share, started, are_started);
     }
     drop(seats);
     are_started
@@ -61,27 +47,22 @@ fn start_worker<
     P: Ledger + Send + Sync + 's,
     R: Wait + Clock + Sync + 's,
 >(
-    rt: &'s R,
     scope: &Scope<'s, E>,
-    shared: &'s Shared<C, P>,
-    ready: &'s Ready,
-    graph: &'s DeviceGraph,
+    pool: Pool<'s, R, C, P>,
     seats: &mut Vec<Seat>,
     share: Share<P>,
     started: &mut Vec<Worker<P>>,
     goes_on: bool,
 ) -> bool
-    requires { All (λ s. s.of ≡ ready.now) seats.old.items }
-    ensures { All (λ s. s.of ≡ ready.now) seats.new.items }
+    requires { All (λ s. s.of ≡ pool.ready.now) seats.old.items }
+    ensures { All (λ s. s.of ≡ pool.entry.ready.now) seats.new.items }
 {
     if !goes_on || started.reserve(1).is_err() {
         drop(share);
         return false;
     }
-    match a_seat(seats, ready) {
-        Some(seat) => match scope.spawn(move || run_worker(
-            rt, shared, ready, graph, seat, share, &Open,
-        )) {
+    match a_seat(seats, pool.ready) {
+        Some(seat) => match scope.spawn(move || run_worker(pool, seat, share, &Open)) {
             Ok(worker) => {
                 started.push(worker).unwrap();
                 true

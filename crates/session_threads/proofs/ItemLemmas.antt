@@ -5,9 +5,9 @@ use Rattle.std.specs.List.{onto_first}
 use Rattle.line_text.specs.Lines.{physical_lines}
 use Rattle.sessions.specs.declared.line.SessionLine.{SessionLine}
 use Rattle.sessions.specs.Reading.{item_and}
-use Rattle.transcripts.specs.declared.item.Place.{Place}
-use Rattle.session_threads.specs.declared.items.Outcome.{Outcome}
-use Rattle.session_threads.specs.declared.items.Outcome.TheVariants.{Nothing, Item, NoMemory}
+use Rattle.transcripts.specs.declared.item.ItemAnswer.{ItemAnswer}
+use Rattle.session_threads.specs.declared.items.LineOutcome.{LineOutcome}
+use Rattle.session_threads.specs.declared.items.LineOutcome.TheVariants.{Nothing, Item, NoMemory}
 use Rattle.session_threads.specs.declared.items.Within.{Within}
 use Rattle.session_threads.specs.Inputs.{is_one_line}
 use Rattle.session_threads.specs.Lines.{IsLine, LineSoFar}
@@ -41,7 +41,7 @@ last_line (b ∷ c ∷ bs) one some =
     more_last (b == 10) b (c ∷ bs) (physical_lines (c ∷ bs)) one (ap (onto_first b) (last_line (c ∷ bs) (and_right (not (b == 10)) (is_one_line (c ∷ bs)) one) (omega arith))) _
 
 -- the outcome of a line is answered
-outcome_told : (id : ℕ) (item : Option SessionLine) (outcome : Outcome) (told : List (Option Place)) → IsOutcome item outcome → TellsOutcome id outcome told → AreTold id (item_and item []) told
+outcome_told : (id : ℕ) (item : Option SessionLine) (outcome : LineOutcome) (told : List (Option ItemAnswer)) → IsOutcome item outcome → TellsOutcome id outcome told → AreTold id (item_and item []) told
 outcome_told id None Nothing told comes tells = rw tells tt
 outcome_told id None (Item it) told comes tells = cc
 outcome_told id None NoMemory told comes tells = cc
@@ -50,7 +50,7 @@ outcome_told id (Some item) (Item it) told comes tells = rw tells.2 ((let P : Se
 outcome_told id (Some item) NoMemory told comes tells = rw tells (tt, tt)
 
 -- a line, with the part of it that is kept
-pub serves_line : (id : ℕ) (old_within new_within : Within) (kept : LineSoFar) (outcome : Outcome) (wrote : List ℕ → Type 0) (old new : TranscriptState) →
+pub serves_line : (id : ℕ) (old_within new_within : Within) (kept : LineSoFar) (outcome : LineOutcome) (wrote : List ℕ → Type 0) (old new : TranscriptState) →
     ((line : List ℕ) → IsLine kept line → ComesTo old_within line outcome new_within) → Serves id outcome wrote old new → ServesLine id old_within new_within kept wrote old new
 serves_line id old_within new_within kept outcome wrote old new comes serves = record {
   told = serves.told;

@@ -5,11 +5,11 @@ use Rattle.sessions.specs.declared.line.LineForm.{LineForm}
 use Rattle.sessions.specs.declared.line.LineForm.TheVariants.{Asks}
 use Rattle.sessions.specs.declared.line.SessionLine.{SessionLine}
 use Rattle.sessions.specs.declared.line.SessionLine.TheVariants.{Blank, Command, Wait, Refused}
-use Rattle.sessions.specs.Items.{begins_text, ends_text, items_from, kept, text_ahead, text_item, with_form, with_item, without_cr}
+use Rattle.sessions.specs.Items.{begins_text, ends_text, items_from, kept_part, text_ahead, text_item, with_form, with_item, without_cr}
 use Rattle.sessions.specs.Reading.{GivesItem, TextSoFar}
 use Rattle.sessions.specs.SessionLines.{line_form}
 use Rattle.sessions.proofs.ReadingLemmas.{continued}
-use Rattle.session_threads.specs.declared.items.Outcome.TheVariants.{Nothing, Item, NoMemory}
+use Rattle.session_threads.specs.declared.items.LineOutcome.TheVariants.{Nothing, Item, NoMemory}
 use Rattle.session_threads.specs.declared.items.Within.TheVariants.{Session, Text, LostText}
 use Rattle.session_threads.specs.Outcomes.{ComesTo, LineComesTo, is_item}
 
@@ -41,7 +41,7 @@ ends old line end lines =
     ∙ ap (λ items. text_item old.kind (Some old.bytes) ∷ items) rest)
 
 abbrev with_line : TextSoFar → List ℕ → TextSoFar
-with_line old line = record { kind = old.kind; bytes = kept (old.bytes ++ without_cr line ++ 10 ∷ []) }
+with_line old line = record { kind = old.kind; bytes = kept_part (old.bytes ++ without_cr line ++ 10 ∷ []) }
 
 goes_on : (old : TextSoFar) (line : List ℕ) → ends_text line ≡ false → GivesItem (Some old) line None (Some (with_line old line))
 goes_on old line on = continued old line (with_line old line) on refl
@@ -58,7 +58,7 @@ text_ends old line item end is text within = rw within (record { next = None; it
 pub text_unserved : (old : TextSoFar) (line : List ℕ) → ends_text line ≡ true → ComesTo (Text old) line NoMemory Session
 text_unserved old line end text within = rw within (unserved old line end)
 
-pub text_goes_on : (old new : TextSoFar) (line : List ℕ) → ends_text line ≡ false → new ≡ record { kind = old.kind; bytes = kept (old.bytes ++ without_cr line ++ 10 ∷ []) } → ComesTo (Text old) line Nothing (Text new)
+pub text_goes_on : (old new : TextSoFar) (line : List ℕ) → ends_text line ≡ false → new ≡ record { kind = old.kind; bytes = kept_part (old.bytes ++ without_cr line ++ 10 ∷ []) } → ComesTo (Text old) line Nothing (Text new)
 text_goes_on old new line on is text within = rw within (record { next = Some new; item = None; within = refl; gives = continued old line new on is; comes = refl })
 
 pub text_lost : (old : TextSoFar) (line : List ℕ) → ends_text line ≡ false → ComesTo (Text old) line Nothing LostText

@@ -8,9 +8,9 @@ use Rattle.line_text.proofs.WritingLemmas.{all_none}
 use Rattle.sessions.specs.declared.line.SessionLine.{SessionLine}
 use Rattle.sessions.specs.Items.{items_of}
 use Rattle.sessions.specs.Reading.{TextSoFar, item_and, items_to_come}
-use Rattle.transcripts.specs.declared.item.End.{End}
-use Rattle.transcripts.specs.declared.item.End.TheVariants.{Ended, ReaderFailed, WriterFailed}
-use Rattle.transcripts.specs.declared.item.Place.{Place}
+use Rattle.transcripts.specs.declared.item.SessionEnd.{SessionEnd}
+use Rattle.transcripts.specs.declared.item.SessionEnd.TheVariants.{Ended, ReaderFailed, WriterFailed}
+use Rattle.transcripts.specs.declared.item.ItemAnswer.{ItemAnswer}
 use Rattle.transcripts.specs.Transcripts.{TranscriptState}
 use Rattle.session_threads.specs.declared.items.Within.{Within}
 use Rattle.session_threads.specs.declared.items.Within.TheVariants.{Session}
@@ -25,7 +25,7 @@ use Rattle.session_threads.proofs.TurnLemmas.{line_items, wrote_texts}
 
 -- a session so far
 pub record Going {W : Type 0} (id : ℕ) (old now : TranscriptState) (input ahead : Option (List ℕ)) (within : Within) (contents : W → Option (List ℕ)) (has_failed : W → Bool) (w x : W) : Type 0 where
-  pub told : List (Option Place)
+  pub told : List (Option ItemAnswer)
   pub noted_is : now ≡ noted_all old told
   pub written : TakesAll contents has_failed w x (told_texts told)
   pub read : List ℕ
@@ -82,7 +82,7 @@ goes_on contents has_failed w x y id now_id old now new input a b p q own same g
     }
 
 -- the answers to the whole input
-whole : (id : ℕ) (end : End) (input ahead : Option (List ℕ)) (final : Option (List ℕ)) (read last : List ℕ) (items : List SessionLine) (text : Option TextSoFar) (told more : List (Option Place)) (bs : List ℕ) (left : Option (List ℕ)) → Consumes input ahead read → Consumes ahead final last → HaveEnded read items text → AreTold id items told → LastToldOf id text last final end more →
+whole : (id : ℕ) (end : SessionEnd) (input ahead : Option (List ℕ)) (final : Option (List ℕ)) (read last : List ℕ) (items : List SessionLine) (text : Option TextSoFar) (told more : List (Option ItemAnswer)) (bs : List ℕ) (left : Option (List ℕ)) → Consumes input ahead read → Consumes ahead final last → HaveEnded read items text → AreTold id items told → LastToldOf id text last final end more →
     final ≡ prepend_known bs left → KeepsNoneAhead end bs → IfSome input (λ bytes. ToldOf id bytes left end (told ++ more))
 whole id end None ahead final read last items text told more bs left a b ended are its is_left none = tt
 whole id end (Some bytes) None final read last items text told more bs left a b ended are its is_left none = absurd a
@@ -96,7 +96,7 @@ whole id ReaderFailed (Some bytes) (Some ahead) (Some rest) read last items text
     let all : bytes ≡ (read ++ last) ++ rest = a ∙ (ap (λ t. read ++ t) b ∙ sym (append_assoc read last rest)) in
     let is : Some rest ≡ left = is_left ∙ (ap (λ b. prepend_known b left) none ∙ prepend_none left) in
     let Q : Option (List ℕ) → Type 0 = λ known. Consumes (Some bytes) known (read ++ last) in
-    let P : List (Option Place) → Type 0 = λ t. ToldOf id bytes left ReaderFailed t in subst P (sym same) (read, last, items, text, subst Q is all, its.0, ended, are)
+    let P : List (Option ItemAnswer) → Type 0 = λ t. ToldOf id bytes left ReaderFailed t in subst P (sym same) (read, last, items, text, subst Q is all, its.0, ended, are)
 whole id WriterFailed (Some bytes) (Some ahead) (Some rest) read last items text told more bs left a b ended are its is_left none =
     let is : items_of bytes ≡ items ++ items_to_come text (physical_lines (last ++ rest)) = ap items_of (a ∙ ap (λ t. read ++ t) b) ∙ ended (last ++ rest) in (
       items ++ its.0,
@@ -105,7 +105,7 @@ whole id WriterFailed (Some bytes) (Some ahead) (Some rest) read last items text
       told-append id items its.0 told more are its.3,
     )
 
-pub stops : {W : Type 0} (contents : W → Option (List ℕ)) (has_failed : W → Bool) (w x y : W) (id now_id : ℕ) (old now new : TranscriptState) (input a b : Option (List ℕ)) (p : Within) (end : End) (bs : List ℕ) (left : Option (List ℕ)) → old.id ≡ id → now_id ≡ now.id →
+pub stops : {W : Type 0} (contents : W → Option (List ℕ)) (has_failed : W → Bool) (w x y : W) (id now_id : ℕ) (old now new : TranscriptState) (input a b : Option (List ℕ)) (p : Within) (end : SessionEnd) (bs : List ℕ) (left : Option (List ℕ)) → old.id ≡ id → now_id ≡ now.id →
     Going id old now input a p contents has_failed w x → Stops now_id a b p (λ text how. Wrote contents has_failed x y text how) now end new → b ≡ prepend_known bs left → KeepsNoneAhead end bs → WholeSession id input left (λ text how. Wrote contents has_failed w y text how) old end new
 stops contents has_failed w x y id now_id old now new input a b p end bs left own same going turn is_left none =
     let ids : now_id ≡ id = same ∙ (ap (λ (t : TranscriptState). t.id) going.noted_is ∙ (noted_all-id old going.told ∙ own)) in

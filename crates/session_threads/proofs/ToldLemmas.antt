@@ -14,36 +14,36 @@ use Rattle.sessions.specs.declared.line.SessionLine.{SessionLine}
 use Rattle.sessions.specs.declared.refusal.SessionRefusal.{SessionRefusal}
 use Rattle.shared_core.specs.CoreState.{CoreState}
 use Rattle.transcripts.specs.declared.item.Item.{Item}
-use Rattle.transcripts.specs.declared.item.Place.{Place}
-use Rattle.transcripts.specs.declared.item.Place.TheVariants.{Receipt, Note, Refused}
-use Rattle.transcripts.specs.Transcripts.{Enters, IsPlaceOf, TranscriptState, answer_of_note, noted, with_no_memory, with_place}
-use Rattle.transcripts.specs.declared.item.End.{End}
-use Rattle.transcripts.specs.declared.item.End.TheVariants.{ReaderFailed}
-use Rattle.session_threads.specs.declared.items.Outcome.TheVariants.{Item as ItemOutcome, NoMemory}
+use Rattle.transcripts.specs.declared.item.ItemAnswer.{ItemAnswer}
+use Rattle.transcripts.specs.declared.item.ItemAnswer.TheVariants.{Receipt, Note, Refused}
+use Rattle.transcripts.specs.Transcripts.{Enters, IsPlaceOf, TranscriptState, answer_of_note, transcript_with, with_no_memory, with_place}
+use Rattle.transcripts.specs.declared.item.SessionEnd.{SessionEnd}
+use Rattle.transcripts.specs.declared.item.SessionEnd.TheVariants.{ReaderFailed}
+use Rattle.session_threads.specs.declared.items.LineOutcome.TheVariants.{Item as ItemOutcome, NoMemory}
 use Rattle.session_threads.specs.declared.items.Within.{Within}
 use Rattle.session_threads.specs.Told.{AnswersCommand, AnswersItem, AreTold, NotesBy, last_place, noted_all, told_text, told_texts}
 use Rattle.session_threads.specs.Outcomes.{EndsItems}
 use Rattle.session_threads.specs.WholeSession.{Finishes, Serves, TellsItem}
 
-pub noted_all-append : (t : TranscriptState) (xs ys : List (Option Place)) → noted_all t (xs ++ ys) ≡ noted_all (noted_all t xs) ys
+pub noted_all-append : (t : TranscriptState) (xs ys : List (Option ItemAnswer)) → noted_all t (xs ++ ys) ≡ noted_all (noted_all t xs) ys
 noted_all-append t [] ys = refl
-noted_all-append t (x ∷ xs) ys = noted_all-append (noted t x) xs ys
+noted_all-append t (x ∷ xs) ys = noted_all-append (transcript_with t x) xs ys
 
-pub noted-id : (t : TranscriptState) (x : Option Place) → (noted t x).id ≡ t.id
+pub noted-id : (t : TranscriptState) (x : Option ItemAnswer) → (transcript_with t x).id ≡ t.id
 noted-id t None = refl
 noted-id t (Some place) = refl
 
-pub noted_all-id : (t : TranscriptState) (xs : List (Option Place)) → (noted_all t xs).id ≡ t.id
+pub noted_all-id : (t : TranscriptState) (xs : List (Option ItemAnswer)) → (noted_all t xs).id ≡ t.id
 noted_all-id t [] = refl
-noted_all-id t (x ∷ xs) = noted_all-id (noted t x) xs ∙ noted-id t x
+noted_all-id t (x ∷ xs) = noted_all-id (transcript_with t x) xs ∙ noted-id t x
 
-pub texts-append : (xs ys : List (Option Place)) → told_texts (xs ++ ys) ≡ told_texts xs ++ told_texts ys
+pub texts-append : (xs ys : List (Option ItemAnswer)) → told_texts (xs ++ ys) ≡ told_texts xs ++ told_texts ys
 texts-append xs ys = flat_map-append told_text xs ys
 
-pub texts-one : (x : Option Place) → told_text x ≡ told_texts (x ∷ [])
+pub texts-one : (x : Option ItemAnswer) → told_text x ≡ told_texts (x ∷ [])
 texts-one x = sym (append-nil (told_text x))
 
-pub told-append : (id : ℕ) (is js : List SessionLine) (xs ys : List (Option Place)) → AreTold id is xs → AreTold id js ys → AreTold id (is ++ js) (xs ++ ys)
+pub told-append : (id : ℕ) (is js : List SessionLine) (xs ys : List (Option ItemAnswer)) → AreTold id is xs → AreTold id js ys → AreTold id (is ++ js) (xs ++ ys)
 told-append id [] js [] ys a b = b
 told-append id [] js (x ∷ xs) ys a b = absurd a
 told-append id (i ∷ is) js [] ys a b = absurd a
@@ -71,7 +71,7 @@ note_answers before after id command n JournalFull e is =
 note_answers before after id command n NoSuchTenancy e is =
     let its = rw e at is in ap (λ (m : Noted). m.id) its.0
 
-pub place_answers : (before after : CoreState) (id : ℕ) (command : TenantCommand) (place : Place) → IsPlaceOf before id command place after → AnswersCommand id command place
+pub place_answers : (before after : CoreState) (id : ℕ) (command : TenantCommand) (place : ItemAnswer) → IsPlaceOf before id command place after → AnswersCommand id command place
 place_answers before after id command (Receipt r) is = receipt_answers (live_of before.service.histories id) id command r is.0.0
 place_answers before after id command (Note n) is = note_answers before.service after.service id command n n.cause refl is.0
 place_answers before after id command (Refused refusal) is = absurd is
@@ -85,7 +85,7 @@ refuses_notes old new refusal true is = (Refused refusal, refl, is)
 refuses_notes old new refusal false is = is
 
 -- an item that has an answer
-pub tells_placed : (id : ℕ) (item : SessionLine) (wrote : List ℕ → Type 0) (old mid new : TranscriptState) (has : Bool) (last : Option Place) → old.id ≡ id → mid ≡ old → has ≡ true → NotesBy (AnswersItem mid.id item) mid has new → last ≡ last_place new.items → wrote (told_text last) →
+pub tells_placed : (id : ℕ) (item : SessionLine) (wrote : List ℕ → Type 0) (old mid new : TranscriptState) (has : Bool) (last : Option ItemAnswer) → old.id ≡ id → mid ≡ old → has ≡ true → NotesBy (AnswersItem mid.id item) mid has new → last ≡ last_place new.items → wrote (told_text last) →
     TellsItem id item wrote old new
 tells_placed id item wrote old mid new true last own same has notes last_is written =
     let placed : last ≡ Some notes.0 = last_is ∙ (ap (λ (t : TranscriptState). last_place t.items) notes.2 ∙ last_place-snoc mid.items (record { place = notes.0; no_memory_before = mid.no_memory })) in
@@ -94,12 +94,12 @@ tells_placed id item wrote old mid new true last own same has notes last_is writ
       told = Some notes.0;
       answers = (let P : ℕ → Type 0 = λ i. AnswersItem i item notes.0 in subst P ids notes.1);
       noted_is = notes.2 ∙ ap (λ t. with_place t notes.0) same;
-      written = (let P : Option Place → Type 0 = λ t. wrote (told_text t) in subst P placed written);
+      written = (let P : Option ItemAnswer → Type 0 = λ t. wrote (told_text t) in subst P placed written);
     }
 tells_placed id item wrote old mid new false last own same has notes last_is written = cc
 
 -- the item at the input's end
-pub finishes : (id : ℕ) (within : Within) (item : SessionLine) (wrote : List ℕ → End → Type 0) (old new : TranscriptState) (end : End) → end ≢ ReaderFailed → EndsItems within (Some item) → TellsItem id item (λ text. wrote text end) old new → Finishes id within wrote old end new
+pub finishes : (id : ℕ) (within : Within) (item : SessionLine) (wrote : List ℕ → SessionEnd → Type 0) (old new : TranscriptState) (end : SessionEnd) → end ≢ ReaderFailed → EndsItems within (Some item) → TellsItem id item (λ text. wrote text end) old new → Finishes id within wrote old end new
 finishes id within item wrote old new end not ends tells = record {
   told = tells.told ∷ [];
   noted_is = tells.noted_is;

@@ -8,9 +8,9 @@ use Rattle.line_text.specs.Writing.{TakesAll, Writes}
 use Rattle.line_text.proofs.WritingLemmas.{all_none, all_then, part_then}
 use Rattle.sessions.specs.declared.line.SessionLine.{SessionLine}
 use Rattle.sessions.specs.Reading.{TextSoFar, item_and, items_to_come}
-use Rattle.transcripts.specs.declared.item.End.{End}
-use Rattle.transcripts.specs.declared.item.End.TheVariants.{Ended, ReaderFailed, WriterFailed}
-use Rattle.transcripts.specs.declared.item.Place.{Place}
+use Rattle.transcripts.specs.declared.item.SessionEnd.{SessionEnd}
+use Rattle.transcripts.specs.declared.item.SessionEnd.TheVariants.{Ended, ReaderFailed, WriterFailed}
+use Rattle.transcripts.specs.declared.item.ItemAnswer.{ItemAnswer}
 use Rattle.transcripts.specs.Transcripts.{TranscriptState}
 use Rattle.session_threads.specs.declared.items.Within.{Within}
 use Rattle.session_threads.specs.declared.lines.LineEnd.TheVariants.{LineFeed, Input}
@@ -23,12 +23,12 @@ use Rattle.session_threads.proofs.ItemLemmas.{last_line, line_then}
 use Rattle.session_threads.proofs.ToldLemmas.{noted_all-append, noted_all-id, texts-append, told-append}
 
 -- a text, and then its last part
-pub wrote_then : {W : Type 0} (contents : W → Option (List ℕ)) (has_failed : W → Bool) (a b c : W) (s t : List ℕ) (end : End) → TakesAll contents has_failed a b s → Wrote contents has_failed b c t end → Wrote contents has_failed a c (s ++ t) end
+pub wrote_then : {W : Type 0} (contents : W → Option (List ℕ)) (has_failed : W → Bool) (a b c : W) (s t : List ℕ) (end : SessionEnd) → TakesAll contents has_failed a b s → Wrote contents has_failed b c t end → Wrote contents has_failed a c (s ++ t) end
 wrote_then contents has_failed a b c s t Ended all last = all_then all last
 wrote_then contents has_failed a b c s t ReaderFailed all last = all_then all last
 wrote_then contents has_failed a b c s t WriterFailed all last = part_then all last
 
-pub wrote_texts : {W : Type 0} (contents : W → Option (List ℕ)) (has_failed : W → Bool) (a b c : W) (xs ys : List (Option Place)) (end : End) → TakesAll contents has_failed a b (told_texts xs) → Wrote contents has_failed b c (told_texts ys) end → Wrote contents has_failed a c (told_texts (xs ++ ys)) end
+pub wrote_texts : {W : Type 0} (contents : W → Option (List ℕ)) (has_failed : W → Bool) (a b c : W) (xs ys : List (Option ItemAnswer)) (end : SessionEnd) → TakesAll contents has_failed a b (told_texts xs) → Wrote contents has_failed b c (told_texts ys) end → Wrote contents has_failed a c (told_texts (xs ++ ys)) end
 wrote_texts contents has_failed a b c xs ys end all last =
     let P : List ℕ → Type 0 = λ text. Wrote contents has_failed a c text end in subst P (sym (texts-append xs ys)) (wrote_then contents has_failed a b c (told_texts xs) (told_texts ys) end all last)
 
@@ -37,7 +37,7 @@ item_and-append : (item : Option SessionLine) (items : List SessionLine) → ite
 item_and-append None items = refl
 item_and-append (Some item) items = refl
 
-pub line_items : (id : ℕ) (text : Option TextSoFar) (line : List ℕ) (after : Within) (told : List (Option Place)) (t : LineIsTold id text line after told) (lines : List (List ℕ)) → items_to_come text (line ∷ lines) ≡ item_and t.item [] ++ items_to_come t.next lines
+pub line_items : (id : ℕ) (text : Option TextSoFar) (line : List ℕ) (after : Within) (told : List (Option ItemAnswer)) (t : LineIsTold id text line after told) (lines : List (List ℕ)) → items_to_come text (line ∷ lines) ≡ item_and t.item [] ++ items_to_come t.next lines
 line_items id text line after told t lines = t.gives lines ∙ item_and-append t.item (items_to_come t.next lines)
 
 pub reader_fails : {W : Type 0} (contents : W → Option (List ℕ)) (has_failed : W → Bool) (w : W) (id : ℕ) (input ahead : Option (List ℕ)) (within : Within) (kept : LineSoFar) (failed : Failed) (t : TranscriptState) →
@@ -79,7 +79,7 @@ line_unwritten contents has_failed a b id input ahead within after kept old new 
     first None text told = tt
     first (Some rest) text told = (item_and told.item [], items_to_come told.next (physical_lines rest), ap (items_to_come text) (line_then reads.0 rest reads.1) ∙ line_items id text reads.0 after serves.told told (physical_lines rest), told.are)
 
-pub input_ended : {W : Type 0} (contents : W → Option (List ℕ)) (has_failed : W → Bool) (a b : W) (id : ℕ) (input ahead : Option (List ℕ)) (within : Within) (kept : LineSoFar) (old new : TranscriptState) (end : End) →
+pub input_ended : {W : Type 0} (contents : W → Option (List ℕ)) (has_failed : W → Bool) (a b : W) (id : ℕ) (input ahead : Option (List ℕ)) (within : Within) (kept : LineSoFar) (old new : TranscriptState) (end : SessionEnd) →
     ReadsLine input ahead kept (Ok Input) → EndsInput id within kept (Wrote contents has_failed a b) old end new → Stops id input ahead within (Wrote contents has_failed a b) old end new
 input_ended contents has_failed a b id input ahead within kept old new end reads ends = record {
   told = ends.told;
@@ -90,7 +90,7 @@ input_ended contents has_failed a b id input ahead within kept old new end reads
   asked = λ text is. at_end end ahead text reads.3.1 (ends.asked reads.0 reads.2 reads.1 text is);
 }
   where
-    at_end : (how : End) (known : Option (List ℕ)) (text : Option TextSoFar) → IsAtEnd known → ToldAtEnd how id (items_to_come text (physical_lines reads.0)) ends.told → LastToldOf id text reads.0 known how ends.told
+    at_end : (how : SessionEnd) (known : Option (List ℕ)) (text : Option TextSoFar) → IsAtEnd known → ToldAtEnd how id (items_to_come text (physical_lines reads.0)) ends.told → LastToldOf id text reads.0 known how ends.told
     at_end Ended known text none told = (none, told)
     at_end ReaderFailed known text none told = absurd told
     at_end WriterFailed None text none told = tt
@@ -99,12 +99,12 @@ input_ended contents has_failed a b id input ahead within kept old new end reads
         let P : List ℕ → Type 0 = λ bytes. FirstAreTold id (items_to_come text (physical_lines bytes)) ends.told in subst P (sym same) told
 
 -- no line is left, only the end
-at_once : (id : ℕ) (items : List SessionLine) (told : List (Option Place)) (end : End) → end ≢ ReaderFailed → AreTold id items told → ToldAtEnd end id items told
+at_once : (id : ℕ) (items : List SessionLine) (told : List (Option ItemAnswer)) (end : SessionEnd) → end ≢ ReaderFailed → AreTold id items told → ToldAtEnd end id items told
 at_once id items told Ended not told_is = told_is
 at_once id items told ReaderFailed not told_is = absurd (not refl)
 at_once id items told WriterFailed not told_is = (items, [], sym (append-nil items), told_is)
 
-pub no_last_line : {W : Type 0} (contents : W → Option (List ℕ)) (has_failed : W → Bool) (a b : W) (id : ℕ) (within : Within) (kept : LineSoFar) (old new : TranscriptState) (end : End) →
+pub no_last_line : {W : Type 0} (contents : W → Option (List ℕ)) (has_failed : W → Bool) (a b : W) (id : ℕ) (within : Within) (kept : LineSoFar) (old new : TranscriptState) (end : SessionEnd) →
     ((line : List ℕ) → IsLine kept line → line ≡ []) → Finishes id within (Wrote contents has_failed a b) old end new → EndsInput id within kept (Wrote contents has_failed a b) old end new
 no_last_line contents has_failed a b id within kept old new end empty f = record {
   told = f.told;
@@ -117,7 +117,7 @@ no_last_line contents has_failed a b id within kept old new end empty f = record
 }
 
 -- a last line, and the end
-pub last_line_served : {W : Type 0} (contents : W → Option (List ℕ)) (has_failed : W → Bool) (a b c : W) (id : ℕ) (within after : Within) (kept : LineSoFar) (old mid new : TranscriptState) (end : End) (u : Unit {0}) → old.id ≡ id → ((line : List ℕ) → IsLine kept line → 0 < length line) →
+pub last_line_served : {W : Type 0} (contents : W → Option (List ℕ)) (has_failed : W → Bool) (a b c : W) (id : ℕ) (within after : Within) (kept : LineSoFar) (old mid new : TranscriptState) (end : SessionEnd) (u : Unit {0}) → old.id ≡ id → ((line : List ℕ) → IsLine kept line → 0 < length line) →
     ServesLine id within after kept (λ text. Writes contents has_failed a b text (Ok u)) old mid → Finishes mid.id after (Wrote contents has_failed b c) mid end new → EndsInput id within kept (Wrote contents has_failed a c) old end new
 last_line_served contents has_failed a b c id within after kept old mid new end u own some serves f = record {
   told = serves.told ++ f.told;
@@ -147,12 +147,12 @@ last_line_unwritten contents has_failed a b id within after kept old new failed 
 }
 
 -- the reader didn't fail
-pub none_ahead : (end : End) (ahead : List ℕ) → end ≢ ReaderFailed → KeepsNoneAhead end ahead
+pub none_ahead : (end : SessionEnd) (ahead : List ℕ) → end ≢ ReaderFailed → KeepsNoneAhead end ahead
 none_ahead Ended ahead not = tt
 none_ahead ReaderFailed ahead not = absurd (not refl)
 none_ahead WriterFailed ahead not = tt
 
-pub ends_reading : (known : Option (List ℕ)) (failed : Bool) (end : End) → IsAtEnd known → end ≢ ReaderFailed → EndsReading known failed end
+pub ends_reading : (known : Option (List ℕ)) (failed : Bool) (end : SessionEnd) → IsAtEnd known → end ≢ ReaderFailed → EndsReading known failed end
 ends_reading known failed Ended none not = none
 ends_reading known failed ReaderFailed none not = absurd (not refl)
 ends_reading known failed WriterFailed none not = tt

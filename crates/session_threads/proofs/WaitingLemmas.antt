@@ -5,17 +5,17 @@ use Rattle.std.proofs.lemmas.List.{set-get_or, set-set}
 use Rattle.tenant_slot.specs.declared.command.Command.TheVariants.{Status}
 use Rattle.tenant_slot.specs.declared.event.Event.TheVariants.{Command as Asked}
 use Rattle.tenant_slot.specs.declared.reply.Reply.{Reply}
-use Rattle.tenant_slot.specs.SingleUser.{State, answer_to, running, step}
+use Rattle.tenant_slot.specs.SingleUser.{State, answer_to, kind_that_runs, step}
 use Rattle.tenant_slot.proofs.Runs.{step-room, step-served}
 use Rattle.service_core.specs.History.{History, state_of}
 use Rattle.service_core.specs.Receipt.{Receipted}
 use Rattle.service_core.specs.Run.{IsReceipt}
 use Rattle.service_core.specs.Service.{AreAlone, live_of}
 use Rattle.service_core.specs.Calls.{takeable_in}
-use Rattle.shared_core.specs.CoreState.{CoreState, SlotTable, has_room_in, is_idle_in, number_of, ready_number, unqueued, with_mark}
+use Rattle.shared_core.specs.CoreState.{CoreState, SlotTable, has_room_in, is_idle_in, number_of, ready_number, unmarked_number, with_mark}
 use Rattle.shared_core.proofs.Kept.{served_room}
-use Rattle.transcripts.specs.declared.item.Place.{Place}
-use Rattle.transcripts.specs.declared.item.Place.TheVariants.{Receipt, Note, Refused}
+use Rattle.transcripts.specs.declared.item.ItemAnswer.{ItemAnswer}
+use Rattle.transcripts.specs.declared.item.ItemAnswer.TheVariants.{Receipt, Note, Refused}
 use Rattle.transcripts.specs.Transcripts.{Enters, IsPlaceOf, TranscriptState}
 use Rattle.session_threads.specs.declared.waiting.Found.{Found}
 use Rattle.session_threads.specs.declared.waiting.Found.TheVariants.{Ended, GivenUp, Goes}
@@ -27,7 +27,7 @@ free_again : (queued : List Bool) (n : ℕ) → slice_index_or queued n false �
 free_again queued n free = set-set queued n true false ∙ (ap (λ b. set queued n b) (sym free) ∙ set-get_or queued n false)
 
 -- a number that can be marked isn't marked
-unqueued_free : (slots : SlotTable) (number : Option ℕ) (n : ℕ) → unqueued slots number ≡ Some n → slice_index_or slots.queued n false ≡ false
+unqueued_free : (slots : SlotTable) (number : Option ℕ) (n : ℕ) → unmarked_number slots number ≡ Some n → slice_index_or slots.queued n false ≡ false
 unqueued_free slots None n is = cc
 unqueued_free slots (Some m) n is = by_mark (slice_index_or slots.queued m false) refl is
   where
@@ -38,7 +38,7 @@ unqueued_free slots (Some m) n is = by_mark (slice_index_or slots.queued m false
 ready_free : (core : CoreState) (id n : ℕ) → ready_number core id ≡ Some n → slice_index_or core.slots.queued n false ≡ false
 ready_free core id n is = by_step (takeable_in (live_of core.service.histories id)) is
   where
-    by_step : (b : Bool) → (if b then unqueued core.slots (number_of core.slots.holders id) else None) ≡ Some n → slice_index_or core.slots.queued n false ≡ false
+    by_step : (b : Bool) → (if b then unmarked_number core.slots (number_of core.slots.holders id) else None) ≡ Some n → slice_index_or core.slots.queued n false ≡ false
     by_step true is = unqueued_free core.slots (number_of core.slots.holders id) n is
     by_step false is = cc
 
@@ -51,7 +51,7 @@ none_runs None b idle room = refl
 none_runs (Some x) true idle room = cc
 none_runs (Some x) false idle room = cc
 
-status_at_rest : (state : State) (reply : Reply) → (step state (Asked Status)).1 ≡ Some reply → running state.name ≡ None → IsAtRest reply
+status_at_rest : (state : State) (reply : Reply) → (step state (Asked Status)).1 ≡ Some reply → kind_that_runs state.name ≡ None → IsAtRest reply
 status_at_rest state reply told none =
     let room = (step-served state (Asked Status) reply told).1 in
     let answered : (step state (Asked Status)).1 ≡ Some (answer_to state (Asked Status)).1 = ap (λ (p : State × Option Reply). p.1) (step-room state (Asked Status) room) in
@@ -65,9 +65,9 @@ status_at_rest state reply told none =
 
 idle_at_rest : (live : Option History) (id : ℕ) (r : Receipted) → is_idle_in live ≡ true → has_room_in live ≡ true → IsReceipt live id Status r → IsAtRest r.reply
 idle_at_rest None id r idle room is = absurd is
-idle_at_rest (Some h) id r idle room is = status_at_rest (state_of h) r.reply is.3 (none_runs (running (state_of h).name) (nat_lt (length h.entries) 65536) idle room)
+idle_at_rest (Some h) id r idle room is = status_at_rest (state_of h) r.reply is.3 (none_runs (kind_that_runs (state_of h).name) (nat_lt (length h.entries) 65536) idle room)
 
-waited : (before after : CoreState) (id : ℕ) (place : Place) → AreAlone before.service → is_idle_in (live_of before.service.histories id) ≡ true → IsPlaceOf before id Status place after → AnswersWait id place
+waited : (before after : CoreState) (id : ℕ) (place : ItemAnswer) → AreAlone before.service → is_idle_in (live_of before.service.histories id) ≡ true → IsPlaceOf before id Status place after → AnswersWait id place
 waited before after id (Receipt r) alone idle is =
     (place_answers before after id Status (Receipt r) is, idle_at_rest (live_of before.service.histories id) id r idle (served_room before.service after.service id Status r alone is.0) is.0.0)
 waited before after id (Note n) alone idle is = place_answers before after id Status (Note n) is

@@ -11,7 +11,7 @@ use std::mem;
 
 /// The outcome of a line.
 #[derive(Drop)]
-pub(crate) enum Outcome {
+pub enum LineOutcome {
     /// No item ends with it.
     Nothing,
     Item(SessionLine),
@@ -49,7 +49,7 @@ impl ItemReader {
     }
 
     /// Takes the next line.
-    pub(crate) fn take_line(&mut self, line: &Line) -> Outcome
+    pub(crate) fn take_line(&mut self, line: &Line) -> LineOutcome
         ensures line { (bytes : List ℕ) → IsLine line.now bytes →
             ComesTo self.old.within bytes result self.new.within }
         ensures item { IsItem result }
@@ -78,54 +78,54 @@ impl ItemReader {
 }
 
 /// Takes a line outside of texts. Takes no memory.
-fn begin(alloc: Global, line: &Line) -> (Within, Outcome)
+fn begin(alloc: Global, line: &Line) -> (Within, LineOutcome)
     ensures line { (bytes : List ℕ) → IsLine line.now bytes →
         ComesTo Session bytes result.1 result.0 }
     ensures item { IsItem result.1 }
 {
     match line.form() {
-        LineForm::Asks(SessionLine::Blank) => (Within::Session, Outcome::Nothing),
-        LineForm::Asks(item) => (Within::Session, Outcome::Item(item)),
+        LineForm::Asks(SessionLine::Blank) => (Within::Session, LineOutcome::Nothing),
+        LineForm::Asks(item) => (Within::Session, LineOutcome::Item(item)),
         LineForm::Begins(kind) => {
             let text = PendingText::new(alloc, kind);
-            (Within::Text(text), Outcome::Nothing)
+            (Within::Text(text), LineOutcome::Nothing)
         }
     }
 }
 
 /// Takes a line of a text.
-fn go_on(alloc: Global, text: PendingText, line: &Line) -> (Within, Outcome)
+fn go_on(alloc: Global, text: PendingText, line: &Line) -> (Within, LineOutcome)
     ensures line { (bytes : List ℕ) → IsLine line.now bytes →
         ComesTo (Text text) bytes result.1 result.0 }
     ensures item { IsItem result.1 }
 {
     if line.ends_text() {
         return match text.into_line(alloc) {
-            Ok(item) => (Within::Session, Outcome::Item(item)),
-            Err(_) => (Within::Session, Outcome::NoMemory),
+            Ok(item) => (Within::Session, LineOutcome::Item(item)),
+            Err(_) => (Within::Session, LineOutcome::NoMemory),
         };
     }
     match line.content() {
         Some(content) => match text.with_line(content) {
-            Ok(text) => (Within::Text(text), Outcome::Nothing),
-            Err(_) => (Within::LostText, Outcome::Nothing),
+            Ok(text) => (Within::Text(text), LineOutcome::Nothing),
+            Err(_) => (Within::LostText, LineOutcome::Nothing),
         },
         None => {
             drop(text);
-            (Within::LostText, Outcome::Nothing)
+            (Within::LostText, LineOutcome::Nothing)
         }
     }
 }
 
 /// Takes a line of a text that is lost. The item that ends with the text ran out of memory.
-fn drop_line(line: &Line) -> (Within, Outcome)
+fn drop_line(line: &Line) -> (Within, LineOutcome)
     ensures line { (bytes : List ℕ) → IsLine line.now bytes →
         ComesTo LostText bytes result.1 result.0 }
     ensures item { IsItem result.1 }
 {
     if line.ends_text() {
-        (Within::Session, Outcome::NoMemory)
+        (Within::Session, LineOutcome::NoMemory)
     } else {
-        (Within::LostText, Outcome::Nothing)
+        (Within::LostText, LineOutcome::Nothing)
     }
 }

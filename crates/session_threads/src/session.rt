@@ -1,13 +1,14 @@
 //! A session on a thread of its own.
-ghost use Rattle.std.specs.Prelude.{◌≡◌, IfSome, true};
+ghost use Rattle.std.specs.Prelude.{◌≡◌, IfSome, Some, true};
 ghost use Rattle.std.specs.Io.KnownBytes.{prepend_known};
 ghost use Rattle.line_text.specs.Writing.{Writes};
 ghost use Rattle.sessions.specs.declared.line.SessionLine.TheVariants.{Wait};
 ghost use Rattle.session_threads.specs.Outcomes.{IsItem, is_item};
 ghost use Rattle.session_threads.specs.Told.{AnswersCommand, AnswersItem, NotesBy};
-ghost use Rattle.session_threads.specs.WholeSession.{EndsInput, EndsReading, Finishes, IsSession, KeepsNoneAhead, Serves, ServesLine, TellsItem, Turns, WholeSession, Wrote};
+ghost use Rattle.session_threads.specs.WholeSession.{EndsInput, EndsReading, Finishes, IsSession, KeepsNoneAhead, Serves, ServesLine, TellsItem, Turns, WholeSession, Wrote, new_transcript};
 
-use crate::items::{ItemReader, Outcome};
+use crate::context::Context;
+use crate::items::{ItemReader, LineOutcome};
 use crate::line::Line;
 use crate::lines::{LineEnd, LineReader};
 use crate::told::{last_place, write_told};
@@ -16,64 +17,84 @@ use job_queue::{Pass, Ready};
 use line_text::{Failed, Sink, Source};
 use sessions::SessionLine;
 use shared_core::{Begun, Lease, Shared};
-use std::alloc::AllocGlobal;
+use std::alloc::{AllocGlobal, Global};
 use std::sync::Wait;
 use std::sync::ledger::Ledger;
 use tenant_slot::{Command, Reply, StateName};
-use transcripts::{End, Place, Transcript};
+use transcripts::{ItemAnswer, SessionEnd, Transcript};
 
 /// Runs a session: reads its input, asks the core what each item asks, and writes the answers. The
 /// transcript has the answer to each item, in order, or counts it if it ran out of memory. The
 /// answers were written, or a beginning of them if the writer failed, and they answer what the
 /// input asks. A command whose reply couldn't be written keeps its receipt.
 pub fn run_session<C: Begun, P: Ledger, S: Source, W: Sink, R: Wait + AllocGlobal>(
-    rt: &R,
-    shared: &Shared<C, P>,
-    ready: &Ready,
+    context: Context<'_, R, C, P>,
     pass: Pass,
     lease: Lease<C>,
     reader: &mut S,
     writer: &mut W,
 ) -> Transcript<C>
-    requires of { pass.of ≡ ready.now }
+    requires of { pass.of ≡ context.ready.now }
     requires new { lease.made ≡ 0 }
     ensures session { IsSession lease.id (S.remaining reader.old) (S.remaining reader.new)
         (λ text end. Wrote W.contents W.has_failed writer.old writer.new text end) result }
     ensures reader { IfSome result.end (λ end.
         EndsReading (S.remaining reader.new) (S.has_failed reader.new) end) }
 {
-    let mut session = Session {
-        pass,
-        transcript: Transcript::new(rt.alloc(), lease),
-    };
-    let end = session.read_all(rt, shared, ready, reader, writer);
-    session.push_ready(rt, shared, ready);
-    let Session {
-        pass: _,
-        mut transcript,
-    } = session;
-    transcript.finish(end);
-    transcript
+    let mut session = Session::new(context.rt.alloc(), pass, lease);
+    let end = session.read_all(context, reader, writer);
+    session.end(context.rt, context.shared, context.ready, end)
 }
 
-/// What a session holds.
+/// A session: the right to push to the ready queue, and its transcript.
 #[derive(Drop)]
-struct Session<C: Begun> {
+pub struct Session<C: Begun> {
     pass: Pass,
     transcript: Transcript<C>,
 }
 
 impl<C: Begun> Session<C> {
-    /// Serves the items of an input.
-    fn read_all<P: Ledger, S: Source, W: Sink, R: Wait + AllocGlobal>(
-        &mut self,
+    /// A session of that lease, which has made no entry yet.
+    pub fn new(alloc: Global, pass: Pass, lease: Lease<C>) -> Self
+        requires { lease.made ≡ 0 }
+        ensures pass { result.pass ≡ pass }
+        ensures transcript { result.transcript ≡ new_transcript lease.id }
+    {
+        Session {
+            pass,
+            transcript: Transcript::new(alloc, lease),
+        }
+    }
+
+    /// Ends the session so. A number that was given up is pushed first.
+    pub fn end<P: Ledger, R: Wait>(
+        self,
         rt: &R,
         shared: &Shared<C, P>,
         ready: &Ready,
+        end: SessionEnd,
+    ) -> Transcript<C>
+        requires { self.pass.of ≡ ready.now }
+        ensures { result ≡ record self.transcript { end = Some end } }
+    {
+        let mut session = self;
+        session.push_ready(rt, shared, ready);
+        let Session {
+            pass: _,
+            mut transcript,
+        } = session;
+        transcript.finish(end);
+        transcript
+    }
+
+    /// Serves the items of an input.
+    fn read_all<P: Ledger, S: Source, W: Sink, R: Wait + AllocGlobal>(
+        &mut self,
+        context: Context<'_, R, C, P>,
         reader: &mut S,
         writer: &mut W,
-    ) -> End
-        requires { self.old.pass.of ≡ ready.now }
+    ) -> SessionEnd
+        requires { self.old.pass.of ≡ context.ready.now }
         ensures of { self.new.pass.of ≡ self.old.pass.of }
         ensures session { WholeSession self.old.transcript.id (S.remaining reader.old)
             (S.remaining reader.new)
@@ -81,10 +102,11 @@ impl<C: Begun> Session<C> {
             self.old.transcript result self.new.transcript }
         ensures reader { EndsReading (S.remaining reader.new) (S.has_failed reader.new) result }
     {
-        let mut lines = LineReader::new(rt.alloc());
-        let mut items = ItemReader::new(rt.alloc());
-        for _ in rt.forever() {
-            let turn = self.turn(rt, shared, ready, &mut lines, &mut items, reader, writer);
+        let alloc = context.rt.alloc();
+        let mut lines = LineReader::new(alloc);
+        let mut items = ItemReader::new(alloc);
+        for _ in context.rt.forever() {
+            let turn = self.turn(context, &mut lines, &mut items, reader, writer);
             if let Some(end) = turn {
                 return end;
             }
@@ -95,15 +117,13 @@ impl<C: Begun> Session<C> {
     /// Reads a line and serves it. Returns how the session ended, if it did.
     fn turn<P: Ledger, S: Source, W: Sink, R: Wait>(
         &mut self,
-        rt: &R,
-        shared: &Shared<C, P>,
-        ready: &Ready,
+        context: Context<'_, R, C, P>,
         lines: &mut LineReader,
         items: &mut ItemReader,
         reader: &mut S,
         writer: &mut W,
-    ) -> Option<End>
-        requires { self.old.pass.of ≡ ready.now }
+    ) -> Option<SessionEnd>
+        requires { self.old.pass.of ≡ context.ready.now }
         ensures of { self.new.pass.of ≡ self.old.pass.of }
         ensures turn { Turns self.old.transcript.id
             (prepend_known lines.old.input (S.remaining reader.old))
@@ -115,15 +135,15 @@ impl<C: Begun> Session<C> {
         ensures reader { IfSome result (λ end.
             EndsReading (S.remaining reader.new) (S.has_failed reader.new) end) }
     {
-        let Ok(end) = lines.read_line(rt, reader) else {
-            return Some(End::ReaderFailed);
+        let Ok(end) = lines.read_line(context.rt, reader) else {
+            return Some(SessionEnd::ReaderFailed);
         };
         let line = &lines.line;
         match end {
-            LineEnd::Input => Some(self.end_input(rt, shared, ready, line, items, writer)),
-            LineEnd::LineFeed => match self.serve_line(rt, shared, ready, line, items, writer) {
+            LineEnd::Input => Some(self.end_input(context, line, items, writer)),
+            LineEnd::LineFeed => match self.serve_line(context, line, items, writer) {
                 Ok(()) => None,
-                Err(_) => Some(End::WriterFailed),
+                Err(_) => Some(SessionEnd::WriterFailed),
             },
         }
     }
@@ -131,58 +151,52 @@ impl<C: Begun> Session<C> {
     /// Serves a line: takes it into the items, and answers the item that ends with it, if any.
     fn serve_line<P: Ledger, W: Sink, R: Wait>(
         &mut self,
-        rt: &R,
-        shared: &Shared<C, P>,
-        ready: &Ready,
+        context: Context<'_, R, C, P>,
         line: &Line,
         items: &mut ItemReader,
         writer: &mut W,
     ) -> Result<(), Failed>
-        requires { self.old.pass.of ≡ ready.now }
+        requires { self.old.pass.of ≡ context.ready.now }
         ensures of { self.new.pass.of ≡ self.old.pass.of }
         ensures told { ServesLine self.old.transcript.id items.old.within items.new.within line.now
             (λ text. Writes W.contents W.has_failed writer.old writer.new text result)
             self.old.transcript self.new.transcript }
     {
         let outcome = items.take_line(line);
-        self.serve(rt, shared, ready, outcome, writer)
+        self.serve(context.rt, context.shared, context.ready, outcome, writer)
     }
 
     /// Serves the last line, if it has bytes, and the item at the input's end.
     fn end_input<P: Ledger, W: Sink, R: Wait>(
         &mut self,
-        rt: &R,
-        shared: &Shared<C, P>,
-        ready: &Ready,
+        context: Context<'_, R, C, P>,
         line: &Line,
         items: &mut ItemReader,
         writer: &mut W,
-    ) -> End
-        requires { self.old.pass.of ≡ ready.now }
+    ) -> SessionEnd
+        requires { self.old.pass.of ≡ context.ready.now }
         ensures of { self.new.pass.of ≡ self.old.pass.of }
         ensures told { EndsInput self.old.transcript.id items.old.within line.now
             (λ text end. Wrote W.contents W.has_failed writer.old writer.new text end)
             self.old.transcript result self.new.transcript }
     {
         if line.is_empty() {
-            return self.finish(rt, shared, ready, items, writer);
+            return self.finish(context, items, writer);
         }
-        match self.serve_line(rt, shared, ready, line, items, writer) {
-            Ok(()) => self.finish(rt, shared, ready, items, writer),
-            Err(_) => End::WriterFailed,
+        match self.serve_line(context, line, items, writer) {
+            Ok(()) => self.finish(context, items, writer),
+            Err(_) => SessionEnd::WriterFailed,
         }
     }
 
     /// Serves the item at the input's end, if there is one.
     fn finish<P: Ledger, W: Sink, R: Wait>(
         &mut self,
-        rt: &R,
-        shared: &Shared<C, P>,
-        ready: &Ready,
+        context: Context<'_, R, C, P>,
         items: &ItemReader,
         writer: &mut W,
-    ) -> End
-        requires { self.old.pass.of ≡ ready.now }
+    ) -> SessionEnd
+        requires { self.old.pass.of ≡ context.ready.now }
         ensures of { self.new.pass.of ≡ self.old.pass.of }
         ensures told { Finishes self.old.transcript.id
             items.now.within (λ text end.
@@ -190,21 +204,27 @@ impl<C: Begun> Session<C> {
             self.new.transcript }
     {
         match items.finish() {
-            Some(item) => match self.answer(rt, shared, ready, item, writer) {
-                Ok(()) => End::Ended,
-                Err(_) => End::WriterFailed,
+            Some(item) => match self.answer(
+                context.rt,
+                context.shared,
+                context.ready,
+                item,
+                writer,
+            ) {
+                Ok(()) => SessionEnd::Ended,
+                Err(_) => SessionEnd::WriterFailed,
             },
-            None => End::Ended,
+            None => SessionEnd::Ended,
         }
     }
 
-    /// Serves the outcome of a line.
-    fn serve<P: Ledger, W: Sink, R: Wait>(
+    /// Serves the outcome of a line, and writes the answer.
+    pub fn serve<P: Ledger, W: Sink, R: Wait>(
         &mut self,
         rt: &R,
         shared: &Shared<C, P>,
         ready: &Ready,
-        outcome: Outcome,
+        outcome: LineOutcome,
         writer: &mut W,
     ) -> Result<(), Failed>
         requires of { self.old.pass.of ≡ ready.now }
@@ -215,9 +235,9 @@ impl<C: Begun> Session<C> {
             self.old.transcript self.new.transcript }
     {
         match outcome {
-            Outcome::Nothing => Ok(()),
-            Outcome::Item(item) => self.answer(rt, shared, ready, item, writer),
-            Outcome::NoMemory => {
+            LineOutcome::Nothing => Ok(()),
+            LineOutcome::Item(item) => self.answer(rt, shared, ready, item, writer),
+            LineOutcome::NoMemory => {
                 self.push_ready(rt, shared, ready);
                 self.transcript.count_no_memory();
                 write_told(writer, None)
@@ -295,7 +315,7 @@ impl<C: Begun> Session<C> {
     /// Whether the last item's command began a job.
     fn began_job(&self) -> bool {
         match last_place(self.transcript.items()) {
-            Some(Place::Receipt(receipt)) => begins_job(receipt.reply()),
+            Some(ItemAnswer::Receipt(receipt)) => begins_job(receipt.reply()),
             _ => false,
         }
     }
@@ -312,7 +332,7 @@ impl<C: Begun> Session<C> {
             return;
         };
         if ready.push(rt, &mut self.pass, slot).is_err() {
-            let _holder = shared.core.lock(rt).popped(slot);
+            let _holder = shared.core.lock(rt).unmark_number(slot);
             shared.changed.notify_all();
         }
     }

@@ -33,7 +33,7 @@ fn find<C: Begun, P: Ledger>(core: &mut Core<C, P>, id: u32) -> Found
     }
     match core.mark_ready(id) {
         Some(slot) => {
-            let _holder = core.popped(slot);
+            let _holder = core.unmark_number(slot);
             Found::GivenUp
         }
         None => Found::Goes,

@@ -1,15 +1,18 @@
 //! A core to be shared, and the graph of its device.
-ghost use Rattle.std.specs.Prelude.{◌≡◌, ◌≤◌, IfSome, false};
+ghost use Rattle.std.specs.Prelude.{◌+◌, ◌≡◌, ◌≤◌, IfSome, false};
+ghost use Rattle.shared_core.specs.declared.shared.TheConstants.{MAX_WORKERS};
+ghost use Rattle.service_core.specs.declared.service.TheConstants.{MAX_ADMISSIONS};
+ghost use Rattle.arch_file.specs.declared.arch.TheConstants.{MAX_TRACKS};
 ghost use Rattle.arch_file.specs.Arch.{IsArch};
 ghost use Rattle.job_state.specs.JobValue.{basis_in};
-ghost use Rattle.service_core.specs.Service.{empty};
+ghost use Rattle.service_core.specs.Service.{empty_service};
 ghost use Rattle.thread_tests.specs.Devices.{IsSmall};
 
 use arch_file::{Arch, read_arch};
 use fixtures::{AND, ARCHITECTURE};
 use job_state::{AnyJob, Done};
 use line_text::Text;
-use service_core::Device;
+use service_core::{Device, window_for};
 use shared_core::{Begun, Core};
 use std::alloc::Global;
 use std::sync::ledger::{Blank, Ledger};
@@ -25,7 +28,7 @@ const TRACKS: u32 = 2;
 /// The smallest architecture, with this number of tracks.
 fn architecture(alloc: Global, tracks: u32) -> Option<Arch>
     requires few { 1 ≤ tracks }
-    requires many { tracks ≤ 64 }
+    requires many { tracks ≤ MAX_TRACKS }
     ensures { IfSome result (λ arch. IsArch arch) }
 {
     match read_arch(alloc, ARCHITECTURE.as_bytes(), tracks) {
@@ -57,9 +60,9 @@ pub(crate) fn new_core<C: Begun, P: Ledger>(
 ) -> Option<Core<C, P>>
     requires small { IsSmall device }
     requires commands { (commands.name ≡ C.name) × (commands.parts ≡ C.parts)
-        × (commands.parts ≡ 65536) }
-    requires puts { (puts.name ≡ P.name) × (puts.parts ≡ P.parts) × (puts.parts ≡ 17) }
-    requires begun { C.begun ≡ empty device }
+        × (commands.parts ≡ MAX_ADMISSIONS + 1) }
+    requires puts { (puts.name ≡ P.name) × (puts.parts ≡ P.parts) × (puts.parts ≡ MAX_WORKERS + 1) }
+    requires begun { C.begun ≡ empty_service device }
 {
     Core::<C, P>::new(alloc, device, commands, puts).ok()
 }
@@ -77,7 +80,7 @@ pub(crate) fn other_graph(alloc: Global) -> Option<DeviceGraph> {
 /// The graph of a device with this number of tracks.
 fn graph_with(alloc: Global, tracks: u32) -> Option<DeviceGraph>
     requires few { 1 ≤ tracks }
-    requires many { tracks ≤ 64 }
+    requires many { tracks ≤ MAX_TRACKS }
 {
     match architecture(alloc, tracks) {
         Some(arch) => {
@@ -160,7 +163,7 @@ fn is_stepped<C: Begun, P: Ledger>(core: &mut Core<C, P>, graph: &DeviceGraph, i
 fn is_made<C: Begun, P: Ledger>(core: &mut Core<C, P>, graph: &DeviceGraph, job: AnyJob) -> bool
     requires { C.stay ≡ false }
 {
-    match job.window(graph, 0) {
+    match window_for(&job, graph, 0) {
         Some(window) => is_made_through(core, &window, job),
         None => {
             core.give_back(job.into_back());

@@ -5,13 +5,13 @@ ghost use Rattle.std.specs.Prelude.{◌≡◌, ◌≤◌, false};
 use crate::seats::{Speaker, a_speaker};
 use fixtures::{STRIDE, ShortSink, ShortSource};
 use job_queue::Ready;
-use session_threads::run_session;
+use session_threads::{Context, run_session};
 use shared_core::{Begun, Core, Shared};
 use std::alloc::AllocGlobal;
 use std::sync::Wait;
 use std::sync::ledger::Ledger;
 use tenant_slot::StateName;
-use transcripts::{End, Transcript};
+use transcripts::{SessionEnd, Transcript};
 
 /// What a session says: two commands.
 const SAID: &str = "\
@@ -46,7 +46,7 @@ enum Failing {
 /// How a session is to end.
 #[derive(Clone, Copy)]
 struct Ending {
-    end: End,
+    end: SessionEnd,
     /// The number of its commands that the core was asked. Their receipts are kept.
     commands: u32,
     /// The number of bytes of the replies that were written.
@@ -88,13 +88,13 @@ impl Failing {
                 let read = STRIDE.saturating_mul(number.saturating_sub(1) as usize);
                 let commands = count_within(&COMMAND_ENDS, read);
                 Ending {
-                    end: End::ReaderFailed,
+                    end: SessionEnd::ReaderFailed,
                     commands: commands as u32,
                     written: REPLY_ENDS[commands],
                 }
             }
             Failing::Write(room) => Ending {
-                end: End::WriterFailed,
+                end: SessionEnd::WriterFailed,
                 commands: (count_within(&REPLY_ENDS, room) as u32 + 1).min(2),
                 written: room,
             },
@@ -144,7 +144,8 @@ fn ends_over<C: Begun, P: Ledger, R: Wait + AllocGlobal>(
     let Speaker { pass, lease, input } = speaker;
     let mut reader = ShortSource::new(input.as_bytes(), failing.reads());
     let mut writer = ShortSink::new(rt.alloc(), failing.room());
-    let transcript = run_session(rt, shared, ready, pass, lease, &mut reader, &mut writer);
+    let context = Context { rt, shared, ready };
+    let transcript = run_session(context, pass, lease, &mut reader, &mut writer);
     let is_so = failing.ending().is_of(&transcript, writer.as_bytes());
     drop(transcript);
     drop(writer);

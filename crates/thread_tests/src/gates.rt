@@ -166,7 +166,7 @@ impl Counting {
     }
 
     /// The number of steps that were made.
-    pub(crate) fn made(&self) -> u64 {
+    pub(crate) fn steps_made(&self) -> u64 {
         self.made.load(SeqCst)
     }
 }

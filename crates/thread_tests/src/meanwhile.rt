@@ -16,7 +16,7 @@ use std::thread::Threads;
 use std::time::Clock;
 use strips::DeviceGraph;
 use tenant_slot::{Command, Reply, StateName, StepReply};
-use worker_pool::run_worker;
+use worker_pool::{Pool, run_worker};
 
 /// What is done to the tenancy.
 #[derive(Clone, Copy)]
@@ -192,7 +192,7 @@ fn begins<C: Begun, P: Ledger, R: Wait + AllocGlobal>(
 
 /// A closed queue with the number of the tenancy, which begins to route, and a worker that serves
 /// the queue.
-fn prepared<C: Begun, P: Ledger, R: Wait + AllocGlobal>(
+fn set_up<C: Begun, P: Ledger, R: Wait + AllocGlobal>(
     rt: &R,
     core: &mut Core<C, P>,
     graph: &DeviceGraph,
@@ -227,8 +227,19 @@ pub(crate) fn acts_under_a_held_job<
     requires { C.stay ≡ false }
 {
     let mut core = core;
-    match prepared(rt, &mut core, graph) {
-        Some((ready, worker)) => is_left_so(rt, core, graph, &ready, worker, act, at),
+    match set_up(rt, &mut core, graph) {
+        Some((ready, worker)) => {
+            let shared = Shared::new(core);
+            let pool = Pool {
+                rt,
+                shared: &shared,
+                ready: &ready,
+                graph,
+            };
+            let is_done = is_done_meanwhile(pool, worker, act, at);
+            drop(ready);
+            is_left_so(shared.into_core(), act) && is_done
+        }
         None => {
             drop(core);
             false
@@ -236,29 +247,11 @@ pub(crate) fn acts_under_a_held_job<
     }
 }
 
-/// Whether the act is done meanwhile, and leaves what it should.
-fn is_left_so<
-    C: Begun + Send + Sync,
-    P: Ledger + Send + Sync,
-    R: Threads + Wait + Clock + AllocGlobal + Sync,
->(
-    rt: &R,
-    core: Core<C, P>,
-    graph: &DeviceGraph,
-    ready: &Ready,
-    worker: Worker<P>,
-    act: Act,
-    at: Point,
-) -> bool
-    requires worker { worker.seat.of ≡ ready.now }
-    requires stay { C.stay ≡ false }
-{
-    let shared = Shared::new(core);
-    let is_done = is_done_meanwhile(rt, &shared, graph, ready, worker, act, at);
-    let core = shared.into_core();
+/// Whether the act left what it should.
+fn is_left_so<C: Begun, P: Ledger>(core: Core<C, P>, act: Act) -> bool {
     let is_left = act.is_left(&core);
     drop(core);
-    is_done && is_left
+    is_left
 }
 
 /// Whether a worker waits with a step until the act is done.
@@ -266,28 +259,20 @@ fn is_done_meanwhile<
     C: Begun + Send + Sync,
     P: Ledger + Send + Sync,
     R: Threads + Wait + Clock + AllocGlobal + Sync,
->(
-    rt: &R,
-    shared: &Shared<C, P>,
-    graph: &DeviceGraph,
-    ready: &Ready,
-    worker: Worker<P>,
-    act: Act,
-    at: Point,
-) -> bool
-    requires worker { worker.seat.of ≡ ready.now }
+>(pool: Pool<'_, R, C, P>, worker: Worker<P>, act: Act, at: Point) -> bool
+    requires worker { worker.seat.of ≡ pool.ready.now }
     requires stay { C.stay ≡ false }
 {
     let held = Held::new(at);
     let gate = &held;
     let (share, is_done) = thread::join(
-        rt,
+        pool.rt,
         move || -> Share<P>
-            requires { worker.seat.of ≡ ready.now }
-        { run_worker(rt, shared, ready, graph, worker.seat, worker.share, gate) },
+            requires { worker.seat.of ≡ pool.ready.now }
+        { run_worker(pool, worker.seat, worker.share, gate) },
         move || -> bool
             requires { C.stay ≡ false }
-        { is_done_once_held(rt, shared, gate, act) },
+        { is_done_once_held(pool, gate, act) },
     );
     drop(share);
     is_done && held.was_held()
@@ -296,15 +281,14 @@ fn is_done_meanwhile<
 /// Takes the lock once a worker waits, acts, and lets the worker go on after the lock is free
 /// again.
 fn is_done_once_held<C: Begun, P: Ledger, R: Wait + AllocGlobal>(
-    rt: &R,
-    shared: &Shared<C, P>,
+    pool: Pool<'_, R, C, P>,
     held: &Held,
     act: Act,
 ) -> bool
     requires { C.stay ≡ false }
 {
     let is_held = is_raised(&held.begins);
-    let is_done = act.is_done(rt.alloc(), &mut *shared.core.lock(rt));
+    let is_done = act.is_done(pool.rt.alloc(), &mut *pool.shared.core.lock(pool.rt));
     held.goes_on.store(1, SeqCst);
     is_held && is_done
 }

@@ -17,7 +17,8 @@ use std::sync::ledger::Ledger;
 use std::thread::Threads;
 use std::time::Clock;
 use strips::DeviceGraph;
-use transcripts::{End, Transcript};
+use transcripts::{SessionEnd, Transcript};
+use worker_pool::Pool;
 
 /// What the threads hold before they start.
 #[derive(Drop)]
@@ -133,7 +134,13 @@ fn are_told<
     let Crew { speakers, workers } = crew;
     let shared = Shared::new(core);
     let holding = Holding::new();
-    let (told, shares) = run_together(rt, &shared, graph, ready, speakers, workers, &holding);
+    let pool = Pool {
+        rt,
+        shared: &shared,
+        ready,
+        graph,
+    };
+    let (told, shares) = run_together(pool, speakers, workers, &holding);
     is_settled(rt.alloc(), shared.into_core(), told, shares)
 }
 
@@ -170,7 +177,7 @@ fn tell_the_four<C: Begun>(told: &[Told<C>]) -> bool {
 /// Whether a session ended, and has these replies.
 fn is_told<C: Begun>(conversation: &Conversation, one: &Told<C>) -> bool {
     conversation.told.as_bytes() == one.text.as_slice()
-        && one.transcript.end() == Some(End::Ended)
+        && one.transcript.end() == Some(SessionEnd::Ended)
         && one.transcript.no_memory() == 0
 }
 

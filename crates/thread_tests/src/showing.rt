@@ -1,6 +1,8 @@
 //! What is shown, each of a core of its own.
-ghost use Rattle.std.specs.Prelude.{◌≡◌, false};
-ghost use Rattle.service_core.specs.Service.{empty};
+ghost use Rattle.std.specs.Prelude.{◌+◌, ◌≡◌, false};
+ghost use Rattle.shared_core.specs.declared.shared.TheConstants.{MAX_WORKERS};
+ghost use Rattle.service_core.specs.declared.service.TheConstants.{MAX_ADMISSIONS};
+ghost use Rattle.service_core.specs.Service.{empty_service};
 ghost use Rattle.thread_tests.specs.Devices.{IsSmall};
 
 use crate::cores::{new_core, new_device, new_graph};
@@ -85,9 +87,9 @@ fn shows_on<
 >(rt: &R, device: Device, commands: Blank, puts: Blank, shown: Shown) -> bool
     requires small { IsSmall device }
     requires commands { (commands.name ≡ C.name) × (commands.parts ≡ C.parts)
-        × (commands.parts ≡ 65536) }
-    requires puts { (puts.name ≡ P.name) × (puts.parts ≡ P.parts) × (puts.parts ≡ 17) }
-    requires begun { C.begun ≡ empty device }
+        × (commands.parts ≡ MAX_ADMISSIONS + 1) }
+    requires puts { (puts.name ≡ P.name) × (puts.parts ≡ P.parts) × (puts.parts ≡ MAX_WORKERS + 1) }
+    requires begun { C.begun ≡ empty_service device }
     requires stay { C.stay ≡ false }
 {
     match new_core::<C, P>(rt.alloc(), device, commands, puts) {

@@ -2,19 +2,17 @@
 ghost use Rattle.std.specs.Prelude.{◌≡◌, All};
 
 use crate::seats::{Speaker, Worker};
-use job_queue::Ready;
 use line_text::{MemorySink, MemorySource};
-use session_threads::run_session;
-use shared_core::{Begun, Share, Shared};
+use session_threads::{Context, run_session};
+use shared_core::{Begun, Share};
 use std::alloc::{AllocError, AllocGlobal};
 use std::sync::Wait;
 use std::sync::ledger::Ledger;
 use std::thread;
 use std::thread::Threads;
 use std::time::Clock;
-use strips::DeviceGraph;
 use transcripts::Transcript;
-use worker_pool::{Gate, run_worker};
+use worker_pool::{Gate, Pool, run_worker};
 
 /// How a session ended, with its transcript, and what was written.
 #[derive(Drop)]
@@ -31,17 +29,20 @@ pub(crate) type Shares<P> = Result<Vec<Share<P>>, AllocError>;
 
 /// Runs a session over memory.
 pub(crate) fn run_over<C: Begun, P: Ledger, R: Wait + AllocGlobal>(
-    rt: &R,
-    shared: &Shared<C, P>,
-    ready: &Ready,
+    pool: Pool<'_, R, C, P>,
     speaker: Speaker<C>,
 ) -> Told<C>
-    requires { (speaker.pass.of ≡ ready.now) × (speaker.lease.made ≡ 0) }
+    requires { (speaker.pass.of ≡ pool.ready.now) × (speaker.lease.made ≡ 0) }
 {
     let Speaker { pass, lease, input } = speaker;
     let mut reader = MemorySource::new(input.as_bytes());
-    let mut writer = MemorySink::new(rt.alloc());
-    let transcript = run_session(rt, shared, ready, pass, lease, &mut reader, &mut writer);
+    let mut writer = MemorySink::new(pool.rt.alloc());
+    let context = Context {
+        rt: pool.rt,
+        shared: pool.shared,
+        ready: pool.ready,
+    };
+    let transcript = run_session(context, pass, lease, &mut reader, &mut writer);
     Told {
         transcript,
         text: writer.into_bytes(),
@@ -53,17 +54,17 @@ fn run_sessions<
     C: Begun + Send + Sync,
     P: Ledger + Send + Sync,
     R: Threads + Wait + Clock + AllocGlobal + Sync,
->(rt: &R, shared: &Shared<C, P>, ready: &Ready, speakers: Vec<Speaker<C>>) -> AllTold<C>
-    requires { All (λ s. (s.pass.of ≡ ready.now) × (s.lease.made ≡ 0)) speakers.items }
+>(pool: Pool<'_, R, C, P>, speakers: Vec<Speaker<C>>) -> AllTold<C>
+    requires { All (λ s. (s.pass.of ≡ pool.ready.now) × (s.lease.made ≡ 0)) speakers.items }
 {
     let told = thread::map_vec(
-        rt,
+        pool.rt,
         speakers,
-        &|speaker: Speaker<C>| -> Told<C>
-            requires { (speaker.pass.of ≡ ready.now) × (speaker.lease.made ≡ 0) }
-        { run_over(rt, shared, ready, speaker) },
+        &move |speaker: Speaker<C>| -> Told<C>
+            requires { (speaker.pass.of ≡ pool.ready.now) × (speaker.lease.made ≡ 0) }
+        { run_over(pool, speaker) },
     );
-    ready.close();
+    pool.ready.close();
     told
 }
 
@@ -73,22 +74,15 @@ fn run_workers<
     P: Ledger + Send + Sync,
     G: Gate + Sync,
     R: Threads + Wait + Clock + Sync,
->(
-    rt: &R,
-    shared: &Shared<C, P>,
-    graph: &DeviceGraph,
-    ready: &Ready,
-    workers: Vec<Worker<P>>,
-    gate: &G,
-) -> Shares<P>
-    requires { All (λ w. w.seat.of ≡ ready.now) workers.items }
+>(pool: Pool<'_, R, C, P>, workers: Vec<Worker<P>>, gate: &G) -> Shares<P>
+    requires { All (λ w. w.seat.of ≡ pool.ready.now) workers.items }
 {
     thread::map_vec(
-        rt,
+        pool.rt,
         workers,
-        &|worker: Worker<P>| -> Share<P>
-            requires { worker.seat.of ≡ ready.now }
-        { run_worker(rt, shared, ready, graph, worker.seat, worker.share, gate) },
+        &move |worker: Worker<P>| -> Share<P>
+            requires { worker.seat.of ≡ pool.ready.now }
+        { run_worker(pool, worker.seat, worker.share, gate) },
     )
 }
 
@@ -99,24 +93,23 @@ pub(crate) fn run_together<
     G: Gate + Sync,
     R: Threads + Wait + Clock + AllocGlobal + Sync,
 >(
-    rt: &R,
-    shared: &Shared<C, P>,
-    graph: &DeviceGraph,
-    ready: &Ready,
+    pool: Pool<'_, R, C, P>,
     speakers: Vec<Speaker<C>>,
     workers: Vec<Worker<P>>,
     gate: &G,
 ) -> (AllTold<C>, Shares<P>)
-    requires speakers { All (λ s. (s.pass.of ≡ ready.now) × (s.lease.made ≡ 0)) speakers.items }
-    requires workers { All (λ w. w.seat.of ≡ ready.now) workers.items }
+    requires speakers { All (λ s. (s.pass.of ≡ pool.ready.now) × (s.lease.made ≡ 0))
+        speakers.items }
+    requires workers { All (λ w. w.seat.of ≡ pool.ready.now) workers.items }
 {
     thread::join(
-        rt,
+        pool.rt,
         move || -> AllTold<C>
-            requires { All (λ s. (s.pass.of ≡ ready.now) × (s.lease.made ≡ 0)) speakers.items }
-        { run_sessions(rt, shared, ready, speakers) },
+            requires { All (λ s. (s.pass.of ≡ pool.ready.now) × (s.lease.made ≡ 0))
+                speakers.items }
+        { run_sessions(pool, speakers) },
         move || -> Shares<P>
-            requires { All (λ w. w.seat.of ≡ ready.now) workers.items }
-        { run_workers(rt, shared, graph, ready, workers, gate) },
+            requires { All (λ w. w.seat.of ≡ pool.ready.now) workers.items }
+        { run_workers(pool, workers, gate) },
     )
 }

@@ -17,8 +17,8 @@ use std::thread::Threads;
 use std::time::Clock;
 use strips::DeviceGraph;
 use tenant_slot::StateName;
-use transcripts::End;
-use worker_pool::run_worker;
+use transcripts::SessionEnd;
+use worker_pool::{Pool, run_worker};
 
 /// What the worker does.
 #[derive(Clone, Copy)]
@@ -31,7 +31,7 @@ pub(crate) enum Work {
 
 impl Work {
     /// What the session is answered.
-    fn told(self) -> &'static [u8] {
+    fn reply_text(self) -> &'static [u8] {
         match self {
             Work::Held => b"ok Loaded\nok Packing\nstatus Packed 0\nstatus Packed 0\n",
             Work::GivenUp => b"ok Loaded\nok Packing\nrefused 1 NoMemory\nrefused 1 NoMemory\n",
@@ -108,10 +108,7 @@ fn a_pair<C: Begun, P: Ledger>(
 }
 
 /// An open queue, and a session and a worker beside it.
-fn prepared<C: Begun, P: Ledger>(
-    alloc: Global,
-    core: &mut Core<C, P>,
-) -> Option<(Ready, Pair<C, P>)>
+fn set_up<C: Begun, P: Ledger>(alloc: Global, core: &mut Core<C, P>) -> Option<(Ready, Pair<C, P>)>
     requires { C.stay ≡ false }
     ensures speaker { IfSome result (λ all. (all.1.speaker.pass.of ≡ all.0)
         × (all.1.speaker.lease.made ≡ 0)) }
@@ -174,7 +171,7 @@ fn are_told_on<
     requires { C.stay ≡ false }
 {
     let mut core = core;
-    match prepared(rt.alloc(), &mut core) {
+    match set_up(rt.alloc(), &mut core) {
         Some((ready, pair)) => are_told_in_turn(rt, core, graph, &ready, pair, work),
         None => {
             drop(core);
@@ -200,7 +197,13 @@ fn are_told_in_turn<
     requires worker { pair.worker.seat.of ≡ ready.now }
 {
     let shared = Shared::new(core);
-    let is_told = is_told_beside(rt, &shared, graph, ready, pair, work);
+    let pool = Pool {
+        rt,
+        shared: &shared,
+        ready,
+        graph,
+    };
+    let is_told = is_told_beside(pool, pair, work);
     let mut core = shared.into_core();
     let is_left = work.is_left(&mut core);
     drop(core);
@@ -212,28 +215,21 @@ fn is_told_beside<
     C: Begun + Send + Sync,
     P: Ledger + Send + Sync,
     R: Threads + Wait + Clock + AllocGlobal + Sync,
->(
-    rt: &R,
-    shared: &Shared<C, P>,
-    graph: &DeviceGraph,
-    ready: &Ready,
-    pair: Pair<C, P>,
-    work: Work,
-) -> bool
-    requires speaker { (pair.speaker.pass.of ≡ ready.now) × (pair.speaker.lease.made ≡ 0) }
-    requires worker { pair.worker.seat.of ≡ ready.now }
+>(pool: Pool<'_, R, C, P>, pair: Pair<C, P>, work: Work) -> bool
+    requires speaker { (pair.speaker.pass.of ≡ pool.ready.now) × (pair.speaker.lease.made ≡ 0) }
+    requires worker { pair.worker.seat.of ≡ pool.ready.now }
 {
     let Pair { speaker, worker } = pair;
     let holding = Holding::new();
     let gate = &holding;
     let (share, is_told) = thread::join(
-        rt,
+        pool.rt,
         move || -> Share<P>
-            requires { worker.seat.of ≡ ready.now }
-        { run_worker(rt, shared, ready, graph, worker.seat, worker.share, gate) },
+            requires { worker.seat.of ≡ pool.ready.now }
+        { run_worker(pool, worker.seat, worker.share, gate) },
         move || -> bool
-            requires { (speaker.pass.of ≡ ready.now) × (speaker.lease.made ≡ 0) }
-        { speaks(rt, shared, ready, speaker, work) },
+            requires { (speaker.pass.of ≡ pool.ready.now) × (speaker.lease.made ≡ 0) }
+        { speaks(pool, speaker, work) },
     );
     drop(share);
     is_told
@@ -241,19 +237,17 @@ fn is_told_beside<
 
 /// Runs the session, and closes the queue. Returns whether the session has its answers.
 fn speaks<C: Begun, P: Ledger, R: Wait + AllocGlobal>(
-    rt: &R,
-    shared: &Shared<C, P>,
-    ready: &Ready,
+    pool: Pool<'_, R, C, P>,
     speaker: Speaker<C>,
     work: Work,
 ) -> bool
-    requires { (speaker.pass.of ≡ ready.now) × (speaker.lease.made ≡ 0) }
+    requires { (speaker.pass.of ≡ pool.ready.now) × (speaker.lease.made ≡ 0) }
 {
-    let Told { transcript, text } = run_over(rt, shared, ready, speaker);
-    ready.close();
-    let is_told = text.as_slice() == work.told()
+    let Told { transcript, text } = run_over(pool, speaker);
+    pool.ready.close();
+    let is_told = text.as_slice() == work.reply_text()
         && transcript.no_memory() == work.lacks()
-        && transcript.end() == Some(End::Ended);
+        && transcript.end() == Some(SessionEnd::Ended);
     drop(text);
     drop(transcript);
     is_told

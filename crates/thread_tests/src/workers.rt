@@ -17,7 +17,7 @@ use std::thread::Threads;
 use std::time::Clock;
 use strips::DeviceGraph;
 use tenant_slot::StateName;
-use worker_pool::run_worker;
+use worker_pool::{Pool, run_worker};
 
 /// Whether a tenancy begins to place, and its number is pushed.
 fn is_pushed<C: Begun, P: Ledger, R: Wait + AllocGlobal>(
@@ -77,7 +77,7 @@ fn two_workers<C: Begun, P: Ledger>(
 
 /// A closed queue with the numbers of two tenancies, which begin to place, and two workers that
 /// serve it.
-fn prepared<C: Begun, P: Ledger, R: Wait + AllocGlobal>(
+fn set_up<C: Begun, P: Ledger, R: Wait + AllocGlobal>(
     rt: &R,
     core: &mut Core<C, P>,
     graph: &DeviceGraph,
@@ -111,8 +111,19 @@ pub(crate) fn is_worked<
     requires { C.stay ≡ false }
 {
     let mut core = core;
-    match prepared(rt, &mut core, graph) {
-        Some((ready, one, other)) => works(rt, core, graph, &ready, one, other, worked),
+    match set_up(rt, &mut core, graph) {
+        Some((ready, one, other)) => {
+            let shared = Shared::new(core);
+            let pool = Pool {
+                rt,
+                shared: &shared,
+                ready: &ready,
+                graph,
+            };
+            let is_so = works(pool, one, other, worked);
+            drop(ready);
+            are_placed(shared.into_core()) && is_so
+        }
         None => {
             drop(core);
             false
@@ -120,31 +131,32 @@ pub(crate) fn is_worked<
     }
 }
 
-/// Whether that is shown, and both tenancies are placed in the end.
+/// Whether both tenancies are placed, and the first can be evicted.
+fn are_placed<C: Begun, P: Ledger>(core: Core<C, P>) -> bool
+    requires { C.stay ≡ false }
+{
+    let mut core = core;
+    let are_placed = is_placed(&core, 1) && is_placed(&core, 2) && core.evict(1) == Ok(());
+    drop(core);
+    are_placed
+}
+
+/// Whether that is shown.
 fn works<C: Begun + Send + Sync, P: Ledger + Send + Sync, R: Threads + Wait + Clock + Sync>(
-    rt: &R,
-    core: Core<C, P>,
-    graph: &DeviceGraph,
-    ready: &Ready,
+    pool: Pool<'_, R, C, P>,
     one: Worker<P>,
     other: Worker<P>,
     worked: Worked,
 ) -> bool
-    requires one { one.seat.of ≡ ready.now }
-    requires other { other.seat.of ≡ ready.now }
-    requires stay { C.stay ≡ false }
+    requires one { one.seat.of ≡ pool.ready.now }
+    requires other { other.seat.of ≡ pool.ready.now }
 {
-    let shared = Shared::new(core);
-    let is_so = match worked {
-        Worked::DrainsAClosedQueue => drains(rt, &shared, graph, ready, one, other),
-        Worked::TwoStepsAtOnce => two_at_once(rt, &shared, graph, ready, one, other),
-        Worked::OneStepStolen => one_stolen(rt, &shared, graph, ready, one, other),
-        Worked::StepWithoutTheLock => without_lock(rt, &shared, graph, ready, one, other),
-    };
-    let mut core = shared.into_core();
-    let are_placed = is_placed(&core, 1) && is_placed(&core, 2) && core.evict(1) == Ok(());
-    drop(core);
-    is_so && are_placed
+    match worked {
+        Worked::DrainsAClosedQueue => drains(pool, one, other),
+        Worked::TwoStepsAtOnce => two_at_once(pool, one, other),
+        Worked::OneStepStolen => one_stolen(pool, one, other),
+        Worked::StepWithoutTheLock => without_lock(pool, one, other),
+    }
 }
 
 /// Whether that tenancy is placed, by three steps: entries 4 to 6 of its journal.
@@ -158,44 +170,38 @@ fn is_placed<C: Begun, P: Ledger>(core: &Core<C, P>, id: u32) -> bool {
 /// of its share exists only in proofs, so the steps are counted here, and their six entries are
 /// looked up in the journals.
 fn drains<C: Begun, P: Ledger, R: Wait + Clock>(
-    rt: &R,
-    shared: &Shared<C, P>,
-    graph: &DeviceGraph,
-    ready: &Ready,
+    pool: Pool<'_, R, C, P>,
     one: Worker<P>,
     other: Worker<P>,
 ) -> bool
-    requires { one.seat.of ≡ ready.now }
+    requires { one.seat.of ≡ pool.ready.now }
 {
     drop(other);
     let counting = Counting::new();
-    let share = run_worker(rt, shared, ready, graph, one.seat, one.share, &counting);
+    let share = run_worker(pool, one.seat, one.share, &counting);
     drop(share);
-    counting.made() == 6
+    counting.steps_made() == 6
 }
 
 /// Whether two workers step two tenancies at once.
 fn two_at_once<C: Begun + Send + Sync, P: Ledger + Send + Sync, R: Threads + Wait + Clock + Sync>(
-    rt: &R,
-    shared: &Shared<C, P>,
-    graph: &DeviceGraph,
-    ready: &Ready,
+    pool: Pool<'_, R, C, P>,
     one: Worker<P>,
     other: Worker<P>,
 ) -> bool
-    requires one { one.seat.of ≡ ready.now }
-    requires other { other.seat.of ≡ ready.now }
+    requires one { one.seat.of ≡ pool.ready.now }
+    requires other { other.seat.of ≡ pool.ready.now }
 {
     let meeting = Meeting::new();
     let gate = &meeting;
     let shares = thread::join(
-        rt,
+        pool.rt,
         move || -> Share<P>
-            requires { one.seat.of ≡ ready.now }
-        { run_worker(rt, shared, ready, graph, one.seat, one.share, gate) },
+            requires { one.seat.of ≡ pool.ready.now }
+        { run_worker(pool, one.seat, one.share, gate) },
         move || -> Share<P>
-            requires { other.seat.of ≡ ready.now }
-        { run_worker(rt, shared, ready, graph, other.seat, other.share, gate) },
+            requires { other.seat.of ≡ pool.ready.now }
+        { run_worker(pool, other.seat, other.share, gate) },
     );
     drop(shares);
     meeting.took_place()
@@ -203,20 +209,17 @@ fn two_at_once<C: Begun + Send + Sync, P: Ledger + Send + Sync, R: Threads + Wai
 
 /// Whether two workers step two tenancies at once, both of whose numbers the first has pushed.
 fn one_stolen<C: Begun + Send + Sync, P: Ledger + Send + Sync, R: Threads + Wait + Clock + Sync>(
-    rt: &R,
-    shared: &Shared<C, P>,
-    graph: &DeviceGraph,
-    ready: &Ready,
+    pool: Pool<'_, R, C, P>,
     one: Worker<P>,
     other: Worker<P>,
 ) -> bool
-    requires one { one.seat.of ≡ ready.now }
-    requires other { other.seat.of ≡ ready.now }
+    requires one { one.seat.of ≡ pool.ready.now }
+    requires other { other.seat.of ≡ pool.ready.now }
 {
     let Worker { mut seat, share } = one;
-    let has_both = takes_both(rt, ready, &mut seat);
+    let has_both = takes_both(pool.rt, pool.ready, &mut seat);
     let one = Worker { seat, share };
-    two_at_once(rt, shared, graph, ready, one, other) && has_both
+    two_at_once(pool, one, other) && has_both
 }
 
 /// Pops two numbers, and pushes them to the worker's own deque.
@@ -234,24 +237,21 @@ fn takes_both<R: Wait>(rt: &R, ready: &Ready, seat: &mut Seat) -> bool
 
 /// Whether a step is made while another thread holds the lock.
 fn without_lock<C: Begun + Send + Sync, P: Ledger + Send + Sync, R: Threads + Wait + Clock + Sync>(
-    rt: &R,
-    shared: &Shared<C, P>,
-    graph: &DeviceGraph,
-    ready: &Ready,
+    pool: Pool<'_, R, C, P>,
     one: Worker<P>,
     other: Worker<P>,
 ) -> bool
-    requires { one.seat.of ≡ ready.now }
+    requires { one.seat.of ≡ pool.ready.now }
 {
     drop(other);
     let watched = Watched::new();
     let gate = &watched;
     let (share, is_held) = thread::join(
-        rt,
+        pool.rt,
         move || -> Share<P>
-            requires { one.seat.of ≡ ready.now }
-        { run_worker(rt, shared, ready, graph, one.seat, one.share, gate) },
-        move || -> bool { holds_the_lock(rt, shared, gate) },
+            requires { one.seat.of ≡ pool.ready.now }
+        { run_worker(pool, one.seat, one.share, gate) },
+        move || -> bool { holds_the_lock(pool, gate) },
     );
     drop(share);
     is_held && watched.was_unlocked()
@@ -259,12 +259,11 @@ fn without_lock<C: Begun + Send + Sync, P: Ledger + Send + Sync, R: Threads + Wa
 
 /// Takes the lock once the step begins, and holds it until it is made.
 fn holds_the_lock<C: Begun, P: Ledger, R: Wait>(
-    rt: &R,
-    shared: &Shared<C, P>,
+    pool: Pool<'_, R, C, P>,
     watched: &Watched,
 ) -> bool {
     let has_begun = is_raised(&watched.begins);
-    let core = shared.core.lock(rt);
+    let core = pool.shared.core.lock(pool.rt);
     watched.is_locked.store(1, SeqCst);
     let is_made = is_raised(&watched.is_made);
     drop(core);

@@ -10,8 +10,10 @@
 
 mod gate;
 mod lack;
+mod pool;
 mod turns;
 mod worker;
 
 pub use gate::{Gate, Open};
+pub use pool::Pool;
 pub use worker::run_worker;

@@ -18,7 +18,7 @@ pub(crate) struct Taken {
 pub(crate) fn take<C: Begun, P: Ledger>(core: &mut Core<C, P>, slot: u32) -> Option<Taken>
     ensures { Takes core.old slot result core.new }
 {
-    let id = core.popped(slot)?;
+    let id = core.unmark_number(slot)?;
     let job = core.take(id)?;
     let offset = core.offset(id);
     Some(Taken { job, offset })

@@ -6,10 +6,12 @@ ghost use Rattle.worker_pool.specs.Keeping.{IsNext, Keeps, PushesOrKeeps, kept_w
 
 use crate::gate::Gate;
 use crate::lack::{Kept, Served, one_more, pause};
+use crate::pool::Pool;
 use crate::turns::{Taken, give_back, put, take};
 use job_queue::{Law, Popped, Ready, Seat};
 use job_state::{AnyJob, Back, Done};
-use shared_core::{Begun, Share, Shared};
+use service_core::window_for;
+use shared_core::{Begun, Share};
 use std::sync::Wait;
 use std::sync::ledger::Ledger;
 use std::time::Clock;
@@ -18,21 +20,18 @@ use strips::{DeviceGraph, Window};
 /// Serves the numbers of the queue until it is closed and empty, and doesn't end before. Returns
 /// its share, which counts the puts that were recorded.
 pub fn run_worker<C: Begun, P: Ledger, G: Gate, J: Law, R: Wait + Clock>(
-    rt: &R,
-    shared: &Shared<C, P>,
-    ready: &Ready<J>,
-    graph: &DeviceGraph,
+    pool: Pool<'_, R, C, P, J>,
     seat: Seat<J>,
     share: Share<P>,
     gate: &G,
 ) -> Share<P>
-    requires { seat.of ≡ ready.now }
+    requires { seat.of ≡ pool.ready.now }
     ensures puts { share.puts ≤ result.puts }
     ensures closed { J.closed }
 {
     let mut seat = seat;
     let mut share = share;
-    serve_all(rt, shared, ready, graph, &mut seat, &mut share, gate);
+    serve_all(pool, &mut seat, &mut share, gate);
     drop(seat);
     share
 }
@@ -41,25 +40,22 @@ pub fn run_worker<C: Begun, P: Ledger, G: Gate, J: Law, R: Wait + Clock>(
 /// or the step of a number ran out of memory, that number is served next: after a pause if memory
 /// ran out, and until it is given up.
 fn serve_all<C: Begun, P: Ledger, G: Gate, J: Law, R: Wait + Clock>(
-    rt: &R,
-    shared: &Shared<C, P>,
-    ready: &Ready<J>,
-    graph: &DeviceGraph,
+    pool: Pool<'_, R, C, P, J>,
     seat: &mut Seat<J>,
     share: &mut Share<P>,
     gate: &G,
 )
-    requires { seat.old.of ≡ ready.now }
+    requires { seat.old.of ≡ pool.ready.now }
     ensures puts { share.old.puts ≤ share.new.puts }
     ensures closed { J.closed }
 {
     let mut kept = None;
-    for _ in rt.forever() {
-        let Some(Kept { slot, lacks }) = next_number(rt, ready, seat, kept) else {
+    for _ in pool.rt.forever() {
+        let Some(Kept { slot, lacks }) = next_number(pool.rt, pool.ready, seat, kept) else {
             return;
         };
-        let served = serve(rt, shared, graph, share, gate, slot, lacks);
-        kept = keep_number(rt, ready, seat, lacks, served);
+        let served = serve(pool, share, gate, slot, lacks);
+        kept = keep_number(pool.rt, pool.ready, seat, lacks, served);
     }
     unreachable!()
 }
@@ -121,10 +117,8 @@ fn kept_with(lacks: u32, number: Option<u32>) -> Option<Kept>
 /// Serves a number: takes the next step of the job of its tenancy and reads the offset of its
 /// strip, makes the step without the lock through the window there, and puts it. A job that doesn't
 /// fit the graph is given back. `lacks` steps in a row ran out of memory before this one.
-fn serve<C: Begun, P: Ledger, G: Gate, R: Wait>(
-    rt: &R,
-    shared: &Shared<C, P>,
-    graph: &DeviceGraph,
+fn serve<C: Begun, P: Ledger, G: Gate, J: Law, R: Wait>(
+    pool: Pool<'_, R, C, P, J>,
     share: &mut Share<P>,
     gate: &G,
     slot: u32,
@@ -132,18 +126,18 @@ fn serve<C: Begun, P: Ledger, G: Gate, R: Wait>(
 ) -> Served
     ensures { share.old.puts ≤ share.new.puts }
 {
-    let taken = take(&mut *shared.core.lock(rt), slot);
+    let taken = take(&mut *pool.shared.core.lock(pool.rt), slot);
     let Some(Taken { job, offset }) = taken else {
         return Served::Nothing;
     };
-    let served = match window_at(graph, &job, offset) {
-        Some(window) => step_and_put(rt, shared, share, gate, job, &window, lacks),
+    let served = match window_at(pool.graph, &job, offset) {
+        Some(window) => step_and_put(pool, share, gate, job, &window, lacks),
         None => {
-            shared.core.lock(rt).give_back(job.into_back());
+            pool.shared.core.lock(pool.rt).give_back(job.into_back());
             Served::Nothing
         }
     };
-    shared.changed.notify_all();
+    pool.shared.changed.notify_all();
     served
 }
 
@@ -152,16 +146,15 @@ fn window_at<'g>(graph: &'g DeviceGraph, job: &AnyJob, offset: Option<u32>) -> O
     ensures { IfSome result (λ window. window ≡ basis_in job.now.step.sources) }
 {
     match offset {
-        Some(offset) => job.window(graph, offset),
+        Some(offset) => window_for(job, graph, offset),
         None => None,
     }
 }
 
 /// Makes a step through its window without the lock, and puts it. If memory runs out the job is
 /// given back.
-fn step_and_put<C: Begun, P: Ledger, G: Gate, R: Wait>(
-    rt: &R,
-    shared: &Shared<C, P>,
+fn step_and_put<C: Begun, P: Ledger, G: Gate, J: Law, R: Wait>(
+    pool: Pool<'_, R, C, P, J>,
     share: &mut Share<P>,
     gate: &G,
     job: AnyJob,
@@ -171,14 +164,14 @@ fn step_and_put<C: Begun, P: Ledger, G: Gate, R: Wait>(
     requires { window.now ≡ basis_in job.step.sources }
     ensures { share.old.puts ≤ share.new.puts }
 {
-    match stepped(gate, job, window) {
-        Ok(done) => put(&mut *shared.core.lock(rt), share, done, lacks),
-        Err(back) => give_back(&mut *shared.core.lock(rt), back, lacks),
+    match make_step(gate, job, window) {
+        Ok(done) => put(&mut *pool.shared.core.lock(pool.rt), share, done, lacks),
+        Err(back) => give_back(&mut *pool.shared.core.lock(pool.rt), back, lacks),
     }
 }
 
 /// Makes a step, and calls the gate before and after it.
-fn stepped<G: Gate>(gate: &G, job: AnyJob, window: &Window<'_>) -> Result<Done, Back>
+fn make_step<G: Gate>(gate: &G, job: AnyJob, window: &Window<'_>) -> Result<Done, Back>
     requires { window.now ≡ basis_in job.step.sources }
     ensures { Steps job result }
 {

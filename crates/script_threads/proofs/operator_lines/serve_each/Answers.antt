@@ -3,7 +3,7 @@ use Rattle.std.specs.Prelude.{map}
 use Rattle.std.proofs.lemmas.Iterator.Adapters.{YieldsList-from_vec}
 use Rattle.std.proofs.lemmas.Iterator.Consumers.{YieldsList-end}
 use Rattle.std.proofs.lemmas.List.{map-id, map_push}
-use Rattle.operator.specs.Held.{held}
+use Rattle.operator.specs.Held.{sink_text}
 use Rattle.script_text.specs.declared.operator_line.OperatorLine.{OperatorLine}
 use Rattle.script_text.specs.Script.{named_operator}
 use Rattle.script_threads.specs.Lines.{RepliesEach, stage}
@@ -17,13 +17,13 @@ loop-line-preserved c =
     let served = c.in_ok-serve.ensures.told in
     let mid = stage c.args.graph.now c.loop-line.operator c.loop-line.jobs c.loop-line.core in
     let next = stage c.args.graph.now c.serve.new.self c.serve.new.jobs c.serve.new.core in
-    let more = replies_more start told (held c.args.reply.now) (held c.loop-line.reply) (held c.serve.new.reply) mid (named_operator c.in-Some.line) served.0 served.1 next c.loop-line.invariant served.2 served.3 served.4 in
-    let P : List (OperatorLine (List ℕ)) → Type 0 = λ lines. RepliesEach start lines (held c.args.reply.now) (held c.serve.new.reply) next in
+    let more = replies_more start told (sink_text c.args.reply.now) (sink_text c.loop-line.reply) (sink_text c.serve.new.reply) mid (named_operator c.in-Some.line) served.0 served.1 next c.loop-line.invariant served.2 served.3 served.4 in
+    let P : List (OperatorLine (List ℕ)) → Type 0 = λ lines. RepliesEach start lines (sink_text c.args.reply.now) (sink_text c.serve.new.reply) next in
     subst P (sym (map_push named_operator c.loop-line.yielded c.in-Some.line)) more
 
 pub returns : goal.returns
 returns c =
     let end = YieldsList-end (YieldsList-from_vec {s = c.into_iter-line-iterator.result} c.args.lines.items (search rules) (search rules)) c.loop-line.yielded c.loop-line.line-iterator c.loop-line.yielded_by c.next.result c.next.new.self c.in-None.is c.next.ensures.steps in
     let yielded : c.loop-line.yielded ≡ c.args.lines.items = sym (map-id c.loop-line.yielded) ∙ end.0 in
-    let P : List (OperatorLine (List ℕ)) → Type 0 = λ lines. RepliesEach (stage c.args.graph.now c.args.operator.now c.args.jobs.now c.args.core.now) lines (held c.args.reply.now) (held c.loop-line.reply) (stage c.args.graph.now c.loop-line.operator c.loop-line.jobs c.loop-line.core) in
+    let P : List (OperatorLine (List ℕ)) → Type 0 = λ lines. RepliesEach (stage c.args.graph.now c.args.operator.now c.args.jobs.now c.args.core.now) lines (sink_text c.args.reply.now) (sink_text c.loop-line.reply) (stage c.args.graph.now c.loop-line.operator c.loop-line.jobs c.loop-line.core) in
     subst P (ap (map named_operator) yielded) c.loop-line.invariant

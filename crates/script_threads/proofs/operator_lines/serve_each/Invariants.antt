@@ -1,9 +1,9 @@
 use Rattle.std.specs.Prelude.{map}
-use Rattle.operator.specs.Held.{held}
+use Rattle.operator.specs.Held.{sink_text}
 use Rattle.script_text.specs.Script.{named_operator}
 use Rattle.script_threads.specs.Lines.{RepliesEach, stage}
 use Rattle.script_threads.proofs.operator_lines.serve_each.Given as goal
 
 -- the lines so far are served
 abbrev pub invariant-loop-line : goal.invariant-loop-line
-invariant-loop-line l = RepliesEach (stage l.graph l.fn.operator l.fn.jobs l.fn.core) (map named_operator l.yielded) (held l.fn.reply) (held l.reply) (stage l.graph l.operator l.jobs l.core)
+invariant-loop-line l = RepliesEach (stage l.graph l.fn.operator l.fn.jobs l.fn.core) (map named_operator l.yielded) (sink_text l.fn.reply) (sink_text l.reply) (stage l.graph l.operator l.jobs l.core)

@@ -1,6 +1,6 @@
 use Rattle.std.proofs.Common.{refl, subst, sym, ◌∙◌}
 use Rattle.std.specs.Prelude.{map, OnOk}
-use Rattle.operator.specs.Held.{held}
+use Rattle.operator.specs.Held.{sink_text}
 use Rattle.operator.specs.HeldJobs.{HeldList}
 use Rattle.operator.proofs.OperatorLemmas.{on_ok}
 use Rattle.script_text.specs.Script.{named_operator}
@@ -12,7 +12,7 @@ pub returns-clause-replies : goal.returns-clause-replies
 returns-clause-replies c =
     let each = c.serve_each-served in
     let last = stage c.args.graph.now each.new.operator each.new.jobs each.new.core in
-    let P : HeldList → Type 0 = λ jobs. OnOk each.result (RepliesEach (stage c.args.graph.now c.args.operator.now jobs c.args.core.now) (map named_operator c.args.lines.items) (held c.args.reply.now) (held each.new.reply) last) in
+    let P : HeldList → Type 0 = λ jobs. OnOk each.result (RepliesEach (stage c.args.graph.now c.args.operator.now jobs c.args.core.now) (map named_operator c.args.lines.items) (sink_text c.args.reply.now) (sink_text each.new.reply) last) in
     on_ok each.result
     (λ done. record {
       text = done.text;

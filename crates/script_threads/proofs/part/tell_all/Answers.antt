@@ -1,10 +1,10 @@
 use Rattle.std.proofs.Common.{◌≡◌, ◌++◌, ◌∙◌, ap, sym, rules}
-use Rattle.operator.specs.Held.{held}
+use Rattle.operator.specs.Held.{sink_text}
 use Rattle.script_threads.specs.Sessions.{evicted_line}
 use Rattle.script_threads.proofs.PartLemmas.{told_push}
 use Rattle.script_threads.proofs.part.tell_all.Goals as goal
 
 pub loop-item-preserved : goal.loop-item-preserved
 loop-item-preserved c =
-    let told : held c.tell.new.text ≡ held c.loop-item.text ++ evicted_line c.in-Some.item = search rules in
+    let told : sink_text c.tell.new.text ≡ sink_text c.loop-item.text ++ evicted_line c.in-Some.item = search rules in
     told ∙ ap (λ t. t ++ evicted_line c.in-Some.item) c.loop-item.invariant ∙ sym (told_push c.loop-item.yielded c.in-Some.item)

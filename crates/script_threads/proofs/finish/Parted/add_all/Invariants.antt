@@ -1,8 +1,8 @@
 use Rattle.std.specs.Prelude.{◌≡◌, map, true}
 use Rattle.script_threads.specs.Parts.{AreParts}
-use Rattle.script_threads.specs.Served.{section_told}
+use Rattle.script_text.specs.Replies.{section_of}
 use Rattle.script_threads.proofs.finish.Parted.add_all.Given as goal
 
 -- the parts so far
 abbrev pub invariant-loop-part : goal.invariant-loop-part
-invariant-loop-part g l = AreParts (g.C.Begun.stay ≡ true) l.yielded (map section_told l.self.sections.items) l.self.transcripts.items
+invariant-loop-part g l = AreParts (g.C.Begun.stay ≡ true) l.yielded (map section_of l.self.sections.items) l.self.transcripts.items

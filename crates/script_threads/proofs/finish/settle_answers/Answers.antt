@@ -5,7 +5,7 @@ use Rattle.settling.specs.Settling.{AreAllCalls, SettledState}
 use Rattle.script_threads.specs.Parts.{AreFullNotes}
 use Rattle.script_threads.specs.Refusals.{NoneLate}
 use Rattle.script_threads.proofs.FinishLemmas.{full_notes}
-use Rattle.script_threads.proofs.finish.settled.Goals as goal
+use Rattle.script_threads.proofs.finish.settle_answers.Goals as goal
 
 pub returns-in-Ok : goal.returns-in-Ok
 returns-in-Ok g c =
